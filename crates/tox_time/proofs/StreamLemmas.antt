@@ -1,0 +1,56 @@
+-- Lists of items that go on: what they count, and when they are streams.
+use Rattle.std.proofs.Common.{◌≡◌, ℕ, ◌+◌, false, List, [], ◌∷◌, ◌++◌, refl, arith, ap, subst}
+use Rattle.tox_time.specs.declared.item.Item.{Item}
+use Rattle.tox_time.specs.declared.item.Item.TheVariants.{Chunk, Closed, Reset, Quiet}
+use Rattle.tox_time.specs.Stream.{span_len, IsStreamFrom, HasReset, arrived, latest_from, has_final}
+use Rattle.tox_time.specs.Arrivals.{arrival_list}
+
+pub arrived-append : (items rest : List Item) → arrived (items ++ rest) ≡ arrived items + arrived rest
+arrived-append [] rest = omega arith
+arrived-append (Chunk span t ∷ items) rest = omega (arith, arrived-append items rest)
+arrived-append (Closed t ∷ items) rest = arrived-append items rest
+arrived-append (Reset t ∷ items) rest = arrived-append items rest
+arrived-append (Quiet ∷ items) rest = arrived-append items rest
+
+pub latest_from-append : (since : ℕ) (items rest : List Item) → latest_from since (items ++ rest) ≡ latest_from (latest_from since items) rest
+latest_from-append since [] rest = refl
+latest_from-append since (Chunk span t ∷ items) rest = latest_from-append t items rest
+latest_from-append since (Closed t ∷ items) rest = latest_from-append t items rest
+latest_from-append since (Reset t ∷ items) rest = latest_from-append t items rest
+latest_from-append since (Quiet ∷ items) rest = latest_from-append since items rest
+
+pub has_final-append : (items rest : List Item) → has_final items ≡ false → has_final (items ++ rest) ≡ has_final rest
+has_final-append [] rest unended = refl
+has_final-append (Chunk span t ∷ items) rest unended = has_final-append items rest unended
+has_final-append (Closed t ∷ items) rest unended = absurd (cc)
+has_final-append (Reset t ∷ items) rest unended = absurd (cc)
+has_final-append (Quiet ∷ items) rest unended = absurd (cc)
+
+pub arrival_list-append : (items rest : List Item) → has_final items ≡ false → arrival_list (items ++ rest) ≡ items ++ arrival_list rest
+arrival_list-append [] rest unended = refl
+arrival_list-append (Chunk span t ∷ items) rest unended = ap (λ list. Chunk span t ∷ list) (arrival_list-append items rest unended)
+arrival_list-append (Closed t ∷ items) rest unended = absurd (cc)
+arrival_list-append (Reset t ∷ items) rest unended = absurd (cc)
+arrival_list-append (Quiet ∷ items) rest unended = absurd (cc)
+
+-- what is no reset in its end has none where unended items stand before it
+pub HasReset-append : (items rest : List Item) → has_final items ≡ false → HasReset (items ++ rest) → HasReset rest
+HasReset-append [] rest unended reset = reset
+HasReset-append (Chunk span t ∷ items) rest unended reset = HasReset-append items rest unended reset
+HasReset-append (Closed t ∷ items) rest unended reset = absurd (cc)
+HasReset-append (Reset t ∷ items) rest unended reset = absurd (cc)
+HasReset-append (Quiet ∷ items) rest unended reset = absurd (cc)
+
+-- a list goes on as a stream where a stream from its last position and instant follows it
+pub IsStreamFrom-append : (position since : ℕ) (items rest : List Item) → has_final items ≡ false → IsStreamFrom position since (arrival_list items) → IsStreamFrom (position + arrived items) (latest_from since items) rest → IsStreamFrom position since (items ++ rest)
+IsStreamFrom-append position since [] rest unended stream goes_on =
+    let P : ℕ → Type 0 = λ n. IsStreamFrom n since rest in
+    let same : position + 0 ≡ position = omega arith in
+    subst P same goes_on
+IsStreamFrom-append position since (Chunk span t ∷ items) rest unended stream goes_on =
+    let P : ℕ → Type 0 = λ n. IsStreamFrom n (latest_from t items) rest in
+    let same : position + (span_len span + arrived items) ≡ span.stop + arrived items = omega (arith, stream.0, stream.1) in
+    (stream.0, stream.1, stream.2, stream.3, IsStreamFrom-append span.stop t items rest unended stream.4 (subst P same goes_on))
+IsStreamFrom-append position since (Closed t ∷ items) rest unended stream goes_on = absurd (cc)
+IsStreamFrom-append position since (Reset t ∷ items) rest unended stream goes_on = absurd (cc)
+IsStreamFrom-append position since (Quiet ∷ items) rest unended stream goes_on = absurd (cc)

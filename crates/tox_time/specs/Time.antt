@@ -1,0 +1,15 @@
+-- Logical time: whole microseconds from a link's start up to the horizon, at which addition stops.
+use Rattle.std.specs.Prelude.{ℕ, ◌+◌, ◌*◌, ◌≤◌, min}
+use Rattle.tox_time.specs.declared.micros.TheConstants.{HORIZON}
+
+-- a number that is an instant
+abbrev pub IsInstant : ℕ → Type 0
+IsInstant t = t ≤ HORIZON
+
+-- an instant, some microseconds later
+abbrev pub plus : ℕ → ℕ → ℕ
+plus t wait = min (t + wait) HORIZON
+
+-- milliseconds as microseconds
+abbrev pub micros_of : ℕ → ℕ
+micros_of millis = min (1000 * millis) HORIZON

@@ -1,0 +1,136 @@
+ghost use Rattle.std.specs.Prelude.{◌≡◌, ◌≢◌, ◌+◌, ◌<◌, ◌≤◌, ◌^◌, [], ◌∷◌, ◌++◌, List, OnOk, OnErr, IfErr};
+ghost use Rattle.tox_time.specs.Arrivals.{push_fault, eof_fault, next_chunk};
+
+use crate::item::Item;
+use crate::micros::Micros;
+use crate::span::{MOST_BYTES, Span};
+use std::alloc::Global;
+use std::marker::Model;
+use thiserror::Error;
+
+/// Why an arrival was refused.
+#[derive(Clone, Copy, Debug, PartialEq, Eq, Error)]
+pub enum ArrivalFault {
+    /// Its instant is below the last one.
+    #[error("A1 TimeBack")]
+    TimeBack,
+    /// The piece has no bytes.
+    #[error("A2 EmptyPiece")]
+    EmptyPiece,
+    /// The link would have more than 2^40 bytes.
+    #[error("A3 TooManyBytes")]
+    TooManyBytes,
+    /// The source ended before.
+    #[error("A4 AfterEnd")]
+    AfterEnd,
+    #[error("A0 OutOfMemory")]
+    OutOfMemory,
+}
+
+/// What arrived on a link, piece by piece, and whether its source ended: always an arrival list.
+#[derive(Debug, Drop)]
+pub struct Arrivals {
+    items: Vec<Item>,
+    bytes: u64,
+    latest: Micros,
+    has_ended: bool,
+}
+
+impl Model for Arrivals {
+    ghost use Rattle.std.specs.Prelude.{List};
+    ghost use Rattle.tox_time.specs.declared.item.Item.{Item as OneItem};
+
+    ghost Value = { List OneItem };
+
+    ghost use Rattle.tox_time.specs.ArrivalsInside.{IsKept};
+
+    ghost view = { λ a. a.items.items };
+
+    ghost invariant = { IsKept };
+}
+
+impl Arrivals {
+    ghost use Rattle.tox_time.specs.Stream.{IsArrivalList, arrived};
+    ghost use Rattle.tox_time.specs.Arrivals.{arrival_list};
+
+    /// Nothing arrived yet; takes no memory.
+    pub fn new(alloc: Global) -> Arrivals
+        ensures { result ≡ [] }
+    {
+        Arrivals {
+            items: Vec::new(alloc),
+            bytes: 0,
+            latest: Micros::ZERO,
+            has_ended: false,
+        }
+    }
+
+    /// Adds a piece of `len` bytes that arrived at `instant`.
+    ///
+    /// Refuses, in this order, an instant below the last one, an empty piece, more than 2^40 bytes
+    /// in all, a piece after the end; and then for want of memory. The list is unchanged after each.
+    pub fn push(&mut self, len: u64, instant: Micros) -> Result<(), ArrivalFault>
+        ensures ok { OnOk result (self.new ≡ self.old ++ next_chunk self.old len instant ∷ []) }
+        ensures accepted { OnOk result (push_fault self.old len instant ≡ None) }
+        ensures fault { IfErr result (λ e. e ≢ ArrivalFault.OutOfMemory → push_fault self.old len instant ≡ Some e) }
+        ensures memory_last { result ≡ Err ArrivalFault.OutOfMemory → push_fault self.old len instant ≡ None }
+        ensures err { OnErr result (self.new ≡ self.old) }
+    {
+        if instant < self.latest {
+            return Err(ArrivalFault::TimeBack);
+        }
+        if len == 0 {
+            return Err(ArrivalFault::EmptyPiece);
+        }
+        if len > MOST_BYTES - self.bytes {
+            return Err(ArrivalFault::TooManyBytes);
+        }
+        if self.has_ended {
+            return Err(ArrivalFault::AfterEnd);
+        }
+        let span = Span {
+            start: self.bytes,
+            stop: self.bytes + len,
+        };
+        self.items
+            .push(Item::Chunk(span, instant))
+            .map_err(|_| ArrivalFault::OutOfMemory)?;
+        self.bytes = span.stop;
+        self.latest = self.latest.later(instant);
+        Ok(())
+    }
+
+    /// The source ended at `instant`.
+    ///
+    /// Refuses, in this order, an instant below the last one and a second end; and then for want
+    /// of memory. The list is unchanged after each.
+    pub fn eof(&mut self, instant: Micros) -> Result<(), ArrivalFault>
+        ensures ok { OnOk result (self.new ≡ self.old ++ Item.Closed instant ∷ []) }
+        ensures accepted { OnOk result (eof_fault self.old instant ≡ None) }
+        ensures fault { IfErr result (λ e. e ≢ ArrivalFault.OutOfMemory → eof_fault self.old instant ≡ Some e) }
+        ensures memory_last { result ≡ Err ArrivalFault.OutOfMemory → eof_fault self.old instant ≡ None }
+        ensures err { OnErr result (self.new ≡ self.old) }
+    {
+        if instant < self.latest {
+            return Err(ArrivalFault::TimeBack);
+        }
+        if self.has_ended {
+            return Err(ArrivalFault::AfterEnd);
+        }
+        self.items
+            .push(Item::Closed(instant))
+            .map_err(|_| ArrivalFault::OutOfMemory)?;
+        self.latest = self.latest.later(instant);
+        self.has_ended = true;
+        Ok(())
+    }
+
+    /// The chunks, then `Closed` if the source ended. Where it didn't, a `Quiet` that isn't stored ends the list.
+    pub fn items(&self) -> &[Item]
+        ensures stored { result.now ≡ self.now }
+        ensures list { IsArrivalList (arrival_list self.now) }
+        ensures bound { arrived self.now ≤ 2 ^ 40 }
+    {
+        &self.items
+    }
+}

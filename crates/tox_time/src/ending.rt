@@ -1,0 +1,28 @@
+ghost use Rattle.std.specs.Prelude.{◌≡◌};
+
+use crate::item::Item;
+use crate::micros::Micros;
+
+/// How a link ends.
+#[derive(Clone, Copy, Debug, PartialEq, Eq, Hash)]
+pub enum Ending {
+    /// It doesn't: the last item is `Quiet`.
+    StillOpen,
+    Closed(Micros),
+    Reset(Micros),
+}
+
+impl Ending {
+    ghost use Rattle.tox_time.specs.Table.{final_of};
+
+    /// The final that ends a link in this way.
+    pub fn to_item(&self) -> Item
+        ensures { result ≡ final_of self.now }
+    {
+        match self {
+            Ending::StillOpen => Item::Quiet,
+            Ending::Closed(instant) => Item::Closed(*instant),
+            Ending::Reset(instant) => Item::Reset(*instant),
+        }
+    }
+}

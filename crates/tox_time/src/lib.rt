@@ -1,0 +1,29 @@
+//! Logical time, and what travels over a link: spans of bytes, items, arrivals and outcomes;
+//! and the ends that bytes are read from and written to.
+#![tactic(auto)]
+
+mod arrivals;
+mod ending;
+mod ends;
+mod item;
+mod memory_sink;
+mod memory_source;
+mod micros;
+mod outcome;
+mod real;
+mod slice;
+mod span;
+mod stream;
+
+pub use arrivals::{ArrivalFault, Arrivals};
+pub use ending::Ending;
+pub use ends::{EndFault, Sink, Source};
+pub use item::Item;
+pub use memory_sink::MemorySink;
+pub use memory_source::MemorySource;
+pub use micros::{HORIZON, Micros};
+pub use outcome::Outcome;
+pub use real::Real;
+pub use slice::{Slice, SliceList};
+pub use span::{MOST_BYTES, Span};
+pub use stream::Stream;

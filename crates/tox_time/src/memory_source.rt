@@ -1,0 +1,73 @@
+ghost use Rattle.std.specs.Prelude.{◌≡◌, ◌<◌, ◌↔◌, [], ◌++◌, false, true, Some, min, length, take, IsErr, IfOk, OnOk, OnErr};
+ghost use Rattle.std.specs.Io.KnownBytes.{prepend_known, IsAtEnd};
+ghost use Rattle.tox_time.specs.MemoryEnds.{FailsNext, one_more};
+
+use crate::ends::{EndFault, Source};
+use std::marker::Model;
+
+/// A source over bytes in memory, which moves at most a set number of them in a call and fails at a set call.
+#[derive(Debug, Drop)]
+pub struct MemorySource {
+    bytes: Vec<u8>,
+    next: usize,
+    most: usize,
+    calls: u64,
+    failing_call: Option<u64>,
+    failed: bool,
+}
+
+impl Model for MemorySource {
+    ghost use Rattle.std.specs.Prelude.{◌≤◌, ◌<◌, drop, length};
+    ghost use Rattle.tox_time.specs.MemoryEnds.{Giving};
+
+    ghost Value = { Giving };
+
+    ghost view = { λ s. record { bytes = drop s.next s.bytes.items; most = s.most; calls = record { made = s.calls; failing = s.failing_call }; failed = s.failed } };
+
+    ghost invariant = { λ s. (s.next ≤ length s.bytes.items) × (0 < s.most) };
+}
+
+impl MemorySource {
+    /// Gives these bytes, at most `most` of them in a call, and fails at the call of this number, counted from 1.
+    pub fn new(bytes: Vec<u8>, most: usize, failing_call: Option<u64>) -> Self
+        requires { 0 < most }
+        ensures { result ≡ record { bytes = bytes.items; most = most; calls = record { made = 0; failing = failing_call }; failed = false } }
+    {
+        MemorySource {
+            bytes,
+            next: 0,
+            most,
+            calls: 0,
+            failing_call,
+            failed: false,
+        }
+    }
+}
+
+impl Source for MemorySource {
+    ghost failed = { λ s. s.failed };
+
+    ghost remaining = { λ s. Some s.bytes };
+
+    fn read(&mut self, buffer: &mut [u8]) -> Result<usize, EndFault>
+        ensures fails { IsErr result ↔ FailsNext self.old.calls }
+        ensures count { IfOk result (λ n. n ≡ min (min (length self.old.bytes) self.old.most) (length buffer.new)) }
+        ensures bytes { IfOk result (λ n. self.old.bytes ≡ take n buffer.new ++ self.new.bytes) }
+        ensures end { IfOk result (λ n. n ≡ 0 → 0 < length buffer.new → self.new.bytes ≡ []) }
+        ensures working { OnOk result (self.new.failed ≡ false) }
+        ensures fault { OnErr result ((self.new.failed ≡ true) × (self.new.bytes ≡ self.old.bytes)) }
+        ensures conduct { (self.new.most ≡ self.old.most) × (self.new.calls ≡ one_more self.old.calls) }
+    {
+        self.calls = self.calls.saturating_add(1);
+        if self.failing_call == Some(self.calls) {
+            self.failed = true;
+            return Err(EndFault);
+        }
+        let left = self.bytes.len() - self.next;
+        let count = left.min(self.most).min(buffer.len());
+        buffer[..count].copy_from_slice(&self.bytes[self.next..self.next + count]);
+        self.next += count;
+        self.failed = false;
+        Ok(count)
+    }
+}

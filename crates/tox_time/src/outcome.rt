@@ -1,0 +1,9 @@
+use crate::ending::Ending;
+use crate::slice::SliceList;
+
+/// What a link delivered: its slices, and how it ended.
+#[derive(Debug, Drop)]
+pub struct Outcome {
+    pub slices: SliceList,
+    pub ending: Ending,
+}

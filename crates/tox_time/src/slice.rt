@@ -1,0 +1,69 @@
+ghost use Rattle.std.specs.Prelude.{◌≡◌, [], ◌∷◌, ◌++◌, List, OnOk, OnErr};
+
+use crate::micros::Micros;
+use crate::span::Span;
+use std::alloc::{AllocError, Global};
+use std::marker::Model;
+
+/// A range of bytes, and the instant at which they leave the link.
+#[derive(Clone, Copy, Debug, Default, PartialEq, Eq, Hash)]
+pub struct Slice {
+    pub span: Span,
+    pub instant: Micros,
+}
+
+/// Slices in the order in which they leave.
+#[derive(Debug, Drop)]
+pub struct SliceList {
+    slices: Vec<Slice>,
+}
+
+impl Model for SliceList {
+    ghost use Rattle.std.specs.Prelude.{List};
+    ghost use Rattle.tox_time.specs.declared.slice.Slice.{Slice as OneSlice};
+
+    ghost Value = { List OneSlice };
+
+    ghost view = { λ list. list.slices.items };
+}
+
+impl SliceList {
+    /// No slice; takes no memory.
+    pub fn new(alloc: Global) -> SliceList
+        ensures { result ≡ [] }
+    {
+        SliceList {
+            slices: Vec::new(alloc),
+        }
+    }
+
+    /// Adds a slice behind the others.
+    pub fn push(&mut self, slice: Slice) -> Result<(), AllocError>
+        ensures ok { OnOk result (self.new ≡ self.old ++ slice ∷ []) }
+        ensures err { OnErr result (self.new ≡ self.old) }
+    {
+        self.slices.push(slice)?;
+        Ok(())
+    }
+
+    pub fn as_slice(&self) -> &[Slice]
+        ensures { result.now ≡ self.now }
+    {
+        &self.slices
+    }
+
+    /// The vector that the list was made over; takes no memory.
+    pub fn into_vec(self) -> Vec<Slice>
+        ensures { result.items ≡ self }
+    {
+        self.slices
+    }
+}
+
+impl From<Vec<Slice>> for SliceList {
+    ghost from_gives = { λ slices list. list ≡ slices.items };
+
+    fn from(slices: Vec<Slice>) -> SliceList {
+        SliceList { slices }
+    }
+}
