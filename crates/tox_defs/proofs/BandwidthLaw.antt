@@ -1,0 +1,141 @@
+-- A bandwidth keeps each byte back until the link could have carried it.
+use Rattle.std.proofs.Common.{◌≡◌, ℕ, zero, suc, ◌+◌, ◌-◌, ◌*◌, ◌<◌, ◌≤◌, min, max, true, List, [], ◌∷◌, ◌++◌, length, replicate, refl, arith, ap, append_assoc, mul_comm, add-zero}
+use Rattle.std.specs.Prelude.{slice_index}
+use Rattle.std.specs.Int.{div_ceil}
+use Rattle.std.proofs.lemmas.Grind.{div_ceil_times}
+use Rattle.std.proofs.Math.Nat.{lt_of_mul-lt-mul_left}
+use Rattle.tox_time.specs.declared.item.Item.{Item}
+use Rattle.tox_time.specs.declared.item.Item.TheVariants.{Chunk, Closed, Reset, Quiet}
+use Rattle.tox_time.specs.Time.{plus}
+use Rattle.tox_time.specs.Stream.{span_len, arrived, latest_from, is_final, IsStreamFrom}
+use Rattle.tox_time.specs.Table.{table}
+use Rattle.tox_defs.specs.Reaction.{chunk_count, counted, flow_from}
+use Rattle.tox_defs.specs.Givings.{paced, cut, leave}
+use Rattle.tox_defs.specs.Laws.{first_instant}
+use Rattle.tox_time.proofs.StreamLemmas.{table-append}
+use Rattle.tox_defs.proofs.OpenStates.{has_final-leave, open_state}
+use Rattle.tox_defs.proofs.FlowLemmas.{flow_from-last}
+
+-- a product below another, by the other factor
+below_by : (d m n : ℕ) → m * d < n * d → m < n
+below_by d m n less = lt_of_mul-lt-mul_left d (rw (mul_comm d m, mul_comm d n) less)
+
+-- `div_ceil` of a sum, and of a greater number
+div_ceil-add : (x y d : ℕ) → 0 < d → div_ceil (x + y) d ≤ div_ceil x d + div_ceil y d
+div_ceil-add x y d positive =
+    let sum = div_ceil_times (x + y) d positive in
+    let left = div_ceil_times x d positive in
+    let right = div_ceil_times y d positive in
+    let spread : (div_ceil x d + div_ceil y d + 1) * d ≡ div_ceil x d * d + div_ceil y d * d + d = grind arith in
+    let below : div_ceil (x + y) d < div_ceil x d + div_ceil y d + 1 = below_by d (div_ceil (x + y) d) (div_ceil x d + div_ceil y d + 1) (omega (arith, sum.1, left.0, right.0, spread)) in
+    omega (arith, below)
+
+div_ceil-le : (x y d : ℕ) → 0 < d → x ≤ y → div_ceil x d ≤ div_ceil y d
+div_ceil-le x y d positive order =
+    let left = div_ceil_times x d positive in
+    let right = div_ceil_times y d positive in
+    let spread : (div_ceil y d + 1) * d ≡ div_ceil y d * d + d = grind arith in
+    let below : div_ceil x d < div_ceil y d + 1 = below_by d (div_ceil x d) (div_ceil y d + 1) (omega (arith, left.1, right.0, spread)) in
+    omega (arith, below)
+
+-- when the first n bytes may have left
+abbrev due : ℕ → ℕ → ℕ → ℕ
+due rate first n = plus first (div_ceil (1000 * n) rate)
+
+-- no byte leaves before it is due, from byte n on
+abbrev AreDue : ℕ → ℕ → ℕ → List ℕ → Type 0
+AreDue rate first n [] = Unit {0}
+AreDue rate first n (t ∷ ts) = (due rate first (n + 1) ≤ t) × AreDue rate first (n + 1) ts
+
+due-le : (rate first m n : ℕ) → 0 < rate → m ≤ n → due rate first m ≤ due rate first n
+due-le rate first m n positive order =
+    let more = div_ceil-le (1000 * m) (1000 * n) rate positive (omega arith) in omega (arith, more)
+
+AreDue-replicate : (rate first n count at : ℕ) (ts : List ℕ) → 0 < rate → due rate first (n + count) ≤ at → AreDue rate first (n + count) ts → AreDue rate first n (replicate count at ++ ts)
+AreDue-replicate rate first n zero at ts positive late others = rw (add-zero n) at others
+AreDue-replicate rate first n (suc count) at ts positive late others =
+    let next : n + suc count ≡ n + 1 + count = omega arith in
+    let early = due-le rate first (n + 1) (n + suc count) positive (omega arith) in
+    (omega (arith, early, late), AreDue-replicate rate first (n + 1) count at ts positive (rw next at late) (rw next at others))
+
+-- a piece leaves when its last byte is due, or later
+piece_due : (rate first n len start_at : ℕ) → 0 < rate → due rate first n ≤ start_at → due rate first (n + len) ≤ plus start_at (div_ceil (1000 * len) rate)
+piece_due rate first n len start_at positive before =
+    let parts : 1000 * (n + len) ≡ 1000 * n + 1000 * len = omega arith in
+    let more = div_ceil-add (1000 * n) (1000 * len) rate positive in
+    rw parts (omega (arith, more, before))
+
+-- the pieces of an arrival, before what is due after them
+leave_due : (rate first size number start left fuel since t n : ℕ) (ts : List ℕ) → 0 < rate → 0 < size → left ≤ fuel → due rate first n ≤ max since t → AreDue rate first (n + left) ts → AreDue rate first n (table (leave (λ len. div_ceil (1000 * len) rate) since t (cut (λ _. size) number start left fuel)) ++ ts)
+leave_due rate first size number start zero fuel since t n ts positive some enough before others = rw (add-zero n) at others
+leave_due rate first size number start (suc left) zero since t n ts positive some enough before others = absurd (omega (arith, enough))
+leave_due rate first size number start (suc left) (suc fuel) since t n ts positive some enough before others =
+    let width : start + min size (suc left) - start ≡ min size (suc left) = omega arith in
+    let rest : n + suc left ≡ n + min size (suc left) + (suc left - size) = omega arith in
+    let late = piece_due rate first n (min size (suc left)) (max since t) positive before in
+    rw width
+    (rw (append_assoc (replicate (min size (suc left)) (plus (max since t) (div_ceil (1000 * min size (suc left)) rate))))
+    (AreDue-replicate rate first n (min size (suc left)) (plus (max since t) (div_ceil (1000 * min size (suc left)) rate)) _ positive late
+    (leave_due rate first size (number + 1) (start + min size (suc left)) (suc left - size) fuel (plus (max since t) (div_ceil (1000 * min size (suc left)) rate)) t (n + min size (suc left)) ts positive some (omega (arith, enough, some)) (omega (arith, late)) (rw rest at others))))
+
+-- the last piece of an arrival leaves when its last byte is due, or later
+leave_latest : (rate first size number start left fuel since t n : ℕ) → 0 < rate → 0 < size → left ≤ fuel → due rate first n ≤ max since t → due rate first (n + left) ≤ max (latest_from since (leave (λ len. div_ceil (1000 * len) rate) since t (cut (λ _. size) number start left fuel))) t
+leave_latest rate first size number start zero fuel since t n positive some enough before = rw (add-zero n) before
+leave_latest rate first size number start (suc left) zero since t n positive some enough before = absurd (omega (arith, enough))
+leave_latest rate first size number start (suc left) (suc fuel) since t n positive some enough before =
+    let width : start + min size (suc left) - start ≡ min size (suc left) = omega arith in
+    let rest : n + suc left ≡ n + min size (suc left) + (suc left - size) = omega arith in
+    let late = piece_due rate first n (min size (suc left)) (max since t) positive before in
+    rw (width, rest)
+    (leave_latest rate first size (number + 1) (start + min size (suc left)) (suc left - size) fuel (plus (max since t) (div_ceil (1000 * min size (suc left)) rate)) t (n + min size (suc left)) positive some (omega (arith, enough, some)) (omega (arith, late)))
+
+AreDue-nil : (rate first n : ℕ) (ts : List ℕ) → ts ≡ [] → AreDue rate first n ts
+AreDue-nil rate first n ts none = rw none tt
+
+table-last : (rate previous chunks pieces passed : ℕ) (item : Item) (items : List Item) → items ≡ [] → table (item ∷ []) ≡ [] → is_final item ≡ true → table (flow_from (counted (paced rate)) (open_state previous chunks pieces passed) (item ∷ items)) ≡ []
+table-last rate previous chunks pieces passed (Chunk span t) items none bare final = absurd (cc)
+table-last rate previous chunks pieces passed (Closed t) items none bare final = ap table (flow_from-last (counted (paced rate)) (open_state previous chunks pieces passed) (Closed t) items none)
+table-last rate previous chunks pieces passed (Reset t) items none bare final = ap table (flow_from-last (counted (paced rate)) (open_state previous chunks pieces passed) (Reset t) items none)
+table-last rate previous chunks pieces passed Quiet items none bare final = ap table (flow_from-last (counted (paced rate)) (open_state previous chunks pieces passed) Quiet items none)
+
+-- every byte of a bandwidth's flow leaves when it is due, or later
+pub AreDue-flow : (rate first : ℕ) (items : List Item) (previous chunks pieces passed position since n : ℕ) → 0 < rate → due rate first n ≤ max previous since → IsStreamFrom position since items → AreDue rate first n (table (flow_from (counted (paced rate)) (open_state previous chunks pieces passed) items))
+AreDue-flow rate first [] previous chunks pieces passed position since n positive before stream = tt
+AreDue-flow rate first (Chunk span t ∷ items) previous chunks pieces passed position since n positive before stream =
+    let size : 0 < 100 * rate = omega arith in
+    let ready : due rate first n ≤ max previous t = omega (arith, before, stream.2) in
+    let given : List Item = leave (λ len. div_ceil (1000 * len) rate) previous t (cut (λ _. 100 * rate) 0 span.start (span_len span) (span_len span)) in
+    rw (has_final-leave (λ len. div_ceil (1000 * len) rate) previous t (cut (λ _. 100 * rate) 0 span.start (span_len span) (span_len span)))
+    (rw (table-append given (flow_from (counted (paced rate)) (open_state (latest_from previous given) (chunks + 1) (pieces + chunk_count given) (passed + arrived given)) items))
+    (leave_due rate first (100 * rate) 0 span.start (span_len span) (span_len span) previous t n _ positive size (omega arith) ready
+    (AreDue-flow rate first items (latest_from previous given) (chunks + 1) (pieces + chunk_count given) (passed + arrived given) span.stop t (n + span_len span) positive
+    (leave_latest rate first (100 * rate) 0 span.start (span_len span) (span_len span) previous t n positive size (omega arith) ready) stream.4)))
+AreDue-flow rate first (Closed t ∷ items) previous chunks pieces passed position since n positive before stream = AreDue-nil rate first n _ (table-last rate previous chunks pieces passed (Closed t) items stream.2 refl refl)
+AreDue-flow rate first (Reset t ∷ items) previous chunks pieces passed position since n positive before stream = AreDue-nil rate first n _ (table-last rate previous chunks pieces passed (Reset t) items stream.2 refl refl)
+AreDue-flow rate first (Quiet ∷ items) previous chunks pieces passed position since n positive before stream = AreDue-nil rate first n _ (table-last rate previous chunks pieces passed Quiet items stream refl refl)
+
+-- the n-th byte, by its number
+pub AreDue-at : (rate first start : ℕ) (ts : List ℕ) (n : ℕ) → AreDue rate first start ts → n < length ts → due rate first (start + n + 1) ≤ slice_index ts n
+AreDue-at rate first start [] n late within = absurd (omega (arith, within))
+AreDue-at rate first start (t ∷ ts) zero late within = let same : start + 0 + 1 ≡ start + 1 = omega arith in rw same late.0
+AreDue-at rate first start (t ∷ ts) (suc n) late within =
+    let same : start + suc n + 1 ≡ start + 1 + n + 1 = omega arith in rw same (AreDue-at rate first (start + 1) ts n late.1 (omega (arith, within)))
+
+-- at first nothing is due
+due-zero : (rate first : ℕ) → 0 < rate → due rate first 0 ≤ first
+due-zero rate first positive =
+    let none : div_ceil (1000 * 0) rate < 1 = below_by rate (div_ceil (1000 * 0) rate) 1 (omega (arith, div_ceil_times 0 rate positive)) in omega (arith, none)
+
+IsStreamFrom-first : (items : List Item) (position : ℕ) → IsStreamFrom position 0 items → IsStreamFrom position (first_instant items) items
+IsStreamFrom-first [] position stream = stream
+IsStreamFrom-first (Chunk span t ∷ items) position stream = (stream.0, stream.1, omega arith, stream.3, stream.4)
+IsStreamFrom-first (Closed t ∷ items) position stream = stream
+IsStreamFrom-first (Reset t ∷ items) position stream = stream
+IsStreamFrom-first (Quiet ∷ items) position stream = stream
+
+-- the manual's law of bandwidth
+pub bandwidth_law : (rate : ℕ) (items : List Item) (n : ℕ) → 0 < rate → IsStreamFrom 0 0 items → n < length (table (flow_from (counted (paced rate)) (open_state 0 0 0 0) items)) → due rate (first_instant items) (n + 1) ≤ slice_index (table (flow_from (counted (paced rate)) (open_state 0 0 0 0) items)) n
+bandwidth_law rate items n positive stream within =
+    let zero_due = due-zero rate (first_instant items) positive in
+    let same : 0 + n + 1 ≡ n + 1 = omega arith in
+    rw same at (AreDue-at rate (first_instant items) 0 _ n (AreDue-flow rate (first_instant items) items 0 0 0 0 0 (first_instant items) 0 positive (omega (arith, zero_due)) (IsStreamFrom-first items 0 stream)) within)

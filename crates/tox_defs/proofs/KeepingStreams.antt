@@ -1,0 +1,108 @@
+-- A giving that keeps streams at each item gives a stream for a stream.
+use Rattle.std.proofs.Common.{◌≡◌, ℕ, zero, suc, ◌+◌, ◌-◌, ◌*◌, ◌<◌, ◌≤◌, min, max, Bool, true, false, List, [], ◌∷◌, ◌++◌, refl, arith, sym, subst, inl, inr, ◌⊎◌}
+use Rattle.std.specs.Prelude.{nat_lt}
+use Rattle.std.specs.Int.{div_ceil}
+use Rattle.std.proofs.lemmas.List.{append-nil}
+use Rattle.std.proofs.lemmas.Bool.{ltb-true}
+use Rattle.tox_time.specs.declared.micros.TheConstants.{HORIZON}
+use Rattle.tox_time.specs.declared.span.Span.{Span}
+use Rattle.tox_time.specs.declared.item.Item.{Item}
+use Rattle.tox_time.specs.declared.item.Item.TheVariants.{Chunk, Closed, Reset, Quiet}
+use Rattle.tox_time.specs.Time.{plus, IsInstant}
+use Rattle.tox_time.specs.Stream.{span_len, has_final, latest_from, is_final, IsStreamFrom}
+use Rattle.tox_defs.specs.Reaction.{Giving, counted, flow_from, state_after}
+use Rattle.tox_defs.specs.declared.state.State.{State}
+use Rattle.tox_defs.specs.Givings.{in_order, delayed, paced, sliced, closed_later, muted, cut_off, limited, first_bytes, is_before, cut, leave}
+use Rattle.tox_defs.proofs.OpenStates.{open_state, has_final-leave, has_final-first_bytes}
+use Rattle.tox_defs.proofs.FlowLemmas.{flow_from-done, flow_from-last}
+
+-- an item that can come next, after a position and an instant
+abbrev pub CanFollow : ℕ → ℕ → Item → Type 0
+CanFollow position since (Chunk span t) = (span.start ≡ position) × (position < span.stop) × (since ≤ t) × (IsInstant t)
+CanFollow position since (Closed t) = (since ≤ t) × (IsInstant t)
+CanFollow position since (Reset t) = (since ≤ t) × (IsInstant t)
+CanFollow position since Quiet = Unit {0}
+
+-- chunks in order, from a position and an instant, up to a position
+abbrev pub AreChunks : ℕ → ℕ → List Item → ℕ → Type 0
+AreChunks position since [] stop = position ≡ stop
+AreChunks position since (Chunk span t ∷ items) stop = (span.start ≡ position) × (position < span.stop) × (since ≤ t) × (IsInstant t) × AreChunks span.stop t items stop
+AreChunks position since (item ∷ items) stop = ⊥
+
+-- chunks, and then a stream
+IsStreamFrom-append : (chunks items : List Item) (position since stop : ℕ) → AreChunks position since chunks stop → IsStreamFrom stop (latest_from since chunks) items → IsStreamFrom position since (chunks ++ items)
+IsStreamFrom-append [] items position since stop fits stream = rw fits stream
+IsStreamFrom-append (Chunk span t ∷ chunks) items position since stop fits stream =
+    (fits.0, fits.1, fits.2, fits.3, IsStreamFrom-append chunks items span.stop t stop fits.4 stream)
+IsStreamFrom-append (Closed t ∷ chunks) items position since stop fits stream = absurd fits
+IsStreamFrom-append (Reset t ∷ chunks) items position since stop fits stream = absurd fits
+IsStreamFrom-append (Quiet ∷ chunks) items position since stop fits stream = absurd fits
+
+-- a final ends a stream
+pub IsStreamFrom-final : (item : Item) (items : List Item) (position since : ℕ) → is_final item ≡ true → CanFollow position since item → items ≡ [] → IsStreamFrom position since (item ∷ items)
+IsStreamFrom-final (Chunk span t) items position since final follows none = absurd (cc)
+IsStreamFrom-final (Closed t) items position since final follows none = (follows.0, follows.1, none)
+IsStreamFrom-final (Reset t) items position since final follows none = (follows.0, follows.1, none)
+IsStreamFrom-final Quiet items position since final follows none = none
+
+-- the pieces of a span, as chunks in order
+pub AreChunks-leave : (size wait : ℕ → ℕ) → ((n : ℕ) → 0 < size n) → (number start left fuel since t : ℕ) → left ≤ fuel → since ≤ HORIZON → t ≤ HORIZON → AreChunks start since (leave wait since t (cut size number start left fuel)) (start + left)
+AreChunks-leave size wait some number start zero fuel since t enough late fits = omega arith
+AreChunks-leave size wait some number start (suc left) zero since t enough late fits = absurd (omega (arith, enough))
+AreChunks-leave size wait some number start (suc left) (suc fuel) since t enough late fits =
+    let positive : 0 < size number = some number in
+    let rest : start + suc left ≡ start + min (size number) (suc left) + (suc left - size number) = omega arith in
+    let leaves = plus (max since t) (wait (start + min (size number) (suc left) - start)) in (
+      refl,
+      omega (arith, positive),
+      omega (arith, late, fits),
+      omega arith,
+      rw rest (AreChunks-leave size wait some (number + 1) (start + min (size number) (suc left)) (suc left - size number) fuel leaves t (omega (arith, enough, positive)) (omega arith) fits),
+    )
+
+-- what is given goes on with the stream, up to a position
+pub record GoesOn (R : ℕ → ℕ → Type 0) (given : List Item) (start previous stop t : ℕ) : Type 0 where
+  pub in_row : AreChunks start previous given stop
+  pub no_final : has_final given ≡ false
+  pub related : R (latest_from previous given) t
+  pub instant : latest_from previous given ≤ HORIZON
+
+-- or ends it
+pub record EndsThere (given : List Item) (start previous : ℕ) : Type 0 where
+  pub a_final : has_final given ≡ true
+  pub in_row : IsStreamFrom start previous given
+
+-- a giving that keeps streams, where R stands between the last given instant and the last taken one
+pub record KeepsStreams (R : ℕ → ℕ → Type 0) (giving : Giving) : Type 0 where
+  pub at_chunk : (previous chunks pieces passed : ℕ) (span : Span) (t since : ℕ) → previous ≤ HORIZON → R previous since → span.start < span.stop → since ≤ t → t ≤ HORIZON → GoesOn R (giving (open_state previous chunks pieces passed) (Chunk span t)) span.start previous span.stop t ⊎ EndsThere (giving (open_state previous chunks pieces passed) (Chunk span t)) span.start previous
+  pub at_final : (previous chunks pieces passed : ℕ) (item : Item) (position since : ℕ) → previous ≤ HORIZON → R previous since → is_final item ≡ true → CanFollow position since item → IsStreamFrom position previous (giving (open_state previous chunks pieces passed) item)
+
+-- the flow at a chunk
+flow_at_chunk : (R : ℕ → ℕ → Type 0) (giving : Giving) (previous chunks pieces passed : ℕ) (span : Span) (t : ℕ) (items : List Item) → GoesOn R (giving (open_state previous chunks pieces passed) (Chunk span t)) span.start previous span.stop t ⊎ EndsThere (giving (open_state previous chunks pieces passed) (Chunk span t)) span.start previous
+    → ((previous' chunks' pieces' passed' : ℕ) → previous' ≤ HORIZON → R previous' t → IsStreamFrom span.stop previous' (flow_from (counted giving) (open_state previous' chunks' pieces' passed') items))
+    → IsStreamFrom span.start previous (flow_from (counted giving) (open_state previous chunks pieces passed) (Chunk span t ∷ items))
+flow_at_chunk R giving previous chunks pieces passed span t items (inl on) others =
+    rw on.no_final (IsStreamFrom-append (giving (open_state previous chunks pieces passed) (Chunk span t)) _ span.start previous span.stop on.in_row (others _ _ _ _ on.instant on.related))
+flow_at_chunk R giving previous chunks pieces passed span t items (inr end) others =
+    let state : State = state_after (open_state previous chunks pieces passed) (Chunk span t) (giving (open_state previous chunks pieces passed) (Chunk span t)) in
+    rw (flow_from-done (counted giving) state items end.a_final) (rw (append-nil (giving (open_state previous chunks pieces passed) (Chunk span t))) end.in_row)
+
+flow_at_final : (giving : Giving) (previous chunks pieces passed position : ℕ) (item : Item) (items : List Item) → items ≡ [] → IsStreamFrom position previous (giving (open_state previous chunks pieces passed) item) → IsStreamFrom position previous (flow_from (counted giving) (open_state previous chunks pieces passed) (item ∷ items))
+flow_at_final giving previous chunks pieces passed position item items none stream =
+    let same : flow_from (counted giving) (open_state previous chunks pieces passed) (item ∷ items) ≡ giving (open_state previous chunks pieces passed) item = flow_from-last (counted giving) (open_state previous chunks pieces passed) item items none in
+    subst (λ given. IsStreamFrom position previous given) (sym same) stream
+
+-- streams give streams
+pub IsStreamFrom-flow : (R : ℕ → ℕ → Type 0) (giving : Giving) → KeepsStreams R giving → (items : List Item) (previous chunks pieces passed position since : ℕ) → previous ≤ HORIZON → R previous since → IsStreamFrom position since items → IsStreamFrom position previous (flow_from (counted giving) (open_state previous chunks pieces passed) items)
+IsStreamFrom-flow R giving keeps [] previous chunks pieces passed position since fits related stream = stream
+IsStreamFrom-flow R giving keeps (Chunk span t ∷ items) previous chunks pieces passed position since fits related stream =
+    rw (← stream.0)
+    (flow_at_chunk R giving previous chunks pieces passed span t items
+    (keeps.at_chunk previous chunks pieces passed span t since fits related (omega (arith, stream.0, stream.1)) stream.2 stream.3)
+    (λ previous' chunks' pieces' passed' fits' related'. IsStreamFrom-flow R giving keeps items previous' chunks' pieces' passed' span.stop t fits' related' stream.4))
+IsStreamFrom-flow R giving keeps (Closed t ∷ items) previous chunks pieces passed position since fits related stream =
+    flow_at_final giving previous chunks pieces passed position (Closed t) items stream.2 (keeps.at_final previous chunks pieces passed (Closed t) position since fits related refl (stream.0, stream.1))
+IsStreamFrom-flow R giving keeps (Reset t ∷ items) previous chunks pieces passed position since fits related stream =
+    flow_at_final giving previous chunks pieces passed position (Reset t) items stream.2 (keeps.at_final previous chunks pieces passed (Reset t) position since fits related refl (stream.0, stream.1))
+IsStreamFrom-flow R giving keeps (Quiet ∷ items) previous chunks pieces passed position since fits related stream =
+    flow_at_final giving previous chunks pieces passed position Quiet items stream (keeps.at_final previous chunks pieces passed Quiet position since fits related refl tt)

@@ -1,0 +1,60 @@
+-- The operation of a toxic reacts as the toxic does, and is one that a plan may have.
+use Rattle.std.proofs.Common.{◌≡◌, ℕ, zero, suc, ◌+◌, ◌*◌, ◌≤◌, ◌<◌, ◌&&◌, Bool, true, false, Some, None, List, refl, ap, arith, if◌then◌else◌}
+use Rattle.std.specs.Prelude.{nat_le}
+use Rattle.std.proofs.lemmas.Bool.{leb-true, leb-false}
+use mathlib.Core.Path.{fun_ext}
+use Rattle.tox_words.specs.Draw.{draw}
+use Rattle.tox_defs.specs.declared.toxic.Toxic.{Toxic}
+use Rattle.tox_defs.specs.declared.toxic.Toxic.TheVariants.{Latency, Bandwidth, SlowClose, Timeout, ResetPeer, Slicer, LimitData}
+use Rattle.tox_defs.specs.declared.toxic.ToxicFault.TheVariants.{OutOfRange, Variation}
+use Rattle.tox_defs.specs.Toxic.{IsInRange, is_within}
+use Rattle.tox_defs.specs.Reaction.{counted}
+use Rattle.tox_defs.specs.Givings.{delayed}
+use Rattle.tox_defs.specs.Flow.{toxic_reaction, varied}
+use Rattle.tox_defs.specs.Op.{op_reaction, op_of, IsOp}
+
+pub op_reaction-op_of : (place : ℕ) (toxic : Toxic) (words : List ℕ) → op_reaction (op_of place toxic) words ≡ toxic_reaction toxic (draw words place)
+op_reaction-op_of place (Latency latency zero) words =
+    let waits : (chunk : ℕ) → 1000 * (latency + varied 0 0 (draw words 0 (1 + chunk))) ≡ 1000 * varied latency 0 (draw words place (1 + chunk)) = λ chunk. omega arith in
+    ap (λ wait. counted (delayed wait)) (fun_ext waits)
+op_reaction-op_of place (Latency latency (suc jitter)) words =
+    let waits : (chunk : ℕ) → 1000 * (0 + varied latency (suc jitter) (draw words place (1 + chunk))) ≡ 1000 * varied latency (suc jitter) (draw words place (1 + chunk)) = λ chunk. omega arith in
+    ap (λ wait. counted (delayed wait)) (fun_ext waits)
+op_reaction-op_of place (Bandwidth rate) words = refl
+op_reaction-op_of place (SlowClose delay) words = refl
+op_reaction-op_of place (Timeout timeout) words = refl
+op_reaction-op_of place (ResetPeer timeout) words = refl
+op_reaction-op_of place (Slicer average_size size_variation delay) words = refl
+op_reaction-op_of place (LimitData bytes) words = refl
+
+-- what it says of the two tests that there is no fault
+pub both_tests : (within varied_much : Bool) → (if within then (if varied_much then Some Variation else None) else Some OutOfRange) ≡ None → (within ≡ true) × (varied_much ≡ false)
+both_tests false varied_much none = absurd (cc)
+both_tests true true none = absurd (cc)
+both_tests true false none = (refl, refl)
+
+pub first_test : (a b : Bool) → (a && b) ≡ true → a ≡ true
+first_test true b both = refl
+first_test false b both = absurd (cc)
+
+-- what the ranges say that the laws need
+pub rate-positive : (rate : ℕ) → IsInRange (Bandwidth rate) → 0 < rate
+rate-positive rate fits =
+    let within = both_tests (is_within (Bandwidth rate)) false fits in
+    leb-true 1 rate (first_test (nat_le 1 rate) (nat_le rate 1000000) within.0)
+
+pub variation-below : (average variation delay : ℕ) → IsInRange (Slicer average variation delay) → variation < average
+variation-below average variation delay fits =
+    let within = both_tests (is_within (Slicer average variation delay)) (nat_le average variation) fits in
+    leb-false average variation within.1
+
+pub IsOp-op_of : (place : ℕ) (toxic : Toxic) → IsInRange toxic → IsOp (op_of place toxic)
+IsOp-op_of place (Latency latency zero) fits = refl
+IsOp-op_of place (Latency latency (suc jitter)) fits = tt
+IsOp-op_of place (Bandwidth rate) fits = rate-positive rate fits
+IsOp-op_of place (SlowClose delay) fits = tt
+IsOp-op_of place (Timeout zero) fits = tt
+IsOp-op_of place (Timeout (suc timeout)) fits = omega arith
+IsOp-op_of place (ResetPeer timeout) fits = omega arith
+IsOp-op_of place (Slicer average_size size_variation delay) fits = variation-below average_size size_variation delay fits
+IsOp-op_of place (LimitData bytes) fits = tt

@@ -1,0 +1,63 @@
+-- The pieces of a slicer have its sizes, unless they are the last of their arrival.
+use Rattle.std.proofs.Common.{◌≡◌, ℕ, zero, suc, ◌+◌, ◌-◌, ◌*◌, ◌%◌, ◌<◌, ◌≤◌, min, max, Bool, true, false, List, [], ◌∷◌, ◌++◌, map, length, replicate, refl, arith, ap, sym, append_assoc, length-append, inl, inr, ◌⊎◌}
+use Rattle.tox_time.specs.declared.span.Span.{Span}
+use Rattle.tox_time.specs.declared.item.Item.{Item}
+use Rattle.tox_time.specs.declared.item.Item.TheVariants.{Chunk, Closed, Reset, Quiet}
+use Rattle.tox_time.specs.Time.{plus}
+use Rattle.tox_time.specs.Stream.{span_len, arrived, latest_from, has_final, IsStreamFrom}
+use Rattle.tox_time.specs.Table.{table}
+use Rattle.tox_defs.specs.declared.state.State.{State}
+use Rattle.tox_defs.specs.declared.toxic.Toxic.TheVariants.{Latency, SlowClose}
+use Rattle.tox_defs.specs.Reaction.{state_after, counted, flow_from}
+use Rattle.tox_defs.specs.Givings.{muted, cut_off, limited, first_bytes, is_before, cut, leave, sliced}
+use Rattle.tox_defs.specs.Laws.{IsSized, StopsAt}
+use Rattle.tox_defs.specs.Flow.{toxic_reaction, varied}
+use Rattle.tox_defs.proofs.FlowLemmas.{flow_from-done, flow_from-last}
+use Rattle.std.proofs.lemmas.List.{length-replicate, append-nil}
+use Rattle.std.proofs.lemmas.List.Elements.{All-append, All-replicate, All-nil, All-cons, All-same}
+use Rattle.std.proofs.lemmas.Bool.{ltb-true, ltb-false}
+use Rattle.std.specs.Prelude.{All, nat_lt}
+use Rattle.tox_defs.proofs.OpenStates.{open_state, has_final-leave, has_final-first_bytes}
+
+piece_last : (arrivals : List Item) (least size start left : ℕ) (b : Bool) → nat_lt size (suc left) ≡ b → least ≤ size → StopsAt (start + suc left) arrivals → (least ≤ (start + min size (suc left) - start)) ⊎ StopsAt (start + min size (suc left)) arrivals
+piece_last arrivals least size start left true e enough stops =
+    let less : size < suc left = ltb-true size (suc left) e in inl (omega arith)
+piece_last arrivals least size start left false e enough stops =
+    let more : suc left ≤ size = ltb-false size (suc left) e in
+    let whole : min size (suc left) ≡ suc left = omega arith in inr (rw whole stops)
+
+-- a piece has its size, or is the last
+piece_sized : (arrivals : List Item) (least most size start left : ℕ) → ((least ≤ size) × (size ≤ most)) → StopsAt (start + suc left) arrivals → ((start + min size (suc left) - start) ≤ most) × ((least ≤ (start + min size (suc left) - start)) ⊎ StopsAt (start + min size (suc left)) arrivals)
+piece_sized arrivals least most size start left sized stops =
+    (omega arith, piece_last arrivals least size start left (nat_lt size (suc left)) refl sized.0 stops)
+
+-- the pieces of an arrival are sized
+leave_sized : (arrivals : List Item) (least most : ℕ) (size wait : ℕ → ℕ) → ((n : ℕ) → (least ≤ size n) × (size n ≤ most)) → (number start left fuel since t : ℕ) → StopsAt (start + left) arrivals → All (IsSized arrivals least most) (leave wait since t (cut size number start left fuel))
+leave_sized arrivals least most size wait sizes number start zero fuel since t stops = All-nil (IsSized arrivals least most)
+leave_sized arrivals least most size wait sizes number start (suc left) zero since t stops = All-nil (IsSized arrivals least most)
+leave_sized arrivals least most size wait sizes number start (suc left) (suc fuel) since t stops =
+    let end : start + min (size number) (suc left) + (suc left - size number) ≡ start + suc left = omega arith in
+    All-cons (IsSized arrivals least most) _ _
+    (piece_sized arrivals least most (size number) start left (sizes number) stops)
+    (leave_sized arrivals least most size wait sizes (number + 1) (start + min (size number) (suc left)) (suc left - size number) fuel _ t (rw end stops))
+
+-- every chunk stops where some arrival does
+abbrev StopsAmong : List Item → List Item → Type 0
+StopsAmong arrivals items = (stop : ℕ) → StopsAt stop items → StopsAt stop arrivals
+
+-- every piece of a slicer is sized
+pub All-sliced : (arrivals : List Item) (least most : ℕ) (size : ℕ → ℕ) (micros : ℕ) → ((n : ℕ) → (least ≤ size n) × (size n ≤ most)) → (items : List Item) (previous chunks pieces passed position since : ℕ) → StopsAmong arrivals items → IsStreamFrom position since items → All (IsSized arrivals least most) (flow_from (counted (sliced size micros)) (open_state previous chunks pieces passed) items)
+All-sliced arrivals least most size micros sizes [] previous chunks pieces passed position since among stream = All-nil (IsSized arrivals least most)
+All-sliced arrivals least most size micros sizes (Chunk span t ∷ items) previous chunks pieces passed position since among stream =
+    let whole : span.start + (span.stop - span.start) ≡ span.stop = omega (arith, stream.0, stream.1) in
+    let given : List Item = sliced size micros (open_state previous chunks pieces passed) (Chunk span t) in
+    rw (has_final-leave (λ _. micros) previous t (cut size pieces span.start (span_len span) (span_len span)))
+    (All-append (IsSized arrivals least most) _ _
+    (leave_sized arrivals least most size (λ _. micros) sizes pieces span.start (span_len span) (span_len span) previous t (rw whole (among span.stop (inl refl))))
+    (All-sliced arrivals least most size micros sizes items _ _ _ _ span.stop t (λ stop here. among stop (inr here)) stream.4))
+All-sliced arrivals least most size micros sizes (Closed t ∷ items) previous chunks pieces passed position since among stream =
+    All-same (IsSized arrivals least most) _ _ (flow_from-last (counted (sliced size micros)) (open_state previous chunks pieces passed) (Closed t) items stream.2) (All-cons (IsSized arrivals least most) _ [] tt (All-nil (IsSized arrivals least most)))
+All-sliced arrivals least most size micros sizes (Reset t ∷ items) previous chunks pieces passed position since among stream =
+    All-same (IsSized arrivals least most) _ _ (flow_from-last (counted (sliced size micros)) (open_state previous chunks pieces passed) (Reset t) items stream.2) (All-cons (IsSized arrivals least most) _ [] tt (All-nil (IsSized arrivals least most)))
+All-sliced arrivals least most size micros sizes (Quiet ∷ items) previous chunks pieces passed position since among stream =
+    All-same (IsSized arrivals least most) _ _ (flow_from-last (counted (sliced size micros)) (open_state previous chunks pieces passed) Quiet items stream) (All-cons (IsSized arrivals least most) _ [] tt (All-nil (IsSized arrivals least most)))

@@ -1,0 +1,13 @@
+pub mod Toxic
+pub mod Chain
+pub mod ChainInside
+pub mod Reaction
+pub mod Givings
+pub mod Flow
+pub mod Op
+pub mod Look
+pub mod Place
+pub mod Level
+pub mod Stage
+pub mod StageInside
+pub mod Laws

@@ -1,0 +1,69 @@
+-- What a look at the rest of a chunk finds, and what is then still to come.
+use Rattle.std.specs.Prelude.{◌≡◌, ℕ, ◌+◌, ◌==◌, min, ◌<◌, ◌≤◌, nat_lt, if◌then◌else◌, List, [], ◌∷◌, ◌++◌}
+use Rattle.tox_time.specs.declared.span.Span.{Span}
+use Rattle.tox_time.specs.declared.slice.Slice.{Slice}
+use Rattle.tox_time.specs.declared.ending.Ending.TheVariants.{Closed as ClosedAt, Reset as ResetAt}
+use Rattle.tox_time.specs.Stream.{span_len}
+use Rattle.tox_time.specs.declared.item.Item.{Item}
+use Rattle.tox_time.specs.declared.item.Item.TheVariants.{Chunk}
+use Rattle.tox_time.specs.Table.{final_of}
+use Rattle.tox_defs.specs.declared.state.State.{State}
+use Rattle.tox_defs.specs.declared.look.Look.{Look}
+use Rattle.tox_defs.specs.declared.look.Look.TheVariants.{Piece, LastPiece, Ended}
+use Rattle.tox_defs.specs.Reaction.{Reaction, flow_from, state_from, with_piece, with_chunk, with_ending}
+
+-- a slice as a chunk
+abbrev pub as_chunk : Slice → Item
+as_chunk slice = Chunk slice.span slice.instant
+
+-- the unread rest of a chunk that stops at `stop`, where the reader stands at `start`
+abbrev pub rest_of : ℕ → ℕ → ℕ → List Item
+rest_of start stop instant =
+    if nat_lt start stop then Chunk (record { start = start; stop = stop }) instant ∷ [] else []
+
+-- what comes for these items is `given`, and then what comes for the later items from the later state
+pub record Continues (reaction : Reaction) (state : State) (items : List Item) (given : List Item) (later_state : State) (later_items : List Item) : Type 0 where
+  pub gives : flow_from reaction state items ≡ given ++ flow_from reaction later_state later_items
+  pub leaves : state_from reaction state items ≡ state_from reaction later_state later_items
+
+-- the state after a piece of a rest that stops at `stop`: the chunk counts with its last piece
+abbrev pub after_piece_of : ℕ → State → Slice → State
+after_piece_of stop state piece = if piece.span.stop == stop then with_chunk (with_piece state piece) else with_piece state piece
+
+-- the look found what comes first for the rest, and items behind it
+abbrev pub Finds : Reaction → State → Slice → List Item → Look → Type 0
+Finds reaction state rest items (Piece piece) =
+    Continues reaction state (as_chunk rest ∷ items) (as_chunk piece ∷ [])
+    (after_piece_of rest.span.stop state piece) (rest_of piece.span.stop rest.span.stop rest.instant ++ items)
+Finds reaction state rest items (LastPiece piece ending) =
+    Continues reaction state (as_chunk rest ∷ items) (as_chunk piece ∷ final_of ending ∷ [])
+    (with_ending (with_chunk (with_piece state piece)) ending) items
+Finds reaction state rest items (Ended ending) =
+    Continues reaction state (as_chunk rest ∷ items) (final_of ending ∷ []) (with_ending (with_chunk state) ending) items
+
+-- the first bytes of a span, so many or what there is
+abbrev pub first_span : ℕ → Span → Span
+first_span bytes span = record { start = span.start; stop = span.start + min bytes (span_len span) }
+
+-- what a cutoff at an instant finds
+abbrev pub cutoff_look : ℕ → Slice → Look
+cutoff_look instant rest = if nat_lt rest.instant instant then Piece rest else Ended (ResetAt instant)
+
+-- what a limit with room for so many bytes finds
+abbrev pub limit_look : ℕ → Slice → Look
+limit_look room rest =
+    if nat_lt (span_len rest.span) room then Piece rest
+    else (if room == 0 then Ended (ClosedAt rest.instant)
+    else LastPiece (record { span = first_span room rest.span; instant = rest.instant }) (ClosedAt rest.instant))
+
+-- the piece begins where the rest does, isn't empty and lies in the rest
+pub record IsFront (rest piece : Slice) : Type 0 where
+  pub begins : piece.span.start ≡ rest.span.start
+  pub some : piece.span.start < piece.span.stop
+  pub within : piece.span.stop ≤ rest.span.stop
+
+-- the found piece, if any, is a front of the rest
+abbrev pub IsFrontOf : Slice → Look → Type 0
+IsFrontOf rest (Piece piece) = IsFront rest piece
+IsFrontOf rest (LastPiece piece ending) = IsFront rest piece
+IsFrontOf rest (Ended ending) = Unit {0}

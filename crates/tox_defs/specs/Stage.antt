@@ -1,0 +1,36 @@
+-- A stage as a value: a toxic's operation with its state after the whole reaction, and what is still to emit of that.
+use Rattle.std.specs.Prelude.{◌≡◌, ℕ, List, [], ◌∷◌, Option, None, Some}
+use Rattle.tox_time.specs.declared.item.Item.{Item}
+use Rattle.tox_defs.specs.declared.op.Op.{Op}
+use Rattle.tox_defs.specs.declared.state.State.{State}
+use Rattle.tox_defs.specs.declared.place.Place.{Place}
+use Rattle.tox_defs.specs.Reaction.{first_state, react}
+use Rattle.tox_defs.specs.Op.{op_reaction}
+use Rattle.tox_defs.specs.Place.{first_place, place_after}
+
+-- what a stage is seen as
+pub record Staged : Type 0 where
+  pub op : Op
+  pub words : List ℕ
+  pub state : State
+  pub pending : List Item
+  pub place : Place
+
+-- a stage that was given nothing yet
+abbrev pub first_stage : Op → List ℕ → Staged
+first_stage op words = record { op = op; words = words; state = first_state; pending = []; place = first_place }
+
+-- the stage that took an item: it has the state after the reaction, and the whole reaction to emit
+abbrev pub taken : Staged → Item → Staged
+taken stage item = record {
+  op = stage.op;
+  words = stage.words;
+  state = (react (op_reaction stage.op stage.words) stage.state item).state;
+  pending = (react (op_reaction stage.op stage.words) stage.state item).given;
+  place = place_after stage.place item;
+}
+
+-- the first item that is still to emit leaves the stage, if there is one
+abbrev pub MatchEmitted : Staged → Staged → Option Item → Type 0
+MatchEmitted old new (Some item) = (old.pending ≡ item ∷ new.pending) × (new ≡ record old { pending = new.pending })
+MatchEmitted old new None = (old.pending ≡ []) × (new ≡ old)

@@ -1,0 +1,120 @@
+ghost use Rattle.std.specs.Prelude.{◌≡◌, ◌+◌, ◌<◌, ◌≤◌, ◌↔◌, [], ◌∷◌, ◌++◌, length, slice_get, Some, IsTrue, IsOk, OnOk, OnErr, IsSomeAnd};
+ghost use Rattle.tox_defs.specs.declared.chain.TheConstants.{MOST_TOXICS};
+
+use crate::toxic::Toxic;
+use arrayvec::ArrayVec;
+use std::marker::Model;
+use thiserror::Error;
+
+/// The most toxics of a chain.
+pub const MOST_TOXICS: usize = 16;
+
+/// A toxic of a chain.
+#[derive(Clone, Copy, Debug, PartialEq, Eq)]
+pub struct Entry {
+    pub toxic: Toxic,
+    /// The chance that a link meets the toxic, in thousandths: 0 to 1000.
+    pub toxicity: u16,
+}
+
+impl Default for Entry {
+    ghost use Rattle.std.specs.Prelude.{◌≡◌};
+    ghost use Rattle.tox_defs.specs.declared.toxic.Toxic.TheVariants.{Latency};
+
+    ghost is_default = { λ entry. entry ≡ record { toxic = Latency 0 0; toxicity = 0 } };
+
+    /// A latency of zero that no link meets.
+    fn default() -> Self {
+        Entry {
+            toxic: Toxic::Latency {
+                latency: 0,
+                jitter: 0,
+            },
+            toxicity: 0,
+        }
+    }
+}
+
+/// The chain is full.
+#[derive(Clone, Copy, Debug, PartialEq, Eq, Error)]
+#[error("S9 TooManyToxics")]
+pub struct TooManyToxics;
+
+/// The toxics of one stream of a link, in order, each with its toxicity: at most [`MOST_TOXICS`].
+#[derive(Drop)]
+pub struct Chain {
+    entries: ArrayVec<Entry, MOST_TOXICS>,
+}
+
+impl Model for Chain {
+    ghost use Rattle.tox_defs.specs.Chain.{Toxics};
+
+    ghost Value = { Toxics };
+
+    ghost use Rattle.tox_defs.specs.ChainInside.{toxics, IsKept};
+
+    ghost view = { toxics };
+
+    ghost invariant = { IsKept };
+}
+
+impl Chain {
+    ghost use Rattle.tox_defs.specs.Toxic.{IsInRange};
+    ghost use Rattle.tox_defs.specs.Chain.{IsChain, IsEntry};
+
+    /// No toxic: what arrives leaves as it is.
+    pub fn new() -> Chain
+        ensures { result ≡ record { entries = [] } }
+    {
+        Chain {
+            entries: ArrayVec::new(),
+        }
+    }
+
+    /// Adds a toxic behind the others. A refusal leaves the chain unchanged.
+    pub fn push(&mut self, toxic: Toxic, toxicity: u16) -> Result<(), TooManyToxics>
+        requires in_range { IsInRange toxic }
+        requires thousandths { toxicity ≤ 1000 }
+        ensures room { IsOk result ↔ (length self.old.entries < MOST_TOXICS) }
+        ensures ok { OnOk result (self.new.entries ≡ self.old.entries ++ record { toxic = toxic; toxicity = toxicity } ∷ []) }
+        ensures err { OnErr result (self.new ≡ self.old) }
+    {
+        if self.entries.is_full() {
+            return Err(TooManyToxics);
+        }
+        self.entries.push(Entry { toxic, toxicity });
+        Ok(())
+    }
+
+    /// How many toxics there are, 0 to [`MOST_TOXICS`].
+    pub fn len(&self) -> usize
+        ensures value { result ≡ length self.now.entries }
+        ensures chain { IsChain self.now }
+    {
+        self.entries.len()
+    }
+
+    pub fn is_empty(&self) -> bool
+        ensures { IsTrue result ↔ (self.now.entries ≡ []) }
+    {
+        self.entries.is_empty()
+    }
+
+    /// The toxic at a place from 0.
+    pub fn toxic(&self, place: usize) -> Toxic
+        requires { place < length self.now.entries }
+        ensures value { IsSomeAnd (slice_get self.now.entries place) (λ entry. result ≡ entry.toxic) }
+        ensures in_range { IsInRange result }
+    {
+        self.entries[place].toxic
+    }
+
+    /// The toxicity at a place from 0, in thousandths.
+    pub fn toxicity(&self, place: usize) -> u16
+        requires { place < length self.now.entries }
+        ensures value { IsSomeAnd (slice_get self.now.entries place) (λ entry. result ≡ entry.toxicity) }
+        ensures bound { result ≤ 1000 }
+    {
+        self.entries[place].toxicity
+    }
+}

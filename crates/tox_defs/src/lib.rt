@@ -1,0 +1,21 @@
+//! What a toxic does: the seven toxics, chains of them, and one toxic at work.
+#![tactic(auto)]
+
+mod chain;
+mod last;
+mod level;
+mod look;
+mod op;
+mod place;
+mod stage;
+mod state;
+mod toxic;
+
+pub use chain::{Chain, Entry, MOST_TOXICS, TooManyToxics};
+pub use level::Level;
+pub use look::Look;
+pub use op::Op;
+pub use place::Place;
+pub use stage::Stage;
+pub use state::State;
+pub use toxic::{Toxic, ToxicFault};

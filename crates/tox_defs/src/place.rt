@@ -1,0 +1,56 @@
+ghost use Rattle.std.specs.Prelude.{◌≡◌};
+ghost use Rattle.tox_defs.specs.Place.{fits, place_after};
+
+use tox_time::{Item, MOST_BYTES, Micros};
+
+/// How far a stream has come: where its next chunk starts, its latest instant, and whether its final came.
+#[derive(Clone, Copy, Debug, Default, PartialEq, Eq)]
+pub struct Place {
+    pub position: u64,
+    pub latest: Micros,
+    pub ended: bool,
+}
+
+impl Place {
+    /// Whether the item goes on with the stream: nothing follows a final, instants never fall, and a chunk has
+    /// bytes, starts where the last one stopped, and stops by 2^40.
+    pub fn fits(&self, item: &Item) -> bool
+        ensures { result ≡ fits self.now item.now }
+    {
+        if self.ended {
+            return false;
+        }
+        match item {
+            Item::Chunk(span, instant) => {
+                self.latest <= *instant
+                    && span.start == self.position
+                    && span.start < span.stop
+                    && span.stop <= MOST_BYTES
+            }
+            Item::Closed(instant) | Item::Reset(instant) => self.latest <= *instant,
+            Item::Quiet => true,
+        }
+    }
+
+    /// The place behind the item.
+    pub fn after(&self, item: &Item) -> Place
+        ensures { result ≡ place_after self.now item.now }
+    {
+        match item {
+            Item::Chunk(span, instant) => Place {
+                position: span.stop,
+                latest: *instant,
+                ..*self
+            },
+            Item::Closed(instant) | Item::Reset(instant) => Place {
+                latest: *instant,
+                ended: true,
+                ..*self
+            },
+            Item::Quiet => Place {
+                ended: true,
+                ..*self
+            },
+        }
+    }
+}

@@ -1,0 +1,118 @@
+ghost use Rattle.std.specs.Prelude.{◌≡◌, ◌<◌, ◌↔◌, [], true, IsTrue};
+ghost use Rattle.tox_words.specs.Draw.{draw};
+ghost use Rattle.tox_defs.specs.Toxic.{IsInRange};
+ghost use Rattle.tox_defs.specs.Flow.{toxic_reaction};
+ghost use Rattle.tox_defs.specs.Op.{op_of, op_reaction};
+ghost use Rattle.tox_defs.specs.Place.{fits};
+
+use crate::level::Level;
+use crate::op::Op;
+use crate::place::Place;
+use crate::toxic::Toxic;
+use std::marker::Model;
+use tox_time::{Ending, Item};
+use tox_words::Words;
+
+/// A toxic at work on one stream: it takes an item, and then emits what the toxic gives for it.
+///
+/// It keeps the unread rest of the chunk that it took last, and no list.
+#[derive(Drop)]
+pub struct Stage<'w> {
+    level: Level,
+    start: u64,
+    words: &'w Words,
+    place: Place,
+}
+
+impl<'w> Model for Stage<'w> {
+    ghost use Rattle.tox_defs.specs.Stage.{Staged};
+
+    ghost Value = { Staged };
+
+    ghost use Rattle.tox_defs.specs.StageInside.{staged, IsKept};
+
+    ghost view = { staged };
+
+    ghost invariant = { IsKept };
+}
+
+impl<'w> Stage<'w> {
+    ghost use Rattle.tox_defs.specs.Stage.{first_stage, taken, MatchEmitted};
+
+    /// The stage of a toxic at a place of its chain, which draws from that lane; it was given nothing yet.
+    pub fn new(toxic: Toxic, lane: usize, words: &'w Words) -> Stage<'w>
+        requires in_range { IsInRange toxic }
+        requires place { lane < 16 }
+        ensures first { result ≡ first_stage (op_of lane toxic) words.now }
+        ensures reacts { op_reaction (op_of lane toxic) words.now ≡ toxic_reaction toxic (draw words.now lane) }
+    {
+        Stage {
+            level: Level::new(&Op::of(&toxic, lane)),
+            start: 0,
+            words,
+            place: Place::default(),
+        }
+    }
+
+    /// Whether nothing is left to emit.
+    pub fn is_idle(&self) -> bool
+        ensures { IsTrue result ↔ (self.now.pending ≡ []) }
+    {
+        self.level.ending.is_none() && self.start == self.level.stop
+    }
+
+    /// Whether the item goes on with the stream that was taken so far.
+    pub fn may_take(&self, item: &Item) -> bool
+        ensures { result ≡ fits self.now.place item.now }
+    {
+        self.place.fits(item)
+    }
+
+    /// Takes an item. What the toxic gives for it is then to be emitted.
+    pub fn take(&mut self, item: Item)
+        requires idle { self.old.pending ≡ [] }
+        requires fits { fits self.old.place item ≡ true }
+        ensures { self.new ≡ taken self.old item }
+    {
+        self.place = self.place.after(&item);
+        let ending = match item {
+            Item::Chunk(span, instant) => {
+                self.level.stop = span.stop;
+                self.level.instant = instant;
+                if self.level.state.done {
+                    self.start = span.stop;
+                } else if self.level.op.is_mute() {
+                    self.start = span.stop;
+                    self.level.state = self.level.state.after_chunk();
+                }
+                return;
+            }
+            Item::Closed(instant) => Ending::Closed(instant),
+            Item::Reset(instant) => Ending::Reset(instant),
+            Item::Quiet => Ending::StillOpen,
+        };
+        if !self.level.state.done {
+            let last = self.level.op.last(&self.level.state, &ending);
+            self.level.state = self.level.state.after_ending(&last);
+            self.level.ending = Some(last);
+        }
+    }
+
+    /// The next item of what the toxic gives, or None where nothing is left.
+    pub fn emit(&mut self) -> Option<Item>
+        ensures { MatchEmitted self.old self.new result }
+    {
+        if self.level.ending.is_none() && self.start < self.level.stop {
+            if let Some(piece) = self.level.advance(self.start, self.words) {
+                self.start = piece.span.stop;
+                return Some(Item::Chunk(piece.span, piece.instant));
+            }
+        }
+        let Some(ending) = self.level.ending else {
+            return None;
+        };
+        self.level.ending = None;
+        self.start = self.level.stop;
+        Some(ending.to_item())
+    }
+}

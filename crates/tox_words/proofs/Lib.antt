@@ -1,0 +1,4 @@
+mod Turns
+mod Numbers
+mod Outputs
+mod Texts

@@ -1,0 +1,5 @@
+pub mod Draw
+pub mod Table
+pub mod Decimal
+pub mod WordsText
+pub mod Seeded

@@ -1,0 +1,15 @@
+-- Which lists of words are tables, and why the others are none.
+use Rattle.std.specs.Prelude.{ℕ, ◌<◌, ◌≤◌, List, [], ◌∷◌, length, Result, Ok, Err, nat_le, if◌then◌else◌}
+use Rattle.tox_words.specs.declared.fault.WordsFault.{WordsFault}
+use Rattle.tox_words.specs.declared.fault.WordsFault.TheVariants.{NoWords, TooMany}
+use Rattle.tox_words.specs.declared.words.TheConstants.{MOST_WORDS}
+
+-- 1 to 4096 words
+abbrev pub IsWordTable : List ℕ → Type 0
+IsWordTable words = (0 < length words) × (length words ≤ MOST_WORDS)
+
+-- the table of a list, or its first fault
+abbrev pub table_of : List ℕ → Result (List ℕ) WordsFault
+table_of [] = Err NoWords
+table_of (word ∷ words) =
+    if nat_le (length (word ∷ words)) MOST_WORDS then Ok (word ∷ words) else Err TooMany
