@@ -17,3 +17,11 @@ pub mod ToxicLaws
 pub mod KeepingStreams
 pub mod StreamKeepers
 pub mod ToxicStreams
+pub mod Passing
+pub mod ChainStreams
+pub mod Places
+pub mod OpStreams
+mod Cuts
+mod Decimals
+mod Mapped
+mod ReadsBack

@@ -1,5 +1,5 @@
 -- What toxics and chains do to a list of items.
-use Rattle.std.specs.Prelude.{ℕ, zero, suc, ◌+◌, ◌-◌, ◌*◌, ◌%◌, List, [], ◌∷◌, map, nat_lt, if◌then◌else◌}
+use Rattle.std.specs.Prelude.{ℕ, zero, suc, ◌+◌, ◌-◌, ◌*◌, ◌%◌, List, [], ◌∷◌, map, if◌then◌else◌}
 use Rattle.tox_time.specs.declared.item.Item.{Item}
 use Rattle.tox_time.specs.declared.ending.Ending.{Ending}
 use Rattle.tox_time.specs.declared.ending.Ending.TheVariants.{StillOpen, Closed}
@@ -9,6 +9,7 @@ use Rattle.tox_words.specs.Draw.{draw}
 use Rattle.tox_defs.specs.declared.toxic.Toxic.{Toxic}
 use Rattle.tox_defs.specs.declared.toxic.Toxic.TheVariants.{Latency, Bandwidth, SlowClose, Timeout, ResetPeer, Slicer, LimitData}
 use Rattle.tox_defs.specs.declared.chain.Entry.{Entry}
+use Rattle.tox_defs.specs.Applied.{is_applied}
 use Rattle.tox_defs.specs.Chain.{Toxics}
 use Rattle.tox_defs.specs.Reaction.{Giving, Reaction, counted, flow_through}
 use Rattle.tox_defs.specs.Givings.{delayed, paced, sliced, closed_later, muted, cut_off, limited}
@@ -41,11 +42,11 @@ pub record Placed : Type 0 where
   pub place : ℕ
   pub toxic : Toxic
 
--- the toxics that a link meets, of those from a place on: where the lane's first word is below the toxicity
+-- the toxics that a link meets, of those from a place on
 abbrev pub applied_from : ℕ → List Entry → List ℕ → List Placed
 applied_from place [] words = []
 applied_from place (entry ∷ entries) words =
-    if nat_lt (draw words place 0 % 1000) entry.toxicity
+    if is_applied entry place words
     then record { place = place; toxic = entry.toxic } ∷ applied_from (place + 1) entries words
     else applied_from (place + 1) entries words
 

@@ -4,7 +4,7 @@ use Rattle.std.specs.Int.{div_ceil}
 use Rattle.tox_time.specs.declared.item.Item.{Item}
 use Rattle.tox_time.specs.declared.item.Item.TheVariants.{Chunk}
 use Rattle.tox_time.specs.Time.{plus}
-use Rattle.tox_time.specs.Stream.{span_len, arrived, IsArrivalList}
+use Rattle.tox_time.specs.Stream.{span_len, arrived, IsStream, IsArrivalList}
 use Rattle.tox_time.specs.Table.{table}
 use Rattle.tox_defs.specs.declared.toxic.Toxic.{Toxic}
 use Rattle.tox_defs.specs.declared.toxic.Toxic.TheVariants.{Latency, Bandwidth, SlowClose, Timeout, ResetPeer, Slicer, LimitData}
@@ -48,3 +48,12 @@ KeepsLaw (LimitData bytes) words items = length (table (toxic_flow (LimitData by
 -- the law of a toxic, whatever the words and the arrivals
 abbrev pub HasLaw : Toxic → Type 0
 HasLaw toxic = (words : ℕ → ℕ) (items : List Item) → IsArrivalList items → KeepsLaw toxic words items
+
+-- what is given for a stream is a stream of the same bytes or fewer
+pub record IsKeptBy (items given : List Item) : Type 0 where
+  pub stream : IsStream given
+  pub bytes : arrived given ≤ arrived items
+
+-- a toxic gives streams for streams, whatever the words
+abbrev pub KeepsStreams : Toxic → Type 0
+KeepsStreams toxic = (words : ℕ → ℕ) (items : List Item) → IsStream items → IsKeptBy items (toxic_flow toxic words items)

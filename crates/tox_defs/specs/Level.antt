@@ -7,6 +7,8 @@ use Rattle.tox_time.specs.Table.{final_of}
 use Rattle.tox_defs.specs.declared.state.State.{State}
 use Rattle.tox_defs.specs.declared.op.Op.{Op}
 use Rattle.tox_defs.specs.declared.level.Level.{Level}
+use Rattle.tox_defs.specs.declared.level.Advanced.{Advanced}
+use Rattle.tox_defs.specs.declared.level.Advanced.TheVariants.{Piece, End}
 use Rattle.tox_defs.specs.Reaction.{first_state, flow_from, state_from}
 use Rattle.tox_defs.specs.Op.{IsOp, op_reaction}
 use Rattle.tox_defs.specs.Look.{as_chunk, rest_of}
@@ -65,7 +67,7 @@ pub record IsAtEnd (words : List ℕ) (start : ℕ) (old new : Level) (ending : 
   pub gives : (items : List Item) → level_gives words start old items ≡ final_of ending ∷ []
   pub leaves : level_leaves words start old ≡ new.state
 
--- what an advance found
-abbrev pub MatchAdvanced : List ℕ → ℕ → Level → Level → Option Slice → Type 0
-MatchAdvanced words start old new (Some piece) = IsNextPiece words start old new piece
-MatchAdvanced words start old new None = (ending : Ending) × IsAtEnd words start old new ending
+-- what an advance brought
+abbrev pub MatchAdvanced : List ℕ → ℕ → Level → Level → Advanced → Type 0
+MatchAdvanced words start old new (Piece piece) = IsNextPiece words start old new piece
+MatchAdvanced words start old new (End ending) = IsAtEnd words start old new ending

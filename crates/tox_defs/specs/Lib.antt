@@ -1,6 +1,7 @@
 pub mod Toxic
 pub mod Chain
 pub mod ChainInside
+pub mod Applied
 pub mod Reaction
 pub mod Givings
 pub mod Flow
@@ -11,3 +12,8 @@ pub mod Level
 pub mod Stage
 pub mod StageInside
 pub mod Laws
+pub mod Kind
+pub mod KindInside
+pub mod Pairs
+pub mod Short
+pub mod Printed

@@ -1,10 +1,12 @@
-ghost use Rattle.std.specs.Prelude.{◌≡◌, ◌+◌, ◌<◌, ◌≤◌, ◌↔◌, [], ◌∷◌, ◌++◌, length, slice_get, Some, IsTrue, IsOk, OnOk, OnErr, IsSomeAnd};
+ghost use Rattle.std.specs.Prelude.{◌≡◌, ℕ, ◌+◌, ◌<◌, ◌≤◌, ◌↔◌, List, [], ◌∷◌, ◌++◌, length, slice_get, Some, IsTrue, IsOk, OnOk, OnErr, IsSomeAnd};
 ghost use Rattle.tox_defs.specs.declared.chain.TheConstants.{MOST_TOXICS};
+ghost use Rattle.tox_defs.specs.Applied.{is_applied};
 
 use crate::toxic::Toxic;
 use arrayvec::ArrayVec;
 use std::marker::Model;
 use thiserror::Error;
+use tox_words::Words;
 
 /// The most toxics of a chain.
 pub const MOST_TOXICS: usize = 16;
@@ -15,6 +17,16 @@ pub struct Entry {
     pub toxic: Toxic,
     /// The chance that a link meets the toxic, in thousandths: 0 to 1000.
     pub toxicity: u16,
+}
+
+impl Entry {
+    /// Whether a link with these words meets the toxic at this place of its chain: where the first word that it
+    /// draws there, modulo 1000, is below the toxicity.
+    pub fn is_applied(&self, place: usize, words: &Words) -> bool
+        ensures { result ≡ is_applied self.now place words.now }
+    {
+        words.draw(place, 0) % 1000 < u32::from(self.toxicity)
+    }
 }
 
 impl Default for Entry {
@@ -60,7 +72,11 @@ impl Model for Chain {
 
 impl Chain {
     ghost use Rattle.tox_defs.specs.Toxic.{IsInRange};
-    ghost use Rattle.tox_defs.specs.Chain.{IsChain, IsEntry};
+    ghost use Rattle.tox_defs.specs.Chain.{IsChain};
+    ghost use Rattle.tox_defs.specs.Flow.{chain_flow};
+    ghost use Rattle.tox_defs.specs.Laws.{IsKeptBy};
+    ghost use Rattle.tox_time.specs.declared.item.Item.{Item as OneItem};
+    ghost use Rattle.tox_time.specs.Stream.{IsStream, arrived};
 
     /// No toxic: what arrives leaves as it is.
     pub fn new() -> Chain
@@ -100,6 +116,14 @@ impl Chain {
         self.entries.is_empty()
     }
 
+    /// The toxics in order, each at its place.
+    pub fn entries(&self) -> &[Entry]
+        ensures value { result.now ≡ self.now.entries }
+        ensures chain { IsChain self.now }
+    {
+        &self.entries
+    }
+
     /// The toxic at a place from 0.
     pub fn toxic(&self, place: usize) -> Toxic
         requires { place < length self.now.entries }
@@ -116,5 +140,14 @@ impl Chain {
         ensures bound { result ≤ 1000 }
     {
         self.entries[place].toxicity
+    }
+
+    /// Tells a law, and does nothing: whatever the words, a chain gives a stream for a stream,
+    /// of the same bytes or fewer, and so at most one item more than it has bytes.
+    pub fn gives_streams(&self)
+        ensures keeps { (words : List ℕ) (items : List OneItem) → IsStream items → IsKeptBy items (chain_flow self.now words items) }
+        ensures few { (words : List ℕ) (items : List OneItem) → IsStream items → length (chain_flow self.now words items) ≤ arrived items + 1 }
+    {
+        let _ = &self.entries;
     }
 }

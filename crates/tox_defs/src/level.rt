@@ -19,6 +19,15 @@ pub struct Level {
     pub ending: Option<Ending>,
 }
 
+/// What an advance through a chunk brings.
+#[derive(Clone, Copy, Debug, PartialEq, Eq)]
+pub enum Advanced {
+    /// The next piece.
+    Piece(Slice),
+    /// The ending, before which no piece is left.
+    End(Ending),
+}
+
 impl Level {
     /// The level of an operation that was given nothing yet.
     pub fn new(op: &Op) -> Level
@@ -30,9 +39,9 @@ impl Level {
         }
     }
 
-    /// The next piece of the present chunk, of which the bytes from `start` on are unread; None where the
-    /// operation ends before it gives one. An ending that was found is in `ending` from then on.
-    pub fn advance(&mut self, start: u64, words: &Words) -> Option<Slice>
+    /// The next piece of the present chunk, of which the bytes from `start` on are unread, or the ending where
+    /// the operation gives no piece before it. An ending that was found is kept in `ending`.
+    pub fn advance(&mut self, start: u64, words: &Words) -> Advanced
         requires some { start < self.old.stop }
         requires heard { is_mute self.old.op ≡ false }
         requires open { self.old.ending ≡ None }
@@ -49,7 +58,7 @@ impl Level {
         match &self.op.look(&self.state, &rest, words) {
             Look::Piece(piece) => {
                 self.state = self.state.after_piece_of(self.stop, piece);
-                Some(*piece)
+                Advanced::Piece(*piece)
             }
             Look::LastPiece(piece, ending) => {
                 self.state = self
@@ -58,12 +67,12 @@ impl Level {
                     .after_chunk()
                     .after_ending(ending);
                 self.ending = Some(*ending);
-                Some(*piece)
+                Advanced::Piece(*piece)
             }
             Look::Ended(ending) => {
                 self.state = self.state.after_chunk().after_ending(ending);
                 self.ending = Some(*ending);
-                None
+                Advanced::End(*ending)
             }
         }
     }

@@ -2,20 +2,24 @@
 #![tactic(auto)]
 
 mod chain;
+mod kind;
 mod last;
 mod level;
 mod look;
 mod op;
 mod place;
+mod short;
 mod stage;
 mod state;
 mod toxic;
 
 pub use chain::{Chain, Entry, MOST_TOXICS, TooManyToxics};
-pub use level::Level;
+pub use kind::Kind;
+pub use level::{Advanced, Level};
 pub use look::Look;
 pub use op::Op;
 pub use place::Place;
+pub use short::{ShortFault, read_short};
 pub use stage::Stage;
 pub use state::State;
 pub use toxic::{Toxic, ToxicFault};

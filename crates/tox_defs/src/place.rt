@@ -1,10 +1,10 @@
 ghost use Rattle.std.specs.Prelude.{◌≡◌};
-ghost use Rattle.tox_defs.specs.Place.{fits, place_after};
+ghost use Rattle.tox_defs.specs.Place.{fits, first_place, place_after};
 
 use tox_time::{Item, MOST_BYTES, Micros};
 
 /// How far a stream has come: where its next chunk starts, its latest instant, and whether its final came.
-#[derive(Clone, Copy, Debug, Default, PartialEq, Eq)]
+#[derive(Clone, Copy, Debug, PartialEq, Eq)]
 pub struct Place {
     pub position: u64,
     pub latest: Micros,
@@ -12,6 +12,17 @@ pub struct Place {
 }
 
 impl Place {
+    /// Before the first item.
+    pub fn start() -> Place
+        ensures { result ≡ first_place }
+    {
+        Place {
+            position: 0,
+            latest: Micros::ZERO,
+            ended: false,
+        }
+    }
+
     /// Whether the item goes on with the stream: nothing follows a final, instants never fall, and a chunk has
     /// bytes, starts where the last one stopped, and stops by 2^40.
     pub fn fits(&self, item: &Item) -> bool

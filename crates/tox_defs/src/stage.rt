@@ -1,11 +1,14 @@
-ghost use Rattle.std.specs.Prelude.{◌≡◌, ◌<◌, ◌↔◌, [], true, IsTrue};
+ghost use Rattle.std.specs.Prelude.{◌≡◌, ◌^◌, ◌<◌, ◌≤◌, ◌↔◌, List, [], true, IsTrue};
 ghost use Rattle.tox_words.specs.Draw.{draw};
 ghost use Rattle.tox_defs.specs.Toxic.{IsInRange};
 ghost use Rattle.tox_defs.specs.Flow.{toxic_reaction};
 ghost use Rattle.tox_defs.specs.Op.{op_of, op_reaction};
-ghost use Rattle.tox_defs.specs.Place.{fits};
+ghost use Rattle.tox_defs.specs.Place.{fits, AllFit};
+ghost use Rattle.tox_defs.specs.Laws.{HasLaw, KeepsStreams};
+ghost use Rattle.tox_time.specs.declared.item.Item.{Item as OneItem};
+ghost use Rattle.tox_time.specs.Stream.{IsStream, arrived};
 
-use crate::level::Level;
+use crate::level::{Advanced, Level};
 use crate::op::Op;
 use crate::place::Place;
 use crate::toxic::Toxic;
@@ -44,13 +47,16 @@ impl<'w> Stage<'w> {
         requires in_range { IsInRange toxic }
         requires place { lane < 16 }
         ensures first { result ≡ first_stage (op_of lane toxic) words.now }
+        ensures law { HasLaw toxic }
+        ensures streams { KeepsStreams toxic }
+        ensures takes { (items : List OneItem) → IsStream items → arrived items ≤ 2 ^ 40 → AllFit result.place items }
         ensures reacts { op_reaction (op_of lane toxic) words.now ≡ toxic_reaction toxic (draw words.now lane) }
     {
         Stage {
             level: Level::new(&Op::of(&toxic, lane)),
             start: 0,
             words,
-            place: Place::default(),
+            place: Place::start(),
         }
     }
 
@@ -103,7 +109,7 @@ impl<'w> Stage<'w> {
         ensures { MatchEmitted self.old self.new result }
     {
         if self.level.ending.is_none() && self.start < self.level.stop {
-            if let Some(piece) = self.level.advance(self.start, self.words) {
+            if let Advanced::Piece(piece) = self.level.advance(self.start, self.words) {
                 self.start = piece.span.stop;
                 return Some(Item::Chunk(piece.span, piece.instant));
             }

@@ -1,4 +1,4 @@
 mod Turns
-mod Numbers
+pub mod Numbers
 mod Outputs
 mod Texts

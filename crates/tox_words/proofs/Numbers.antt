@@ -8,7 +8,7 @@ use Rattle.std.proofs.lemmas.Grind.{common_steps}
 use Rattle.std.proofs.lemmas.Str.Parse.{IsNumeralModel, numerals_by_value, parse_digits}
 use Rattle.tox_words.specs.Decimal.{decimal}
 
-ascii_digits : IsNumeralModel (λ text. list_all is_ascii_digit text ≡ true) (digits_value 10)
+pub ascii_digits : IsNumeralModel (λ text. list_all is_ascii_digit text ≡ true) (digits_value 10)
 ascii_digits = numerals_by_value _ (search rules)
 
 read_case : {E : Type 0} (k digits greatest : ℕ) (text : List ℕ) (read : Result ℕ E)

@@ -13,8 +13,6 @@ returns-in-LastPiece c =
     (level_at_last_piece c.args.words.now c.args.start c.args.self.now c.in-LastPiece.piece c.in-LastPiece.ending c.requires.open c.requires.some c.requires.sound (λ items. rw c.in-LastPiece.is at (c.look.ensures.finds items)) (rw c.in-LastPiece.is at c.look.ensures.front))
 
 pub returns-in-Ended : goal.returns-in-Ended
-returns-in-Ended c = (
-  c.in-Ended.ending,
-  rw (c.after_ending-self-in-Ended.ensures, c.after_chunk-in-Ended.ensures)
-      (level_at_end c.args.words.now c.args.start c.args.self.now c.in-Ended.ending c.requires.open c.requires.some (λ items. rw c.in-Ended.is at (c.look.ensures.finds items))),
-)
+returns-in-Ended c =
+    rw (c.after_ending-self-in-Ended.ensures, c.after_chunk-in-Ended.ensures)
+    (level_at_end c.args.words.now c.args.start c.args.self.now c.in-Ended.ending c.requires.open c.requires.some (λ items. rw c.in-Ended.is at (c.look.ensures.finds items)))

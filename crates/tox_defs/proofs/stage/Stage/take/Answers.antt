@@ -1,6 +1,5 @@
 -- A final that a running stage takes is its operation's reaction to it.
 use Rattle.std.proofs.Common.{rules, ◌≡◌, ◌∙◌, ap, sym, None}
-use Rattle.tox_time.specs.declared.item.Item.{Item}
 use Rattle.tox_time.specs.Table.{final_of}
 use Rattle.tox_defs.proofs.Stages.{took_final}
 use Rattle.tox_defs.proofs.stage.Stage.take.Goals as goal

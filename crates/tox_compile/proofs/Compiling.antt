@@ -1,0 +1,57 @@
+-- One operation for each applied toxic means what the chain does.
+use Rattle.std.proofs.Common.{◌≡◌, ℕ, ◌+◌, ◌≤◌, Bool, true, false, List, [], ◌∷◌, ◌++◌, map, length, drop, refl, ap, sym, ◌∙◌, arith, if◌then◌else◌}
+use Rattle.std.specs.Prelude.{All}
+use Rattle.std.proofs.lemmas.List.{append-nil, drop_all}
+use Rattle.std.proofs.lemmas.List.Elements.{All-nil, All-cons, All-head, All-tail}
+use Rattle.tox_time.specs.declared.item.Item.{Item}
+use Rattle.tox_words.specs.Draw.{draw}
+use Rattle.tox_defs.specs.declared.op.Op.{Op}
+use Rattle.tox_defs.specs.declared.chain.Entry.{Entry}
+use Rattle.tox_defs.specs.Toxic.{IsInRange}
+use Rattle.tox_defs.specs.Chain.{Toxics, IsChain}
+use Rattle.tox_defs.specs.Applied.{is_applied}
+use Rattle.tox_defs.specs.Reaction.{flow_through}
+use Rattle.tox_defs.specs.Flow.{Placed, toxic_reaction, applied_from, applied, reactions_of, chain_flow}
+use Rattle.tox_defs.specs.Op.{IsOp, op_reaction, op_of}
+use Rattle.tox_defs.proofs.OpOf.{op_reaction-op_of, IsOp-op_of}
+use Rattle.tox_defs.proofs.ChainStreams.{in_range-applied}
+use Rattle.tox_compile.specs.Compiled.{op_of_placed, ops_of}
+use Rattle.tox_compile.specs.Meaning.{op_reactions, means}
+
+reactions-placed : (words : List ℕ) (toxics : List Placed) → op_reactions (map op_of_placed toxics) words ≡ map (λ placed. toxic_reaction placed.toxic (draw words placed.place)) toxics
+reactions-placed words [] = refl
+reactions-placed words (placed ∷ toxics) =
+    ap (λ reaction. reaction ∷ op_reactions (map op_of_placed toxics) words) (op_reaction-op_of placed.place placed.toxic words)
+    ∙ ap (λ reactions. toxic_reaction placed.toxic (draw words placed.place) ∷ reactions) (reactions-placed words toxics)
+
+-- for every list of items
+pub means-ops_of : (chain : Toxics) (words : List ℕ) (items : List Item) → means (record { ops = ops_of chain words }) words items ≡ chain_flow chain words items
+means-ops_of chain words items = ap (λ reactions. flow_through reactions items) (reactions-placed words (applied chain words))
+
+operations-placed : (toxics : List Placed) → All (λ placed. IsInRange placed.toxic) toxics → All IsOp (map op_of_placed toxics)
+operations-placed [] fit = All-nil IsOp
+operations-placed (placed ∷ toxics) fit =
+    All-cons IsOp (op_of_placed placed) (map op_of_placed toxics)
+    (IsOp-op_of placed.place placed.toxic (All-head (λ placed. IsInRange placed.toxic) placed toxics fit))
+    (operations-placed toxics (All-tail (λ placed. IsInRange placed.toxic) placed toxics fit))
+
+-- the operations of a chain are operations that a plan may have
+pub operations-ops_of : (chain : Toxics) (words : List ℕ) → IsChain chain → All IsOp (ops_of chain words)
+operations-ops_of chain words fits = operations-placed (applied chain words) (in_range-applied chain words fits)
+
+-- the operations of the toxics from a place on
+abbrev pub ops_from : ℕ → List Entry → List ℕ → List Op
+ops_from place entries words = map op_of_placed (applied_from place entries words)
+
+pub ops_from-applied : (place : ℕ) (entry : Entry) (entries : List Entry) (words : List ℕ) → is_applied entry place words ≡ true
+    → ops_from place (entry ∷ entries) words ≡ op_of place entry.toxic ∷ ops_from (place + 1) entries words
+ops_from-applied place entry entries words is = ap (λ met. map op_of_placed (if met then record { place = place; toxic = entry.toxic } ∷ applied_from (place + 1) entries words else applied_from (place + 1) entries words)) is
+
+pub ops_from-skipped : (place : ℕ) (entry : Entry) (entries : List Entry) (words : List ℕ) → is_applied entry place words ≡ false
+    → ops_from place (entry ∷ entries) words ≡ ops_from (place + 1) entries words
+ops_from-skipped place entry entries words is = ap (λ met. map op_of_placed (if met then record { place = place; toxic = entry.toxic } ∷ applied_from (place + 1) entries words else applied_from (place + 1) entries words)) is
+
+-- no toxics are left behind the last place
+pub ops_from-end : (ops all : List Op) (place : ℕ) (entries : List Entry) (words : List ℕ) → length entries ≤ place → ops ++ ops_from place (drop place entries) words ≡ all → ops ≡ all
+ops_from-end ops all place entries words past is =
+    sym (append-nil ops) ∙ ap (λ entries. ops ++ ops_from place entries words) (sym (drop_all place entries past)) ∙ is

@@ -1,0 +1,14 @@
+-- The operations that a chain is compiled into.
+use Rattle.std.specs.Prelude.{ℕ, List, map}
+use Rattle.tox_defs.specs.declared.op.Op.{Op}
+use Rattle.tox_defs.specs.Chain.{Toxics}
+use Rattle.tox_defs.specs.Flow.{Placed, applied}
+use Rattle.tox_defs.specs.Op.{op_of}
+
+-- the operation of an applied toxic, at its place in the chain as written
+abbrev pub op_of_placed : Placed → Op
+op_of_placed placed = op_of placed.place placed.toxic
+
+-- one operation for each applied toxic, in order
+abbrev pub ops_of : Toxics → List ℕ → List Op
+ops_of chain words = map op_of_placed (applied chain words)

@@ -1,0 +1,9 @@
+-- What a contract sees of a `Plan`, and what its fields keep.
+use Rattle.tox_compile.specs.declared.plan.Plan.TheInside.{Inside}
+use Rattle.tox_compile.specs.Meaning.{Ops, IsPlan}
+
+abbrev pub operations : Inside → Ops
+operations plan = record { ops = plan.ops.items }
+
+abbrev pub IsKept : Inside → Type 0
+IsKept plan = IsPlan (operations plan)

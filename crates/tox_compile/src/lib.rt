@@ -1,0 +1,7 @@
+//! A chain compiled into a plan: a list of operations that means what the chain means.
+#![tactic(auto)]
+
+mod plan;
+
+pub use plan::{Plan, compile};
+pub use tox_defs::Op;

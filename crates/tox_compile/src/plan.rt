@@ -1,0 +1,95 @@
+ghost use Rattle.std.specs.Prelude.{◌≡◌, ◌<◌, List, [], ◌∷◌, ◌++◌, Some};
+ghost use Rattle.arrayvec.specs.ArrayVec.{array_vec_len};
+ghost use Rattle.tox_defs.specs.declared.chain.TheConstants.{MOST_TOXICS};
+ghost use Rattle.tox_time.specs.declared.item.Item.{Item as OneItem};
+ghost use Rattle.tox_time.specs.Stream.{IsStream};
+ghost use Rattle.tox_defs.specs.Flow.{chain_flow};
+ghost use Rattle.tox_compile.specs.Compiled.{ops_of};
+ghost use Rattle.tox_compile.specs.Meaning.{deadline_of, earlier, means};
+
+use arrayvec::ArrayVec;
+use std::marker::Model;
+use tox_defs::{Chain, MOST_TOXICS, Op};
+use tox_time::Micros;
+use tox_words::Words;
+
+/// What a chain is compiled into: the operations that stand for its applied toxics, in order.
+#[derive(Drop)]
+pub struct Plan {
+    ops: ArrayVec<Op, MOST_TOXICS>,
+}
+
+impl Model for Plan {
+    ghost use Rattle.tox_compile.specs.Meaning.{Ops};
+
+    ghost Value = { Ops };
+
+    ghost use Rattle.tox_compile.specs.PlanInside.{operations, IsKept};
+
+    ghost view = { operations };
+
+    ghost invariant = { IsKept };
+}
+
+impl Plan {
+    ghost use Rattle.tox_compile.specs.Meaning.{IsPlan};
+
+    /// The operations in order.
+    pub fn ops(&self) -> &[Op]
+        ensures value { result.now ≡ self.now.ops }
+        ensures plan { IsPlan self.now }
+    {
+        &self.ops
+    }
+
+    /// From when on arrivals change nothing: the start where an operation mutes, else the earliest cutoff.
+    pub fn deadline(&self) -> Option<Micros>
+        ensures { result ≡ deadline_of self.now.ops }
+    {
+        deadline_of(&self.ops)
+    }
+}
+
+fn deadline_of(ops: &[Op]) -> Option<Micros>
+    ensures { result ≡ deadline_of ops.now }
+{
+    let (op, others) = ops.split_first()?;
+    match op {
+        Op::Mute { .. } => Some(Micros::ZERO),
+        Op::Cutoff { instant } => Some(earlier(*instant, deadline_of(others))),
+        _ => deadline_of(others),
+    }
+}
+
+/// The earlier of an instant and one that may be.
+fn earlier(instant: Micros, other: Option<Micros>) -> Micros
+    ensures { earlier instant other ≡ Some result }
+{
+    match other {
+        Some(other) if other < instant => other,
+        _ => instant,
+    }
+}
+
+/// The plan of a chain for a link with these words.
+pub fn compile(chain: &Chain, words: &Words) -> Plan
+    ensures ops { result.ops ≡ ops_of chain.now words.now }
+    ensures means { (items : List OneItem) → IsStream items → means result words.now items ≡ chain_flow chain.now words.now items }
+{
+    let mut ops = ArrayVec::new();
+    let entries = chain.entries();
+    for (place, entry) in entries.iter().enumerate() {
+        if entry.is_applied(place, words) {
+            append(&mut ops, &Op::of(&entry.toxic, place));
+        }
+    }
+    Plan { ops }
+}
+
+/// Adds an item behind the others.
+fn append<T: Copy>(list: &mut ArrayVec<T, MOST_TOXICS>, item: &T)
+    requires { array_vec_len list.old < MOST_TOXICS }
+    ensures { list.new.items ≡ list.old.items ++ item.now ∷ [] }
+{
+    list.push(*item);
+}

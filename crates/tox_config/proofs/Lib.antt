@@ -1,0 +1,7 @@
+pub mod Distinct
+pub mod Limits
+pub mod Names
+pub mod Ports
+pub mod Puts
+pub mod Texts
+pub mod Turns

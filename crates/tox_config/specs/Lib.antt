@@ -1,0 +1,4 @@
+pub mod Address
+pub mod Proxy
+pub mod Populate
+pub mod Entry

@@ -1,0 +1,109 @@
+//! One object of a populate file, lent from the value that was read.
+ghost use Rattle.std.specs.Prelude.{◌≡◌, codes, option_map, IfOk, IfErr, Ok, Err};
+ghost use Rattle.serde_json.specs.View.{view};
+ghost use Rattle.tox_config.specs.Proxy.{enabled_of, listen_of, listen_text, name_of, proxy_of, proxy_view, upstream_of};
+ghost use Rattle.tox_config.specs.Entry.{entry_view};
+
+use crate::address::{is_address, is_sized};
+use crate::fault::ConfigFault;
+use crate::proxy::ProxyDef;
+use serde_json::Value;
+use std::alloc::{AllocError, Global};
+
+const DEFAULT_LISTEN: &str = "localhost:0";
+
+/// A proxy whose texts are lent, so that nothing is copied before it is known to be kept.
+#[derive(Clone, Copy)]
+pub(crate) struct Entry<'a> {
+    pub(crate) name: &'a str,
+    listen: &'a str,
+    upstream: &'a str,
+    enabled: bool,
+}
+
+impl<'a> Entry<'a> {
+    /// The proxy of the value at a place, or the first of its faults.
+    pub(crate) fn read(value: &'a Value, place: usize) -> Result<Entry<'a>, ConfigFault>
+        ensures ok { IfOk result (λ entry. proxy_of place (view value.now) ≡ Ok (entry_view entry)) }
+        ensures err { IfErr result (λ fault. proxy_of place (view value.now) ≡ Err fault) }
+    {
+        if !value.is_object() {
+            return Err(ConfigFault::NotObject(place));
+        }
+        let name = name_of(value).ok_or(ConfigFault::Name(place))?;
+        let listen = listen_of(value).ok_or(ConfigFault::Listen(place))?;
+        let upstream = upstream_of(value).ok_or(ConfigFault::Upstream(place))?;
+        let enabled = enabled_of(value).ok_or(ConfigFault::Enabled(place))?;
+        Ok(Entry {
+            name,
+            listen,
+            upstream,
+            enabled,
+        })
+    }
+
+    /// A definition with texts of its own.
+    pub(crate) fn to_def(&self, alloc: Global) -> Result<ProxyDef, AllocError>
+        ensures { IfOk result (λ def. proxy_view def ≡ entry_view self.now) }
+    {
+        Ok(ProxyDef {
+            name: String::from_str(alloc, self.name)?,
+            listen: String::from_str(alloc, self.listen)?,
+            upstream: String::from_str(alloc, self.upstream)?,
+            enabled: self.enabled,
+        })
+    }
+}
+
+/// The name, where it is a text of 1 to 255 bytes.
+fn name_of(value: &Value) -> Option<&str>
+    ensures { option_map (λ name. name.now) result ≡ name_of (view value.now) }
+{
+    let name = value.get("name")?.as_str()?;
+    if is_sized(name) { Some(name) } else { None }
+}
+
+/// Where the proxy listens, where that is an address or left to the default.
+fn listen_of(value: &Value) -> Option<&str>
+    ensures { option_map (λ listen. listen.now) result ≡ listen_of (view value.now) }
+{
+    match value.get("listen") {
+        None | Some(Value::Null) => Some(DEFAULT_LISTEN),
+        Some(listen) => listen_text(listen.as_str()?),
+    }
+}
+
+/// Where a text says to listen: the empty one says nothing of it.
+fn listen_text(text: &str) -> Option<&str>
+    ensures { option_map (λ listen. listen.now) result ≡ listen_text text.now }
+{
+    if text.is_empty() {
+        Some(DEFAULT_LISTEN)
+    } else if is_address(text) {
+        Some(text)
+    } else {
+        None
+    }
+}
+
+/// Where the proxy connects to, where that is an address.
+fn upstream_of(value: &Value) -> Option<&str>
+    ensures { option_map (λ upstream. upstream.now) result ≡ upstream_of (view value.now) }
+{
+    let upstream = value.get("upstream")?.as_str()?;
+    if is_address(upstream) {
+        Some(upstream)
+    } else {
+        None
+    }
+}
+
+/// Whether the proxy is enabled, which it is where nothing is said of it.
+fn enabled_of(value: &Value) -> Option<bool>
+    ensures { result ≡ enabled_of (view value.now) }
+{
+    match value.get("enabled") {
+        None | Some(Value::Null) => Some(true),
+        Some(enabled) => enabled.as_bool(),
+    }
+}

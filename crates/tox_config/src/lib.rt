@@ -1,0 +1,14 @@
+//! Populate files: the proxies that a JSON array of objects defines.
+#![tactic(auto)]
+
+mod address;
+mod entry;
+mod fault;
+mod populate;
+mod proxy;
+#[cfg(test)]
+mod tests;
+
+pub use fault::ConfigFault;
+pub use populate::read_populate;
+pub use proxy::ProxyDef;

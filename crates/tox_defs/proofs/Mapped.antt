@@ -1,0 +1,9 @@
+-- A test of what a function makes of each element.
+use Rattle.std.proofs.Common.{◌≡◌, Bool, ◌||◌, List, [], ◌∷◌, map, refl, ap}
+use Rattle.std.specs.List.{list_any}
+
+-- some element passes where some of its images does
+pub list_any-map : {X Y : Type 0} (test : Y → Bool) (f : X → Y) (xs : List X)
+    → list_any test (map f xs) ≡ list_any (λ x. test (f x)) xs
+list_any-map test f [] = refl
+list_any-map test f (x ∷ xs) = ap (λ later. test (f x) || later) (list_any-map test f xs)

@@ -1,0 +1,13 @@
+-- The closure tests each text between the commas.
+use Rattle.std.proofs.Common.{lit<, rules, tests}
+use Rattle.std.proofs.lemmas.Iterator.Search.{all_from_yields_List}
+use Rattle.std.proofs.lemmas.Iterator.Splits.{YieldsList-from_str_split}
+use Rattle.tox_defs.specs.Pairs.{is_pair}
+use Rattle.tox_defs.proofs.short.pairs.are_pairs.Goals as goal
+
+pub returns : goal.returns
+returns c =
+    let split = c.split.ensures in
+    all_from_yields_List is_pair _ _ c.all.result c.all.ensures.ran
+    (YieldsList-from_str_split 44 c.args.pairs.now (lit< tt) split.text split.has_more split.pattern)
+    (λ x b q k. search (rules, tests))

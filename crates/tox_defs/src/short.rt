@@ -1,0 +1,113 @@
+//! Short forms: a toxic and its toxicity in one word, as `latency:latency=100,toxicity=500`.
+ghost use Rattle.std.specs.Prelude.{◌≡◌, ℕ, ◌≤◌, [], slice_index};
+ghost use Rattle.tox_defs.specs.Pairs.{pairs_of};
+ghost use Rattle.tox_defs.specs.Printed.{printed_short};
+ghost use Rattle.tox_defs.specs.Short.{short_of, values_in, with_name, with_pairs};
+ghost use Rattle.tox_defs.specs.Toxic.{IsInRange};
+ghost use Rattle.tox_defs.specs.declared.toxic.Toxic.{Toxic};
+
+mod pairs;
+
+use crate::kind::Kind;
+use crate::toxic::{Toxic, ToxicFault};
+use pairs::{are_known, are_pairs, has_double_key, is_word, value_at};
+use thiserror::Error;
+
+/// The greatest toxicity, in thousandths, and that of a toxic that tells none.
+const WHOLE_TOXICITY: u64 = 1000;
+
+/// Why a text is no short form of a toxic.
+#[derive(Clone, Copy, Debug, PartialEq, Eq, Error)]
+pub enum ShortFault {
+    /// The text isn't a type, or a type, a colon and pairs of a key and a number.
+    #[error("Q1 BadForm")]
+    BadForm,
+    /// A key stands twice.
+    #[error("Q2 DoubleKey")]
+    DoubleKey,
+    /// There is no such toxic.
+    #[error(transparent)]
+    Toxic(ToxicFault),
+}
+
+impl From<ToxicFault> for ShortFault {
+    ghost use Rattle.tox_defs.specs.declared.short.ShortFault.TheVariants as short;
+
+    ghost from_gives = { λ cause fault. fault ≡ short.Toxic cause };
+
+    fn from(fault: ToxicFault) -> ShortFault {
+        ShortFault::Toxic(fault)
+    }
+}
+
+/// The toxic that a short form names, with its toxicity in thousandths.
+///
+/// A short form is a type, or a type, a colon and one or more `key=value` parted by commas, where
+/// a key is an attribute of the type, or `toxicity`. A type and a key are made of `a` to `z` and
+/// `_`, and a value of 1 to 18 decimal digits. An attribute that is absent is 0, and an absent
+/// toxicity 1000.
+///
+/// Refused in this order: [`ShortFault::BadForm`], [`ToxicFault::UnknownType`],
+/// [`ShortFault::DoubleKey`], [`ToxicFault::ToxicityNotThousandths`] for a toxicity above 1000,
+/// [`ToxicFault::UnknownAttribute`], and as by [`Toxic::check`].
+pub fn read_short(text: &str) -> Result<(Toxic, u16), ShortFault>
+    ensures value { result ≡ short_of text.now }
+    ensures reads_back { (toxic : Toxic) (toxicity : ℕ) → IsInRange toxic → toxicity ≤ 1000 → text.now ≡ printed_short toxic toxicity → result ≡ Ok (toxic, toxicity) }
+{
+    match text.split_once(':') {
+        Some((name, pairs)) => read_pairs(name, pairs),
+        None => read_name(text),
+    }
+}
+
+/// The toxic of a type's name alone.
+fn read_name(name: &str) -> Result<(Toxic, u16), ShortFault>
+    ensures { result ≡ with_name name.now [] }
+{
+    if !is_word(name) {
+        return Err(ShortFault::BadForm);
+    }
+    let kind = Kind::of_name(name).ok_or(ToxicFault::UnknownType)?;
+    let toxic = kind.toxic([0; 3])?;
+    Ok((toxic, WHOLE_TOXICITY as u16))
+}
+
+/// The toxic of a type's name with these pairs.
+fn read_pairs(name: &str, pairs: &str) -> Result<(Toxic, u16), ShortFault>
+    ensures { result ≡ with_name name.now (pairs_of pairs.now) }
+{
+    if !is_word(name) || !are_pairs(pairs) {
+        return Err(ShortFault::BadForm);
+    }
+    let kind = Kind::of_name(name).ok_or(ToxicFault::UnknownType)?;
+    with_pairs(kind, pairs)
+}
+
+/// The toxic of a type with these pairs.
+fn with_pairs(kind: Kind, pairs: &str) -> Result<(Toxic, u16), ShortFault>
+    ensures { result ≡ with_pairs kind (pairs_of pairs.now) }
+{
+    if has_double_key(pairs) {
+        return Err(ShortFault::DoubleKey);
+    }
+    let toxicity = value_at(pairs, "toxicity").unwrap_or(WHOLE_TOXICITY);
+    if toxicity > WHOLE_TOXICITY {
+        return Err(ShortFault::Toxic(ToxicFault::ToxicityNotThousandths));
+    }
+    if !are_known(kind, pairs) {
+        return Err(ShortFault::Toxic(ToxicFault::UnknownAttribute));
+    }
+    let values = [0, 1, 2].map(|place| attribute_at(kind, pairs, place));
+    let toxic = kind.toxic(values)?;
+    Ok((toxic, toxicity as u16))
+}
+
+/// The value of the type's attribute at a place; 0 where it is absent, and past the last one.
+fn attribute_at(kind: Kind, pairs: &str, place: usize) -> u64
+    ensures { result ≡ slice_index (values_in kind (pairs_of pairs.now)) place }
+{
+    match kind.attributes().get(place) {
+        Some(key) => value_at(pairs, key).unwrap_or(0),
+        None => 0,
+    }
+}

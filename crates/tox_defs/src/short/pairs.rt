@@ -1,0 +1,117 @@
+//! The pairs of a short form: `key=value`, parted by commas.
+ghost use Rattle.std.specs.Prelude.{◌≡◌, option_map, count_by};
+ghost use Rattle.std.specs.Char.{is_ascii_digit};
+ghost use Rattle.std.specs.List.{after_first, before_first, find, list_all};
+ghost use Rattle.tox_defs.specs.Pairs.{has_double_key, has_key, is_equals, is_pair, is_word, is_word_byte, key_of, number_of, pairs_of, value_at, value_of};
+ghost use Rattle.tox_defs.specs.Short.{is_known};
+
+use crate::kind::Kind;
+
+/// How many digits a value may have.
+const MOST_DIGITS: usize = 18;
+
+/// Whether a text is one or more of `a` to `z` and `_`.
+pub(super) fn is_word(text: &str) -> bool
+    ensures { result ≡ is_word text.now }
+{
+    !text.is_empty() && are_word_bytes(text)
+}
+
+fn are_word_bytes(text: &str) -> bool
+    ensures { result ≡ list_all is_word_byte text.now }
+{
+    text.bytes()
+        .all(|byte| byte == b'_' || byte.is_ascii_lowercase())
+}
+
+/// Whether each text between the commas is a pair.
+pub(super) fn are_pairs(pairs: &str) -> bool
+    ensures { result ≡ list_all is_pair (pairs_of pairs.now) }
+{
+    pairs.split(',').all(is_pair)
+}
+
+fn is_pair(pair: &str) -> bool
+    ensures { result ≡ is_pair pair.now }
+{
+    is_word(key_of(pair)) && value_of(pair).is_some()
+}
+
+fn key_of(pair: &str) -> &str
+    ensures { result.now ≡ key_of pair.now }
+{
+    cut(pair).0
+}
+
+fn value_of(pair: &str) -> Option<u64>
+    ensures { result ≡ value_of pair.now }
+{
+    number_of(cut(pair).1)
+}
+
+/// The text before the first `=` and behind it.
+fn cut(pair: &str) -> (&str, &str)
+    ensures before { result.0.now ≡ before_first is_equals pair.now }
+    ensures behind { result.1.now ≡ after_first is_equals pair.now }
+{
+    pair.split_once('=').unwrap_or((pair, ""))
+}
+
+fn number_of(text: &str) -> Option<u64>
+    ensures { result ≡ number_of text.now }
+{
+    if text.len() > MOST_DIGITS || !are_digits(text) {
+        return None;
+    }
+    text.parse().ok()
+}
+
+fn are_digits(text: &str) -> bool
+    ensures { result ≡ list_all is_ascii_digit text.now }
+{
+    text.bytes().all(|byte| byte.is_ascii_digit())
+}
+
+/// Whether a key stands twice or more.
+pub(super) fn has_double_key(pairs: &str) -> bool
+    ensures { result ≡ has_double_key (pairs_of pairs.now) }
+{
+    pairs
+        .split(',')
+        .any(|pair| count_key(pairs, key_of(pair)) > 1)
+}
+
+fn count_key(pairs: &str, key: &str) -> usize
+    ensures { result ≡ count_by (has_key key.now) (pairs_of pairs.now) }
+{
+    pairs.split(',').filter(|pair| key_of(pair) == key).count()
+}
+
+/// Whether each key is an attribute of the type, or `toxicity`.
+pub(super) fn are_known(kind: Kind, pairs: &str) -> bool
+    ensures { result ≡ list_all (λ pair. is_known kind (key_of pair)) (pairs_of pairs.now) }
+{
+    pairs.split(',').all(|pair| is_known(kind, key_of(pair)))
+}
+
+fn is_known(kind: Kind, key: &str) -> bool
+    ensures { result ≡ is_known kind key.now }
+{
+    key == "toxicity" || kind.has_attribute(key)
+}
+
+/// The value of a key.
+pub(super) fn value_at(pairs: &str, key: &str) -> Option<u64>
+    ensures { result ≡ value_at key.now (pairs_of pairs.now) }
+{
+    match pair_at(pairs, key) {
+        Some(pair) => value_of(pair),
+        None => None,
+    }
+}
+
+fn pair_at<'a>(pairs: &'a str, key: &str) -> Option<&'a str>
+    ensures { option_map (λ pair. pair.now) result ≡ find (has_key key.now) (pairs_of pairs.now) }
+{
+    pairs.split(',').find(|pair| key_of(pair) == key)
+}
