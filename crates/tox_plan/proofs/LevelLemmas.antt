@@ -1,0 +1,66 @@
+-- What is still to come from nested levels.
+use Rattle.std.proofs.Common.{◌≡◌, ℕ, ◌<◌, ◌≤◌, Bool, true, false, List, [], ◌∷◌, ◌++◌, Option, None, Some, refl, ap, sym, subst, ◌∙◌, arith}
+use Rattle.tox_time.specs.declared.slice.Slice.{Slice}
+use Rattle.tox_time.specs.declared.item.Item.{Item}
+use Rattle.tox_time.specs.declared.ending.Ending.{Ending}
+use Rattle.tox_time.specs.Table.{final_of}
+use Rattle.tox_defs.specs.declared.level.Level.{Level}
+use Rattle.tox_defs.specs.Reaction.{flow_from}
+use Rattle.tox_defs.specs.Op.{op_giving, op_reaction}
+use Rattle.tox_defs.specs.Look.{as_chunk, rest_of}
+use Rattle.tox_defs.specs.Level.{level_gives}
+use Rattle.tox_defs.proofs.FlowLemmas.{Continues-counted}
+use Rattle.tox_defs.proofs.Levels.{rest_of-read, rest_of-unread, level_gives-running, level_gives-ended}
+use Rattle.tox_plan.specs.Levels.{to_come_from, AreNested, AreDrained, AreRead, OnlyEnds}
+
+-- the rest from a piece's start to its stop is the piece
+pub rest_of-piece : (start : ℕ) (piece : Slice) → piece.span.start ≡ start → start < piece.span.stop → rest_of start piece.span.stop piece.instant ≡ as_chunk piece ∷ []
+rest_of-piece start piece begins some =
+    rest_of-unread start piece.span.stop piece.instant some ∙ ap (λ start. as_chunk (record { span = record { start = start; stop = piece.span.stop }; instant = piece.instant }) ∷ []) (sym begins)
+
+-- a level that has nothing left gives what its operation gives for an ending
+pub level_gives-final : (words : List ℕ) (start : ℕ) (level : Level) (item : Item) (last : Ending) → level.stop ≡ start → level.ending ≡ None → level.state.done ≡ false
+    → op_giving level.op words level.state item ≡ final_of last ∷ [] → level_gives words start level (item ∷ []) ≡ final_of last ∷ []
+level_gives-final words start level item last read running undone gives =
+    level_gives-running words start level (item ∷ []) running
+    ∙ ap (λ rest. flow_from (op_reaction level.op words) level.state (rest ++ item ∷ [])) (rest_of-read start level.stop level.instant (omega (arith, read)))
+    ∙ (Continues-counted (op_giving level.op words) level.state item [] (final_of last ∷ []) undone gives).gives
+
+-- a piece that comes from upstream is the next chunk of a level that has nothing left
+pub level_gives-filled : (words : List ℕ) (start : ℕ) (level : Level) (piece : Slice) (items : List Item) → level.ending ≡ None → level.stop ≡ start → piece.span.start ≡ level.stop → level.stop < piece.span.stop
+    → level_gives words start level (as_chunk piece ∷ items) ≡ level_gives words start (record level { stop = piece.span.stop; instant = piece.instant }) items
+level_gives-filled words start level piece items running read begins some =
+    level_gives-running words start level (as_chunk piece ∷ items) running
+    ∙ ap (λ rest. flow_from (op_reaction level.op words) level.state (rest ++ as_chunk piece ∷ items)) (rest_of-read start level.stop level.instant (omega (arith, read)))
+    ∙ ap (λ rest. flow_from (op_reaction level.op words) level.state (rest ++ items)) (sym (rest_of-piece start piece (begins ∙ read) (omega (arith, read, some))))
+    ∙ sym (level_gives-running words start (record level { stop = piece.span.stop; instant = piece.instant }) items running)
+
+-- the reader of nested levels stands in the source's piece, or at its end
+pub nested-below : (start : ℕ) (levels : List Level) (source : Slice) → AreNested start levels source → start ≤ source.span.stop
+nested-below start [] source nested = nested
+nested-below start (level ∷ levels) source nested =
+    let below : level.stop ≤ source.span.stop = nested-below level.stop levels source nested.1 in
+    omega (arith, nested.0.sound.within)
+
+-- a longer source keeps levels nested
+pub nested-longer : (start : ℕ) (levels : List Level) (old new : Slice) → old.span.stop ≤ new.span.stop → AreNested start levels old → AreNested start levels new
+nested-longer start [] old new longer nested = omega (arith, nested, longer)
+nested-longer start (level ∷ levels) old new longer nested = (nested.0, nested-longer level.stop levels old new longer nested.1)
+
+-- drained levels stand at the end of the source's piece
+pub drained-at : (start : ℕ) (levels : List Level) (source : Slice) → AreDrained start levels source → source.span.stop ≡ start
+drained-at start [] source drained = drained
+drained-at start (level ∷ levels) source drained = drained-at level.stop levels source drained.2 ∙ drained.0
+
+-- the next piece of the source is the next item of what comes to drained levels
+pub drained-offered : (words : List ℕ) (start : ℕ) (levels : List Level) (old new : Slice) (items : List Item) → AreDrained start levels old → new.span.start ≡ old.span.stop → new.span.start < new.span.stop
+    → to_come_from words start levels new items ≡ to_come_from words start levels old (as_chunk new ∷ items)
+drained-offered words start [] old new items drained after some =
+    ap (λ rest. rest ++ items) (rest_of-piece start new (after ∙ drained) (omega (arith, drained, after, some)))
+    ∙ ap (λ rest. rest ++ as_chunk new ∷ items) (sym (rest_of-read start old.span.stop old.instant (omega (arith, drained))))
+drained-offered words start (level ∷ levels) old new items drained after some =
+    ap (λ items. level_gives words start level items) (drained-offered words level.stop levels old new items drained.2 after some)
+
+-- what the source gives where nothing is left of its piece
+pub to_come_from-read : (words : List ℕ) (start : ℕ) (source : Slice) (items : List Item) → source.span.stop ≡ start → to_come_from words start [] source items ≡ items
+to_come_from-read words start source items read = ap (λ rest. rest ++ items) (rest_of-read start source.span.stop source.instant (omega (arith, read)))

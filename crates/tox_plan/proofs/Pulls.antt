@@ -1,0 +1,93 @@
+-- What a pull brings is what comes next from all the levels.
+use Rattle.std.proofs.Common.{◌≡◌, ℕ, ◌^◌, ◌<◌, ◌≤◌, length, true, false, List, [], ◌∷◌, ◌++◌, Option, None, Some, refl, ap, sym, subst, ◌∙◌, arith}
+use Rattle.std.specs.Prelude.{MatchOption}
+use Rattle.tox_time.specs.declared.slice.Slice.{Slice}
+use Rattle.tox_time.specs.declared.item.Item.{Item}
+use Rattle.tox_time.specs.declared.ending.Ending.{Ending}
+use Rattle.tox_time.specs.Table.{final_of}
+use Rattle.tox_defs.specs.declared.level.Level.{Level}
+use Rattle.tox_defs.specs.declared.level.Advanced.{Advanced}
+use Rattle.tox_defs.specs.Op.{op_giving, is_mute}
+use Rattle.tox_defs.specs.Look.{as_chunk}
+use Rattle.tox_defs.specs.Level.{level_gives, IsSound, IsNextPiece, IsAtEnd}
+use Rattle.tox_defs.proofs.Levels.{level_gives-ended}
+use Rattle.tox_plan.specs.Levels.{to_come_from, IsLevel, AreNested, AreDrained, AreRead, IsNext, OnlyEnds, HaveEnded, IsTheEnd}
+use Rattle.tox_plan.proofs.LevelLemmas.{level_gives-filled, level_gives-final}
+
+-- the first level's next piece
+advanced-piece : (words : List ℕ) (start : ℕ) (levels upstream : List Level) (level new : Level) (source piece : Slice)
+    → ((items : List Item) → to_come_from words start levels source items ≡ level_gives words start level (to_come_from words level.stop upstream source items))
+    → AreNested level.stop upstream source → is_mute level.op ≡ false → IsNextPiece words start level new piece → IsNext words start levels (new ∷ upstream) source piece
+advanced-piece words start levels upstream level new source piece same nested heard next = record {
+  begins = next.begins;
+  some = next.some;
+  nested = (record { sound = next.sound; heard = λ none. ap is_mute next.op ∙ heard }, subst (λ stop. AreNested stop upstream source) (sym next.stop) nested);
+  gives = λ items. same items ∙ next.gives (to_come_from words level.stop upstream source items)
+      ∙ ap (λ stop. as_chunk piece ∷ level_gives words piece.span.stop new (to_come_from words stop upstream source items)) (sym next.stop);
+}
+
+-- a pull that finds a rest at the first level: a piece, or its ending
+pub here-piece : (words : List ℕ) (start : ℕ) (upstream : List Level) (level new : Level) (source piece : Slice) → level.ending ≡ None → AreNested start (level ∷ upstream) source
+    → IsNextPiece words start level new piece → IsNext words start (level ∷ upstream) (new ∷ upstream) source piece
+here-piece words start upstream level new source piece running nested next =
+    advanced-piece words start (level ∷ upstream) upstream level new source piece (λ items. refl) nested.1 (nested.0.heard running) next
+
+pub here-end : (words : List ℕ) (start : ℕ) (upstream : List Level) (level new : Level) (source : Slice) (ending : Ending) → IsAtEnd words start level new ending → OnlyEnds words start (level ∷ upstream) source ending
+here-end words start upstream level new source ending at_end items = at_end.gives (to_come_from words level.stop upstream source items)
+
+-- a pull at a level whose ending is known
+pub known-end : (words : List ℕ) (start : ℕ) (upstream : List Level) (level : Level) (source : Slice) (ending : Ending) → level.ending ≡ Some ending → OnlyEnds words start (level ∷ upstream) source ending
+known-end words start upstream level source ending known items = level_gives-ended words start level ending (to_come_from words level.stop upstream source items) known
+
+-- a pull that brings the first level a piece from upstream
+module _ (words : List ℕ) (start : ℕ) (old upstream : List Level) (level : Level) (source piece : Slice) (running : level.ending ≡ None) (read : level.stop ≡ start) (next : IsNext words start old upstream source piece) where
+  abbrev filled : Level
+  filled = record { op = level.op; state = level.state; stop = piece.span.stop; instant = piece.instant; ending = level.ending }
+
+  filled-gives : (items : List Item) → to_come_from words start (level ∷ old) source items ≡ level_gives words start filled (to_come_from words piece.span.stop upstream source items)
+  filled-gives items =
+      ap (λ stop. level_gives words start level (to_come_from words stop old source items)) read
+      ∙ ap (λ items. level_gives words start level items) (next.gives items)
+      ∙ level_gives-filled words start level piece (to_come_from words piece.span.stop upstream source items) running read (next.begins ∙ sym read) (omega (arith, next.some, read))
+
+  pub filled-piece : (new : Level) (found : Slice) → is_mute level.op ≡ false → IsNextPiece words start filled new found → IsNext words start (level ∷ old) (new ∷ upstream) source found
+  filled-piece new found heard advanced = advanced-piece words start (level ∷ old) upstream filled new source found filled-gives next.nested heard advanced
+
+  pub filled-end : (new : Level) (ending : Ending) → IsAtEnd words start filled new ending → OnlyEnds words start (level ∷ old) source ending
+  filled-end new ending at_end items = filled-gives items ∙ at_end.gives (to_come_from words piece.span.stop upstream source items)
+
+-- an ending that comes from upstream
+pub upstream-end : (words : List ℕ) (start : ℕ) (upstream : List Level) (level : Level) (source : Slice) (ending last : Ending) → level.ending ≡ None → level.stop ≡ start → IsSound start level
+    → OnlyEnds words start upstream source ending → ((words : List ℕ) → op_giving level.op words level.state (final_of ending) ≡ final_of last ∷ []) → OnlyEnds words start (level ∷ upstream) source last
+upstream-end words start upstream level source ending last running read sound only gives items =
+    ap (λ stop. level_gives words start level (to_come_from words stop upstream source items)) read
+    ∙ ap (λ items. level_gives words start level items) (only items)
+    ∙ level_gives-final words start level (final_of ending) last read running (sound.running running) (gives words)
+
+-- a level that has a piece from upstream as its present chunk
+pub filled-sound : (start : ℕ) (level : Level) (piece : Slice) → IsSound start level → start ≤ piece.span.stop → piece.span.stop ≤ 2 ^ 40
+    → IsSound start (record { op = level.op; state = level.state; stop = piece.span.stop; instant = piece.instant; ending = level.ending })
+filled-sound start level piece sound below few = record {
+  within = below;
+  few = few;
+  chunks = sound.chunks;
+  pieces = sound.pieces;
+  passed = sound.passed;
+  running = sound.running;
+  operation = sound.operation;
+}
+
+-- the ending that upstream levels know, and what a level makes of it
+abbrev pub Knows : List Level → Option Ending → Type 0
+Knows levels known = (words : List ℕ) (start : ℕ) (source : Slice) → AreNested start levels source → AreRead start levels source → MatchOption known (AreDrained start levels source) (OnlyEnds words start levels source)
+
+pub knows-some : (level : Level) (upstream : List Level) (known : Option Ending) (ending last : Ending) → Knows upstream known → known ≡ Some ending → level.ending ≡ None
+    → ((words : List ℕ) → op_giving level.op words level.state (final_of ending) ≡ final_of last ∷ []) → Knows (level ∷ upstream) (Some last)
+knows-some level upstream known ending last knows is running gives words start source nested read =
+    let only : OnlyEnds words start upstream source ending = rw is at (knows words start source (subst (λ stop. AreNested stop upstream source) read.0 nested.1) (subst (λ stop. AreRead stop upstream source) read.0 read.1)) in
+    upstream-end words start upstream level source ending last running read.0 nested.0.sound only gives
+
+pub knows-none : (level : Level) (upstream : List Level) (known : Option Ending) → Knows upstream known → known ≡ None → level.ending ≡ None → Knows (level ∷ upstream) None
+knows-none level upstream known knows is running words start source nested read =
+    let drained : AreDrained level.stop upstream source = rw is at (knows words level.stop source nested.1 read.1) in
+    (read.0, running, drained)

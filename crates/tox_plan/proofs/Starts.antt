@@ -1,0 +1,80 @@
+-- The levels of a plan at their start mean what the plan means.
+use Rattle.std.proofs.Common.{◌≡◌, ℕ, ◌+◌, ◌<◌, ◌≤◌, Bool, true, false, List, [], ◌∷◌, ◌++◌, length, length-append, Option, Some, None, refl, ap, sym, subst, ◌∙◌, arith}
+use Rattle.std.specs.Prelude.{All, is_some, IsSome}
+use Rattle.std.proofs.lemmas.List.Elements.{All-head, All-tail}
+use Rattle.tox_time.specs.declared.item.Item.{Item}
+use Rattle.tox_time.specs.Stream.{IsStream}
+use Rattle.tox_time.specs.Table.{final_of}
+use Rattle.tox_defs.specs.declared.op.Op.{Op}
+use Rattle.tox_defs.specs.declared.op.Op.TheVariants.{Delay, Pace, Slow, Mute, Cutoff, Slicing, Limit}
+use Rattle.tox_defs.specs.declared.level.Level.{Level}
+use Rattle.tox_defs.specs.Reaction.{flow, flow_through}
+use Rattle.tox_defs.specs.Op.{IsOp, is_mute, op_reaction}
+use Rattle.tox_defs.specs.Level.{level_gives, IsSound}
+use Rattle.tox_defs.proofs.StreamKeepers.{flow_from-muted}
+use Rattle.tox_defs.proofs.OpStreams.{IsStream-op_flow}
+use Rattle.tox_compile.specs.Meaning.{op_reactions}
+use Rattle.tox_plan.specs.Levels.{ending_at_start, level_at_start, levels_at_start, to_come_from, IsLevel, AreNested, AreRead}
+use Rattle.tox_plan.specs.Running.{no_piece}
+
+-- a level at its start gives its operation's flow of a stream
+level_gives-at_start : (op : Op) (words : List ℕ) (items : List Item) → IsStream items → level_gives words 0 (level_at_start op) items ≡ flow (op_reaction op words) items
+level_gives-at_start (Delay fixed latency jitter lane) words items stream = refl
+level_gives-at_start (Pace rate) words items stream = refl
+level_gives-at_start (Slow millis) words items stream = refl
+level_gives-at_start (Mute ending) words items stream = sym (flow_from-muted (final_of ending) items 0 0 0 0 0 0 stream)
+level_gives-at_start (Cutoff instant) words items stream = refl
+level_gives-at_start (Slicing average variation micros lane) words items stream = refl
+level_gives-at_start (Limit bytes) words items stream = refl
+
+-- one more level at the source's side takes what comes and gives it to the others
+to_come_from-snoc : (words : List ℕ) (op : Op) (levels : List Level) (items : List Item) → AreRead 0 levels no_piece
+    → to_come_from words 0 (levels ++ level_at_start op ∷ []) no_piece items ≡ to_come_from words 0 levels no_piece (level_gives words 0 (level_at_start op) items)
+to_come_from-snoc words op [] items read = refl
+to_come_from-snoc words op (level ∷ levels) items read =
+    ap (λ stop. level_gives words 0 level (to_come_from words stop (levels ++ level_at_start op ∷ []) no_piece items)) read.0
+    ∙ ap (λ items. level_gives words 0 level items) (to_come_from-snoc words op levels items (subst (λ stop. AreRead stop levels no_piece) read.0 read.1))
+    ∙ ap (λ stop. level_gives words 0 level (to_come_from words stop levels no_piece (level_gives words 0 (level_at_start op) items))) (sym read.0)
+
+read-snoc : (op : Op) (start : ℕ) (levels : List Level) → start ≡ 0 → AreRead start levels no_piece → AreRead start (levels ++ level_at_start op ∷ []) no_piece
+read-snoc op start [] zero read = (sym zero, refl)
+read-snoc op start (level ∷ levels) zero read = (read.0, read-snoc op level.stop levels (read.0 ∙ zero) read.1)
+
+heard-at_start : (op : Op) → ending_at_start op ≡ None → is_mute op ≡ false
+heard-at_start (Delay fixed latency jitter lane) none = refl
+heard-at_start (Pace rate) none = refl
+heard-at_start (Slow millis) none = refl
+heard-at_start (Mute ending) none = absurd (cc)
+heard-at_start (Cutoff instant) none = refl
+heard-at_start (Slicing average variation micros lane) none = refl
+heard-at_start (Limit bytes) none = refl
+
+IsLevel-at_start : (op : Op) (start : ℕ) → IsOp op → start ≡ 0 → IsLevel start (level_at_start op)
+IsLevel-at_start op start fits zero = record {
+  sound = record { within = omega (arith, zero); few = omega arith; chunks = omega arith; pieces = omega arith; passed = omega arith; running = λ none. refl; operation = fits };
+  heard = heard-at_start op;
+}
+
+nested-snoc : (op : Op) (start : ℕ) (levels : List Level) → IsOp op → start ≡ 0 → AreRead start levels no_piece → AreNested start levels no_piece → AreNested start (levels ++ level_at_start op ∷ []) no_piece
+nested-snoc op start [] fits zero read nested = (IsLevel-at_start op start fits zero, omega arith)
+nested-snoc op start (level ∷ levels) fits zero read nested = (nested.0, nested-snoc op level.stop levels fits (read.0 ∙ zero) read.1 nested.1)
+
+pub read-at_start : (ops : List Op) → AreRead 0 (levels_at_start ops) no_piece
+read-at_start [] = refl
+read-at_start (op ∷ ops) = read-snoc op 0 (levels_at_start ops) refl (read-at_start ops)
+
+pub nested-at_start : (ops : List Op) → All IsOp ops → AreNested 0 (levels_at_start ops) no_piece
+nested-at_start [] fit = omega arith
+nested-at_start (op ∷ ops) fit = nested-snoc op 0 (levels_at_start ops) (All-head IsOp op ops fit) refl (read-at_start ops) (nested-at_start ops (All-tail IsOp op ops fit))
+
+pub length-levels_at_start : (ops : List Op) → length (levels_at_start ops) ≡ length ops
+length-levels_at_start [] = refl
+length-levels_at_start (op ∷ ops) = length-append (levels_at_start ops) (level_at_start op ∷ []) ∙ omega (arith, length-levels_at_start ops)
+
+-- for every stream
+pub means-at_start : (ops : List Op) (words : List ℕ) (items : List Item) → All IsOp ops → IsStream items → to_come_from words 0 (levels_at_start ops) no_piece items ≡ flow_through (op_reactions ops words) items
+means-at_start [] words items fit stream = refl
+means-at_start (op ∷ ops) words items fit stream =
+    to_come_from-snoc words op (levels_at_start ops) items (read-at_start ops)
+    ∙ ap (λ items. to_come_from words 0 (levels_at_start ops) no_piece items) (level_gives-at_start op words items stream)
+    ∙ means-at_start ops words (flow (op_reaction op words) items) (All-tail IsOp op ops fit) (IsStream-op_flow op words items (All-head IsOp op ops fit) stream)

@@ -1,0 +1,16 @@
+-- What was given, and what is still to come for the other arrivals, is what the plan means for all of them.
+use Rattle.std.proofs.Common.{◌≡◌, true, List, [], drop}
+use Rattle.tox_time.specs.declared.item.Item.{Item}
+use Rattle.tox_time.specs.Arrivals.{arrival_list}
+use Rattle.tox_time.specs.Neighbours.{AreNeighbours}
+use Rattle.tox_plan.specs.Delivering.{Goes, stop_from}
+use Rattle.tox_plan.proofs.Deliveries.{IsAhead}
+use Rattle.tox_plan.proofs.delivery.deliver.Given as goal
+
+abbrev pub invariant-loop-item : goal.invariant-loop-item
+invariant-loop-item l = record {
+  idle : l.runner.idle ≡ true;
+  ahead : IsAhead l.runner (drop l.item-index l.item-items);
+  goes : Goes l.initial.runner [] (arrival_list l.item-items) l.runner l.slices (arrival_list (drop l.item-index l.item-items));
+  neighbours : AreNeighbours l.item-items 0 l.slices × (stop_from 0 l.slices ≡ l.runner.position);
+}

@@ -1,0 +1,34 @@
+-- One more cut.
+use Rattle.std.proofs.Common.{◌≡◌, ◌∷◌, ◌++◌, [], List, sym, ap, subst, ◌∙◌}
+use Rattle.std.specs.Prelude.{Any}
+use Rattle.tox_time.specs.declared.slice.Slice.{Slice}
+use Rattle.tox_time.specs.declared.item.Item.{Item}
+use Rattle.tox_time.specs.Neighbours.{AreNeighbours, LiesIn}
+use Rattle.tox_plan.specs.Cuts.{IsCut}
+use Rattle.tox_plan.specs.Delivering.{Goes, stop_from}
+use Rattle.tox_plan.proofs.Deliveries.{goes-on, goes-cut, stop_from-append, neighbours-append, any-within}
+use Rattle.tox_plan.proofs.delivery.take_cuts.Goals as goal
+
+pub loop-slice-preserved : goal.loop-slice-preserved
+loop-slice-preserved c =
+    let cut : IsCut c.loop-slice.runner c.next_cut.new.self c.in-Some.slice = c.in-Some.ensures.some in
+    let is : c.push.new.self ≡ c.loop-slice.slices ++ c.in-Some.slice ∷ [] = c.in_ok-push.ensures.ok in
+    record {
+      goes = λ items. rw is
+          (goes-on c.args.runner.now c.loop-slice.runner c.next_cut.new.self c.args.slices.now c.loop-slice.slices (c.loop-slice.slices ++ c.in-Some.slice ∷ []) items items items
+          (c.loop-slice.invariant.goes items) (goes-cut c.loop-slice.runner c.next_cut.new.self c.in-Some.slice c.loop-slice.slices items cut));
+      piece = (c.in-Some.ensures.kept.2 ∙ c.loop-slice.invariant.piece.0, c.in-Some.ensures.kept.3 ∙ c.loop-slice.invariant.piece.1);
+      neighbours = λ items lies neighbours start.
+          let before = c.loop-slice.invariant.neighbours items lies neighbours start in
+          let here : Any (LiesIn c.loop-slice.runner.piece.span) items = subst (λ piece. Any (LiesIn piece.span) items) (sym c.loop-slice.invariant.piece.0) lies in
+          rw is (
+            neighbours-append items 0 c.loop-slice.slices c.in-Some.slice before.0 (c.in-Some.ensures.place.0 ∙ sym before.1) cut.within.some (any-within items c.loop-slice.runner.piece c.in-Some.slice cut.within here),
+            stop_from-append 0 c.loop-slice.slices c.in-Some.slice ∙ sym c.in-Some.ensures.place.1,
+          );
+    }
+
+pub returns-clause-neighbours : goal.returns-clause-neighbours
+returns-clause-neighbours c =
+    λ items lies neighbours start.
+    let before = c.loop-slice.invariant.neighbours items lies neighbours start in
+    (before.0, before.1 ∙ sym c.in_default.ensures.idle.1)

@@ -1,0 +1,18 @@
+-- An accepted offer keeps what holds of a runner.
+use Rattle.std.proofs.Common.{◌≡◌, true, None, refl, ap, sym, ◌∙◌, arith}
+use Rattle.tox_plan.specs.RunnerInside.{running}
+use Rattle.tox_plan.proofs.RunnerLemmas.{IsRunning-after_offer, to_come-after_offer, none_of}
+use Rattle.tox_plan.proofs.runner.Runner.offer.Goals as goal
+
+pub invariant_of-self : goal.invariant_of-self
+invariant_of-self c =
+    IsRunning-after_offer (running c.self.inside) c.args.len c.args.instant c.self.invariant
+    (ap (λ runner. runner.idle) c.self.view_is ∙ c.requires) (none_of c.self.inside.ending (sym c.if-is_some.ensures))
+    (omega arith) (omega (arith, c.self.invariant.few))
+
+pub returns-clause-to_come : goal.returns-clause-to_come
+returns-clause-to_come c =
+    rw (← c.self.view_is)
+    (to_come-after_offer (running c.self.inside) c.args.len c.args.instant c.self.invariant
+    (ap (λ runner. runner.idle) c.self.view_is ∙ c.requires) (none_of c.self.inside.ending (sym c.if-is_some.ensures))
+    (omega arith))

@@ -1,0 +1,5 @@
+pub mod Levels
+pub mod Running
+pub mod RunnerInside
+pub mod Cuts
+pub mod Delivering

@@ -1,0 +1,21 @@
+-- What a contract sees of a `Runner`, and what its fields keep.
+use Rattle.tox_plan.specs.declared.runner.Runner.TheInside.{Inside}
+use Rattle.tox_plan.specs.Running.{Running, IsRunning}
+
+abbrev pub running : Inside → Running
+running runner = record {
+  levels = runner.levels.items;
+  words = runner.words.now;
+  position = runner.position;
+  piece = runner.piece;
+  latest = runner.latest;
+  ending = runner.ending;
+  finished = runner.finished;
+  idle = runner.idle;
+  turns = runner.turns;
+  cuts = runner.cuts;
+  pieces = runner.pieces;
+}
+
+abbrev pub IsKept : Inside → Type 0
+IsKept runner = IsRunning (running runner)

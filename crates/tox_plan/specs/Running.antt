@@ -1,0 +1,81 @@
+-- A runner as a value, and its remaining output.
+use Rattle.std.specs.Prelude.{◌≡◌, ℕ, ◌+◌, ◌*◌, ◌<◌, ◌≤◌, ◌^◌, Bool, true, false, if◌then◌else◌, List, [], ◌∷◌, length, Option, None, IsSome, ◌⊎◌, Result, Ok, Err, Some, is_some}
+use Rattle.tox_time.specs.declared.slice.Slice.{Slice}
+use Rattle.tox_time.specs.declared.item.Item.{Item}
+use Rattle.tox_time.specs.declared.item.Item.TheVariants.{Chunk, Closed, Reset, Quiet}
+use Rattle.tox_time.specs.declared.ending.Ending.{Ending}
+use Rattle.tox_time.specs.declared.arrivals.ArrivalFault.{ArrivalFault}
+use Rattle.tox_time.specs.Arrivals.{piece_fault}
+use Rattle.tox_defs.specs.declared.level.Level.{Level}
+use Rattle.tox_defs.specs.Level.{ending_or}
+use Rattle.tox_plan.specs.Levels.{to_come_from, AreNested, AreDrained, HaveEnded}
+
+-- what a runner is seen as
+pub record Running : Type 0 where
+  -- the levels, the last operation first
+  pub levels : List Level
+  pub words : List ℕ
+  -- where the next slice begins
+  pub position : ℕ
+  -- the piece that was offered last, and the last instant
+  pub piece : Slice
+  pub latest : ℕ
+  -- the ending, once it is known, and whether the source's end was told
+  pub ending : Option Ending
+  pub finished : Bool
+  pub idle : Bool
+  pub turns : ℕ
+  pub cuts : ℕ
+  pub pieces : ℕ
+
+-- the remaining output, if these items follow the offered pieces
+abbrev pub to_come : Running → List Item → List Item
+to_come runner items = ending_or runner.ending (to_come_from runner.words runner.position runner.levels runner.piece items)
+
+-- a list of items with no chunk
+abbrev pub HasNoChunk : List Item → Type 0
+HasNoChunk [] = Unit {0}
+HasNoChunk (Chunk span t ∷ items) = ⊥
+HasNoChunk (Closed t ∷ items) = HasNoChunk items
+HasNoChunk (Reset t ∷ items) = HasNoChunk items
+HasNoChunk (Quiet ∷ items) = HasNoChunk items
+
+-- each turn looks at one operation: at most one round of looks for a cut or an offered piece.
+-- A runner that isn't idle has a round in hand.
+abbrev pub AreCounted : Running → Type 0
+AreCounted runner =
+    (if runner.idle then 0 else length runner.levels) + runner.turns ≤ length runner.levels * (runner.cuts + runner.pieces)
+
+-- what holds of every runner
+pub record IsRunning (runner : Running) : Type 0 where
+  pub nested : runner.ending ≡ None → AreNested runner.position runner.levels runner.piece
+  pub drained : runner.idle ≡ true → runner.ending ≡ None → AreDrained runner.position runner.levels runner.piece
+  pub idle : IsSome runner.ending → runner.idle ≡ true
+  pub cause : IsSome runner.ending → (runner.finished ≡ true) ⊎ HaveEnded runner.levels
+  pub told : runner.finished ≡ true → IsSome runner.ending
+  pub reached : runner.position ≤ runner.piece.span.stop
+  pub here : runner.idle ≡ false → runner.piece.span.start ≤ runner.position
+  pub few : runner.piece.span.stop ≤ 2 ^ 40
+  pub few_levels : length runner.levels ≤ 16
+  pub few_cuts : runner.cuts ≤ runner.position
+  pub few_pieces : runner.pieces ≤ runner.piece.span.stop
+  pub counted : AreCounted runner
+  pub looked : 0 < length runner.levels → runner.cuts ≤ runner.turns
+
+-- where nothing was offered yet
+abbrev pub no_piece : Slice
+no_piece = record { span = record { start = 0; stop = 0 }; instant = 0 }
+
+-- the piece of this many bytes that comes after the offered ones
+abbrev pub next_piece : Running → ℕ → ℕ → Slice
+next_piece runner len instant =
+    record { span = record { start = runner.piece.span.stop; stop = runner.piece.span.stop + len }; instant = instant }
+
+-- what an offer is answered: the first fault, if there is one
+abbrev pub answer_of : Option ArrivalFault → Result (Unit {0}) ArrivalFault
+answer_of None = Ok tt
+answer_of (Some fault) = Err fault
+
+-- what an offer of a piece is answered
+abbrev pub offer_answer : Running → ℕ → ℕ → Result (Unit {0}) ArrivalFault
+offer_answer runner len instant = answer_of (piece_fault runner.piece.span.stop runner.latest (is_some runner.ending) len instant)

@@ -1,0 +1,78 @@
+//! What a whole list of arrivals comes to.
+ghost use Rattle.std.specs.Prelude.{◌≡◌, ◌≤◌, List, [], ◌∷◌, Any, IfOk, OnOk, true, None};
+ghost use Rattle.tox_time.specs.declared.item.Item.{Item as OneItem};
+ghost use Rattle.tox_time.specs.declared.slice.Slice.{Slice as OneSlice};
+ghost use Rattle.tox_time.specs.Arrivals.{arrival_list};
+ghost use Rattle.tox_time.specs.Stream.{latest_from};
+ghost use Rattle.tox_time.specs.Table.{IsOutcomeOf};
+ghost use Rattle.tox_time.specs.Neighbours.{AreNeighbours, LiesIn};
+ghost use Rattle.tox_defs.specs.Flow.{chain_flow};
+ghost use Rattle.tox_plan.specs.Delivering.{MayFollow, EndsAt, StandsAt, StandsBehind, Goes, stop_from};
+
+use crate::runner::Runner;
+use std::alloc::{AllocError, Global};
+use tox_compile::compile;
+use tox_defs::Chain;
+use tox_time::{Arrivals, Item, Outcome, SliceList};
+use tox_words::Words;
+
+/// Takes all slices of the offered piece.
+fn take_cuts(runner: &mut Runner, slices: &mut SliceList) -> Result<(), AllocError>
+    ensures goes { OnOk result ((items : List OneItem) → Goes runner.old slices.old items runner.new slices.new items) }
+    ensures idle { OnOk result ((runner.new.idle ≡ true) × (runner.new.piece ≡ runner.old.piece) × (runner.new.latest ≡ runner.old.latest)) }
+    ensures neighbours { OnOk result ((items : List OneItem) → Any (LiesIn runner.old.piece.span) items → AreNeighbours items 0 slices.old → stop_from 0 slices.old ≡ runner.old.position
+        → AreNeighbours items 0 slices.new × (stop_from 0 slices.new ≡ runner.new.position)) }
+{
+    while let Some(slice) = runner.next_cut() {
+        slices.push(slice)?;
+    }
+    Ok(())
+}
+
+/// Gives the runner the next arrival, and takes the slices that it makes of it.
+fn take_item(runner: &mut Runner, slices: &mut SliceList, item: &Item) -> Result<(), AllocError>
+    requires idle { runner.old.idle ≡ true }
+    requires follows { (last : OneSlice) × MayFollow last item.now × (runner.old.latest ≤ last.instant) × (runner.old.ending ≡ None → StandsAt runner.old last) }
+    ensures goes { OnOk result ((items : List OneItem) → EndsAt item.now items → Goes runner.old slices.old (arrival_list (item.now ∷ items)) runner.new slices.new (arrival_list items)) }
+    ensures idle { OnOk result (runner.new.idle ≡ true) }
+    ensures latest { OnOk result (runner.new.latest ≤ latest_from runner.old.latest (item.now ∷ [])) }
+    ensures stands { OnOk result (runner.new.ending ≡ None → StandsBehind runner.new item.now) }
+    ensures neighbours { OnOk result ((items : List OneItem) → Any (λ other. other ≡ item.now) items → AreNeighbours items 0 slices.old → stop_from 0 slices.old ≡ runner.old.position
+        → AreNeighbours items 0 slices.new × (stop_from 0 slices.new ≡ runner.new.position)) }
+{
+    match item {
+        Item::Chunk(span, instant) => {
+            if runner.offer(span.stop - span.start, *instant).is_ok() {
+                take_cuts(runner, slices)?;
+            }
+        }
+        Item::Closed(instant) => {
+            runner.finish(*instant);
+        }
+        Item::Quiet => {
+            runner.quiet();
+        }
+        Item::Reset(_) => {}
+    }
+    Ok(())
+}
+
+/// What the chain delivers of these arrivals, on a link with these words: what the compiled plan gives.
+pub fn deliver(
+    alloc: Global,
+    chain: &Chain,
+    words: &Words,
+    arrivals: &Arrivals,
+) -> Result<Outcome, AllocError>
+    ensures flow { IfOk result (IsOutcomeOf (chain_flow chain.now words.now (arrival_list arrivals.now))) }
+    ensures neighbours { IfOk result (λ outcome. AreNeighbours (arrival_list arrivals.now) 0 outcome.slices) }
+{
+    let plan = compile(chain, words);
+    let mut runner = Runner::new(&plan, words);
+    let mut slices = SliceList::new(alloc);
+    for item in arrivals.items() {
+        take_item(&mut runner, &mut slices, item)?;
+    }
+    let ending = runner.quiet();
+    Ok(Outcome { slices, ending })
+}

@@ -1,0 +1,233 @@
+ghost use Rattle.std.specs.Prelude.{◌≡◌, ◌+◌, ◌*◌, ◌^◌, ◌<◌, ◌≤◌, ◌↔◌, ◌⊎◌, List, [], ◌∷◌, length, true, false, None, Some, IsSome, IsNone, IfSome, IfNone, OnOk, OnErr};
+ghost use Rattle.tox_time.specs.declared.item.Item.{Item as OneItem};
+ghost use Rattle.tox_time.specs.declared.item.Item.TheVariants.{Closed, Quiet};
+ghost use Rattle.tox_time.specs.Stream.{IsStream};
+ghost use Rattle.tox_time.specs.Table.{final_of};
+ghost use Rattle.tox_defs.specs.Look.{as_chunk};
+ghost use Rattle.tox_compile.specs.Meaning.{means};
+ghost use Rattle.tox_plan.specs.Levels.{HaveEnded};
+ghost use Rattle.tox_plan.specs.Running.{to_come, HasNoChunk, next_piece, no_piece, offer_answer};
+ghost use Rattle.tox_plan.specs.Cuts.{IsCut};
+
+use crate::levels::{Pulled, known_ending, last_of, pull, push_levels};
+use arrayvec::ArrayVec;
+use std::marker::Model;
+use tox_compile::Plan;
+use tox_defs::{Level, MOST_TOXICS};
+use tox_time::{ArrivalFault, Ending, MOST_BYTES, Micros, Slice, Span};
+use tox_words::Words;
+
+/// A plan at work on one stream: it is offered pieces one at a time, and cuts them into slices.
+///
+/// It keeps one end, one instant and a few numbers for each operation: no queue, and no list of items.
+#[derive(Drop)]
+pub struct Runner<'w> {
+    levels: ArrayVec<Level, MOST_TOXICS>,
+    words: &'w Words,
+    position: u64,
+    piece: Slice,
+    latest: Micros,
+    ending: Option<Ending>,
+    finished: bool,
+    idle: bool,
+    turns: u64,
+    cuts: u64,
+    pieces: u64,
+}
+
+impl<'w> Model for Runner<'w> {
+    ghost use Rattle.tox_plan.specs.Running.{Running};
+
+    ghost Value = { Running };
+
+    ghost use Rattle.tox_plan.specs.RunnerInside.{running, IsKept};
+
+    ghost view = { running };
+
+    ghost invariant = { IsKept };
+}
+
+impl<'w> Runner<'w> {
+    /// A runner of the plan that was offered nothing yet.
+    pub fn new(plan: &Plan, words: &'w Words) -> Runner<'w>
+        ensures to_come { (items : List OneItem) → IsStream items → to_come result items ≡ means plan.now words.now items }
+        ensures start { (result.idle ≡ true) × (result.finished ≡ false) × (result.position ≡ 0) × (result.piece ≡ no_piece) × (result.latest ≡ 0) × (result.words ≡ words.now) }
+        ensures counters { (result.turns ≡ 0) × (result.cuts ≡ 0) × (result.pieces ≡ 0) × (length result.levels ≡ length plan.now.ops) }
+    {
+        let mut levels = ArrayVec::new();
+        push_levels(&mut levels, plan.ops());
+        let ending = known_ending(&levels);
+        Runner {
+            levels,
+            words,
+            position: 0,
+            piece: Slice {
+                span: Span { start: 0, stop: 0 },
+                instant: Micros::ZERO,
+            },
+            latest: Micros::ZERO,
+            ending,
+            finished: false,
+            idle: true,
+            turns: 0,
+            cuts: 0,
+            pieces: 0,
+        }
+    }
+
+    /// Whether nothing was offered yet, or nothing of the offered piece is left.
+    pub fn is_idle(&self) -> bool
+        ensures { result ≡ self.now.idle }
+    {
+        self.idle
+    }
+
+    /// Offers the next piece of `len` bytes, which comes at `instant` after the offered ones. Refused in this order:
+    /// an instant below the last one, an empty piece, more than 2^40 bytes in all, a piece once the ending is known.
+    /// A refusal changes nothing.
+    pub fn offer(&mut self, len: u64, instant: Micros) -> Result<(), ArrivalFault>
+        requires { self.old.idle ≡ true }
+        ensures answer { result ≡ offer_answer self.old len instant }
+        ensures offered { OnOk result ((self.new.idle ≡ false) × (self.new.position ≡ self.old.position) × (self.new.piece ≡ next_piece self.old len instant) × (self.new.latest ≡ instant)) }
+        ensures to_come { OnOk result ((items : List OneItem) → to_come self.new items ≡ to_come self.old (as_chunk (next_piece self.old len instant) ∷ items)) }
+        ensures counters { OnOk result ((self.new.turns ≡ self.old.turns) × (self.new.cuts ≡ self.old.cuts) × (self.new.pieces ≡ self.old.pieces + 1)) }
+        ensures kept { OnOk result ((self.new.words ≡ self.old.words) × (self.new.finished ≡ self.old.finished) × (self.new.ending ≡ self.old.ending) × (length self.new.levels ≡ length self.old.levels)) }
+        ensures err { OnErr result (self.new ≡ self.old) }
+    {
+        if instant < self.latest {
+            return Err(ArrivalFault::TimeBack);
+        }
+        if len == 0 {
+            return Err(ArrivalFault::EmptyPiece);
+        }
+        let start = self.piece.span.stop;
+        if len > MOST_BYTES - start {
+            return Err(ArrivalFault::TooManyBytes);
+        }
+        if self.ending.is_some() {
+            return Err(ArrivalFault::AfterEnd);
+        }
+        self.piece = Slice {
+            span: Span {
+                start,
+                stop: start + len,
+            },
+            instant,
+        };
+        self.latest = instant;
+        self.pieces += 1;
+        self.idle = false;
+        Ok(())
+    }
+
+    /// The next slice of the offered piece, or None exactly where none is left; the runner is then idle.
+    pub fn next_cut(&mut self) -> Option<Slice>
+        ensures some { IfSome result (IsCut self.old self.new) }
+        ensures place { IfSome result (λ slice. (slice.span.start ≡ self.old.position) × (self.new.position ≡ slice.span.stop) × (self.new.idle ≡ false)) }
+        ensures none { IsNone result ↔ HasNoChunk (to_come self.old (Quiet ∷ [])) }
+        ensures idle { IfNone result ((self.new.idle ≡ true) × (self.new.position ≡ self.old.position) × (self.new.cuts ≡ self.old.cuts) × ((items : List OneItem) → to_come self.new items ≡ to_come self.old items)) }
+        ensures kept { (self.new.words ≡ self.old.words) × (self.new.finished ≡ self.old.finished) × (self.new.piece ≡ self.old.piece) × (self.new.latest ≡ self.old.latest) × (self.new.pieces ≡ self.old.pieces) × (length self.new.levels ≡ length self.old.levels) }
+        ensures turns { self.new.turns ≤ self.old.turns + length self.old.levels }
+    {
+        if self.idle {
+            return None;
+        }
+        match pull(
+            &mut self.levels,
+            self.position,
+            &self.piece,
+            self.words,
+            &mut self.turns,
+        ) {
+            Pulled::Piece(slice) => {
+                self.position = slice.span.stop;
+                self.cuts += 1;
+                Some(slice)
+            }
+            Pulled::End(ending) => {
+                self.ending = Some(ending);
+                self.idle = true;
+                None
+            }
+            Pulled::Nothing => {
+                self.idle = true;
+                None
+            }
+        }
+    }
+
+    /// The source ended at `instant`: how the link ends. The last instant is then this one.
+    pub fn finish(&mut self, instant: Micros) -> Ending
+        requires idle { self.old.idle ≡ true }
+        requires later { self.old.latest ≤ instant }
+        ensures last { to_come self.old (Closed instant ∷ []) ≡ final_of result ∷ [] }
+        ensures ended { self.new ≡ record self.old { ending = Some result; finished = true; latest = instant } }
+    {
+        let ending = self.end_with(&Ending::Closed(instant));
+        self.latest = instant;
+        ending
+    }
+
+    /// The source stays quiet for ever: how the link ends.
+    pub fn quiet(&mut self) -> Ending
+        requires { self.old.idle ≡ true }
+        ensures last { to_come self.old (Quiet ∷ []) ≡ final_of result ∷ [] }
+        ensures ended { self.new ≡ record self.old { ending = Some result; finished = true } }
+    {
+        self.end_with(&Ending::StillOpen)
+    }
+
+    fn end_with(&mut self, ending: &Ending) -> Ending
+        requires { self.old.idle ≡ true }
+        ensures last { to_come self.old (final_of ending.now ∷ []) ≡ final_of result ∷ [] }
+        ensures ended { self.new ≡ record self.old { ending = Some result; finished = true } }
+    {
+        self.finished = true;
+        if let Some(known) = self.ending {
+            return known;
+        }
+        let last = &last_of(&self.levels, ending);
+        self.ending = Some(*last);
+        *last
+    }
+
+    /// The link's ending, known after `finish` or `quiet`, or once an operation has given its final: nothing
+    /// else is then to come.
+    pub fn ending(&self) -> Option<Ending>
+        ensures value { result ≡ self.now.ending }
+        ensures known { IsSome result ↔ ((self.now.idle ≡ true) × ((self.now.finished ≡ true) ⊎ HaveEnded self.now.levels)) }
+        ensures only { IfSome result (λ ending. (items : List OneItem) → to_come self.now items ≡ final_of ending ∷ []) }
+    {
+        self.ending
+    }
+
+    /// How often `next_cut` looked at an operation: at most once for each operation, for each cut and each piece.
+    pub fn turns(&self) -> u64
+        ensures value { result ≡ self.now.turns }
+        ensures most { result ≤ length self.now.levels * (self.now.cuts + self.now.pieces) }
+        ensures least { 0 < length self.now.levels → self.now.cuts ≤ result }
+    {
+        self.turns
+    }
+
+    /// How many cuts were given.
+    pub fn cuts(&self) -> u64
+        ensures { result ≡ self.now.cuts }
+    {
+        self.cuts
+    }
+
+    /// How many pieces were accepted.
+    pub fn pieces(&self) -> u64
+        ensures { result ≡ self.now.pieces }
+    {
+        self.pieces
+    }
+
+    /// The last instant: that of the last accepted piece or of the source's end, 0 at first.
+    pub fn latest(&self) -> Micros
+        ensures { result ≡ self.now.latest }
+    {
+        self.latest
+    }
+}
