@@ -30,7 +30,7 @@ pub enum Advanced {
 
 impl Level {
     /// The level of an operation that was given nothing yet.
-    pub fn new(op: &Op) -> Level
+    pub(crate) fn new(op: &Op) -> Level
         ensures { result ≡ first_level op.now }
     {
         Level {

@@ -16,7 +16,6 @@ mod toxic;
 pub use chain::{Chain, Entry, MOST_TOXICS, TooManyToxics};
 pub use kind::Kind;
 pub use level::{Advanced, Level};
-pub use look::Look;
 pub use op::Op;
 pub use place::Place;
 pub use short::{ShortFault, read_short};

@@ -12,7 +12,7 @@ use tox_words::Words;
 
 /// What one look at the rest of a chunk finds.
 #[derive(Clone, Copy, Debug, PartialEq, Eq)]
-pub enum Look {
+pub(crate) enum Look {
     /// The next piece, which leaves the rest behind it.
     Piece(Slice),
     /// The last piece, and the ending that follows it.
@@ -50,7 +50,7 @@ fn front(rest: &Slice, bytes: u64) -> Span
 
 impl Op {
     /// Looks at the rest of a chunk for the next piece that the operation gives.
-    pub fn look(&self, state: &State, rest: &Slice, words: &Words) -> Look
+    pub(crate) fn look(&self, state: &State, rest: &Slice, words: &Words) -> Look
         requires operation { IsOp self.now }
         requires heard { is_mute self.now ≡ false }
         requires running { state.now.done ≡ false }

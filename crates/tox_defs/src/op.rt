@@ -100,7 +100,7 @@ impl Op {
     }
 
     /// Whether the operation lets nothing through.
-    pub fn is_mute(&self) -> bool
+    pub(crate) fn is_mute(&self) -> bool
         ensures { result ≡ is_mute self.now }
     {
         matches!(self, Op::Mute { .. })

@@ -13,7 +13,7 @@ pub struct Place {
 
 impl Place {
     /// Before the first item.
-    pub fn start() -> Place
+    pub(crate) fn start() -> Place
         ensures { result ≡ first_place }
     {
         Place {
@@ -25,7 +25,7 @@ impl Place {
 
     /// Whether the item goes on with the stream: nothing follows a final, instants never fall, and a chunk has
     /// bytes, starts where the last one stopped, and stops by 2^40.
-    pub fn fits(&self, item: &Item) -> bool
+    pub(crate) fn fits(&self, item: &Item) -> bool
         ensures { result ≡ fits self.now item.now }
     {
         if self.ended {
@@ -44,7 +44,7 @@ impl Place {
     }
 
     /// The place behind the item.
-    pub fn after(&self, item: &Item) -> Place
+    pub(crate) fn after(&self, item: &Item) -> Place
         ensures { result ≡ place_after self.now item.now }
     {
         match item {

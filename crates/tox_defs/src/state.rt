@@ -22,7 +22,7 @@ impl State {
     ghost use Rattle.tox_defs.specs.Look.{after_piece_of};
 
     /// The state after one more piece was given.
-    pub fn after_piece(&self, piece: &Slice) -> State
+    pub(crate) fn after_piece(&self, piece: &Slice) -> State
         requires pieces { self.now.pieces + 1 < 2 ^ 64 }
         requires bytes { self.now.passed + (piece.now.span.stop - piece.now.span.start) < 2 ^ 64 }
         requires order { piece.now.span.start ≤ piece.now.span.stop }
@@ -37,7 +37,7 @@ impl State {
     }
 
     /// The state after a chunk was done with.
-    pub fn after_chunk(&self) -> State
+    pub(crate) fn after_chunk(&self) -> State
         requires { self.now.chunks + 1 < 2 ^ 64 }
         ensures { result ≡ with_chunk self.now }
     {
@@ -48,7 +48,7 @@ impl State {
     }
 
     /// The state after a piece of a chunk that stops at `stop`: the chunk counts with its last piece.
-    pub fn after_piece_of(&self, stop: u64, piece: &Slice) -> State
+    pub(crate) fn after_piece_of(&self, stop: u64, piece: &Slice) -> State
         requires chunks { self.now.chunks + 1 < 2 ^ 64 }
         requires pieces { self.now.pieces + 1 < 2 ^ 64 }
         requires bytes { self.now.passed + (piece.now.span.stop - piece.now.span.start) < 2 ^ 64 }
@@ -64,7 +64,7 @@ impl State {
     }
 
     /// The state after the ending was given.
-    pub fn after_ending(&self, ending: &Ending) -> State
+    pub(crate) fn after_ending(&self, ending: &Ending) -> State
         ensures { result ≡ with_ending self.now ending.now }
     {
         let previous = match ending {

@@ -1,9 +1,10 @@
 -- Lists of items that go on: what they count, and when they are streams.
-use Rattle.std.proofs.Common.{◌≡◌, ℕ, ◌+◌, false, List, [], ◌∷◌, ◌++◌, refl, arith, ap, subst}
+use Rattle.std.proofs.Common.{◌≡◌, ℕ, ◌+◌, false, List, [], ◌∷◌, ◌++◌, refl, arith, ap, subst, sym, ◌∙◌, append_assoc, replicate}
 use Rattle.tox_time.specs.declared.item.Item.{Item}
 use Rattle.tox_time.specs.declared.item.Item.TheVariants.{Chunk, Closed, Reset, Quiet}
 use Rattle.tox_time.specs.Stream.{span_len, IsStreamFrom, HasReset, arrived, latest_from, has_final}
 use Rattle.tox_time.specs.Arrivals.{arrival_list}
+use Rattle.tox_time.specs.Table.{table}
 
 pub arrived-append : (items rest : List Item) → arrived (items ++ rest) ≡ arrived items + arrived rest
 arrived-append [] rest = omega arith
@@ -54,3 +55,10 @@ IsStreamFrom-append position since (Chunk span t ∷ items) rest unended stream 
 IsStreamFrom-append position since (Closed t ∷ items) rest unended stream goes_on = absurd (cc)
 IsStreamFrom-append position since (Reset t ∷ items) rest unended stream goes_on = absurd (cc)
 IsStreamFrom-append position since (Quiet ∷ items) rest unended stream goes_on = absurd (cc)
+
+pub table-append : (items rest : List Item) → table (items ++ rest) ≡ table items ++ table rest
+table-append [] rest = refl
+table-append (Chunk span t ∷ items) rest = ap (λ ts. replicate (span_len span) t ++ ts) (table-append items rest) ∙ sym (append_assoc (replicate (span_len span) t) (table items) (table rest))
+table-append (Closed t ∷ items) rest = table-append items rest
+table-append (Reset t ∷ items) rest = table-append items rest
+table-append (Quiet ∷ items) rest = table-append items rest
