@@ -25,3 +25,4 @@ mod Cuts
 mod Decimals
 mod Mapped
 mod ReadsBack
+mod WorkedCases
