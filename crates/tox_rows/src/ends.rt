@@ -1,0 +1,45 @@
+//! Ends in memory.
+use std::test::Fail;
+use tox_time::{EndFault, MemorySink, MemorySource, Real, Sink, Source};
+
+#[test]
+fn a_source_gives_so_many_bytes_a_call(rt: HostRuntime) -> Result<(), Fail> {
+    let mut source = MemorySource::new(b"abcde".to_vec(rt.alloc())?, 2, Some(5));
+    let mut buffer = [0; 4];
+    for want in [2, 2, 1, 0] {
+        assert_eq!(rt; source.read(&mut buffer), Ok(want));
+    }
+    assert_eq!(rt; buffer, *b"ed\0\0");
+    assert_eq!(rt; source.read(&mut buffer), Err(EndFault));
+    Ok(())
+}
+
+#[test]
+fn a_sink_fills_up(rt: HostRuntime) -> Result<(), Fail> {
+    let mut sink = MemorySink::new(rt.alloc(), 3, 2, None)?;
+    for want in [2, 1, 0] {
+        assert_eq!(rt; sink.write(b"abc"), Ok(want));
+    }
+    assert_eq!(rt; sink.bytes(), b"aba".as_slice());
+    Ok(())
+}
+
+#[test]
+fn a_sink_fails_at_its_call(rt: HostRuntime) -> Result<(), Fail> {
+    let mut sink = MemorySink::new(rt.alloc(), 9, 9, Some(2))?;
+    assert_eq!(rt; sink.write(b"abc"), Ok(3));
+    assert_eq!(rt; sink.write(b"abc"), Err(EndFault));
+    assert_eq!(rt; sink.bytes(), b"abc".as_slice());
+    Ok(())
+}
+
+#[test]
+fn real_ends_pass_bytes_on(rt: HostRuntime) -> Result<(), Fail> {
+    let mut source = Real::new(b"ab".as_slice());
+    let mut buffer = [0; 4];
+    assert_eq!(rt; source.read(&mut buffer), Ok(2));
+    assert_eq!(rt; source.read(&mut buffer), Ok(0));
+    let mut sink = Real::new(Vec::new(rt.alloc()));
+    assert_eq!(rt; sink.write(&buffer[..2]), Ok(2));
+    Ok(())
+}

@@ -1,0 +1,23 @@
+//! Tests from outside that cross crates: worked cases, and the compiled runner beside the stages one after another.
+#![tactic(auto)]
+
+#[cfg(test)]
+mod arrivals;
+#[cfg(test)]
+mod chains;
+#[cfg(test)]
+mod ends;
+#[cfg(test)]
+mod plans;
+#[cfg(test)]
+mod random;
+#[cfg(test)]
+mod runners;
+#[cfg(test)]
+mod short_forms;
+#[cfg(test)]
+mod staged;
+#[cfg(test)]
+mod stages;
+#[cfg(test)]
+mod worked;

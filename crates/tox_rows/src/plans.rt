@@ -1,0 +1,92 @@
+//! What chains are compiled into.
+use crate::chains::chain_of;
+use std::test::Fail;
+use tox_compile::{Op, compile};
+use tox_time::{Ending, Micros};
+use tox_words::Words;
+
+#[test]
+fn each_toxic_has_its_operation(rt: HostRuntime) -> Result<(), Fail> {
+    let words = Words::from_list(rt.alloc(), &[0])?;
+    let chain = chain_of(
+        &rt,
+        &[
+            "latency:latency=3",
+            "latency:latency=5,jitter=2",
+            "bandwidth:rate=7",
+            "slow_close:delay=2",
+            "limit_data:bytes=9",
+            "slicer:average_size=4,size_variation=1,delay=6",
+            "reset_peer:timeout=8",
+            "timeout:timeout=50",
+            "timeout",
+        ],
+    );
+    let plan = compile(&chain, &words);
+    let ops = [
+        Op::Delay {
+            fixed: 3,
+            latency: 0,
+            jitter: 0,
+            lane: 0,
+        },
+        Op::Delay {
+            fixed: 0,
+            latency: 5,
+            jitter: 2,
+            lane: 1,
+        },
+        Op::Pace { rate: 7 },
+        Op::Slow { millis: 2 },
+        Op::Limit { bytes: 9 },
+        Op::Slicing {
+            average: 4,
+            variation: 1,
+            micros: 6,
+            lane: 5,
+        },
+        Op::Cutoff {
+            instant: Micros::from_millis(8),
+        },
+        Op::Mute {
+            ending: Ending::Closed(Micros::from_millis(50)),
+        },
+        Op::Mute {
+            ending: Ending::StillOpen,
+        },
+    ];
+    assert_eq!(rt; plan.ops(), ops.as_slice());
+    assert_eq!(rt; plan.deadline(), Some(Micros::ZERO));
+    Ok(())
+}
+
+#[test]
+fn toxicities_choose_by_their_lane(rt: HostRuntime) -> Result<(), Fail> {
+    let cases = [
+        (0, 0, 0),
+        (499, 500, 1),
+        (500, 500, 0),
+        (999, 1000, 1),
+        (1000, 1, 1),
+    ];
+    for (word, toxicity, count) in cases {
+        let words = Words::from_list(rt.alloc(), &[word])?;
+        let text = format!(in rt.alloc(); "reset_peer:timeout=1,toxicity={toxicity}")?;
+        let plan = compile(&chain_of(&rt, &[text.as_str()]), &words);
+        assert_eq!(rt; plan.ops().len(), count, "word {word}, toxicity {toxicity}");
+    }
+    let words = Words::from_list(rt.alloc(), &[2, 0])?;
+    let chain = chain_of(
+        &rt,
+        &["latency:latency=5,toxicity=0", "latency:latency=1,jitter=1"],
+    );
+    let delay = Op::Delay {
+        fixed: 0,
+        latency: 1,
+        jitter: 1,
+        lane: 1,
+    };
+    assert_eq!(rt; compile(&chain, &words).ops(), [delay].as_slice());
+    assert_eq!(rt; compile(&chain, &words).deadline(), None);
+    Ok(())
+}

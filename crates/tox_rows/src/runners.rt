@@ -1,0 +1,58 @@
+//! A runner, call by call.
+use crate::chains::chain_of;
+use std::test::Fail;
+use tox_compile::compile;
+use tox_plan::Runner;
+use tox_time::{ArrivalFault, Ending, Micros, Slice, Span};
+use tox_words::Words;
+
+fn at(micros: u64) -> Micros {
+    Micros::ZERO.after(micros)
+}
+
+fn slice(start: u64, stop: u64, micros: u64) -> Slice {
+    Slice {
+        span: Span { start, stop },
+        instant: at(micros),
+    }
+}
+
+#[test]
+fn a_limit_ends_the_link(rt: HostRuntime) -> Result<(), Fail> {
+    let words = Words::from_list(rt.alloc(), &[0])?;
+    let plan = compile(&chain_of(&rt, &["limit_data:bytes=1"]), &words);
+    let mut runner = Runner::new(&plan, &words);
+    assert!(rt; runner.is_idle());
+    assert_eq!(rt; runner.offer(1, at(5)), Ok(()));
+    assert_eq!(rt; runner.next_cut(), Some(slice(0, 1, 5)));
+    assert_eq!(rt; runner.ending(), None);
+    assert_eq!(rt; runner.next_cut(), None);
+    assert_eq!(rt; runner.ending(), Some(Ending::Closed(at(5))));
+    assert!(rt; runner.is_idle());
+    assert_eq!(rt; runner.offer(1, at(5)), Err(ArrivalFault::AfterEnd));
+    assert_eq!(rt; (runner.cuts(), runner.pieces()), (1, 1));
+    assert_eq!(rt; runner.latest(), at(5));
+    Ok(())
+}
+
+#[test]
+fn a_runner_goes_on_until_its_source_ends(rt: HostRuntime) -> Result<(), Fail> {
+    let words = Words::from_list(rt.alloc(), &[0])?;
+    let plan = compile(&chain_of(&rt, &["latency:latency=1"]), &words);
+    let mut runner = Runner::new(&plan, &words);
+    assert!(rt; runner.is_idle());
+    assert_eq!(rt; runner.offer(2, at(5)), Ok(()));
+    assert_eq!(rt; runner.next_cut(), Some(slice(0, 2, 1005)));
+    assert_eq!(rt; runner.next_cut(), None);
+    assert!(rt; runner.is_idle());
+    assert_eq!(rt; runner.offer(2, at(4)), Err(ArrivalFault::TimeBack));
+    assert!(rt; runner.is_idle());
+    let end = at(9);
+    assert!(rt; runner.latest() <= end);
+    assert_eq!(rt; runner.finish(end), Ending::Closed(at(1005)));
+    assert_eq!(rt; runner.ending(), Some(Ending::Closed(at(1005))));
+    assert!(rt; runner.is_idle());
+    assert_eq!(rt; runner.offer(1, at(8)), Err(ArrivalFault::TimeBack));
+    assert_eq!(rt; runner.turns(), 2);
+    Ok(())
+}

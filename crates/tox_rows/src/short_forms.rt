@@ -1,0 +1,53 @@
+//! Short forms of toxics.
+use tox_defs::{ShortFault, Toxic, ToxicFault, read_short};
+
+fn latency(latency: u32, jitter: u32) -> Toxic {
+    Toxic::Latency { latency, jitter }
+}
+
+#[test]
+fn reads_short_forms(rt: HostRuntime) {
+    let bytes = 1_099_511_627_776;
+    let rows = [
+        ("latency:latency=100", Ok((latency(100, 0), 1000))),
+        (
+            "latency:toxicity=7,jitter=000000000000000020",
+            Ok((latency(0, 20), 7)),
+        ),
+        ("slow_close", Ok((Toxic::SlowClose { delay: 0 }, 1000))),
+        (
+            "limit_data:bytes=1099511627776,toxicity=0",
+            Ok((Toxic::LimitData { bytes }, 0)),
+        ),
+        ("", Err(ShortFault::BadForm)),
+        ("latency:", Err(ShortFault::BadForm)),
+        ("latency:latency=+1", Err(ShortFault::BadForm)),
+        (
+            "latency:latency=0000000000000000001",
+            Err(ShortFault::BadForm),
+        ),
+        ("noop", Err(ToxicFault::UnknownType.into())),
+        ("latency:latency=1,latency=2", Err(ShortFault::DoubleKey)),
+        (
+            "latency:latency=1,jitter=2,toxicity=1001,rate=3",
+            Err(ToxicFault::ToxicityNotThousandths.into()),
+        ),
+        ("latency:rate=1", Err(ToxicFault::UnknownAttribute.into())),
+        ("bandwidth", Err(ToxicFault::OutOfRange.into())),
+        (
+            "latency:latency=4294967296",
+            Err(ToxicFault::OutOfRange.into()),
+        ),
+        (
+            "slicer:average_size=2,size_variation=2",
+            Err(ToxicFault::Variation.into()),
+        ),
+        (
+            "slicer:average_size=2,size_variation=99999999999",
+            Err(ToxicFault::Variation.into()),
+        ),
+    ];
+    for (text, want) in rows {
+        assert_eq!(rt; read_short(text), want, "{text}");
+    }
+}

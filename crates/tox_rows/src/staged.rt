@@ -1,0 +1,76 @@
+//! The plain program: the arrivals pass through the stages of the applied toxics, one after another.
+use std::alloc::{AllocError, Global};
+use std::process::Abort;
+use tox_defs::{Chain, Stage};
+use tox_time::{Arrivals, Ending, Item, Outcome, Slice, SliceList};
+use tox_words::Words;
+
+/// What one stage gives for these items.
+fn staged(
+    rt: &impl Abort,
+    alloc: Global,
+    mut stage: Stage<'_>,
+    items: &[Item],
+) -> Result<Vec<Item>, AllocError> {
+    let mut given = Vec::new(alloc);
+    for item in items {
+        assert!(rt; stage.is_idle());
+        assert!(rt; stage.may_take(item));
+        stage.take(*item);
+        while let Some(item) = stage.emit() {
+            given.push(item)?;
+        }
+    }
+    Ok(given)
+}
+
+/// What the applied toxics give for the arrivals.
+pub fn staged_items(
+    rt: &impl Abort,
+    alloc: Global,
+    chain: &Chain,
+    words: &Words,
+    arrivals: &Arrivals,
+) -> Result<Vec<Item>, AllocError> {
+    let mut items = arrivals.items().to_vec(alloc)?;
+    if !matches!(items.last(), Some(Item::Closed(_))) {
+        items.push(Item::Quiet)?;
+    }
+    for (lane, entry) in chain.entries().iter().enumerate() {
+        if entry.is_applied(lane, words) {
+            assert!(rt; lane < 16);
+            assert!(rt; entry.toxic.check().is_ok());
+            items = staged(rt, alloc, Stage::new(entry.toxic, lane, words), &items)?;
+        }
+    }
+    Ok(items)
+}
+
+/// The items as slices and an ending.
+pub fn outcome_of(alloc: Global, items: &[Item]) -> Result<Outcome, AllocError> {
+    let mut slices = SliceList::new(alloc);
+    let mut ending = Ending::StillOpen;
+    for item in items {
+        match item {
+            Item::Chunk(span, instant) => slices.push(Slice {
+                span: *span,
+                instant: *instant,
+            })?,
+            Item::Closed(instant) => ending = Ending::Closed(*instant),
+            Item::Reset(instant) => ending = Ending::Reset(*instant),
+            Item::Quiet => ending = Ending::StillOpen,
+        }
+    }
+    Ok(Outcome { slices, ending })
+}
+
+/// The instant of each byte, in microseconds.
+pub fn table_of(alloc: Global, outcome: &Outcome) -> Result<Vec<u64>, AllocError> {
+    let mut table = Vec::new(alloc);
+    for slice in outcome.slices.as_slice() {
+        for _ in slice.span.start..slice.span.stop {
+            table.push(slice.instant.get())?;
+        }
+    }
+    Ok(table)
+}
