@@ -1,8 +1,9 @@
-ghost use Rattle.std.specs.Prelude.{◌≡◌, map};
+ghost use Rattle.std.specs.Prelude.{◌≡◌, IfOk, map};
 ghost use Rattle.std.specs.List.{list_any};
 ghost use Rattle.std.specs.Str.{bytes_eq};
 ghost use Rattle.tox_defs.specs.Kind.{attributes_of, checked, kind_of, name_of, toxic_of};
 ghost use Rattle.tox_defs.specs.KindInside.{narrowed, saturated};
+ghost use Rattle.tox_defs.specs.Toxic.{IsInRange};
 
 use crate::toxic::{Toxic, ToxicFault};
 
@@ -79,7 +80,8 @@ impl Kind {
     ///
     /// Refused as by [`Toxic::check`], also where a value is too large for the attribute's type.
     pub fn toxic(self, values: [u64; 3]) -> Result<Toxic, ToxicFault>
-        ensures { result ≡ checked (toxic_of self values) }
+        ensures value { result ≡ checked (toxic_of self values) }
+        ensures in_range { IfOk result IsInRange }
     {
         let toxic = self.saturated_toxic(values);
         toxic.check()?;

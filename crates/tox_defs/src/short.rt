@@ -1,5 +1,5 @@
 //! Short forms: a toxic and its toxicity in one word, as `latency:latency=100,toxicity=500`.
-ghost use Rattle.std.specs.Prelude.{◌≡◌, ℕ, ◌≤◌, [], slice_index};
+ghost use Rattle.std.specs.Prelude.{◌≡◌, ℕ, ◌≤◌, [], IfOk, slice_index};
 ghost use Rattle.tox_defs.specs.Pairs.{pairs_of};
 ghost use Rattle.tox_defs.specs.Printed.{printed_short};
 ghost use Rattle.tox_defs.specs.Short.{short_of, values_in, with_name, with_pairs};
@@ -52,6 +52,7 @@ impl From<ToxicFault> for ShortFault {
 /// [`ToxicFault::UnknownAttribute`], and as by [`Toxic::check`].
 pub fn read_short(text: &str) -> Result<(Toxic, u16), ShortFault>
     ensures value { result ≡ short_of text.now }
+    ensures fits { IfOk result (λ read. IsInRange read.0 × (read.1 ≤ 1000)) }
     ensures reads_back { (toxic : Toxic) (toxicity : ℕ) → IsInRange toxic → toxicity ≤ 1000 → text.now ≡ printed_short toxic toxicity → result ≡ Ok (toxic, toxicity) }
 {
     match text.split_once(':') {
@@ -62,7 +63,8 @@ pub fn read_short(text: &str) -> Result<(Toxic, u16), ShortFault>
 
 /// The toxic of a type's name alone.
 fn read_name(name: &str) -> Result<(Toxic, u16), ShortFault>
-    ensures { result ≡ with_name name.now [] }
+    ensures value { result ≡ with_name name.now [] }
+    ensures fits { IfOk result (λ read. IsInRange read.0 × (read.1 ≤ 1000)) }
 {
     if !is_word(name) {
         return Err(ShortFault::BadForm);
@@ -74,7 +76,8 @@ fn read_name(name: &str) -> Result<(Toxic, u16), ShortFault>
 
 /// The toxic of a type's name with these pairs.
 fn read_pairs(name: &str, pairs: &str) -> Result<(Toxic, u16), ShortFault>
-    ensures { result ≡ with_name name.now (pairs_of pairs.now) }
+    ensures value { result ≡ with_name name.now (pairs_of pairs.now) }
+    ensures fits { IfOk result (λ read. IsInRange read.0 × (read.1 ≤ 1000)) }
 {
     if !is_word(name) || !are_pairs(pairs) {
         return Err(ShortFault::BadForm);
@@ -85,7 +88,8 @@ fn read_pairs(name: &str, pairs: &str) -> Result<(Toxic, u16), ShortFault>
 
 /// The toxic of a type with these pairs.
 fn with_pairs(kind: Kind, pairs: &str) -> Result<(Toxic, u16), ShortFault>
-    ensures { result ≡ with_pairs kind (pairs_of pairs.now) }
+    ensures value { result ≡ with_pairs kind (pairs_of pairs.now) }
+    ensures fits { IfOk result (λ read. IsInRange read.0 × (read.1 ≤ 1000)) }
 {
     if has_double_key(pairs) {
         return Err(ShortFault::DoubleKey);
