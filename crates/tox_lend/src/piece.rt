@@ -1,0 +1,38 @@
+use crate::lent::Lent;
+use std::marker::Model;
+use tox_time::{Micros, Span};
+
+/// Bytes that arrived together at `instant`, the first of them at position `start` of the link.
+#[derive(Debug, Drop)]
+pub struct Piece {
+    pub start: u64,
+    pub bytes: Vec<u8>,
+    pub instant: Micros,
+}
+
+impl Model for Piece {
+    ghost use Rattle.tox_lend.specs.Run.{Run};
+
+    ghost Value = { Run };
+
+    ghost view = { λ p. record { start = p.start; bytes = p.bytes.items; instant = p.instant } };
+}
+
+impl Piece {
+    ghost use Rattle.tox_lend.specs.Run.{LiesIn};
+    ghost use Rattle.tox_lend.specs.Lent.{IsExactSlice};
+
+    /// The bytes at the positions of the span, as a slice that leaves at `instant`.
+    pub fn lend(&self, span: Span, instant: Micros) -> Lent<'_>
+        requires { LiesIn span self.now }
+        ensures { IsExactSlice self.now span instant result }
+    {
+        let first = (span.start - self.start) as usize;
+        let end = (span.stop - self.start) as usize;
+        Lent {
+            start: span.start,
+            instant,
+            bytes: &self.bytes[first..end],
+        }
+    }
+}

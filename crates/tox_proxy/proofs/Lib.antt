@@ -1,0 +1,13 @@
+mod Digits
+mod LineTurns
+mod ArrivedLemmas
+mod Writes
+mod HexParts
+mod ReadLemmas
+mod LineParts
+mod Runs
+mod PieceLemmas
+mod OpenRuns
+mod PrintTurns
+mod PiecesOf
+mod Causes

@@ -1,0 +1,45 @@
+-- What a dry run reads, answers and writes.
+use Rattle.std.specs.Prelude.{◌≡◌, ℕ, List, Option, Ok}
+use Rattle.std.specs.Io.KnownBytes.{append_known}
+use Rattle.tox_time.specs.Arrivals.{arrival_list}
+use Rattle.tox_time.specs.Table.{table, ending}
+use Rattle.tox_defs.specs.Chain.{Toxics}
+use Rattle.tox_defs.specs.Flow.{chain_flow}
+use Rattle.tox_proxy.specs.declared.fault.DryFault.{DryFault}
+use Rattle.tox_proxy.specs.declared.fault.DryFault.TheVariants.{OutOfMemory, BadLine, TooLong, ReadFault, WriteFault, Arrival}
+use Rattle.tox_proxy.specs.ArrivalsText.{Arrived, arrivals_of}
+use Rattle.tox_proxy.specs.Reading.{IsRead}
+use Rattle.tox_proxy.specs.ResultText.{result_text}
+use Rattle.tox_proxy.specs.Writing.{AppendsFront}
+
+-- the result of what arrived, by the flow of a chain
+abbrev pub flow_text : Toxics → List ℕ → Arrived → List ℕ
+flow_text chain words arrived =
+    let flow = chain_flow chain words (arrival_list arrived.items) in result_text arrived (table flow) (ending flow)
+
+-- a text was read, and this is what it spells
+pub record Spells (before after : Option (List ℕ)) (arrived : Arrived) : Type 0 where
+  pub text : List ℕ
+  pub read : IsRead before after text
+  pub spelled : arrivals_of text ≡ Ok arrived
+
+-- the result of what the read text spells was written, and nothing else
+pub record WritesResult (chain : Toxics) (words : List ℕ) (before after old new : Option (List ℕ)) : Type 0 where
+  pub arrived : Arrived
+  pub read : Spells before after arrived
+  pub written : new ≡ append_known old (flow_text chain words arrived)
+
+-- a front of it was written
+pub record WritesFront (chain : Toxics) (words : List ℕ) (before after old new : Option (List ℕ)) : Type 0 where
+  pub arrived : Arrived
+  pub read : Spells before after arrived
+  pub front : AppendsFront old new (flow_text chain words arrived)
+
+-- what a fault leaves written: a front of the result where the writer failed, and else nothing
+abbrev pub Leaves : Toxics → List ℕ → Option (List ℕ) → Option (List ℕ) → Option (List ℕ) → Option (List ℕ) → DryFault → Type 0
+Leaves chain words before after old new OutOfMemory = new ≡ old
+Leaves chain words before after old new (BadLine n) = new ≡ old
+Leaves chain words before after old new TooLong = new ≡ old
+Leaves chain words before after old new ReadFault = new ≡ old
+Leaves chain words before after old new WriteFault = WritesFront chain words before after old new
+Leaves chain words before after old new (Arrival fault n) = new ≡ old

@@ -1,0 +1,10 @@
+pub mod Line
+pub mod ArrivalsText
+pub mod Pieces
+pub mod ArrivedInside
+pub mod Reading
+pub mod Writing
+pub mod ResultText
+pub mod OpenRun
+pub mod DryRun
+pub mod Toxics

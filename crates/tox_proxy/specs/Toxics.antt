@@ -1,0 +1,36 @@
+-- Chains as a command line gives them: one short form for each toxic.
+use Rattle.std.specs.Prelude.{ℕ, ◌+◌, List, [], ◌∷◌, ◌++◌, length, nat_lt, Result, Ok, Err, if◌then◌else◌}
+use Rattle.tox_defs.specs.Chain.{Toxics}
+use Rattle.tox_defs.specs.Short.{short_of}
+use Rattle.tox_defs.specs.declared.toxic.Toxic.{Toxic}
+use Rattle.tox_defs.specs.declared.short.ShortFault.{ShortFault}
+use Rattle.tox_defs.specs.declared.chain.TheConstants.{MOST_TOXICS}
+use Rattle.tox_proxy.specs.declared.toxics.ToxicsFault.{ToxicsFault}
+use Rattle.tox_proxy.specs.declared.toxics.ToxicsFault.TheVariants.{Short, TooMany}
+
+-- what the n-th short form leaves, where it is one
+abbrev pub with_read : ℕ → Toxics → Result (Toxic × ℕ) ShortFault → Result Toxics ToxicsFault
+with_read n chain (Err fault) = Err (Short fault n)
+with_read n chain (Ok read) =
+    if nat_lt (length chain.entries) MOST_TOXICS
+    then Ok (record { entries = chain.entries ++ record { toxic = read.0; toxicity = read.1 } ∷ [] })
+    else Err (TooMany n)
+
+-- what the n-th short form leaves
+abbrev pub with_short : ℕ → Toxics → List ℕ → Result Toxics ToxicsFault
+with_short n chain text = with_read n chain (short_of text)
+
+-- one step, and the next where it met no fault
+infixl 10 ◌>>=◌
+abbrev pub ◌>>=◌ : {A B : Type 0} → Result A ToxicsFault → (A → Result B ToxicsFault) → Result B ToxicsFault
+Ok x >>= next = next x
+Err fault >>= next = Err fault
+
+-- what the short forms leave one after the other, from the n-th on
+abbrev pub with_shorts : ℕ → List (List ℕ) → Toxics → Result Toxics ToxicsFault
+with_shorts n [] chain = Ok chain
+with_shorts n (text ∷ texts) chain = with_short n chain text >>= with_shorts (n + 1) texts
+
+-- the chain of the toxics that short forms name, or the first fault with its number from 1
+abbrev pub chain_of : List (List ℕ) → Result Toxics ToxicsFault
+chain_of texts = with_shorts 1 texts (record { entries = [] })

@@ -1,0 +1,24 @@
+use thiserror::Error;
+use tox_time::ArrivalFault;
+
+/// Why a dry run failed. Lines count from 1.
+#[derive(Clone, Copy, Debug, PartialEq, Eq, Error)]
+pub enum DryFault {
+    #[error("L0 OutOfMemory")]
+    OutOfMemory,
+    /// This line is none of the arrivals text.
+    #[error("L1 BadLine {0}")]
+    BadLine(u64),
+    /// The input has more than [`MOST_INPUT`](crate::MOST_INPUT) bytes.
+    #[error("L2 TooLong")]
+    TooLong,
+    /// A read failed.
+    #[error("L3 ReadFault")]
+    ReadFault,
+    /// A write failed, or took nothing.
+    #[error("L4 WriteFault")]
+    WriteFault,
+    /// The arrival of this line was refused.
+    #[error("{0} {1}")]
+    Arrival(ArrivalFault, u64),
+}

@@ -1,0 +1,17 @@
+//! What the program does, as library calls over readers, writers and values.
+#![tactic(auto)]
+
+mod arrived;
+mod buffer;
+mod dry;
+mod fault;
+mod line;
+mod lines;
+mod printing;
+mod reading;
+mod toxics;
+
+pub use dry::dry_run;
+pub use fault::DryFault;
+pub use reading::MOST_INPUT;
+pub use toxics::{ToxicsFault, read_chain};

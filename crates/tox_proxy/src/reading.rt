@@ -1,0 +1,61 @@
+//! Reading an input whole.
+ghost use Rattle.std.specs.Prelude.{◌≡◌, ◌+◌, ◌<◌, false, length, IfOk, IfErr};
+ghost use Rattle.tox_proxy.specs.Reading.{HasCause, IsRead, TakesAtMost};
+
+use crate::fault::DryFault;
+use std::alloc::{AllocError, Global};
+use tox_time::Source;
+
+/// The most bytes of an input.
+pub const MOST_INPUT: usize = 16_777_216;
+
+/// How many bytes are asked for at once.
+const BLOCK: usize = 65_536;
+
+/// All the bytes that a reader has still to give. At most one more than [`MOST_INPUT`] are taken.
+pub(crate) fn read_input<R: Source>(alloc: Global, reader: &mut R) -> Result<Vec<u8>, DryFault>
+    requires { R.failed reader.old ≡ false }
+    ensures ok { IfOk result (λ text. IsRead (R.remaining reader.old) (R.remaining reader.new) text.items) }
+    ensures fault { IfErr result (HasCause (R.remaining reader.old) (R.remaining reader.new) (R.failed reader.new) false) }
+    ensures most { TakesAtMost (MOST_INPUT + 1) (R.remaining reader.old) (R.remaining reader.new) }
+{
+    let Ok(mut block) = zeros(alloc, BLOCK) else {
+        return Err(DryFault::OutOfMemory);
+    };
+    read_by_blocks(alloc, reader, &mut block)
+}
+
+fn zeros(alloc: Global, len: usize) -> Result<Vec<u8>, AllocError>
+    ensures { IfOk result (λ bytes. length bytes.items ≡ len) }
+{
+    vec![in alloc; 0; len]
+}
+
+/// Reads through a block, which is asked to be filled at each read.
+fn read_by_blocks<R: Source>(
+    alloc: Global,
+    reader: &mut R,
+    block: &mut [u8],
+) -> Result<Vec<u8>, DryFault>
+    requires working { R.failed reader.old ≡ false }
+    requires room { 0 < length block.old }
+    ensures ok { IfOk result (λ text. IsRead (R.remaining reader.old) (R.remaining reader.new) text.items) }
+    ensures fault { IfErr result (HasCause (R.remaining reader.old) (R.remaining reader.new) (R.failed reader.new) false) }
+    ensures most { TakesAtMost (MOST_INPUT + 1) (R.remaining reader.old) (R.remaining reader.new) }
+{
+    let mut text = Vec::new(alloc);
+    while text.len() <= MOST_INPUT {
+        let wanted = block.len().min(MOST_INPUT + 1 - text.len());
+        let part = &mut block[..wanted];
+        let Ok(count) = reader.read(part) else {
+            return Err(DryFault::ReadFault);
+        };
+        if count == 0 {
+            return Ok(text);
+        }
+        if text.extend_from_slice(&part[..count]).is_err() {
+            return Err(DryFault::OutOfMemory);
+        }
+    }
+    Err(DryFault::TooLong)
+}
