@@ -1,0 +1,15 @@
+pub mod Replaced
+pub mod MoveForms
+pub mod Coming
+pub mod Kept
+pub mod AlongRuns
+pub mod Starting
+pub mod Resting
+pub mod Streams
+pub mod ShownItems
+pub mod WaitingItems
+pub mod EveryRun
+pub mod Sound
+pub mod Made
+pub mod Telling
+pub mod TurnByTurn

@@ -1,0 +1,203 @@
+-- A network stays sound with every move.
+use Rattle.std.proofs.Common.{◌≡◌, ℕ, zero, suc, ◌+◌, ◌*◌, ◌<◌, ◌≤◌, ◌^◌, Bool, true, false, List, [], ◌∷◌, ◌++◌, Some, map, take, replicate, length, refl, sym, ◌∙◌, ap, subst, arith, if◌then◌else◌}
+use Rattle.std.specs.List.{slice_get}
+use Rattle.std.proofs.lemmas.List.{length-map, length-replicate, take_all}
+use Rattle.std.proofs.lemmas.Option.{none-some, same_Some, slice_get_within}
+use Rattle.std.proofs.Math.Nat.{mul-le-mul_left}
+use Rattle.tox_time.specs.declared.item.Item.{Item}
+use Rattle.tox_time.specs.Stream.{IsStream, arrived, has_final}
+use Rattle.tox_words.specs.Draw.{draw}
+use Rattle.tox_defs.specs.declared.chain.Entry.{Entry}
+use Rattle.tox_defs.specs.declared.place.Place.{Place}
+use Rattle.tox_defs.specs.Applied.{is_applied}
+use Rattle.tox_defs.specs.Chain.{Toxics, IsChain}
+use Rattle.tox_defs.specs.Reaction.{flow_through}
+use Rattle.tox_defs.specs.Flow.{Placed, toxic_reaction, applied_from, applied, reactions_of}
+use Rattle.tox_defs.specs.Place.{fits, first_place, place_after, AllFit}
+use Rattle.tox_defs.specs.Stage.{Staged}
+use Rattle.tox_defs.proofs.OpOf.{op_reaction-op_of}
+use Rattle.tox_defs.proofs.Places.{AllFit-stream}
+use Rattle.tox_network.specs.declared.moves.Move.{Move}
+use Rattle.tox_network.specs.NetworkState.{NetworkState, StageState, first_stage, start, queue}
+use Rattle.tox_network.specs.Moves.{after, leaving}
+use Rattle.tox_network.specs.Still.{coming, still, moves_left, most_moves}
+use Rattle.tox_network.specs.Runs.{IsAtRest}
+use Rattle.tox_network.specs.Running.{Running, stage_of, placed_stage, state_of, IsStart, IsStep, IsSound}
+use Rattle.tox_network.proofs.Coming.{IsShaped, coming_first}
+use Rattle.tox_network.proofs.Kept.{keeps_stages, keeps_shape, keeps_still, leaves, one_less}
+use Rattle.tox_network.proofs.Starting.{start_coming, start_still, start_moves}
+use Rattle.tox_network.proofs.Resting.{rest_empty, empty_still}
+use Rattle.tox_network.proofs.Streams.{kept_by_front, few_in_front, no_final_before, final_of_stream}
+
+pub stage_count : (network : Running) → length (state_of network).stages ≡ length network.stages
+stage_count network = length-map network.stages stage_of
+
+pub sound_shape : (network : Running) → IsSound network → IsShaped (state_of network)
+sound_shape network sound = sound.shaped ∙ ap (λ count. count + 1) (sym (stage_count network))
+
+-- The places of stages
+
+-- a place moves on behind these items
+abbrev pub MovesOn : Place → List Item → Place → Type 0
+MovesOn place [] next = next ≡ place
+MovesOn place (item ∷ items) next = MovesOn (place_after place item) items next
+
+AllFit-behind : (place : Place) (items rest : List Item) (next : Place) → AllFit place (items ++ rest) → MovesOn place items next → AllFit next rest
+AllFit-behind place [] rest next fit on = subst (λ here. AllFit here rest) (sym on) fit
+AllFit-behind place (item ∷ items) rest next fit on = AllFit-behind (place_after place item) items rest next fit.1 on
+
+-- the place of each stage moved on behind what the move took out of the queue before it
+abbrev pub PlacesMoveOn : Move → Running → Running → Type 0
+PlacesMoveOn move old new =
+    (k : ℕ) (stage : Staged) → slice_get new.stages k ≡ Some stage →
+    (before : Staged) × (slice_get old.stages k ≡ Some before) × MovesOn before.place (leaving (state_of old) move k) stage.place
+
+-- Moves
+
+pub sound_after : (old new : Running) (move : Move) → IsSound old → after old.cap (state_of old) move ≡ Some (state_of new) → new.cap ≡ old.cap → new.arrived ≡ old.arrived → new.steps ≡ old.steps + 1 → PlacesMoveOn move old new → IsSound new
+sound_after old new move sound made cap arrived steps places =
+    let n : NetworkState = state_of old in
+    let t : NetworkState = state_of new in
+    let shaped : IsShaped n = sound_shape old sound in
+    let count : length new.stages ≡ length old.stages = sym (stage_count new) ∙ keeps_stages old.cap n t move made ∙ stage_count old in
+    let most : most_moves (length new.stages) new.arrived ≡ most_moves (length old.stages) old.arrived = ap (λ stages. most_moves stages new.arrived) count ∙ ap (most_moves (length old.stages)) arrived in
+    let left : moves_left n ≡ moves_left t + 1 = one_less old.cap n t move shaped made in
+    let few : old.steps + moves_left n ≤ most_moves (length old.stages) old.arrived = sound.few in
+    record {
+      room = subst (λ room. 1 ≤ room) (sym cap) sound.room;
+      shaped = keeps_shape old.cap n t move shaped made ∙ ap (λ stages. stages + 1) (stage_count new);
+      fits = λ k stage at.
+          let moved = places k stage at in
+          let within : k ≤ length n.stages = let here = slice_get_within old.stages k moved.0 moved.1 in let same = stage_count old in omega arith in
+          let fit : AllFit moved.0.place (leaving n move k ++ coming t k) = subst (AllFit moved.0.place) (leaves old.cap n t move shaped made k within) (sound.fits k moved.0 moved.1) in
+          AllFit-behind moved.0.place (leaving n move k) (coming t k) stage.place fit moved.2;
+      whole = subst IsStream (sym (keeps_still old.cap n t move shaped made)) sound.whole;
+      few = subst (λ bound. new.steps + moves_left t ≤ bound) (sym most) (omega arith);
+      small = subst (λ bound. bound < 2 ^ 64) (sym most) sound.small;
+    }
+
+pub step_made : (old new : Running) (move : Move) → IsSound old → after old.cap (state_of old) move ≡ Some (state_of new) → new.cap ≡ old.cap → new.arrived ≡ old.arrived → new.steps ≡ old.steps + 1 → IsStep move old new
+step_made old new move sound made cap arrived steps =
+    let shaped = sound_shape old sound in
+    record {
+      moved = made;
+      counted = steps;
+      cap = cap;
+      arrived = arrived;
+      still = keeps_still old.cap (state_of old) (state_of new) move shaped made;
+      left = one_less old.cap (state_of old) (state_of new) move shaped made;
+    }
+
+-- the first item of a queue may be taken
+pub may_take : (network : Running) (k : ℕ) (stage : Staged) (item : Item) (rest : List Item) → IsSound network → slice_get network.stages k ≡ Some stage → queue (state_of network) k ≡ item ∷ rest → fits stage.place item ≡ true
+may_take network k stage item rest sound at first =
+    let comes = coming_first (state_of network) k item rest first in
+    (subst (AllFit stage.place) comes.1 (sound.fits k stage at)).0
+
+-- while an item is still to be delivered no final was
+pub no_final_yet : (network : Running) (item : Item) (rest : List Item) → IsSound network → queue (state_of network) (length network.stages) ≡ item ∷ rest → has_final network.delivered ≡ false
+no_final_yet network item rest sound first =
+    let here : queue (state_of network) (length (state_of network).stages) ≡ item ∷ rest = subst (λ k. queue (state_of network) k ≡ item ∷ rest) (sym (stage_count network)) first in
+    let comes = coming_first (state_of network) (length (state_of network).stages) item rest here in
+    no_final_before 0 0 network.delivered item comes.0 (subst (λ items. IsStream (network.delivered ++ items)) comes.1 sound.whole)
+
+-- at rest the final was delivered
+pub final_at_rest : (network : Running) → IsSound network → IsAtRest network.cap (state_of network) → has_final network.delivered ≡ true
+final_at_rest network sound rest =
+    let empty = rest_empty network.cap (state_of network) sound.room (sound_shape network sound) rest in
+    final_of_stream 0 0 network.delivered (subst IsStream (empty_still (state_of network) empty) sound.whole)
+
+-- The start
+
+applied_no_more : (met : Bool) (placed : Placed) (others : List Placed) (most : ℕ) → length others ≤ most → length (if met then placed ∷ others else others) ≤ 1 + most
+applied_no_more true placed others most few = omega arith
+applied_no_more false placed others most few = omega arith
+
+length-applied_from : (place : ℕ) (entries : List Entry) (words : List ℕ) → length (applied_from place entries words) ≤ length entries
+length-applied_from place [] words = omega arith
+length-applied_from place (entry ∷ entries) words =
+    let before = applied_no_more (is_applied entry place words) (record { place = place; toxic = entry.toxic }) (applied_from (place + 1) entries words) (length entries) (length-applied_from (place + 1) entries words) in
+    omega (arith, before)
+
+-- the stages of toxics as the definitions see them
+states_of_toxics : (toxics : List Placed) (words : List ℕ) → map stage_of (map (placed_stage words) toxics) ≡ map first_stage (map (λ placed. toxic_reaction placed.toxic (draw words placed.place)) toxics)
+states_of_toxics [] words = refl
+states_of_toxics (placed ∷ toxics) words =
+    ap (λ reaction. first_stage reaction ∷ map stage_of (map (placed_stage words) toxics)) (op_reaction-op_of placed.place placed.toxic words)
+    ∙ ap (λ stages. first_stage (toxic_reaction placed.toxic (draw words placed.place)) ∷ stages) (states_of_toxics toxics words)
+
+places_of_toxics : (toxics : List Placed) (words : List ℕ) (k : ℕ) (stage : Staged) → slice_get (map (placed_stage words) toxics) k ≡ Some stage → stage.place ≡ first_place
+places_of_toxics [] words k stage at = absurd (none-some stage at)
+places_of_toxics (placed ∷ toxics) words zero stage at = sym (ap (λ (one : Staged). one.place) (same_Some _ _ at))
+places_of_toxics (placed ∷ toxics) words (suc k) stage at = places_of_toxics toxics words k stage at
+
+-- a network as it is made
+pub first_network : ℕ → List ℕ → List Placed → List Item → Running
+first_network cap words toxics items = record {
+  cap = cap;
+  arrived = items;
+  steps = 0;
+  waiting = items;
+  queues = replicate (length toxics + 1) [];
+  stages = map (placed_stage words) toxics;
+  delivered = [];
+}
+
+pub first_state_of : (cap : ℕ) (chain : Toxics) (words : List ℕ) (items : List Item) → state_of (first_network cap words (applied chain words) items) ≡ start (reactions_of chain words) items
+unfolding first_network
+first_state_of cap chain words items =
+    let toxics = applied chain words in
+    let with : List (List Item) → List StageState → NetworkState = λ queues stages. record { arrivals = items; queues = queues; stages = stages; delivered = [] } in
+    let same : length toxics ≡ length (reactions_of chain words) = sym (length-map toxics (λ placed. toxic_reaction placed.toxic (draw words placed.place))) in
+    ap (λ count. with (replicate (count + 1) []) (map stage_of (map (placed_stage words) toxics))) same
+    ∙ ap (with (replicate (length (reactions_of chain words) + 1) [])) (states_of_toxics toxics words)
+
+pub sound_start : (cap : ℕ) (chain : Toxics) (words : List ℕ) (items : List Item) → 1 ≤ cap → IsChain chain → IsStream items → arrived items ≤ 2 ^ 40 → IsSound (first_network cap words (applied chain words) items)
+unfolding first_network
+sound_start cap chain words items room fits stream bytes =
+    let toxics = applied chain words in
+    let reactions = reactions_of chain words in
+    let network : Running = first_network cap words toxics items in
+    let is : state_of network ≡ start reactions items = first_state_of cap chain words items in
+    let count : length network.stages ≡ length reactions = length-map toxics (placed_stage words) ∙ sym (length-map toxics (λ placed. toxic_reaction placed.toxic (draw words placed.place))) in
+    let no_item : List Item = [] in
+    let most : length network.stages ≤ 16 = omega (arith, length-map toxics (placed_stage words), length-applied_from 0 chain.entries words, fits.most) in
+    let moves : moves_left (start reactions items) ≤ most_moves (length reactions) items = start_moves reactions items (arrived items + 1) (few_in_front chain words items fits stream) in
+    let product : (2 * length network.stages + 2) * (arrived items + 1) ≤ (2 * length network.stages + 2) * (2 ^ 40 + 1) = mul-le-mul_left (2 * length network.stages + 2) (omega arith) in
+    record {
+      room = room;
+      shaped = omega (arith, length-replicate (length toxics + 1) no_item, length-map toxics (placed_stage words));
+      fits = λ k stage at.
+          let within : k ≤ length reactions = let here = slice_get_within network.stages k stage at in omega arith in
+          let kept = kept_by_front chain words k items fits stream in
+          let comes : coming (state_of network) k ≡ flow_through (take k reactions) items = ap (λ n. coming n k) is ∙ start_coming reactions items k within in
+          subst (λ place. AllFit place (coming (state_of network) k)) (sym (places_of_toxics toxics words k stage at))
+          (subst (AllFit first_place) (sym comes) (AllFit-stream 0 0 (flow_through (take k reactions) items) kept.stream (omega (arith, kept.bytes))));
+      whole =
+          let kept = kept_by_front chain words (length reactions) items fits stream in
+          subst IsStream (sym (ap still is ∙ start_still reactions items ∙ ap (λ all. flow_through all items) (sym (take_all (length reactions) reactions (omega arith))))) kept.stream;
+      few = subst (λ stages. 0 + moves_left (state_of network) ≤ most_moves stages items) (sym count) (subst (λ n. 0 + moves_left n ≤ most_moves (length reactions) items) (sym is) (omega arith));
+      small = omega arith;
+    }
+
+-- a network made of these parts is sound, and made no move yet
+pub first_made : (network : Running) (cap : ℕ) (chain : Toxics) (words : List ℕ) (items : List Item) → 1 ≤ cap → IsChain chain → IsStream items → arrived items ≤ 2 ^ 40
+    → network.cap ≡ cap → network.arrived ≡ items → network.steps ≡ 0 → network.waiting ≡ items → network.queues ≡ replicate (length network.stages + 1) []
+    → network.stages ≡ map (placed_stage words) (applied chain words) → network.delivered ≡ [] → IsSound network × IsStart chain words items cap network
+unfolding first_network
+first_made network cap chain words items room fits stream bytes same_cap same_arrived same_steps same_waiting same_queues same_stages same_delivered =
+    let toxics = applied chain words in
+    let make : ℕ → List Item → ℕ → List Item → List (List Item) → List Staged → List Item → Running
+    = λ c a n w q s d. record { cap = c; arrived = a; steps = n; waiting = w; queues = q; stages = s; delivered = d } in
+    let queues : network.queues ≡ replicate (length toxics + 1) [] = same_queues ∙ ap (λ count. replicate (count + 1) []) (ap length same_stages ∙ length-map toxics (placed_stage words)) in
+    let same : network ≡ first_network cap words toxics items =
+    ap (λ c. make c network.arrived network.steps network.waiting network.queues network.stages network.delivered) same_cap
+    ∙ ap (λ a. make cap a network.steps network.waiting network.queues network.stages network.delivered) same_arrived
+    ∙ ap (λ n. make cap items n network.waiting network.queues network.stages network.delivered) same_steps
+    ∙ ap (λ w. make cap items 0 w network.queues network.stages network.delivered) same_waiting
+    ∙ ap (λ q. make cap items 0 items q network.stages network.delivered) queues
+    ∙ ap (λ s. make cap items 0 items (replicate (length toxics + 1) []) s network.delivered) same_stages
+    ∙ ap (make cap items 0 items (replicate (length toxics + 1) []) (map (placed_stage words) toxics)) same_delivered in (
+      subst IsSound (sym same) (sound_start cap chain words items room fits stream bytes),
+      record { state = ap state_of same ∙ first_state_of cap chain words items; cap = same_cap; arrived = same_arrived; steps = same_steps },
+    )

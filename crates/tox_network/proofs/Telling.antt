@@ -1,0 +1,55 @@
+-- What it tells where `possible` tells a move, or none.
+use Rattle.std.proofs.Common.{◌≡◌, ℕ, suc, ◌+◌, List, [], ◌∷◌, Option, Some, None, refl, sym, ◌∙◌, ap, subst, arith}
+use Rattle.std.specs.List.{slice_get}
+use Rattle.std.specs.Prelude.{◌↔◌, is_some, IsNone, IsSome, IfSome, IfNone}
+use Rattle.std.proofs.lemmas.Option.{none-some}
+use Rattle.tox_time.specs.declared.item.Item.{Item}
+use Rattle.tox_defs.specs.Stage.{Staged}
+use Rattle.tox_network.specs.declared.moves.Move.{Move}
+use Rattle.tox_network.specs.declared.moves.Move.TheVariants.{Take, Put}
+use Rattle.tox_network.specs.NetworkState.{queue, unsent_of}
+use Rattle.tox_network.specs.Moves.{after}
+use Rattle.tox_network.specs.Still.{IsEmpty}
+use Rattle.tox_network.specs.Runs.{IsAtRest}
+use Rattle.tox_network.specs.Possible.{if_any, possible, possible_before}
+use Rattle.tox_network.specs.Running.{Running, state_of, IsSound}
+use Rattle.tox_network.proofs.Resting.{Finds, finds_possible, empty_rest}
+use Rattle.tox_network.proofs.Sound.{sound_shape}
+use Rattle.tox_network.proofs.Made.{state_at}
+
+-- what the clauses of `possible` say of its answer
+pub record Tells (network : Running) (told : Option Move) : Type 0 where
+  pub rest : IsNone told ↔ IsAtRest network.cap (state_of network)
+  pub some : IfSome told (λ next. IsSome (after network.cap (state_of network) next))
+  pub empty : IfNone told (IsEmpty (state_of network))
+
+tells_found : (network : Running) (told : Option Move) → Finds network.cap (state_of network) told → Tells network told
+tells_found network None found = record { rest = (λ none. empty_rest network.cap (state_of network) found, λ rest. refl); some = tt; empty = found }
+tells_found network (Some move) found = record {
+  rest = (λ none. absurd (cc), λ rest. absurd (none-some found.0 (sym (rest move) ∙ found.1)));
+  some = ap is_some found.1;
+  empty = tt;
+}
+
+pub tells : (network : Running) (told : Option Move) → IsSound network → told ≡ possible (state_of network) → Tells network told
+tells network told sound is =
+    subst (Tells network) (sym is) (tells_found network (possible (state_of network)) (finds_possible network.cap (state_of network) sound.room (sound_shape network sound)))
+
+pub tells_at : (network now : Running) (told : Option Move) → IsSound network → network ≡ now → told ≡ possible (state_of now) → Tells now told
+tells_at network now told sound same is = tells now told (subst IsSound same sound) is
+
+-- an idle stage has no item, so its queue is looked at
+pub before_idle : (network : Running) (place k : ℕ) (stage : Staged) → k + 1 ≡ place → slice_get network.stages k ≡ Some stage → stage.pending ≡ []
+    → possible_before (state_of network) place ≡ if_any (queue (state_of network) k) (Take k) (possible_before (state_of network) k)
+before_idle network place k stage next at idle =
+    let n = state_of network in
+    let others : Option Move = if_any (queue n k) (Take k) (possible_before n k) in
+    let same : suc k ≡ place = omega arith in
+    subst (λ p. possible_before n p ≡ others) same (ap (λ one. if_any (unsent_of one) (Put k) others) (state_at network k stage at) ∙ ap (λ items. if_any items (Put k) others) idle)
+
+pub any_some : (items : List Item) (move : Move) (other : Option Move) → (items ≡ [] → ⊥) → if_any items move other ≡ Some move
+any_some [] move other some = absurd (some refl)
+any_some (item ∷ items) move other some = refl
+
+pub any_none : (items : List Item) (move : Move) (other : Option Move) → items ≡ [] → if_any items move other ≡ other
+any_none items move other none = ap (λ all. if_any all move other) none

@@ -1,0 +1,14 @@
+pub mod NetworkState
+pub mod Moves
+pub mod Still
+pub mod Runs
+pub mod Possible
+pub mod Rings
+pub mod RunLaws
+pub mod Shown
+pub mod Queued
+pub mod Arriving
+pub mod WaitingInside
+pub mod Running
+pub mod NetworkInside
+pub mod Settling

@@ -1,0 +1,17 @@
+-- What a contract sees of a `Network`, and what its fields keep.
+use Rattle.tox_network.specs.declared.network.Network.TheInside.{Inside}
+use Rattle.tox_network.specs.Running.{Running, IsSound}
+
+abbrev pub running : Inside → Running
+running network = record {
+  cap = network.queues.room;
+  arrived = network.waiting.arrived;
+  steps = network.steps;
+  waiting = network.waiting.waiting;
+  queues = network.queues.lists;
+  stages = network.stages.items;
+  delivered = network.delivered;
+}
+
+abbrev pub IsKept : Inside → Type 0
+IsKept network = IsSound (running network)

@@ -1,0 +1,74 @@
+-- A network as a value.
+use Rattle.std.specs.Prelude.{◌≡◌, ℕ, ◌+◌, ◌≤◌, ◌<◌, ◌^◌, ◌∷◌, false, List, map, length, Some, slice_get}
+use Rattle.tox_time.specs.declared.item.Item.{Item}
+use Rattle.tox_time.specs.Stream.{IsStream, is_final}
+use Rattle.tox_defs.specs.Chain.{Toxics}
+use Rattle.tox_defs.specs.Flow.{Placed, reactions_of}
+use Rattle.tox_defs.specs.Op.{op_of, op_reaction}
+use Rattle.tox_defs.specs.Place.{AllFit}
+use Rattle.tox_defs.specs.Stage.{Staged, first_stage}
+use Rattle.tox_network.specs.declared.moves.Move.{Move}
+use Rattle.tox_network.specs.NetworkState.{NetworkState, StageState, start, queue}
+use Rattle.tox_network.specs.Moves.{after}
+use Rattle.tox_network.specs.Still.{coming, still, moves_left, most_moves}
+
+-- what a network is seen as: the room of each queue, all arrivals, the moves made, and the parts of its state
+pub record Running : Type 0 where
+  pub cap : ℕ
+  pub arrived : List Item
+  pub steps : ℕ
+  pub waiting : List Item
+  pub queues : List (List Item)
+  pub stages : List Staged
+  pub delivered : List Item
+
+-- a stage without its place in the stream
+abbrev pub stage_of : Staged → StageState
+stage_of stage = record { reaction = op_reaction stage.op stage.words; state = stage.state; unsent = stage.pending }
+
+-- the stage of an applied toxic that was given nothing yet
+abbrev pub placed_stage : List ℕ → Placed → Staged
+placed_stage words placed = first_stage (op_of placed.place placed.toxic) words
+
+-- the state that a network is in
+abbrev pub state_of : Running → NetworkState
+state_of network = record {
+  arrivals = network.waiting;
+  queues = network.queues;
+  stages = map stage_of network.stages;
+  delivered = network.delivered;
+}
+
+-- no move was made yet
+pub record IsStart (chain : Toxics) (words : List ℕ) (items : List Item) (room : ℕ) (network : Running) : Type 0 where
+  pub state : state_of network ≡ start (reactions_of chain words) items
+  pub cap : network.cap ≡ room
+  pub arrived : network.arrived ≡ items
+  pub steps : network.steps ≡ 0
+
+-- the move was possible, and leads from one network to the other
+pub record IsStep (move : Move) (old new : Running) : Type 0 where
+  pub moved : after old.cap (state_of old) move ≡ Some (state_of new)
+  pub counted : new.steps ≡ old.steps + 1
+  pub cap : new.cap ≡ old.cap
+  pub arrived : new.arrived ≡ old.arrived
+  -- no move changes the eventual delivery, and each is one less of those still to make
+  pub still : still (state_of new) ≡ still (state_of old)
+  pub left : moves_left (state_of old) ≡ moves_left (state_of new) + 1
+
+-- the next item to be delivered is a chunk
+abbrev pub HasChunkFirst : Running → Type 0
+HasChunkFirst network =
+    (item : Item) × (rest : List Item) × (queue (state_of network) (length network.stages) ≡ item ∷ rest) × (is_final item ≡ false)
+
+-- what every move keeps
+pub record IsSound (network : Running) : Type 0 where
+  pub room : 1 ≤ network.cap
+  -- a queue before each stage and one behind the last
+  pub shaped : length network.queues ≡ length network.stages + 1
+  -- each stage may take what comes to it
+  pub fits : (k : ℕ) (stage : Staged) → slice_get network.stages k ≡ Some stage → AllFit stage.place (coming (state_of network) k)
+  -- what was delivered and will be is a stream
+  pub whole : IsStream (still (state_of network))
+  pub few : network.steps + moves_left (state_of network) ≤ most_moves (length network.stages) network.arrived
+  pub small : most_moves (length network.stages) network.arrived < 2 ^ 64

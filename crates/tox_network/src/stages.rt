@@ -1,0 +1,26 @@
+ghost use Rattle.std.specs.Prelude.{◌≡◌, IfOk, map};
+ghost use Rattle.tox_defs.specs.Chain.{IsChain};
+ghost use Rattle.tox_defs.specs.Flow.{applied};
+ghost use Rattle.tox_network.specs.Running.{placed_stage};
+
+use std::alloc::{AllocError, Global};
+use tox_defs::{Chain, Stage};
+use tox_words::Words;
+
+/// A stage for each toxic that a link with these words meets, in order; nothing was given to any yet.
+pub(crate) fn first_stages<'w>(
+    alloc: Global,
+    chain: &Chain,
+    words: &'w Words,
+) -> Result<Vec<Stage<'w>>, AllocError>
+    ensures stages { IfOk result (λ stages. stages.items ≡ map (placed_stage words.now) (applied chain.now words.now)) }
+    ensures chain { IsChain chain.now }
+{
+    let mut stages = Vec::with_capacity(alloc, chain.len())?;
+    for (place, entry) in chain.entries().iter().enumerate() {
+        if entry.is_applied(place, words) {
+            stages.push(Stage::new(entry.toxic, place, words))?;
+        }
+    }
+    Ok(stages)
+}
