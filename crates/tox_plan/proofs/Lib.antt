@@ -4,3 +4,4 @@ pub mod Starts
 pub mod Endings
 pub mod RunnerLemmas
 pub mod Deliveries
+pub mod EveryRun

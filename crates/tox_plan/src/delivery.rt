@@ -3,15 +3,17 @@ ghost use Rattle.std.specs.Prelude.{◌≡◌, ◌≤◌, List, [], ◌∷◌, A
 ghost use Rattle.tox_time.specs.declared.item.Item.{Item as OneItem};
 ghost use Rattle.tox_time.specs.declared.slice.Slice.{Slice as OneSlice};
 ghost use Rattle.tox_time.specs.Arrivals.{arrival_list};
-ghost use Rattle.tox_time.specs.Stream.{latest_from};
+ghost use Rattle.tox_time.specs.Stream.{IsStream, latest_from};
 ghost use Rattle.tox_time.specs.Table.{IsOutcomeOf};
 ghost use Rattle.tox_time.specs.Neighbours.{AreNeighbours, LiesIn};
 ghost use Rattle.tox_defs.specs.Flow.{chain_flow};
+ghost use Rattle.tox_compile.specs.Meaning.{means};
+ghost use Rattle.tox_network.specs.Runs.{OfEveryRest};
 ghost use Rattle.tox_plan.specs.Delivering.{MayFollow, EndsAt, StandsAt, StandsBehind, Goes, stop_from};
 
 use crate::runner::Runner;
 use std::alloc::{AllocError, Global};
-use tox_compile::compile;
+use tox_compile::{Plan, compile};
 use tox_defs::Chain;
 use tox_time::{Arrivals, Item, Outcome, SliceList};
 use tox_words::Words;
@@ -57,7 +59,30 @@ fn take_item(runner: &mut Runner, slices: &mut SliceList, item: &Item) -> Result
     Ok(())
 }
 
+/// What a plan delivers of these arrivals.
+fn deliver_plan(
+    alloc: Global,
+    plan: &Plan,
+    words: &Words,
+    arrivals: &Arrivals,
+) -> Result<Outcome, AllocError>
+    ensures stream { IfOk result (λ _. IsStream (arrival_list arrivals.now)) }
+    ensures flow { IfOk result (IsOutcomeOf (means plan.now words.now (arrival_list arrivals.now))) }
+    ensures neighbours { IfOk result (λ outcome. AreNeighbours (arrival_list arrivals.now) 0 outcome.slices) }
+{
+    let mut runner = Runner::new(plan, words);
+    let mut slices = SliceList::new(alloc);
+    for item in arrivals.items() {
+        take_item(&mut runner, &mut slices, item)?;
+    }
+    let ending = runner.quiet();
+    Ok(Outcome { slices, ending })
+}
+
 /// What the chain delivers of these arrivals, on a link with these words: what the compiled plan gives.
+///
+/// Every run of the chain's stage network that has come to rest, in whatever order its stages stepped
+/// and whatever room its queues had, delivered these bytes at these instants and ended so.
 pub fn deliver(
     alloc: Global,
     chain: &Chain,
@@ -66,13 +91,8 @@ pub fn deliver(
 ) -> Result<Outcome, AllocError>
     ensures flow { IfOk result (IsOutcomeOf (chain_flow chain.now words.now (arrival_list arrivals.now))) }
     ensures neighbours { IfOk result (λ outcome. AreNeighbours (arrival_list arrivals.now) 0 outcome.slices) }
+    ensures every_run { IfOk result (λ outcome. OfEveryRest chain.now words.now (arrival_list arrivals.now) (λ moves network. IsOutcomeOf network.delivered outcome)) }
 {
     let plan = compile(chain, words);
-    let mut runner = Runner::new(&plan, words);
-    let mut slices = SliceList::new(alloc);
-    for item in arrivals.items() {
-        take_item(&mut runner, &mut slices, item)?;
-    }
-    let ending = runner.quiet();
-    Ok(Outcome { slices, ending })
+    deliver_plan(alloc, &plan, words, arrivals)
 }

@@ -5,7 +5,7 @@ use Rattle.tox_time.specs.Arrivals.{arrival_list}
 use Rattle.tox_time.specs.Neighbours.{AreNeighbours}
 use Rattle.tox_plan.specs.Delivering.{Goes, stop_from}
 use Rattle.tox_plan.proofs.Deliveries.{IsAhead}
-use Rattle.tox_plan.proofs.delivery.deliver.Given as goal
+use Rattle.tox_plan.proofs.delivery.deliver_plan.Given as goal
 
 abbrev pub invariant-loop-item : goal.invariant-loop-item
 invariant-loop-item l = record {
