@@ -1,15 +1,12 @@
 //! Chains made from short forms.
 use std::process::Abort;
-use tox_defs::{Chain, TooManyToxics, Toxic, read_short};
+use std::test::Fail;
+use tox_defs::{Chain, TooManyToxics, Toxic};
+use tox_proxy::{ToxicsFault, read_chain};
 
 /// The chain of these short forms.
 pub fn chain_of(rt: &impl Abort, toxics: &[&str]) -> Chain {
-    let mut chain = Chain::new();
-    for text in toxics {
-        let (toxic, toxicity) = read_short(text).expect(rt, "a short form");
-        push(rt, &mut chain, toxic, toxicity);
-    }
-    chain
+    read_chain(toxics).expect(rt, "short forms")
 }
 
 /// Adds a toxic to a chain that has room.
@@ -32,4 +29,20 @@ fn a_seventeenth_toxic_is_refused(rt: HostRuntime) {
     assert_eq!(rt; chain.len(), 16);
     assert_eq!(rt; chain.toxicity(15), 15);
     assert_eq!(rt; chain.toxic(15), toxic);
+}
+
+#[test]
+fn the_first_fault_of_short_forms_is_told(rt: HostRuntime) -> Result<(), Fail> {
+    let cases = [
+        (["latency", "latency:", "noop"], "Q1 BadForm 2"),
+        (["noop", "latency:", "latency"], "S3 UnknownType 1"),
+        (["latency", "latency", "bandwidth"], "S5 OutOfRange 3"),
+    ];
+    for (texts, want) in cases {
+        let fault = read_chain(&texts).err().expect(&rt, "a fault");
+        assert_eq!(rt; format!(in rt.alloc(); "{fault}")?.as_str(), want);
+    }
+    let fault = read_chain(&["latency"; 17]).err().expect(&rt, "a fault");
+    assert_eq!(rt; fault, ToxicsFault::TooMany(17));
+    Ok(())
 }

@@ -6,7 +6,11 @@ mod arrivals;
 #[cfg(test)]
 mod chains;
 #[cfg(test)]
+mod dry;
+#[cfg(test)]
 mod ends;
+#[cfg(test)]
+mod network;
 #[cfg(test)]
 mod plans;
 #[cfg(test)]
