@@ -1,0 +1,42 @@
+//! What help shows below the options.
+
+/// Below the commands.
+pub const PROGRAM: &str = "\
+Example:
+  printf '0 data 6162\\n50 eof\\n' | toxi dry latency:latency=100
+
+`toxi dry --help` shows each toxic and the lines of the input.
+A fault is one line on standard error, and the status is then 1.";
+
+/// Below the options of `toxi dry`.
+pub const DRY: &str = "\
+A TOXIC is a type, or a type, a colon and pairs of a key and a number, parted by commas:
+
+  latency       latency=MS, jitter=MS   delays data by latency plus or minus jitter
+  bandwidth     rate=KB                 passes KB kilobytes (of 1000 bytes) a second; 1 to 1000000
+  slow_close    delay=MS                delays the closing
+  timeout       timeout=MS              drops all data, and closes after MS; never, where it is 0
+  reset_peer    timeout=MS              resets the connection after MS
+  slicer        average_size=BYTES      cuts data into pieces; 1 to 1000000
+                size_variation=BYTES    a piece has up to so many bytes more or fewer; below average_size
+                delay=MICROS            the wait before each piece; 0 to 3600000000
+  limit_data    bytes=BYTES             closes after so many bytes; 0 to 1099511627776
+
+MS is 0 to 3600000 milliseconds. A key that is absent is 0.
+Every type also has toxicity=N, the chance in thousandths that a link meets the toxic: 0 to 1000 [default: 1000]
+
+The input has a line for each arrival, whose instant is in microseconds from the link's start, 0 to 10^15:
+
+  <micros> data <hex>   these bytes arrive
+  <micros> eof          the source ends
+
+The output has a line for each run of bytes that leave together, and one for the link's ending:
+
+  <micros> <start>..<stop> <hex>
+  open, closed <micros> or reset <micros>
+
+Example:
+  printf '0 data 6162\\n50 eof\\n' | toxi dry latency:latency=100
+prints
+  100000 0..2 6162
+  closed 100000";

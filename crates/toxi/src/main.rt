@@ -1,0 +1,43 @@
+//! The program `toxi`: a TCP proxy that adds scripted faults.
+#![tactic(auto)]
+
+mod command_line;
+mod dry;
+mod help;
+
+use command_line::Task;
+use std::process::ExitCode;
+use std::{env, io};
+
+/// The status of a command line that is refused.
+const WRONG_ARGUMENTS: u8 = 2;
+
+fn main(rt: HostRuntime) -> io::Result<ExitCode> {
+    let Ok(arguments) = env::args(&rt) else {
+        eprintln!(rt; "error: an argument isn't UTF-8")?;
+        return Ok(ExitCode::from(WRONG_ARGUMENTS));
+    };
+    let words: Vec<String> = arguments.collect(rt.alloc())?;
+    match command_line::read(rt.alloc(), words.as_slice()) {
+        Ok(task) => perform(&rt, &task),
+        Err(refusal) => {
+            refusal.print(&rt)?;
+            Ok(ExitCode::from(refusal.exit_code() as u8))
+        }
+    }
+}
+
+/// Does what the command line asks for. A fault is one line on standard error.
+fn perform<R: Input + Print + Eprint + AllocGlobal>(
+    rt: &R,
+    task: &Task<'_>,
+) -> io::Result<ExitCode> {
+    let Task::Dry { words, toxics } = task;
+    match dry::dry(rt, *words, toxics.as_slice()) {
+        Ok(()) => Ok(ExitCode::SUCCESS),
+        Err(fault) => {
+            eprintln!(rt; "toxi: {fault}")?;
+            Ok(ExitCode::FAILURE)
+        }
+    }
+}
