@@ -1,5 +1,5 @@
 //! Dry runs, from text to text.
-ghost use Rattle.std.specs.Prelude.{◌≡◌, false, IfOk};
+ghost use Rattle.std.specs.Prelude.{◌≡◌, ◌<◌, false, IfOk};
 
 use crate::chains::chain_of;
 use std::alloc::Global;
@@ -193,6 +193,36 @@ fn texts_are_run(rt: HostRuntime) -> Result<(), Fail> {
         };
         assert_eq!(rt; written.as_str(), want, "{toxics:?} on {read}");
     }
+    Ok(())
+}
+
+/// What a dry run writes and then answers, where its ends move at most so many bytes a call.
+fn run(alloc: Global, chain: &Chain, words: &Words, read: &str, most: usize) -> Result<String, Fail>
+    requires { 0 < most }
+{
+    let mut reader = MemorySource::new(read.as_bytes().to_vec(alloc)?, most, None);
+    let mut writer = MemorySink::new(alloc, ROOM, most, None)?;
+    let answer = dry_run(alloc, &mut reader, &mut writer, chain, words);
+    let written = String::from_utf8_lossy(alloc, writer.bytes())?;
+    match answer {
+        Ok(()) => Ok(written),
+        Err(fault) => Ok(format!(in alloc; "{written}{fault}")?),
+    }
+}
+
+#[test]
+fn a_long_piece_is_cut(rt: HostRuntime) -> Result<(), Fail> {
+    let words = Words::from_list(rt.alloc(), &[0])?;
+    let chain = chain_of(&rt, &["bandwidth:rate=1"]);
+    let half = "61".repeat(rt.alloc(), 50)?;
+    let read = format!(in rt.alloc(); "0 data {half}{half}{half}{half}{half}")?;
+    let want = format!(in rt.alloc();
+        "100000 0..100 {half}{half}\n200000 100..200 {half}{half}\n250000 200..250 {half}\nopen\n"
+    )?;
+    let by_ones = run(rt.alloc(), &chain, &words, read.as_str(), 1)?;
+    assert_eq!(rt; by_ones, want);
+    let at_once = run(rt.alloc(), &chain, &words, read.as_str(), ROOM)?;
+    assert_eq!(rt; at_once, want);
     Ok(())
 }
 
