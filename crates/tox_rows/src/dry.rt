@@ -210,6 +210,35 @@ fn run(alloc: Global, chain: &Chain, words: &Words, read: &str, most: usize) -> 
     }
 }
 
+/// Toxics that a link may not meet, and a link on which nothing arrives.
+const MET: [Case; 4] = [
+    (
+        "500",
+        &["latency:latency=1,toxicity=500"],
+        "0 data 61",
+        "0 0..1 61\nopen\n",
+    ),
+    (
+        "2,0",
+        &["latency:latency=5,toxicity=0", "latency:latency=1,jitter=1"],
+        "0 data 61",
+        "0 0..1 61\nopen\n",
+    ),
+    ("0", &["reset_peer:timeout=20"], "", "reset 20000\n"),
+    ("0", &["timeout"], "", "open\n"),
+];
+
+#[test]
+fn toxics_are_met_by_their_words(rt: HostRuntime) -> Result<(), Fail> {
+    for (words, toxics, read, want) in MET {
+        let words = Words::from_text(rt.alloc(), words)?;
+        let chain = chain_of(&rt, toxics);
+        let written = run(rt.alloc(), &chain, &words, read, 1)?;
+        assert_eq!(rt; written.as_str(), want, "{toxics:?} on {read}");
+    }
+    Ok(())
+}
+
 #[test]
 fn a_long_piece_is_cut(rt: HostRuntime) -> Result<(), Fail> {
     let words = Words::from_list(rt.alloc(), &[0])?;
