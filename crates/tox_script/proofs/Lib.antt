@@ -1,0 +1,6 @@
+pub mod ByStream
+pub mod Mapped
+pub mod Renamed
+pub mod Tables
+pub mod Texts
+pub mod ToxicTurns

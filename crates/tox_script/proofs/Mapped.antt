@@ -1,0 +1,22 @@
+-- Tests of what a function makes of each element.
+use Rattle.std.proofs.Common.{◌≡◌, Bool, true, false, cond, ◌||◌, List, [], ◌∷◌, Option, Some, None, Bor, map, option_map, refl, ap}
+use Rattle.std.specs.List.{find, list_any}
+
+-- some element passes where some of its images does
+pub list_any-map : {X Y : Type 0} (test : Y → Bool) (f : X → Y) (xs : List X) → list_any test (map f xs) ≡ list_any (λ x. test (f x)) xs
+list_any-map test f [] = refl
+list_any-map test f (x ∷ xs) = ap (λ others. test (f x) || others) (list_any-map test f xs)
+
+-- the first image that passes is that of the first element whose image does
+pub find-map : {X Y : Type 0} (test : Y → Bool) (f : X → Y) (xs : List X) → option_map f (find (λ x. test (f x)) xs) ≡ find test (map f xs)
+find-map test f [] = refl
+find-map test f (x ∷ xs) = at (test (f x)) (find-map test f xs)
+  where
+    at : (passes : Bool) → option_map f (find (λ y. test (f y)) xs) ≡ find test (map f xs) → option_map f (cond passes (Some x) (find (λ y. test (f y)) xs)) ≡ cond passes (Some (f x)) (find test (map f xs))
+    at true others = refl
+    at false others = others
+
+-- an image of what a reference points to
+pub option_map-now : {X Y : Type 0} (f : X → Y) (found : Option (Bor X)) → option_map (λ x. f x.now) found ≡ option_map f (option_map (λ x. x.now) found)
+option_map-now f None = refl
+option_map-now f (Some x) = refl

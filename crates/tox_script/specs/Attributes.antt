@@ -1,0 +1,48 @@
+-- The attributes of a toxic, and the toxic that they make.
+use Rattle.std.specs.Prelude.{ℕ, Bool, true, List, [], ◌∷◌, map, Option, Some, None, option_and_then, option_map, slice_get, Result, Err, ok_or, if◌then◌else◌}
+use Rattle.std.specs.Option.{option_map_or}
+use Rattle.toml.specs.Data.{Data, get}
+use Rattle.tox_defs.specs.Kind.{attributes_of, checked, toxic_of}
+use Rattle.tox_defs.specs.declared.kind.Kind.{Kind}
+use Rattle.tox_defs.specs.declared.toxic.Toxic.{Toxic}
+use Rattle.tox_defs.specs.declared.toxic.ToxicFault.{ToxicFault}
+use Rattle.tox_defs.specs.declared.toxic.ToxicFault.TheVariants.{OutOfRange, UnknownAttribute}
+use Rattle.tox_script.specs.Fields.{has_only, whole}
+use Rattle.tox_script.specs.Steps.{◌>>=◌}
+
+-- whether a type has all of these attributes
+abbrev pub are_known : Kind → Option Data → Bool
+are_known kind attributes = option_map_or (has_only (attributes_of kind)) attributes true
+
+-- the whole number of an attribute, where an absent one is 0
+abbrev pub whole_or_zero : Option Data → Option ℕ
+whole_or_zero None = Some 0
+whole_or_zero (Some d) = whole d
+
+-- the whole number of one of these attributes
+abbrev pub value_in : Option Data → List ℕ → Option ℕ
+value_in attributes key = whole_or_zero (option_and_then (get key) attributes)
+
+-- the value of an attribute, where there is one
+abbrev pub value_of_key : Option Data → Option (List ℕ) → Option ℕ
+value_of_key attributes None = Some 0
+value_of_key attributes (Some key) = value_in attributes key
+
+-- the value of a type's attribute at a place; 0 past the last one
+abbrev pub value_at : Kind → Option Data → ℕ → Option ℕ
+value_at kind attributes place = value_of_key attributes (slice_get (attributes_of kind) place)
+
+-- the values of a list, where each is there
+abbrev pub all_some : {A : Type 0} → List (Option A) → Option (List A)
+all_some [] = Some []
+all_some (x ∷ xs) = option_and_then (λ y. option_map (λ ys. y ∷ ys) (all_some xs)) x
+
+-- the values of a type's attributes in order, where each is a whole number
+abbrev pub values_in : Kind → Option Data → Option (List ℕ)
+values_in kind attributes = all_some (map (value_in attributes) (attributes_of kind))
+
+-- the toxic of a type with these attributes, or why there is none
+abbrev pub toxic_with : Kind → Option Data → Result Toxic ToxicFault
+toxic_with kind attributes =
+    if are_known kind attributes then ok_or (values_in kind attributes) OutOfRange >>= (λ values. checked (toxic_of kind values))
+    else Err UnknownAttribute

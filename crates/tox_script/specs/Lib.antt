@@ -1,0 +1,15 @@
+pub mod Steps
+pub mod Fields
+pub mod StreamName
+pub mod ToxicFields
+pub mod Attributes
+pub mod Toxic
+pub mod NamedChain
+pub mod NamedChainInside
+pub mod Toxics
+pub mod Chains
+pub mod Rule
+pub mod Script
+pub mod Covering
+pub mod Views
+pub mod ScriptInside

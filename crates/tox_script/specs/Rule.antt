@@ -1,0 +1,59 @@
+-- A rule of a script: the fields of its table, and the toxics that some connections of a proxy meet.
+use Rattle.std.specs.Prelude.{ℕ, List, [], ◌∷◌, codes, Option, Result, Ok}
+use Rattle.toml.specs.Data.{Data, Items, get}
+use Rattle.tox_script.specs.Fields.{needed, optional, sized_text, tables_of, unless_unknown, whole_between}
+use Rattle.tox_script.specs.Steps.{◌>>=◌, told_as}
+use Rattle.tox_script.specs.Toxics.{read_chains}
+use Rattle.tox_script.specs.declared.chains.Chains.{Chains}
+use Rattle.tox_script.specs.declared.fault.Field.{Field}
+use Rattle.tox_script.specs.declared.fault.Field.TheVariants as field
+use Rattle.tox_script.specs.declared.fault.ScriptFault.{ScriptFault}
+use Rattle.tox_script.specs.declared.fault.ScriptFault.TheVariants as fault
+
+-- the fields of a rule's table
+pub record RuleFields : Type 0 where
+  pub proxy : List ℕ
+  pub first : ℕ
+  pub last : Option ℕ
+  pub toxics : Items
+
+-- the name of a rule's proxy
+abbrev pub proxy_of : Data → Result (List ℕ) Field
+proxy_of d = needed field.Proxy (sized_text 255) (get (codes "proxy") d)
+
+-- the first connection of a rule
+abbrev pub first_of : Data → Result ℕ Field
+first_of d = needed field.First (whole_between 1 1_000_000) (get (codes "first") d)
+
+-- the last connection of a rule, where it has one
+abbrev pub last_of : ℕ → Data → Result (Option ℕ) Field
+last_of first d = optional field.Last (whole_between first 1_000_000) (get (codes "last") d)
+
+-- the fields of a rule's table, or the first that isn't as it must be
+abbrev pub rule_fields : Data → Result RuleFields Field
+rule_fields d = do
+  proxy ← proxy_of d
+  first ← first_of d
+  last ← last_of first d
+  toxics ← tables_of field.Toxic (get (codes "toxic") d)
+  unless_unknown
+      (codes "proxy" ∷ codes "first" ∷ codes "last" ∷ codes "toxic" ∷ []) d
+      (record { proxy = proxy; first = first; last = last; toxics = toxics })
+
+-- a rule: its proxy's name, its first and its last connection, and the toxics of each stream
+pub record Rule : Type 0 where
+  pub proxy : List ℕ
+  pub first : ℕ
+  pub last : Option ℕ
+  pub chains : Chains
+
+-- what a script is seen as: its rules in the file's order
+pub record Rules : Type 0 where
+  pub rules : List Rule
+
+-- the rule of the table of a number, or its first fault
+abbrev pub rule_of : ℕ → Data → Result Rule ScriptFault
+rule_of number d = do
+  fields ← told_as (fault.Field (record { rule = number; toxic = 0 })) (rule_fields d)
+  chains ← read_chains number fields.toxics
+  Ok (record { proxy = fields.proxy; first = fields.first; last = fields.last; chains = chains })

@@ -1,0 +1,14 @@
+-- What a contract sees of a `Script`, and what its fields keep.
+use Rattle.std.specs.Prelude.{◌≡◌, map}
+use Rattle.tox_script.specs.Chains.{no_chains}
+use Rattle.tox_script.specs.Rule.{Rules}
+use Rattle.tox_script.specs.Views.{rule_view}
+use Rattle.tox_script.specs.declared.script.Script.TheInside.{Inside}
+
+-- the rules in order
+abbrev pub rules_of : Inside → Rules
+rules_of script = record { rules = map rule_view script.rules.items }
+
+-- what a connection meets that no rule covers
+abbrev pub HasNothing : Inside → Type 0
+HasNothing script = script.nothing ≡ no_chains

@@ -1,0 +1,46 @@
+-- What the reader's structs stand for.
+use Rattle.std.specs.Prelude.{option_map, string_bytes, unwrap_or}
+use Rattle.toml.specs.View.{items_view, view}
+use Rattle.tox_script.specs.Rule.{Rule, RuleFields}
+use Rattle.tox_script.specs.Toxic.{NamedToxic, default_name}
+use Rattle.tox_script.specs.ToxicFields.{ToxicFields}
+use Rattle.tox_script.specs.declared.named_toxic.NamedToxic.{NamedToxic as LentToxic}
+use Rattle.tox_script.specs.declared.rule.Rule.{Rule as OwnedRule}
+use Rattle.tox_script.specs.declared.rule_fields.RuleFields.{RuleFields as LentRuleFields}
+use Rattle.tox_script.specs.declared.toxic_fields.ToxicFields.{ToxicFields as LentFields}
+
+-- the fields that lent ones stand for
+abbrev pub fields_view : LentFields → ToxicFields
+fields_view fields = record {
+  name = option_map (λ name. name.now) fields.name;
+  type_name = fields.type_name.now;
+  stream = fields.stream;
+  toxicity = option_map (λ value. view value.now) fields.toxicity;
+  attributes = option_map (λ value. view value.now) fields.attributes;
+}
+
+-- the toxic that one with a lent name stands for
+abbrev pub toxic_view : LentToxic → NamedToxic
+toxic_view toxic = record {
+  stream = toxic.stream;
+  entry = toxic.entry;
+  name = unwrap_or (option_map (λ name. name.now) toxic.told_name) (default_name toxic.kind toxic.stream);
+}
+
+-- the fields that a rule's lent ones stand for
+abbrev pub rule_fields_view : LentRuleFields → RuleFields
+rule_fields_view fields = record {
+  proxy = fields.proxy.now;
+  first = fields.first;
+  last = fields.last;
+  toxics = items_view fields.toxics.now;
+}
+
+-- the rule that one with a text of its own stands for
+abbrev pub rule_view : OwnedRule → Rule
+rule_view rule = record {
+  proxy = string_bytes rule.proxy;
+  first = rule.first;
+  last = rule.last;
+  chains = rule.chains;
+}

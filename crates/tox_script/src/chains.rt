@@ -1,0 +1,118 @@
+//! The chains of a rule, one for each stream.
+ghost use Rattle.std.specs.Prelude.{◌≡◌, ◌≢◌, ◌<◌, length, string_bytes, OnOk, IfOk, IfErr, Ok, Err};
+ghost use Rattle.toml.specs.View.{items_view, view};
+ghost use Rattle.tox_defs.specs.Chain.{IsEntry};
+ghost use Rattle.tox_defs.specs.declared.chain.TheConstants.{MOST_TOXICS as most_toxics};
+ghost use Rattle.tox_script.specs.Chains.{has_name, no_chains, on, pushed, put_toxic};
+ghost use Rattle.tox_script.specs.Toxics.{read_chains, toxic_at};
+ghost use Rattle.tox_script.specs.Views.{toxic_view};
+ghost use Rattle.tox_script.specs.declared.fault.ScriptFault.TheVariants.{OutOfMemory};
+
+use crate::fault::{Location, ScriptFault};
+use crate::named_chain::NamedChain;
+use crate::named_toxic::NamedToxic;
+use crate::toxic_fields::ToxicFields;
+use std::alloc::{AllocError, Global};
+use toml::Value;
+use tox_defs::Entry;
+use tox_time::Stream;
+
+/// The toxics of a rule by their streams.
+#[derive(Drop)]
+pub(crate) struct Chains {
+    upstream: NamedChain,
+    downstream: NamedChain,
+}
+
+impl Chains {
+    /// No toxic.
+    pub(crate) fn new(alloc: Global) -> Chains
+        ensures { result ≡ no_chains }
+    {
+        Chains {
+            upstream: NamedChain::new(alloc),
+            downstream: NamedChain::new(alloc),
+        }
+    }
+
+    /// The toxics of the tables of a rule, whose number is told, or their first fault.
+    pub(crate) fn read(alloc: Global, tables: &[Value], rule: usize) -> Result<Chains, ScriptFault>
+        ensures ok { IfOk result (λ chains. read_chains rule (items_view tables.now) ≡ Ok chains) }
+        ensures err { IfErr result (λ fault. fault ≢ OutOfMemory
+            → read_chains rule (items_view tables.now) ≡ Err fault) }
+    {
+        let mut chains = Chains::new(alloc);
+        for (index, table) in tables.iter().enumerate() {
+            let at = Location {
+                rule,
+                toxic: index + 1,
+            };
+            let toxic = read_toxic(table, at)?;
+            chains.put(alloc, &toxic, at)?;
+        }
+        Ok(chains)
+    }
+
+    /// The toxics of a stream.
+    pub(crate) fn on(&self, stream: Stream) -> &NamedChain
+        ensures { result.now ≡ on stream self.now }
+    {
+        match stream {
+            Stream::Upstream => &self.upstream,
+            Stream::Downstream => &self.downstream,
+        }
+    }
+
+    /// Adds the toxic at a location behind the others of its stream.
+    fn put(
+        &mut self,
+        alloc: Global,
+        toxic: &NamedToxic<'_>,
+        at: Location,
+    ) -> Result<(), ScriptFault>
+        requires { IsEntry toxic.now.entry }
+        ensures ok { OnOk result (put_toxic at (toxic_view toxic.now) self.old ≡ Ok self.new) }
+        ensures err { IfErr result (λ fault. fault ≢ OutOfMemory
+            → put_toxic at (toxic_view toxic.now) self.old ≡ Err fault) }
+    {
+        let name = toxic.name(alloc)?;
+        if self.has_name(&name) {
+            return Err(ScriptFault::DoubleName(at));
+        }
+        if self.on(toxic.stream).is_full() {
+            return Err(ScriptFault::TooManyToxics(at));
+        }
+        self.push(toxic.stream, toxic.entry, name)?;
+        Ok(())
+    }
+
+    /// Whether a toxic of either stream has this name.
+    fn has_name(&self, name: &str) -> bool
+        ensures { result ≡ has_name name.now self.now }
+    {
+        self.upstream.has_name(name) || self.downstream.has_name(name)
+    }
+
+    /// Adds a toxic behind the others of a stream that has room.
+    fn push(&mut self, stream: Stream, entry: Entry, name: String) -> Result<(), AllocError>
+        requires fits { IsEntry entry }
+        requires room { length (on stream self.old).chain.entries < most_toxics }
+        ensures { OnOk result (self.new ≡ pushed stream entry (string_bytes name) self.old) }
+    {
+        match stream {
+            Stream::Upstream => self.upstream.push(entry, name),
+            Stream::Downstream => self.downstream.push(entry, name),
+        }
+    }
+}
+
+/// The toxic of a table at a location.
+fn read_toxic(table: &Value, at: Location) -> Result<NamedToxic<'_>, ScriptFault>
+    ensures ok { IfOk result (λ toxic. toxic_at at (view table.now) ≡ Ok (toxic_view toxic)) }
+    ensures err { IfErr result (λ fault. toxic_at at (view table.now) ≡ Err fault) }
+    ensures fits { IfOk result (λ toxic. IsEntry toxic.entry) }
+{
+    let fields = ToxicFields::read(table).map_err(|field| ScriptFault::Field(at, field))?;
+    let toxic = NamedToxic::of(&fields).map_err(|fault| ScriptFault::Toxic(at, fault))?;
+    Ok(toxic)
+}

@@ -1,0 +1,19 @@
+//! Scripts: which toxics each numbered connection of a proxy meets.
+#![tactic(auto)]
+
+mod attributes;
+mod chains;
+mod fault;
+mod fields;
+mod named_chain;
+mod named_toxic;
+mod rule;
+mod rule_fields;
+mod script;
+mod stream_name;
+#[cfg(test)]
+mod tests;
+mod toxic_fields;
+
+pub use fault::{Field, Location, ScriptFault};
+pub use script::{Script, read_script};

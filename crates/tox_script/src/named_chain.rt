@@ -1,0 +1,82 @@
+//! A chain with the names of its toxics.
+ghost use Rattle.std.specs.Prelude.{◌≡◌, ◌<◌, length, map, string_bytes, nat_le, OnOk, OnErr};
+ghost use Rattle.std.specs.List.{list_any};
+ghost use Rattle.std.specs.Str.{bytes_eq};
+ghost use Rattle.tox_defs.specs.Chain.{IsEntry};
+ghost use Rattle.tox_defs.specs.declared.chain.TheConstants.{MOST_TOXICS as most_toxics};
+
+use std::alloc::{AllocError, Global};
+use std::marker::Model;
+use tox_defs::{Chain, Entry, MOST_TOXICS};
+
+/// The toxics of one stream of a rule in the file's order, each with its name.
+#[derive(Drop)]
+pub(crate) struct NamedChain {
+    chain: Chain,
+    names: Vec<String>,
+}
+
+impl Model for NamedChain {
+    ghost use Rattle.tox_script.specs.NamedChain.{NamedToxics};
+
+    ghost Value = { NamedToxics };
+
+    ghost use Rattle.tox_script.specs.NamedChainInside.{named_toxics, IsMatched};
+
+    ghost view = { named_toxics };
+
+    ghost invariant = { IsMatched };
+}
+
+impl NamedChain {
+    ghost use Rattle.tox_script.specs.NamedChain.{nothing, with_toxic};
+
+    /// No toxic.
+    pub(crate) fn new(alloc: Global) -> NamedChain
+        ensures { result ≡ nothing }
+    {
+        NamedChain {
+            chain: Chain::new(),
+            names: Vec::new(alloc),
+        }
+    }
+
+    pub(crate) fn chain(&self) -> &Chain
+        ensures { result.now ≡ self.now.chain }
+    {
+        &self.chain
+    }
+
+    /// The toxics' names, in the chain's order.
+    pub(crate) fn names(&self) -> &[String]
+        ensures value { map string_bytes result.now ≡ self.now.names }
+        ensures one_each { length result.now ≡ length self.now.chain.entries }
+    {
+        &self.names
+    }
+
+    /// Whether a toxic has this name.
+    pub(crate) fn has_name(&self, name: &str) -> bool
+        ensures { result ≡ list_any (λ other. bytes_eq other name.now) self.now.names }
+    {
+        self.names.iter().any(|other| other.as_str() == name)
+    }
+
+    pub(crate) fn is_full(&self) -> bool
+        ensures { result ≡ nat_le most_toxics (length self.now.chain.entries) }
+    {
+        self.chain.len() >= MOST_TOXICS
+    }
+
+    /// Adds a toxic behind the others. A refusal leaves them unchanged.
+    pub(crate) fn push(&mut self, entry: Entry, name: String) -> Result<(), AllocError>
+        requires fits { IsEntry entry }
+        requires room { length self.old.chain.entries < most_toxics }
+        ensures ok { OnOk result (self.new ≡ with_toxic entry (string_bytes name) self.old) }
+        ensures err { OnErr result (self.new ≡ self.old) }
+    {
+        self.names.push(name)?;
+        self.chain.push(entry.toxic, entry.toxicity).unwrap();
+        Ok(())
+    }
+}

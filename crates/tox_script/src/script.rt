@@ -1,0 +1,140 @@
+//! A whole script.
+ghost use Rattle.std.specs.Prelude.{◌≡◌, ◌≢◌, [], length, map, string_bytes, option_map, IsTrue, IfOk, IfErr, Some, None, Ok, Err};
+ghost use Rattle.std.specs.Str.{is_utf8};
+ghost use Rattle.toml.specs.View.{items_view, view};
+ghost use Rattle.tox_script.specs.Views.{rule_view};
+ghost use Rattle.tox_script.specs.Script.{document_rules, rules_from, script_of, toml_of};
+ghost use Rattle.tox_script.specs.declared.fault.ScriptFault.TheVariants.{NotToml, OutOfMemory};
+
+use crate::chains::Chains;
+use crate::fault::{Field, Location, ScriptFault};
+use crate::fields::{has_only, tables_of};
+use crate::rule::Rule;
+use std::alloc::Global;
+use std::marker::Model;
+use toml::Value;
+use tox_defs::Chain;
+use tox_time::Stream;
+
+/// Which toxics each connection of each proxy meets: those of the first rule that covers it, and else none.
+#[derive(Drop)]
+pub struct Script {
+    rules: Vec<Rule>,
+    nothing: Chains,
+}
+
+impl Model for Script {
+    ghost use Rattle.tox_script.specs.Rule.{Rules};
+
+    ghost Value = { Rules };
+
+    ghost use Rattle.tox_script.specs.ScriptInside.{rules_of, HasNothing};
+
+    ghost view = { rules_of };
+
+    ghost invariant = { HasNothing };
+}
+
+impl Script {
+    ghost use Rattle.tox_script.specs.Covering.{chains_for, covering, toxics_for};
+
+    /// The toxics that a connection of a proxy meets on a stream, in the file's order.
+    pub fn chain(&self, proxy: &str, conn: u64, stream: Stream) -> &Chain
+        ensures { result.now ≡ (toxics_for proxy.now conn stream self.now).chain }
+    {
+        self.chains(proxy, conn).on(stream).chain()
+    }
+
+    /// The names of the toxics that a connection of a proxy meets on a stream, in the chain's order.
+    pub fn names(&self, proxy: &str, conn: u64, stream: Stream) -> &[String]
+        ensures value { map string_bytes result.now ≡ (toxics_for proxy.now conn stream self.now).names }
+        ensures one_each { length result.now
+            ≡ length (toxics_for proxy.now conn stream self.now).chain.entries }
+    {
+        self.chains(proxy, conn).on(stream).names()
+    }
+
+    fn chains(&self, proxy: &str, conn: u64) -> &Chains
+        ensures { result.now ≡ chains_for proxy.now conn self.now }
+    {
+        match self.covering(proxy, conn) {
+            Some(rule) => rule.chains(),
+            None => &self.nothing,
+        }
+    }
+
+    /// The first rule that covers a connection of a proxy.
+    fn covering(&self, proxy: &str, conn: u64) -> Option<&Rule>
+        ensures { option_map (λ rule. rule_view rule.now) result ≡ covering proxy.now conn self.now }
+    {
+        self.rules.iter().find(|rule| rule.covers(proxy, conn))
+    }
+}
+
+/// The script of a TOML document.
+///
+/// The document has the key `rule` alone: an array of tables. A rule has `proxy`, `first`, optional `last` and optional
+/// `toxic`, an array of tables. A toxic has `type`, and optional `name`, `stream`, `toxicity` and `attributes`. Without
+/// `last` a rule has no upper end. A toxic's stream is downstream where none is told, its toxicity 1000, each of its
+/// attributes 0, and its name the type, `_` and the stream.
+///
+/// # Errors
+///
+/// The first fault: the document's, then each rule's in order, and behind each rule's own its toxics' in order. The fields
+/// of a table come in the order of [`Field`], and a toxic's faults in the order S2, S3, S7, S4, S5, S6, S8, S9. Want of
+/// memory may stand in place of any of them, but for bytes that are not UTF-8.
+pub fn read_script(alloc: Global, bytes: &[u8]) -> Result<Script, ScriptFault>
+    ensures ok { IfOk result (λ script. script_of bytes.now ≡ Ok script) }
+    ensures err { IfErr result (λ fault. fault ≢ OutOfMemory → script_of bytes.now ≡ Err fault) }
+    // What is no text is refused before memory is asked for.
+    ensures memory { result ≡ Err OutOfMemory → IsTrue (is_utf8 bytes.now) }
+{
+    let document = read_toml(alloc, bytes)?;
+    let at = Location { rule: 0, toxic: 0 };
+    let tables = document_rules(&document).map_err(|field| ScriptFault::Field(at, field))?;
+    Ok(Script {
+        rules: read_rules(alloc, tables)?,
+        nothing: Chains::new(alloc),
+    })
+}
+
+/// The document, as a table.
+fn read_toml(alloc: Global, bytes: &[u8]) -> Result<Value, ScriptFault>
+    ensures ok { IfOk result (λ document. toml_of bytes.now ≡ Some (view document)) }
+    ensures err { IfErr result (λ fault. fault ≢ OutOfMemory → (fault ≡ NotToml) × (toml_of bytes.now ≡ None)) }
+    ensures memory { result ≡ Err OutOfMemory → IsTrue (is_utf8 bytes.now) }
+{
+    let Ok(text) = str::from_utf8(bytes) else {
+        return Err(ScriptFault::NotToml);
+    };
+    match toml::table_from_str(alloc, text) {
+        Ok(document) => Ok(Value::Table(document)),
+        Err(error) if error.is_memory() => Err(ScriptFault::OutOfMemory),
+        Err(_) => Err(ScriptFault::NotToml),
+    }
+}
+
+/// The tables of the rules.
+fn document_rules(document: &Value) -> Result<&[Value], Field>
+    ensures ok { IfOk result (λ tables. document_rules (view document.now) ≡ Ok (items_view tables.now)) }
+    ensures err { IfErr result (λ field. document_rules (view document.now) ≡ Err field) }
+{
+    let tables = tables_of(document, "rule", Field::Rule)?;
+    if !has_only(document, &["rule"]) {
+        return Err(Field::Unknown);
+    }
+    Ok(tables)
+}
+
+/// The rules of some tables, or the first fault.
+fn read_rules(alloc: Global, tables: &[Value]) -> Result<Vec<Rule>, ScriptFault>
+    ensures ok { IfOk result (λ rules. rules_from [] (items_view tables.now) ≡ Ok (map rule_view rules.items)) }
+    ensures err { IfErr result (λ fault. fault ≢ OutOfMemory
+        → rules_from [] (items_view tables.now) ≡ Err fault) }
+{
+    let mut rules = Vec::new(alloc);
+    for (index, table) in tables.iter().enumerate() {
+        rules.push(Rule::read(alloc, table, index + 1)?)?;
+    }
+    Ok(rules)
+}
