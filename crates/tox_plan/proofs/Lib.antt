@@ -5,3 +5,6 @@ pub mod Endings
 pub mod RunnerLemmas
 pub mod Deliveries
 pub mod EveryRun
+pub mod Late
+pub mod Deadlines
+pub mod Givens

@@ -14,7 +14,7 @@ use Rattle.tox_defs.specs.Level.{level_gives, IsSound}
 use Rattle.tox_defs.proofs.StreamKeepers.{flow_from-muted}
 use Rattle.tox_defs.proofs.OpStreams.{IsStream-op_flow}
 use Rattle.tox_compile.specs.Meaning.{op_reactions}
-use Rattle.tox_plan.specs.Levels.{ending_at_start, level_at_start, levels_at_start, to_come_from, IsLevel, AreNested, AreRead}
+use Rattle.tox_plan.specs.Levels.{ops_of, ending_at_start, level_at_start, levels_at_start, to_come_from, IsLevel, AreNested, AreRead}
 use Rattle.tox_plan.specs.Running.{no_piece}
 
 -- a level at its start gives its operation's flow of a stream
@@ -70,6 +70,15 @@ nested-at_start (op ∷ ops) fit = nested-snoc op 0 (levels_at_start ops) (All-h
 pub length-levels_at_start : (ops : List Op) → length (levels_at_start ops) ≡ length ops
 length-levels_at_start [] = refl
 length-levels_at_start (op ∷ ops) = length-append (levels_at_start ops) (level_at_start op ∷ []) ∙ omega (arith, length-levels_at_start ops)
+
+-- and the plan's operations
+ops_of-snoc : (op : Op) (levels : List Level) → ops_of (levels ++ level_at_start op ∷ []) ≡ op ∷ ops_of levels
+ops_of-snoc op [] = refl
+ops_of-snoc op (level ∷ levels) = ap (λ ops. ops ++ level.op ∷ []) (ops_of-snoc op levels)
+
+pub ops_of-at_start : (ops : List Op) → ops_of (levels_at_start ops) ≡ ops
+ops_of-at_start [] = refl
+ops_of-at_start (op ∷ ops) = ops_of-snoc op (levels_at_start ops) ∙ ap (λ ops. op ∷ ops) (ops_of-at_start ops)
 
 -- for every stream
 pub means-at_start : (ops : List Op) (words : List ℕ) (items : List Item) → All IsOp ops → IsStream items → to_come_from words 0 (levels_at_start ops) no_piece items ≡ flow_through (op_reactions ops words) items

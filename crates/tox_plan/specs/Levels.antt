@@ -28,6 +28,11 @@ abbrev pub levels_at_start : List Op → List Level
 levels_at_start [] = []
 levels_at_start (op ∷ ops) = levels_at_start ops ++ level_at_start op ∷ []
 
+-- the operations of levels in the plan's order
+abbrev pub ops_of : List Level → List Op
+ops_of [] = []
+ops_of (level ∷ levels) = ops_of levels ++ level.op ∷ []
+
 -- what the levels give from `start` on, if the source gives the rest of its piece and then these items
 abbrev pub to_come_from : List ℕ → ℕ → List Level → Slice → List Item → List Item
 to_come_from words start [] source items = rest_of start source.span.stop source.instant ++ items

@@ -3,3 +3,4 @@ pub mod Running
 pub mod RunnerInside
 pub mod Cuts
 pub mod Delivering
+pub mod Given

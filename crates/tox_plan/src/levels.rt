@@ -4,7 +4,7 @@ ghost use Rattle.std.specs.Prelude.{◌≡◌, ℕ, ◌+◌, ◌^◌, ◌<◌, �
 ghost use Rattle.tox_time.specs.Table.{final_of};
 ghost use Rattle.tox_time.specs.declared.slice.Slice.{Slice as OneSlice};
 ghost use Rattle.tox_defs.specs.declared.chain.TheConstants.{MOST_TOXICS};
-ghost use Rattle.tox_plan.specs.Levels.{AreNested, AreDrained, AreRead, HaveEnded, OnlyEnds, MatchPulled, levels_at_start, level_at_start, ending_at_start, to_come_from};
+ghost use Rattle.tox_plan.specs.Levels.{AreNested, AreDrained, AreRead, HaveEnded, OnlyEnds, MatchPulled, levels_at_start, level_at_start, ending_at_start, ops_of, to_come_from};
 
 use arrayvec::ArrayVec;
 use tox_defs::{Advanced, Level, MOST_TOXICS, Op};
@@ -53,6 +53,7 @@ pub(crate) fn pull(
     requires few { source.now.span.stop ≤ 2 ^ 40 }
     requires room { turns.old + length levels.old < 2 ^ 64 }
     ensures pulled { MatchPulled words.now start levels.old levels.new source.now result }
+    ensures ops { ops_of levels.new ≡ ops_of levels.old }
     ensures turns { turns.new ≤ turns.old + length levels.old }
     ensures more { turns.old ≤ turns.new }
     ensures looked { 0 < length levels.old → turns.old < turns.new }

@@ -1,13 +1,15 @@
-ghost use Rattle.std.specs.Prelude.{◌≡◌, ◌+◌, ◌*◌, ◌^◌, ◌<◌, ◌≤◌, ◌↔◌, ◌⊎◌, List, [], ◌∷◌, length, true, false, None, Some, IsSome, IsNone, IfSome, IfNone, OnOk, OnErr};
+ghost use Rattle.std.specs.Prelude.{◌≡◌, ℕ, ◌+◌, ◌*◌, ◌^◌, ◌<◌, ◌≤◌, ◌↔◌, ◌⊎◌, List, [], ◌∷◌, length, true, false, None, Some, IsSome, IsNone, IfSome, IfNone, MatchOption, OnOk, OnErr};
 ghost use Rattle.tox_time.specs.declared.item.Item.{Item as OneItem};
 ghost use Rattle.tox_time.specs.declared.item.Item.TheVariants.{Closed, Quiet};
-ghost use Rattle.tox_time.specs.Stream.{IsStream};
+ghost use Rattle.tox_time.specs.declared.slice.Slice.{Slice as OneSlice};
+ghost use Rattle.tox_time.specs.Stream.{IsStream, IsStreamFrom};
 ghost use Rattle.tox_time.specs.Table.{final_of};
 ghost use Rattle.tox_defs.specs.Look.{as_chunk};
-ghost use Rattle.tox_compile.specs.Meaning.{means};
-ghost use Rattle.tox_plan.specs.Levels.{HaveEnded};
+ghost use Rattle.tox_compile.specs.Meaning.{Ops, means, deadline_of};
+ghost use Rattle.tox_plan.specs.Levels.{HaveEnded, ops_of};
 ghost use Rattle.tox_plan.specs.Running.{to_come, HasNoChunk, next_piece, no_piece, offer_answer};
 ghost use Rattle.tox_plan.specs.Cuts.{IsCut};
+ghost use Rattle.tox_plan.specs.Given.{HasGiven, GoesOn, IsLasting, IsWhole};
 
 use crate::levels::{Pulled, known_ending, last_of, pull, push_levels};
 use arrayvec::ArrayVec;
@@ -53,6 +55,8 @@ impl<'w> Runner<'w> {
         ensures to_come { (items : List OneItem) → IsStream items → to_come result items ≡ means plan.now words.now items }
         ensures start { (result.idle ≡ true) × (result.finished ≡ false) × (result.position ≡ 0) × (result.piece ≡ no_piece) × (result.latest ≡ 0) × (result.words ≡ words.now) }
         ensures counters { (result.turns ≡ 0) × (result.cuts ≡ 0) × (result.pieces ≡ 0) × (length result.levels ≡ length plan.now.ops) }
+        ensures ops { ops_of result.levels ≡ plan.now.ops }
+        ensures given { HasGiven plan.now [] [] result }
     {
         let mut levels = ArrayVec::new();
         push_levels(&mut levels, plan.ops());
@@ -91,7 +95,8 @@ impl<'w> Runner<'w> {
         ensures offered { OnOk result ((self.new.idle ≡ false) × (self.new.position ≡ self.old.position) × (self.new.piece ≡ next_piece self.old len instant) × (self.new.latest ≡ instant)) }
         ensures to_come { OnOk result ((items : List OneItem) → to_come self.new items ≡ to_come self.old (as_chunk (next_piece self.old len instant) ∷ items)) }
         ensures counters { OnOk result ((self.new.turns ≡ self.old.turns) × (self.new.cuts ≡ self.old.cuts) × (self.new.pieces ≡ self.old.pieces + 1)) }
-        ensures kept { OnOk result ((self.new.words ≡ self.old.words) × (self.new.finished ≡ self.old.finished) × (self.new.ending ≡ self.old.ending) × (length self.new.levels ≡ length self.old.levels)) }
+        ensures kept { OnOk result ((self.new.words ≡ self.old.words) × (self.new.finished ≡ self.old.finished) × (self.new.ending ≡ self.old.ending) × (self.new.levels ≡ self.old.levels)) }
+        ensures given { OnOk result (GoesOn self.old (as_chunk (next_piece self.old len instant) ∷ []) [] self.new) }
         ensures err { OnErr result (self.new ≡ self.old) }
     {
         if instant < self.latest {
@@ -127,6 +132,10 @@ impl<'w> Runner<'w> {
         ensures none { IsNone result ↔ HasNoChunk (to_come self.old (Quiet ∷ [])) }
         ensures idle { IfNone result ((self.new.idle ≡ true) × (self.new.position ≡ self.old.position) × (self.new.cuts ≡ self.old.cuts) × ((items : List OneItem) → to_come self.new items ≡ to_come self.old items)) }
         ensures kept { (self.new.words ≡ self.old.words) × (self.new.finished ≡ self.old.finished) × (self.new.piece ≡ self.old.piece) × (self.new.latest ≡ self.old.latest) × (self.new.pieces ≡ self.old.pieces) × (length self.new.levels ≡ length self.old.levels) }
+        ensures ops { ops_of self.new.levels ≡ ops_of self.old.levels }
+        ensures given { MatchOption result (GoesOn self.old [] [] self.new) (λ slice. GoesOn self.old [] (slice ∷ []) self.new) }
+        ensures lasting { (plan : Ops) (offered : List OneItem) (given : List OneSlice) → HasGiven plan offered given self.new → IsLasting plan self.new.words offered given }
+        ensures whole { IfNone result ((plan : Ops) (offered : List OneItem) (given : List OneSlice) → HasGiven plan offered given self.old → IsWhole plan self.old.words offered given) }
         ensures turns { self.new.turns ≤ self.old.turns + length self.old.levels }
     {
         if self.idle {
@@ -168,11 +177,14 @@ impl<'w> Runner<'w> {
         ending
     }
 
-    /// The source stays quiet for ever: how the link ends.
+    /// The source stays quiet for ever: how the link ends. So it does whatever comes at or after the plan's deadline,
+    /// if it has one.
     pub fn quiet(&mut self) -> Ending
         requires { self.old.idle ≡ true }
         ensures last { to_come self.old (Quiet ∷ []) ≡ final_of result ∷ [] }
         ensures ended { self.new ≡ record self.old { ending = Some result; finished = true } }
+        ensures deadline { (d position since : ℕ) (items : List OneItem) → deadline_of (ops_of self.old.levels) ≡ Some d → d ≤ since → IsStreamFrom position since items
+            → to_come self.old items ≡ final_of result ∷ [] }
     {
         self.end_with(&Ending::StillOpen)
     }
@@ -181,6 +193,8 @@ impl<'w> Runner<'w> {
         requires { self.old.idle ≡ true }
         ensures last { to_come self.old (final_of ending.now ∷ []) ≡ final_of result ∷ [] }
         ensures ended { self.new ≡ record self.old { ending = Some result; finished = true } }
+        ensures deadline { (d position since : ℕ) (items : List OneItem) → deadline_of (ops_of self.old.levels) ≡ Some d → d ≤ since → IsStreamFrom position since items
+            → to_come self.old items ≡ to_come self.old (Quiet ∷ []) }
     {
         self.finished = true;
         if let Some(known) = self.ending {

@@ -3,9 +3,10 @@ use Rattle.std.proofs.Common.{◌≡◌, length, refl, ◌∙◌, ap, sym, subst
 use Rattle.std.specs.Prelude.{MatchOption, IsSome}
 use Rattle.tox_compile.specs.Meaning.{IsPlan}
 use Rattle.tox_defs.specs.declared.level.Level.{Level}
-use Rattle.tox_plan.specs.Levels.{levels_at_start, AreNested, AreRead, AreDrained, OnlyEnds, HaveEnded}
+use Rattle.tox_plan.specs.Levels.{ops_of, levels_at_start, AreNested, AreRead, AreDrained, OnlyEnds, HaveEnded}
 use Rattle.tox_plan.specs.Running.{no_piece, to_come, IsRunning}
-use Rattle.tox_plan.proofs.Starts.{read-at_start, nested-at_start}
+use Rattle.tox_plan.proofs.Starts.{ops_of-at_start, read-at_start, nested-at_start}
+use Rattle.tox_plan.proofs.Givens.{given-new}
 use Rattle.tox_plan.proofs.RunnerLemmas.{IsRunning-first, means-first, first_runner}
 use Rattle.tox_plan.proofs.runner.Runner.new.Goals as goal
 
@@ -31,3 +32,9 @@ invariant_of-result-3 c =
 pub returns-clause-to_come : goal.returns-clause-to_come
 returns-clause-to_come c =
     λ items stream. rw (levels_are c) (means-first c.args.plan.now.ops c.args.words.now c.known_ending-ending.result c.ops.ensures.plan.operations (knows c) items stream)
+
+pub returns-clause-ops : goal.returns-clause-ops
+returns-clause-ops c = ap ops_of (levels_are c) ∙ ops_of-at_start c.args.plan.now.ops
+
+pub returns-clause-given : goal.returns-clause-given
+returns-clause-given c = given-new c.args.plan.now _ (returns-clause-to_come c)

@@ -2,6 +2,7 @@
 use Rattle.std.proofs.Common.{◌≡◌, ◌≤◌, ◌+◌, ◌*◌, length, ap, ◌∙◌, refl, arith}
 use Rattle.tox_plan.specs.RunnerInside.{running}
 use Rattle.tox_plan.specs.Levels.{IsNext, AreDrained}
+use Rattle.tox_plan.proofs.Givens.{whole, given-cut}
 use Rattle.tox_plan.proofs.RunnerLemmas.{idle-no_chunk, drained-no_chunk, IsRunning-after_cut, IsCut-after_cut, refill-whole, busy-ending, to_come-running}
 use Rattle.tox_plan.proofs.runner.Runner.next_cut.Goals as goal
 
@@ -37,3 +38,15 @@ returns-in-Nothing-clause-none c =
           (drained-no_chunk c.self.inside.words.now c.self.inside.position c.self.inside.levels.items c.self.inside.piece (c.self.invariant.nested none) drained),
       λ _. refl,
     )
+
+pub returns-then-self-clause-whole : goal.returns-then-self-clause-whole
+returns-then-self-clause-whole c =
+    λ plan offered given. whole plan offered given c.args.self.now (rw (← c.self.view_is) (idle-no_chunk (running c.self.inside) c.self.invariant c.if-self.true))
+
+pub returns-in-Piece-clause-given : goal.returns-in-Piece-clause-given
+returns-in-Piece-clause-given c =
+    given-cut c.args.self.now _ c.in-Piece.slice (ap (λ runner. runner.words) c.self.view_is) (returns-in-Piece-clause-some c)
+
+pub returns-in-Nothing-clause-whole : goal.returns-in-Nothing-clause-whole
+returns-in-Nothing-clause-whole c =
+    λ plan offered given. whole plan offered given c.args.self.now ((returns-in-Nothing-clause-none c).0 refl)

@@ -1,6 +1,9 @@
 -- An accepted offer keeps what holds of a runner.
 use Rattle.std.proofs.Common.{◌≡◌, true, None, refl, ap, sym, ◌∙◌, arith}
 use Rattle.tox_plan.specs.RunnerInside.{running}
+use Rattle.tox_defs.specs.Look.{as_chunk}
+use Rattle.tox_plan.specs.Running.{next_piece}
+use Rattle.tox_plan.proofs.Givens.{given-offer}
 use Rattle.tox_plan.proofs.RunnerLemmas.{IsRunning-after_offer, to_come-after_offer, none_of}
 use Rattle.tox_plan.proofs.runner.Runner.offer.Goals as goal
 
@@ -16,3 +19,6 @@ returns-clause-to_come c =
     (to_come-after_offer (running c.self.inside) c.args.len c.args.instant c.self.invariant
     (ap (λ runner. runner.idle) c.self.view_is ∙ c.requires) (none_of c.self.inside.ending (sym c.if-is_some.ensures))
     (omega arith))
+
+pub returns-clause-given : goal.returns-clause-given
+returns-clause-given c = given-offer c.args.self.now _ (as_chunk (next_piece c.args.self.now c.args.len c.args.instant)) (ap (λ runner. runner.words) c.self.view_is) (returns-clause-to_come c)

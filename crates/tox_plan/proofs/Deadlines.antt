@@ -1,0 +1,216 @@
+-- Past a plan's deadline nothing changes: what comes later finds everything cut off.
+use Rattle.std.proofs.Common.{◌≡◌, ℕ, ◌<◌, ◌≤◌, min, if◌then◌else◌, Bool, true, false, List, [], ◌∷◌, ◌++◌, Option, Some, None, refl, ap, ◌∙◌, sym, subst, arith, ◌⊎◌, inl, inr}
+use Rattle.std.specs.Prelude.{nat_lt}
+use Rattle.std.proofs.lemmas.Bool.{le-ltb, ltb-true, ltb-false}
+use Rattle.tox_time.specs.declared.micros.TheConstants.{HORIZON}
+use Rattle.tox_time.specs.declared.slice.Slice.{Slice}
+use Rattle.tox_time.specs.declared.item.Item.{Item}
+use Rattle.tox_time.specs.declared.item.Item.TheVariants.{Chunk, Closed, Reset, Quiet}
+use Rattle.tox_time.specs.declared.ending.Ending.{Ending}
+use Rattle.tox_time.specs.Stream.{has_final, IsStreamFrom}
+use Rattle.tox_time.specs.Table.{final_of}
+use Rattle.tox_defs.specs.declared.op.Op.{Op}
+use Rattle.tox_defs.specs.declared.op.Op.TheVariants.{Delay, Pace, Slow, Mute, Cutoff, Slicing, Limit}
+use Rattle.tox_defs.specs.declared.level.Level.{Level}
+use Rattle.tox_defs.specs.declared.state.State.{State}
+use Rattle.tox_defs.specs.Reaction.{flow_from}
+use Rattle.tox_defs.specs.Givings.{is_before, cut_off}
+use Rattle.tox_defs.specs.Op.{op_reaction, op_giving, is_mute, IsOp}
+use Rattle.tox_defs.specs.Level.{level_gives}
+use Rattle.tox_defs.proofs.FlowLemmas.{Continues-counted, flow_from-done}
+use Rattle.tox_defs.proofs.Levels.{rest_of-read, level_gives-running}
+use Rattle.tox_compile.specs.Meaning.{deadline_of, earlier}
+use Rattle.tox_plan.specs.Levels.{to_come_from, ops_of, AreNested, AreDrained}
+use Rattle.tox_plan.specs.Running.{Running, IsRunning, to_come}
+use Rattle.tox_plan.proofs.Late.{AreLate, IsLateOp, late-stream, final-stream, late-flow, final-flow}
+use Rattle.tox_plan.proofs.LevelLemmas.{to_come_from-read}
+use Rattle.tox_plan.proofs.RunnerLemmas.{to_come-running, to_come-ended}
+
+-- no operation cuts anything off before an instant
+abbrev pub AreLateOps : ℕ → List Op → Type 0
+AreLateOps d [] = Unit {0}
+AreLateOps d (op ∷ ops) = IsLateOp d op × AreLateOps d ops
+
+-- an operation that lets nothing through from an instant on
+abbrev pub IsStop : ℕ → Op → Type 0
+IsStop d (Cutoff instant) = instant ≡ d
+IsStop d (Mute ending) = Unit {0}
+IsStop d op = ⊥
+
+abbrev pub HaveStop : ℕ → List Op → Type 0
+HaveStop d [] = ⊥
+HaveStop d (op ∷ ops) = IsStop d op ⊎ HaveStop d ops
+
+earlier-late : (d e : ℕ) (op : Op) → d ≤ e → IsLateOp e op → IsLateOp d op
+earlier-late d e (Delay fixed latency jitter lane) before late = tt
+earlier-late d e (Pace rate) before late = tt
+earlier-late d e (Slow millis) before late = tt
+earlier-late d e (Mute ending) before late = tt
+earlier-late d e (Cutoff instant) before late = omega (arith, before, late)
+earlier-late d e (Slicing average variation micros lane) before late = tt
+earlier-late d e (Limit bytes) before late = tt
+
+earlier-late_ops : (d e : ℕ) (ops : List Op) → d ≤ e → AreLateOps e ops → AreLateOps d ops
+earlier-late_ops d e [] before late = tt
+earlier-late_ops d e (op ∷ ops) before late = (earlier-late d e op before late.0, earlier-late_ops d e ops before late.1)
+
+late-start : (op : Op) → IsLateOp 0 op
+late-start (Delay fixed latency jitter lane) = tt
+late-start (Pace rate) = tt
+late-start (Slow millis) = tt
+late-start (Mute ending) = tt
+late-start (Cutoff instant) = omega arith
+late-start (Slicing average variation micros lane) = tt
+late-start (Limit bytes) = tt
+
+late_ops-start : (ops : List Op) → AreLateOps 0 ops
+late_ops-start [] = tt
+late_ops-start (op ∷ ops) = (late-start op, late_ops-start ops)
+
+some-same : {X : Type 0} (x y : X) → Some x ≡ Some y → x ≡ y
+some-same x y same = cc
+
+earlier-some : (instant : ℕ) (other : Option ℕ) → earlier instant other ≡ None → ⊥
+earlier-some instant None none = absurd (cc)
+earlier-some instant (Some e) none = absurd (cc)
+
+-- without a deadline no operation cuts anything off
+late_ops-none : (d : ℕ) (ops : List Op) → deadline_of ops ≡ None → AreLateOps d ops
+late_ops-none d [] none = tt
+late_ops-none d (Delay fixed latency jitter lane ∷ ops) none = (tt, late_ops-none d ops none)
+late_ops-none d (Pace rate ∷ ops) none = (tt, late_ops-none d ops none)
+late_ops-none d (Slow millis ∷ ops) none = (tt, late_ops-none d ops none)
+late_ops-none d (Mute ending ∷ ops) none = absurd (cc)
+late_ops-none d (Cutoff instant ∷ ops) none = absurd (earlier-some instant (deadline_of ops) none)
+late_ops-none d (Slicing average variation micros lane ∷ ops) none = (tt, late_ops-none d ops none)
+late_ops-none d (Limit bytes ∷ ops) none = (tt, late_ops-none d ops none)
+
+-- the earliest of a cutoff and what the other operations say
+module _ (d instant : ℕ) (ops : List Op) (others : (e : ℕ) → deadline_of ops ≡ Some e → AreLateOps e ops × HaveStop e ops) where
+  first-cutoff : (other : Option ℕ) → deadline_of ops ≡ other → earlier instant other ≡ Some d → AreLateOps d (Cutoff instant ∷ ops) × HaveStop d (Cutoff instant ∷ ops)
+  first-cutoff None is first = let same : instant ≡ d = some-same instant d first in ((omega (arith, same), late_ops-none d ops is), inl same)
+  first-cutoff (Some e) is first = by (nat_lt e instant) refl
+    where
+      same : min instant e ≡ d
+      same = some-same (min instant e) d first
+      later : AreLateOps d ops
+      later = earlier-late_ops d e ops (omega (arith, same)) (others e is).0
+      by : (b : Bool) → nat_lt e instant ≡ b → AreLateOps d (Cutoff instant ∷ ops) × HaveStop d (Cutoff instant ∷ ops)
+      by true below = let less : e < instant = ltb-true e instant below in ((omega (arith, same), later), inr (subst (λ e. HaveStop e ops) (omega (arith, same, less)) (others e is).1))
+      by false below = let not_less : instant ≤ e = ltb-false e instant below in ((omega (arith, same), later), inl (omega (arith, same, not_less)))
+
+-- the deadline is the first instant from which on some operation stops everything
+stop-deadline : (d : ℕ) (ops : List Op) → deadline_of ops ≡ Some d → AreLateOps d ops × HaveStop d ops
+stop-deadline d [] is = absurd (cc)
+stop-deadline d (Delay fixed latency jitter lane ∷ ops) is = let late = stop-deadline d ops is in ((tt, late.0), inr late.1)
+stop-deadline d (Pace rate ∷ ops) is = let late = stop-deadline d ops is in ((tt, late.0), inr late.1)
+stop-deadline d (Slow millis ∷ ops) is = let late = stop-deadline d ops is in ((tt, late.0), inr late.1)
+stop-deadline d (Mute ending ∷ ops) is = (subst (λ d. AreLateOps d (Mute ending ∷ ops)) (some-same 0 d is) (late_ops-start (Mute ending ∷ ops)), inl tt)
+stop-deadline d (Cutoff instant ∷ ops) is = first-cutoff d instant ops (λ e. stop-deadline e ops) (deadline_of ops) refl is
+stop-deadline d (Slicing average variation micros lane ∷ ops) is = let late = stop-deadline d ops is in ((tt, late.0), inr late.1)
+stop-deadline d (Limit bytes ∷ ops) is = let late = stop-deadline d ops is in ((tt, late.0), inr late.1)
+
+late_ops-snoc : (d : ℕ) (ops : List Op) (op : Op) → AreLateOps d (ops ++ op ∷ []) → AreLateOps d ops × IsLateOp d op
+late_ops-snoc d [] op late = (tt, late.0)
+late_ops-snoc d (first ∷ ops) op late = let others = late_ops-snoc d ops op late.1 in ((late.0, others.0), others.1)
+
+stop-snoc : (d : ℕ) (ops : List Op) (op : Op) → HaveStop d (ops ++ op ∷ []) → HaveStop d ops ⊎ IsStop d op
+stop-snoc d [] op (inl stop) = inr stop
+stop-snoc d [] op (inr none) = absurd none
+stop-snoc d (first ∷ ops) op (inl stop) = inl (inl stop)
+stop-snoc d (first ∷ ops) op (inr stop) = elim (stop-snoc d ops op stop) [ | inl others ↦ inl (inr others) | inr last ↦ inr last ]
+
+-- a level that has nothing left gives what its operation gives
+gives-drained : (words : List ℕ) (start : ℕ) (level : Level) (items : List Item) → level.stop ≡ start → level.ending ≡ None
+    → level_gives words start level items ≡ flow_from (op_reaction level.op words) level.state items
+gives-drained words start level items read running =
+    level_gives-running words start level items running
+    ∙ ap (λ rest. flow_from (op_reaction level.op words) level.state (rest ++ items)) (rest_of-read start level.stop level.instant (omega (arith, read)))
+
+-- a late list that has a final stays one through drained levels that cut nothing off
+pub record IsLater (d : ℕ) (items : List Item) : Type 0 where
+  pub late : AreLate d items
+  pub final : has_final items ≡ true
+
+late-levels : (d : ℕ) (words : List ℕ) (start : ℕ) (levels : List Level) (source : Slice) (items : List Item) → d ≤ HORIZON → AreNested start levels source → AreDrained start levels source
+    → AreLateOps d (ops_of levels) → IsLater d items → IsLater d (to_come_from words start levels source items)
+late-levels d words start [] source items fits nested drained from later = subst (λ items. IsLater d items) (sym (to_come_from-read words start source items drained)) later
+late-levels d words start (level ∷ levels) source items fits nested drained from later =
+    let split = late_ops-snoc d (ops_of levels) level.op from in
+    let above : IsLater d (to_come_from words level.stop levels source items) = late-levels d words level.stop levels source items fits nested.1 drained.2 split.0 later in
+    subst (λ items. IsLater d items) (sym (gives-drained words start level _ drained.0 drained.1))
+    (record {
+      late = late-flow d level.op words fits (nested.0.heard drained.1) split.1 level.state _ above.late;
+      final = final-flow level.op words level.state _ (nested.0.sound.running drained.1) above.final;
+    })
+
+-- a cutoff makes of a late list the same as of a quiet source
+late-before : (d : ℕ) (item : Item) (items : List Item) → AreLate d (item ∷ items) → is_before d item ≡ false
+late-before d (Chunk span t) items late = le-ltb t d late.0
+late-before d (Closed t) items late = le-ltb t d late.0
+late-before d (Reset t) items late = le-ltb t d late.0
+late-before d Quiet items late = refl
+
+cutoff-flow : (d : ℕ) (words : List ℕ) (state : State) (items : List Item) → state.done ≡ false → IsLater d items → flow_from (op_reaction (Cutoff d) words) state items ≡ Reset d ∷ []
+cutoff-flow d words state [] running later = absurd (let none : false ≡ true = later.final in cc)
+cutoff-flow d words state (item ∷ items) running later =
+    (Continues-counted (cut_off d) state item items (Reset d ∷ []) running (ap (λ early. (if early then item else Reset d) ∷ []) (late-before d item items later.late))).gives
+    ∙ ap (λ more. Reset d ∷ more) (flow_from-done (op_reaction (Cutoff d) words) _ items refl)
+
+-- drained levels, one of which stops everything from an instant on, give the same for all later lists
+stop-level : (d : ℕ) (op : Op) → is_mute op ≡ false → IsStop d op → op ≡ Cutoff d
+stop-level d (Delay fixed latency jitter lane) loud stop = absurd stop
+stop-level d (Pace rate) loud stop = absurd stop
+stop-level d (Slow millis) loud stop = absurd stop
+stop-level d (Mute ending) loud stop = absurd (cc)
+stop-level d (Cutoff instant) loud stop = ap Cutoff stop
+stop-level d (Slicing average variation micros lane) loud stop = absurd stop
+stop-level d (Limit bytes) loud stop = absurd stop
+
+same-later : (d : ℕ) (words : List ℕ) (start : ℕ) (levels : List Level) (source : Slice) (xs ys : List Item) → d ≤ HORIZON → AreNested start levels source → AreDrained start levels source
+    → AreLateOps d (ops_of levels) → HaveStop d (ops_of levels) → IsLater d xs → IsLater d ys
+    → to_come_from words start levels source xs ≡ to_come_from words start levels source ys
+same-later d words start [] source xs ys fits nested drained from stop later_xs later_ys = absurd stop
+same-later d words start (level ∷ levels) source xs ys fits nested drained from stop later_xs later_ys =
+    elim (stop-snoc d (ops_of levels) level.op stop) [
+      | inl above ↦ ap (λ items. level_gives words start level items) (same-later d words level.stop levels source xs ys fits nested.1 drained.2 split.0 above later_xs later_ys)
+      | inr here ↦ cut here xs later_xs ∙ sym (cut here ys later_ys)
+    ]
+  where
+    split : AreLateOps d (ops_of levels) × IsLateOp d level.op
+    split = late_ops-snoc d (ops_of levels) level.op from
+    cut : IsStop d level.op → (items : List Item) → IsLater d items → to_come_from words start (level ∷ levels) source items ≡ Reset d ∷ []
+    cut here items later =
+        gives-drained words start level _ drained.0 drained.1
+        ∙ ap (λ op. flow_from (op_reaction op words) level.state (to_come_from words level.stop levels source items)) (stop-level d level.op (nested.0.heard drained.1) here)
+        ∙ cutoff-flow d words level.state _ (nested.0.sound.running drained.1) (late-levels d words level.stop levels source items fits nested.1 drained.2 split.0 later)
+
+-- a stream's instants are not beyond the horizon, unless the source is quiet
+begins-in-time : (d position since : ℕ) (items : List Item) → d ≤ since → IsStreamFrom position since items → (d ≤ HORIZON) ⊎ (items ≡ Quiet ∷ [])
+begins-in-time d position since [] from stream = absurd stream
+begins-in-time d position since (Chunk span t ∷ items) from stream = inl (omega (arith, from, stream.2, stream.3))
+begins-in-time d position since (Closed t ∷ items) from stream = inl (omega (arith, from, stream.0, stream.1))
+begins-in-time d position since (Reset t ∷ items) from stream = inl (omega (arith, from, stream.0, stream.1))
+begins-in-time d position since (Quiet ∷ items) from stream = inr (ap (λ items. Quiet ∷ items) stream)
+
+-- what comes at or after the deadline to an idle runner changes nothing
+module _ (runner : Running) (invariant : IsRunning runner) (idle : runner.idle ≡ true) where
+  past-running : (d position since : ℕ) (items : List Item) → runner.ending ≡ None → d ≤ HORIZON → deadline_of (ops_of runner.levels) ≡ Some d → d ≤ since → IsStreamFrom position since items
+      → to_come runner items ≡ to_come runner (Quiet ∷ [])
+  past-running d position since items running fits is from stream =
+      let found = stop-deadline d (ops_of runner.levels) is in
+      to_come-running runner items running
+      ∙ same-later d runner.words runner.position runner.levels runner.piece items (Quiet ∷ []) fits (invariant.nested running) (invariant.drained idle running) found.0 found.1
+      (record { late = late-stream d position since items from stream; final = final-stream position since items stream }) (record { late = tt; final = refl })
+      ∙ sym (to_come-running runner (Quiet ∷ []) running)
+
+  pub past-deadline : (d position since : ℕ) (items : List Item) → deadline_of (ops_of runner.levels) ≡ Some d → d ≤ since → IsStreamFrom position since items
+      → to_come runner items ≡ to_come runner (Quiet ∷ [])
+  past-deadline d position since items is from stream = by runner.ending refl
+    where
+      by : (ending : Option Ending) → runner.ending ≡ ending → to_come runner items ≡ to_come runner (Quiet ∷ [])
+      by (Some ending) ended = to_come-ended runner ending items ended ∙ sym (to_come-ended runner ending (Quiet ∷ []) ended)
+      by None running = elim (begins-in-time d position since items from stream) [
+        | inl fits ↦ past-running d position since items running fits is from stream
+        | inr quiet ↦ ap (λ items. to_come runner items) quiet
+      ]

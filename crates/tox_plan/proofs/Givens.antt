@@ -1,0 +1,64 @@
+-- What a runner has given, after each of its calls.
+use Rattle.std.proofs.Common.{◌≡◌, ℕ, List, [], ◌∷◌, ◌++◌, refl, ap, ◌∙◌, sym, subst, append_assoc}
+use Rattle.std.proofs.lemmas.List.{append-nil}
+use Rattle.tox_time.specs.declared.slice.Slice.{Slice}
+use Rattle.tox_time.specs.declared.item.Item.{Item}
+use Rattle.tox_time.specs.declared.item.Item.TheVariants.{Chunk, Closed, Reset, Quiet}
+use Rattle.tox_time.specs.Stream.{IsStream}
+use Rattle.tox_time.specs.Table.{table, slices_table, ending}
+use Rattle.tox_compile.specs.Meaning.{Ops, means}
+use Rattle.tox_plan.specs.Running.{Running, to_come, HasNoChunk}
+use Rattle.tox_plan.specs.Cuts.{IsCut}
+use Rattle.tox_plan.specs.Delivering.{Goes}
+use Rattle.tox_plan.specs.Given.{HasGiven, GoesOn, IsLasting, IsWhole}
+use Rattle.tox_plan.proofs.Deliveries.{goes-cut}
+
+table-no_chunk : (items : List Item) → HasNoChunk items → table items ≡ []
+table-no_chunk [] none = refl
+table-no_chunk (Chunk span t ∷ items) none = absurd none
+table-no_chunk (Closed t ∷ items) none = table-no_chunk items none
+table-no_chunk (Reset t ∷ items) none = table-no_chunk items none
+table-no_chunk (Quiet ∷ items) none = table-no_chunk items none
+
+-- a new runner
+pub given-new : (plan : Ops) (runner : Running) → ((items : List Item) → IsStream items → to_come runner items ≡ means plan runner.words items) → HasGiven plan [] [] runner
+given-new plan runner means_plan = record {
+  tables = λ items stream. ap table (means_plan items stream);
+  endings = λ items stream. ap ending (means_plan items stream);
+}
+
+-- an accepted piece
+pub given-offer : (old new : Running) (piece : Item) → new.words ≡ old.words → ((items : List Item) → to_come new items ≡ to_come old (piece ∷ items)) → GoesOn old (piece ∷ []) [] new
+given-offer old new piece words takes plan offered given has = record {
+  tables = λ items stream. ap (λ slices. slices_table slices ++ table (to_come new items)) (append-nil given)
+      ∙ ap (λ items. slices_table given ++ table items) (takes items) ∙ has.tables (piece ∷ items) (subst IsStream (append_assoc offered (piece ∷ []) items) stream)
+      ∙ ap (λ items. table (means plan old.words items)) (sym (append_assoc offered (piece ∷ []) items)) ∙ ap (λ words. table (means plan words ((offered ++ piece ∷ []) ++ items))) (sym words);
+  endings = λ items stream. ap ending (takes items) ∙ has.endings (piece ∷ items) (subst IsStream (append_assoc offered (piece ∷ []) items) stream)
+      ∙ ap (λ items. ending (means plan old.words items)) (sym (append_assoc offered (piece ∷ []) items)) ∙ ap (λ words. ending (means plan words ((offered ++ piece ∷ []) ++ items))) (sym words);
+}
+
+-- what is given, and then to come, stays the same
+pub given-goes : (old new : Running) (slices : List Slice) → new.words ≡ old.words → ((given : List Slice) (items : List Item) → Goes old given items new (given ++ slices) items) → GoesOn old [] slices new
+given-goes old new slices words goes plan offered given has =
+    subst (λ offered. HasGiven plan offered (given ++ slices) new) (sym (append-nil offered))
+    (record {
+      tables = λ items stream. sym (goes given items).tables ∙ has.tables items stream ∙ ap (λ words. table (means plan words (offered ++ items))) (sym words);
+      endings = λ items stream. sym (goes given items).endings ∙ has.endings items stream ∙ ap (λ words. ending (means plan words (offered ++ items))) (sym words);
+    })
+
+pub given-cut : (old new : Running) (slice : Slice) → new.words ≡ old.words → IsCut old new slice → GoesOn old [] (slice ∷ []) new
+given-cut old new slice words cut = given-goes old new (slice ∷ []) words (λ given items. goes-cut old new slice given items cut)
+
+pub given-none : (old new : Running) → new.words ≡ old.words → ((items : List Item) → to_come new items ≡ to_come old items) → GoesOn old [] [] new
+given-none old new words same = given-goes old new [] words (λ given items. record {
+  tables = ap (λ slices. slices_table slices ++ table (to_come old items)) (sym (append-nil given)) ∙ ap (λ items. slices_table (given ++ []) ++ table items) (sym (same items));
+  endings = ap ending (sym (same items));
+})
+
+-- what was given lasts
+pub lasting : (plan : Ops) (offered : List Item) (given : List Slice) (runner : Running) → HasGiven plan offered given runner → IsLasting plan runner.words offered given
+lasting plan offered given runner has items stream = (table (to_come runner items), has.tables items stream)
+
+pub whole : (plan : Ops) (offered : List Item) (given : List Slice) (runner : Running) → HasNoChunk (to_come runner (Quiet ∷ [])) → HasGiven plan offered given runner → IsWhole plan runner.words offered given
+whole plan offered given runner none has stream =
+    sym (append-nil (slices_table given)) ∙ ap (λ ts. slices_table given ++ ts) (sym (table-no_chunk (to_come runner (Quiet ∷ [])) none)) ∙ has.tables (Quiet ∷ []) stream

@@ -1,0 +1,177 @@
+-- Operations give nothing earlier than what they take, but for a cutoff.
+use Rattle.std.proofs.Common.{◌≡◌, ℕ, zero, suc, ◌+◌, ◌-◌, ◌*◌, ◌≤◌, max, if◌then◌else◌, Bool, true, false, List, [], ◌∷◌, ◌++◌, refl, ap, ◌∙◌, sym, subst, arith}
+use Rattle.std.specs.Prelude.{nat_lt}
+use Rattle.std.specs.Int.{div_ceil}
+use Rattle.tox_time.specs.declared.micros.TheConstants.{HORIZON}
+use Rattle.tox_time.specs.declared.span.Span.{Span}
+use Rattle.tox_time.specs.declared.item.Item.{Item}
+use Rattle.tox_time.specs.declared.item.Item.TheVariants.{Chunk, Closed, Reset, Quiet}
+use Rattle.tox_time.specs.declared.ending.Ending.{Ending}
+use Rattle.tox_time.specs.declared.ending.Ending.TheVariants.{StillOpen, Closed as ClosedAt, Reset as ResetAt}
+use Rattle.tox_time.specs.Time.{plus}
+use Rattle.tox_time.specs.Stream.{span_len, has_final, IsStreamFrom}
+use Rattle.tox_time.specs.Table.{final_of}
+use Rattle.tox_time.proofs.StreamLemmas.{has_final-append}
+use Rattle.tox_words.specs.Draw.{draw}
+use Rattle.tox_defs.specs.declared.op.Op.{Op}
+use Rattle.tox_defs.specs.declared.op.Op.TheVariants.{Delay, Pace, Slow, Mute, Cutoff, Slicing, Limit}
+use Rattle.tox_defs.specs.declared.state.State.{State}
+use Rattle.tox_defs.specs.Reaction.{Giving, Answer, Reaction, counted, flow_from, react, state_after}
+use Rattle.tox_defs.specs.Givings.{in_order, delayed, paced, sliced, closed_later, cut_off, limited, first_bytes, leave, is_before, pieces_of}
+use Rattle.tox_defs.specs.Flow.{varied}
+use Rattle.tox_defs.specs.Op.{op_giving, op_reaction, is_mute}
+use Rattle.tox_defs.proofs.FlowLemmas.{react-done, react-running, flow_from-done}
+use Rattle.tox_plan.proofs.Endings.{giving-final}
+
+-- nothing in the list comes before an instant
+abbrev pub AreLate : ℕ → List Item → Type 0
+AreLate d [] = Unit {0}
+AreLate d (Chunk span t ∷ items) = (d ≤ t) × AreLate d items
+AreLate d (Closed t ∷ items) = (d ≤ t) × AreLate d items
+AreLate d (Reset t ∷ items) = (d ≤ t) × AreLate d items
+AreLate d (Quiet ∷ items) = AreLate d items
+
+-- a stream that begins then
+pub late-stream : (d position since : ℕ) (items : List Item) → d ≤ since → IsStreamFrom position since items → AreLate d items
+late-stream d position since [] from stream = absurd stream
+late-stream d position since (Chunk span t ∷ items) from stream = (omega (arith, from, stream.2), late-stream d span.stop t items (omega (arith, from, stream.2)) stream.4)
+late-stream d position since (Closed t ∷ items) from stream = (omega (arith, from, stream.0), subst (λ items. AreLate d items) (sym stream.2) tt)
+late-stream d position since (Reset t ∷ items) from stream = (omega (arith, from, stream.0), subst (λ items. AreLate d items) (sym stream.2) tt)
+late-stream d position since (Quiet ∷ items) from stream = subst (λ items. AreLate d items) (sym stream) tt
+
+-- a stream has a final
+pub final-stream : (position since : ℕ) (items : List Item) → IsStreamFrom position since items → has_final items ≡ true
+final-stream position since [] stream = absurd stream
+final-stream position since (Chunk span t ∷ items) stream = final-stream span.stop t items stream.4
+final-stream position since (Closed t ∷ items) stream = refl
+final-stream position since (Reset t ∷ items) stream = refl
+final-stream position since (Quiet ∷ items) stream = refl
+
+late-append : (d : ℕ) (xs ys : List Item) → AreLate d xs → AreLate d ys → AreLate d (xs ++ ys)
+late-append d [] ys late others = others
+late-append d (Chunk span t ∷ xs) ys late others = (late.0, late-append d xs ys late.1 others)
+late-append d (Closed t ∷ xs) ys late others = (late.0, late-append d xs ys late.1 others)
+late-append d (Reset t ∷ xs) ys late others = (late.0, late-append d xs ys late.1 others)
+late-append d (Quiet ∷ xs) ys late others = late-append d xs ys late others
+
+late-head : (d : ℕ) (item : Item) (items : List Item) → AreLate d (item ∷ items) → AreLate d (item ∷ [])
+late-head d (Chunk span t) items late = (late.0, tt)
+late-head d (Closed t) items late = (late.0, tt)
+late-head d (Reset t) items late = (late.0, tt)
+late-head d Quiet items late = tt
+
+late-tail : (d : ℕ) (item : Item) (items : List Item) → AreLate d (item ∷ items) → AreLate d items
+late-tail d (Chunk span t) items late = late.1
+late-tail d (Closed t) items late = late.1
+late-tail d (Reset t) items late = late.1
+late-tail d Quiet items late = late
+
+late-in_order : (d since : ℕ) (item : Item) → AreLate d (item ∷ []) → AreLate d (in_order since item ∷ [])
+late-in_order d since (Chunk span t) late = (omega (arith, late.0), tt)
+late-in_order d since (Closed t) late = (omega (arith, late.0), tt)
+late-in_order d since (Reset t) late = (omega (arith, late.0), tt)
+late-in_order d since Quiet late = tt
+
+late-leave : (d : ℕ) (wait : ℕ → ℕ) (since t : ℕ) (spans : List Span) → d ≤ HORIZON → d ≤ t → AreLate d (leave wait since t spans)
+late-leave d wait since t [] fits late = tt
+late-leave d wait since t (span ∷ spans) fits late =
+    (omega (arith, fits, late), late-leave d wait (plus (max since t) (wait (span_len span))) t spans fits late)
+
+late-first_bytes : (d n : ℕ) (span : Span) (t : ℕ) → d ≤ t → AreLate d (first_bytes n span t ++ Closed t ∷ [])
+late-first_bytes d zero span t late = (late, tt)
+late-first_bytes d (suc n) span t late = (late, (late, tt))
+
+late-either : (d : ℕ) (b : Bool) (xs ys : List Item) → AreLate d xs → AreLate d ys → AreLate d (if b then xs else ys)
+late-either d true xs ys first second = first
+late-either d false xs ys first second = second
+
+late-cut_off : (d instant : ℕ) (b : Bool) (item : Item) → d ≤ instant → AreLate d (item ∷ []) → AreLate d ((if b then item else Reset instant) ∷ [])
+late-cut_off d instant true item from late = late
+late-cut_off d instant false item from late = (from, tt)
+
+-- an operation that cuts nothing off before an instant
+abbrev pub IsLateOp : ℕ → Op → Type 0
+IsLateOp d (Cutoff instant) = d ≤ instant
+IsLateOp d op = Unit {0}
+
+-- what an operation gives for an item
+late-giving : (d : ℕ) (op : Op) (words : List ℕ) (state : State) (item : Item) → d ≤ HORIZON → is_mute op ≡ false → IsLateOp d op → AreLate d (item ∷ []) → AreLate d (op_giving op words state item)
+late-giving d (Delay fixed latency jitter lane) words state (Chunk span t) fits loud from late = (omega (arith, fits, late.0), tt)
+late-giving d (Delay fixed latency jitter lane) words state (Closed t) fits loud from late = late-in_order d state.previous (Closed t) late
+late-giving d (Delay fixed latency jitter lane) words state (Reset t) fits loud from late = late-in_order d state.previous (Reset t) late
+late-giving d (Delay fixed latency jitter lane) words state Quiet fits loud from late = tt
+late-giving d (Pace rate) words state (Chunk span t) fits loud from late = late-leave d (λ n. div_ceil (1000 * n) rate) state.previous t (pieces_of (λ _. 100 * rate) 0 span) fits late.0
+late-giving d (Pace rate) words state (Closed t) fits loud from late = late-in_order d state.previous (Closed t) late
+late-giving d (Pace rate) words state (Reset t) fits loud from late = late-in_order d state.previous (Reset t) late
+late-giving d (Pace rate) words state Quiet fits loud from late = tt
+late-giving d (Slow millis) words state (Chunk span t) fits loud from late = late
+late-giving d (Slow millis) words state (Closed t) fits loud from late = (omega (arith, fits, late.0), tt)
+late-giving d (Slow millis) words state (Reset t) fits loud from late = late
+late-giving d (Slow millis) words state Quiet fits loud from late = tt
+late-giving d (Mute ending) words state item fits loud from late = absurd (cc)
+late-giving d (Cutoff instant) words state item fits loud from late = late-cut_off d instant (is_before instant item) item from late
+late-giving d (Slicing average variation micros lane) words state (Chunk span t) fits loud from late =
+    late-leave d (λ _. micros) state.previous t (pieces_of (λ piece. varied average variation (draw words lane (1 + piece))) state.pieces span) fits late.0
+late-giving d (Slicing average variation micros lane) words state (Closed t) fits loud from late = late-in_order d state.previous (Closed t) late
+late-giving d (Slicing average variation micros lane) words state (Reset t) fits loud from late = late-in_order d state.previous (Reset t) late
+late-giving d (Slicing average variation micros lane) words state Quiet fits loud from late = tt
+late-giving d (Limit bytes) words state (Chunk span t) fits loud from late =
+    late-either d (nat_lt (span_len span) (bytes - state.passed)) (Chunk span t ∷ []) (first_bytes (bytes - state.passed) span t ++ (Closed t ∷ [])) late (late-first_bytes d (bytes - state.passed) span t late.0)
+late-giving d (Limit bytes) words state (Closed t) fits loud from late = late
+late-giving d (Limit bytes) words state (Reset t) fits loud from late = late
+late-giving d (Limit bytes) words state Quiet fits loud from late = tt
+
+module _ (d : ℕ) (op : Op) (words : List ℕ) (fits : d ≤ HORIZON) (loud : is_mute op ≡ false) (from : IsLateOp d op) where
+  late-step : (state : State) (item : Item) (items : List Item) → AreLate d (item ∷ items) → (done : Bool) → state.done ≡ done
+      → AreLate d (flow_from (op_reaction op words) (state_after state item (op_giving op words state item)) items) → AreLate d (flow_from (op_reaction op words) state (item ∷ items))
+  late-step state item items late true is others = subst (λ given. AreLate d given) (sym (flow_from-done (op_reaction op words) state (item ∷ items) is)) tt
+  late-step state item items late false is others =
+      subst (λ answer. AreLate d (answer.given ++ flow_from (op_reaction op words) answer.state items)) (sym (react-running (op_reaction op words) state item is))
+      (late-append d (op_giving op words state item) _ (late-giving d op words state item fits loud from (late-head d item items late)) others)
+
+  -- what an operation gives for a list
+  pub late-flow : (state : State) (items : List Item) → AreLate d items → AreLate d (flow_from (op_reaction op words) state items)
+  late-flow state [] late = tt
+  late-flow state (item ∷ items) late =
+      late-step state item items late state.done refl (late-flow (state_after state item (op_giving op words state item)) items (late-tail d item items late))
+
+has_final-early : (xs ys : List Item) → has_final xs ≡ true → has_final (xs ++ ys) ≡ true
+has_final-early [] ys final = absurd (cc)
+has_final-early (Chunk span t ∷ xs) ys final = has_final-early xs ys final
+has_final-early (Closed t ∷ xs) ys final = refl
+has_final-early (Reset t ∷ xs) ys final = refl
+has_final-early (Quiet ∷ xs) ys final = refl
+
+has_final-ending : (ending : Ending) → has_final (final_of ending ∷ []) ≡ true
+has_final-ending StillOpen = refl
+has_final-ending (ClosedAt t) = refl
+has_final-ending (ResetAt t) = refl
+
+module _ (op : Op) (words : List ℕ) where
+  final-giving : (state : State) (item : Item) (items : List Item) → state.done ≡ false → has_final (op_giving op words state item) ≡ true
+      → has_final (flow_from (op_reaction op words) state (item ∷ items)) ≡ true
+  final-giving state item items running final =
+      ap (λ answer. has_final (answer.given ++ flow_from (op_reaction op words) answer.state items)) (react-running (op_reaction op words) state item running)
+      ∙ has_final-early (op_giving op words state item) _ final
+
+  final-ending : (state : State) (ending : Ending) → has_final (op_giving op words state (final_of ending)) ≡ true
+  final-ending state ending = ap has_final (giving-final op words state ending).1 ∙ has_final-ending (giving-final op words state ending).0
+
+  final-step : (state : State) (item : Item) (items : List Item) → state.done ≡ false → (ends : Bool) → has_final (op_giving op words state item) ≡ ends
+      → (ends ≡ false → has_final (flow_from (op_reaction op words) (state_after state item (op_giving op words state item)) items) ≡ true)
+      → has_final (flow_from (op_reaction op words) state (item ∷ items)) ≡ true
+  final-step state item items running true is others = final-giving state item items running is
+  final-step state item items running false is others =
+      ap (λ answer. has_final (answer.given ++ flow_from (op_reaction op words) answer.state items)) (react-running (op_reaction op words) state item running)
+      ∙ has_final-append (op_giving op words state item) _ is
+      ∙ others refl
+
+  -- a final brings a final
+  pub final-flow : (state : State) (items : List Item) → state.done ≡ false → has_final items ≡ true → has_final (flow_from (op_reaction op words) state items) ≡ true
+  final-flow state [] running final = absurd (cc)
+  final-flow state (Closed t ∷ items) running final = final-giving state (Closed t) items running (final-ending state (ClosedAt t))
+  final-flow state (Reset t ∷ items) running final = final-giving state (Reset t) items running (final-ending state (ResetAt t))
+  final-flow state (Quiet ∷ items) running final = final-giving state Quiet items running (final-ending state StillOpen)
+  final-flow state (Chunk span t ∷ items) running final =
+      let given : List Item = op_giving op words state (Chunk span t) in
+      final-step state (Chunk span t) items running (has_final given) refl (λ none. final-flow (state_after state (Chunk span t) given) items none final)

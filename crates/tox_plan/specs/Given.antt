@@ -1,0 +1,29 @@
+-- What a runner has given so far, beside its plan's meaning.
+use Rattle.std.specs.Prelude.{◌≡◌, ℕ, List, [], ◌∷◌, ◌++◌}
+use Rattle.tox_time.specs.declared.slice.Slice.{Slice}
+use Rattle.tox_time.specs.declared.item.Item.{Item}
+use Rattle.tox_time.specs.declared.item.Item.TheVariants.{Quiet}
+use Rattle.tox_time.specs.Stream.{IsStream, IsPrefix}
+use Rattle.tox_time.specs.Table.{table, slices_table, ending}
+use Rattle.tox_compile.specs.Meaning.{Ops, means}
+use Rattle.tox_plan.specs.Running.{Running, to_come}
+
+-- the slices that were given of the offered pieces, and what is still to come, are the plan's meaning, whatever comes later
+pub record HasGiven (plan : Ops) (offered : List Item) (given : List Slice) (runner : Running) : Type 0 where
+  pub tables : (items : List Item) → IsStream (offered ++ items) → slices_table given ++ table (to_come runner items) ≡ table (means plan runner.words (offered ++ items))
+  pub endings : (items : List Item) → IsStream (offered ++ items) → ending (to_come runner items) ≡ ending (means plan runner.words (offered ++ items))
+
+-- a call that took these pieces and gave these slices
+abbrev pub GoesOn : Running → List Item → List Slice → Running → Type 0
+GoesOn old pieces slices new =
+    (plan : Ops) (offered : List Item) (given : List Slice) → HasGiven plan offered given old → HasGiven plan (offered ++ pieces) (given ++ slices) new
+
+-- no later piece and no final takes back what was given
+abbrev pub IsLasting : Ops → List ℕ → List Item → List Slice → Type 0
+IsLasting plan words offered given =
+    (items : List Item) → IsStream (offered ++ items) → IsPrefix (slices_table given) (table (means plan words (offered ++ items)))
+
+-- all that the offered pieces bring was given
+abbrev pub IsWhole : Ops → List ℕ → List Item → List Slice → Type 0
+IsWhole plan words offered given =
+    IsStream (offered ++ Quiet ∷ []) → slices_table given ≡ table (means plan words (offered ++ Quiet ∷ []))
