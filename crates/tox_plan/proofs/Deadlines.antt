@@ -93,8 +93,10 @@ module _ (d instant : ℕ) (ops : List Op) (others : (e : ℕ) → deadline_of o
     where
       same : min instant e ≡ d
       same = some-same (min instant e) d first
+
       later : AreLateOps d ops
       later = earlier-late_ops d e ops (omega (arith, same)) (others e is).0
+
       by : (b : Bool) → nat_lt e instant ≡ b → AreLateOps d (Cutoff instant ∷ ops) × HaveStop d (Cutoff instant ∷ ops)
       by true below = let less : e < instant = ltb-true e instant below in ((omega (arith, same), later), inr (subst (λ e. HaveStop e ops) (omega (arith, same, less)) (others e is).1))
       by false below = let not_less : instant ≤ e = ltb-false e instant below in ((omega (arith, same), later), inl (omega (arith, same, not_less)))
@@ -118,7 +120,7 @@ stop-snoc : (d : ℕ) (ops : List Op) (op : Op) → HaveStop d (ops ++ op ∷ []
 stop-snoc d [] op (inl stop) = inr stop
 stop-snoc d [] op (inr none) = absurd none
 stop-snoc d (first ∷ ops) op (inl stop) = inl (inl stop)
-stop-snoc d (first ∷ ops) op (inr stop) = elim (stop-snoc d ops op stop) [ | inl others ↦ inl (inr others) | inr last ↦ inr last ]
+stop-snoc d (first ∷ ops) op (inr stop) = elim (stop-snoc d ops op stop) [ inl others ↦ inl (inr others) | inr last ↦ inr last ]
 
 -- a level that has nothing left gives what its operation gives
 gives-drained : (words : List ℕ) (start : ℕ) (level : Level) (items : List Item) → level.stop ≡ start → level.ending ≡ None
@@ -179,6 +181,7 @@ same-later d words start (level ∷ levels) source xs ys fits nested drained fro
   where
     split : AreLateOps d (ops_of levels) × IsLateOp d level.op
     split = late_ops-snoc d (ops_of levels) level.op from
+
     cut : IsStop d level.op → (items : List Item) → IsLater d items → to_come_from words start (level ∷ levels) source items ≡ Reset d ∷ []
     cut here items later =
         gives-drained words start level _ drained.0 drained.1

@@ -4,3 +4,4 @@ pub mod RunnerInside
 pub mod Cuts
 pub mod Delivering
 pub mod Given
+pub mod Slices

@@ -5,6 +5,8 @@
 mod delivery;
 mod levels;
 mod runner;
+mod slices;
 
 pub use delivery::deliver;
 pub use runner::Runner;
+pub use slices::Slices;

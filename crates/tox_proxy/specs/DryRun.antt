@@ -5,6 +5,7 @@ use Rattle.tox_time.specs.Arrivals.{arrival_list}
 use Rattle.tox_time.specs.Table.{table, ending}
 use Rattle.tox_defs.specs.Chain.{Toxics}
 use Rattle.tox_defs.specs.Flow.{chain_flow}
+use Rattle.tox_network.specs.Runs.{OfEveryRest}
 use Rattle.tox_proxy.specs.declared.fault.DryFault.{DryFault}
 use Rattle.tox_proxy.specs.declared.fault.DryFault.TheVariants.{OutOfMemory, BadLine, TooLong, ReadFault, WriteFault, Arrival}
 use Rattle.tox_proxy.specs.ArrivalsText.{Arrived, arrivals_of}
@@ -29,7 +30,13 @@ pub record WritesResult (chain : Toxics) (words : List ℕ) (before after old ne
   pub read : Spells before after arrived
   pub written : new ≡ append_known old (flow_text chain words arrived)
 
--- a front of it was written
+-- the result of what every run of the chain's stage network at rest delivered of it was written
+pub record WritesEveryRest (chain : Toxics) (words : List ℕ) (before after old new : Option (List ℕ)) : Type 0 where
+  pub arrived : Arrived
+  pub read : Spells before after arrived
+  pub written : OfEveryRest chain words (arrival_list arrived.items) (λ moves network. new ≡ append_known old (result_text arrived (table network.delivered) (ending network.delivered)))
+
+-- a front of the result was written
 pub record WritesFront (chain : Toxics) (words : List ℕ) (before after old new : Option (List ℕ)) : Type 0 where
   pub arrived : Arrived
   pub read : Spells before after arrived

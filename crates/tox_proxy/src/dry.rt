@@ -4,7 +4,7 @@ ghost use Rattle.std.specs.Io.KnownBytes.{append_known};
 ghost use Rattle.tox_time.specs.Arrivals.{arrival_list};
 ghost use Rattle.tox_time.specs.Neighbours.{AreNeighbours};
 ghost use Rattle.tox_time.specs.Table.{slices_table};
-ghost use Rattle.tox_proxy.specs.DryRun.{Leaves, Spells, WritesResult};
+ghost use Rattle.tox_proxy.specs.DryRun.{Leaves, Spells, WritesEveryRest, WritesResult};
 ghost use Rattle.tox_proxy.specs.Reading.{HasCause, TakesAtMost};
 ghost use Rattle.tox_proxy.specs.ResultText.{result_text};
 ghost use Rattle.tox_proxy.specs.Writing.{AppendsFront, Prints};
@@ -22,7 +22,8 @@ use tox_plan::deliver;
 use tox_time::{EndFault, Outcome, Sink, Source};
 use tox_words::Words;
 
-/// Reads an arrivals text to its end, and writes what a chain makes of it as a result text.
+/// Reads an arrivals text to its end, and writes what a chain makes of it as a result text: what every run of the
+/// chain's stage network that has come to rest delivered, in whatever order its stages stepped.
 ///
 /// At most one byte more than [`MOST_INPUT`](crate::MOST_INPUT) is read. The first fault of the text is
 /// answered with its line, from 1; nothing is written after a fault, but for
@@ -37,6 +38,7 @@ pub fn dry_run<R: Source, W: Sink>(
     requires reader_works { R.failed reader.old ≡ false }
     requires writer_works { W.failed writer.old ≡ false }
     ensures ok { OnOk result (WritesResult chain.now words.now (R.remaining reader.old) (R.remaining reader.new) (W.written writer.old) (W.written writer.new)) }
+    ensures every_run { OnOk result (WritesEveryRest chain.now words.now (R.remaining reader.old) (R.remaining reader.new) (W.written writer.old) (W.written writer.new)) }
     ensures cause { IfErr result (HasCause (R.remaining reader.old) (R.remaining reader.new) (R.failed reader.new) (W.failed writer.new)) }
     ensures left { IfErr result (Leaves chain.now words.now (R.remaining reader.old) (R.remaining reader.new) (W.written writer.old) (W.written writer.new)) }
     ensures most { TakesAtMost (MOST_INPUT + 1) (R.remaining reader.old) (R.remaining reader.new) }

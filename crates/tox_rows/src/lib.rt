@@ -12,6 +12,8 @@ mod ends;
 #[cfg(test)]
 mod network;
 #[cfg(test)]
+mod orders;
+#[cfg(test)]
 mod plans;
 #[cfg(test)]
 mod random;
@@ -19,6 +21,8 @@ mod random;
 mod runners;
 #[cfg(test)]
 mod short_forms;
+#[cfg(test)]
+mod slices;
 #[cfg(test)]
 mod staged;
 #[cfg(test)]

@@ -14,7 +14,7 @@ use tox_time::{Arrivals, Micros};
 use tox_words::Words;
 
 /// A number from 0 up to, and without, the bound.
-fn below(generator: &mut Lcg64Xsh32, bound: u32) -> u32
+pub fn below(generator: &mut Lcg64Xsh32, bound: u32) -> u32
     requires { 0 < bound }
     ensures { result < bound }
 {

@@ -10,7 +10,7 @@ use tox_time::{Arrivals, Ending, Micros, Outcome};
 use tox_words::Words;
 
 /// The toxics of short forms parted by spaces.
-fn chain(rt: &impl Abort, toxics: &str) -> Chain {
+pub fn chain(rt: &impl Abort, toxics: &str) -> Chain {
     let mut chain = Chain::new();
     for text in toxics.split_whitespace() {
         let (toxic, toxicity) = read_short(text).expect(rt, "a short form");
@@ -20,7 +20,7 @@ fn chain(rt: &impl Abort, toxics: &str) -> Chain {
 }
 
 /// Arrivals written as `<bytes>@<micros>`, and the source's end as `eof@<micros>`.
-fn arrivals(rt: &impl Abort, alloc: Global, text: &str) -> Result<Arrivals, Fail> {
+pub fn arrivals(rt: &impl Abort, alloc: Global, text: &str) -> Result<Arrivals, Fail> {
     let mut arrivals = Arrivals::new(alloc);
     for word in text.split_whitespace() {
         let (what, micros) = word.split_once('@').expect(rt, "an instant");
