@@ -2,13 +2,21 @@
 use crate::chains::chain_of;
 use std::test::Fail;
 use tox_compile::compile;
-use tox_lend::Piece;
+use tox_lend::{Lent, Piece};
 use tox_plan::Runner;
 use tox_time::{Ending, Micros, Span};
 use tox_words::Words;
 
 fn at(micros: u64) -> Micros {
     Micros::ZERO.after(micros)
+}
+
+/// Start, instant and bytes of a slice.
+fn shown<'a>(lent: &Option<Lent<'a>>) -> Option<(u64, u64, &'a [u8])> {
+    match lent {
+        Some(lent) => Some((lent.start, lent.instant.get(), lent.bytes)),
+        None => None,
+    }
 }
 
 #[test]
@@ -44,15 +52,9 @@ fn a_slicer_lends_slices_of_a_piece(rt: HostRuntime) -> Result<(), Fail> {
         instant: Micros::ZERO,
     };
     let mut slices = runner.slices(&piece);
-    let cases = [(0, 10, b"ab".as_slice()), (2, 20, b"cde".as_slice())];
-    for (start, micros, bytes) in cases {
-        let lent = slices.next().expect(&rt, "a slice");
-        assert_eq!(rt;
-            (lent.start, lent.instant, lent.bytes),
-            (start, at(micros), bytes)
-        );
-    }
-    assert!(rt; slices.next().is_none());
+    assert_eq!(rt; shown(&slices.next()), Some((0, 10, b"ab".as_slice())));
+    assert_eq!(rt; shown(&slices.next()), Some((2, 20, b"cde".as_slice())));
+    assert_eq!(rt; shown(&slices.next()), None);
     let mut runner = slices.into_runner();
     assert!(rt; runner.is_idle());
     assert_eq!(rt; runner.quiet(), Ending::StillOpen);
