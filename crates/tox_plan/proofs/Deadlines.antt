@@ -8,23 +8,22 @@ use Rattle.tox_time.specs.declared.item.Item.{Item}
 use Rattle.tox_time.specs.declared.item.Item.TheVariants.{Chunk, Closed, Reset, Quiet}
 use Rattle.tox_time.specs.declared.ending.Ending.{Ending}
 use Rattle.tox_time.specs.Stream.{has_final, IsStreamFrom}
-use Rattle.tox_time.specs.Table.{final_of}
 use Rattle.tox_defs.specs.declared.op.Op.{Op}
 use Rattle.tox_defs.specs.declared.op.Op.TheVariants.{Delay, Pace, Slow, Mute, Cutoff, Slicing, Limit}
 use Rattle.tox_defs.specs.declared.level.Level.{Level}
 use Rattle.tox_defs.specs.declared.state.State.{State}
 use Rattle.tox_defs.specs.Reaction.{flow_from}
 use Rattle.tox_defs.specs.Givings.{is_before, cut_off}
-use Rattle.tox_defs.specs.Op.{op_reaction, op_giving, is_mute, IsOp}
+use Rattle.tox_defs.specs.Op.{op_reaction, is_mute}
 use Rattle.tox_defs.specs.Level.{level_gives}
 use Rattle.tox_defs.proofs.FlowLemmas.{Continues-counted, flow_from-done}
 use Rattle.tox_defs.proofs.Levels.{rest_of-read, level_gives-running}
 use Rattle.tox_compile.specs.Meaning.{deadline_of, earlier}
 use Rattle.tox_plan.specs.Levels.{to_come_from, ops_of, AreNested, AreDrained}
-use Rattle.tox_plan.specs.Running.{Running, IsRunning, to_come}
+use Rattle.tox_plan.specs.Running.{Running, IsRunning, reader_at, to_come}
 use Rattle.tox_plan.proofs.Late.{AreLate, IsLateOp, late-stream, final-stream, late-flow, final-flow}
 use Rattle.tox_plan.proofs.LevelLemmas.{to_come_from-read}
-use Rattle.tox_plan.proofs.RunnerLemmas.{to_come-running, to_come-ended}
+use Rattle.tox_plan.proofs.RunnerLemmas.{to_come-unfound, to_come-ended, read-unfound}
 
 -- no operation cuts anything off before an instant
 abbrev pub AreLateOps : ℕ → List Op → Type 0
@@ -202,10 +201,12 @@ module _ (runner : Running) (invariant : IsRunning runner) (idle : runner.idle �
       → to_come runner items ≡ to_come runner (Quiet ∷ [])
   past-running d position since items running fits is from stream =
       let found = stop-deadline d (ops_of runner.levels) is in
-      to_come-running runner items running
-      ∙ same-later d runner.words runner.position runner.levels runner.piece items (Quiet ∷ []) fits (invariant.nested running) (invariant.drained idle running) found.0 found.1
+      let unfound : runner.found ≡ None = read-unfound runner invariant (invariant.idle idle) in
+      let nested : AreNested runner.position runner.levels runner.piece = subst (λ found. AreNested (reader_at runner.position found) runner.levels runner.piece) unfound (invariant.nested running) in
+      to_come-unfound runner items running unfound
+      ∙ same-later d runner.words runner.position runner.levels runner.piece items (Quiet ∷ []) fits nested (invariant.drained (invariant.idle idle) running) found.0 found.1
       (record { late = late-stream d position since items from stream; final = final-stream position since items stream }) (record { late = tt; final = refl })
-      ∙ sym (to_come-running runner (Quiet ∷ []) running)
+      ∙ sym (to_come-unfound runner (Quiet ∷ []) running unfound)
 
   pub past-deadline : (d position since : ℕ) (items : List Item) → deadline_of (ops_of runner.levels) ≡ Some d → d ≤ since → IsStreamFrom position since items
       → to_come runner items ≡ to_come runner (Quiet ∷ [])

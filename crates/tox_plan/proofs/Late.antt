@@ -16,11 +16,11 @@ use Rattle.tox_words.specs.Draw.{draw}
 use Rattle.tox_defs.specs.declared.op.Op.{Op}
 use Rattle.tox_defs.specs.declared.op.Op.TheVariants.{Delay, Pace, Slow, Mute, Cutoff, Slicing, Limit}
 use Rattle.tox_defs.specs.declared.state.State.{State}
-use Rattle.tox_defs.specs.Reaction.{Giving, Answer, Reaction, counted, flow_from, react, state_after}
-use Rattle.tox_defs.specs.Givings.{in_order, delayed, paced, sliced, closed_later, cut_off, limited, first_bytes, leave, is_before, pieces_of}
+use Rattle.tox_defs.specs.Reaction.{flow_from, state_after}
+use Rattle.tox_defs.specs.Givings.{in_order, first_bytes, leave, is_before, pieces_of}
 use Rattle.tox_defs.specs.Flow.{varied}
 use Rattle.tox_defs.specs.Op.{op_giving, op_reaction, is_mute}
-use Rattle.tox_defs.proofs.FlowLemmas.{react-done, react-running, flow_from-done}
+use Rattle.tox_defs.proofs.FlowLemmas.{react-running, flow_from-done}
 use Rattle.tox_plan.proofs.Endings.{giving-final}
 
 -- nothing in the list comes before an instant

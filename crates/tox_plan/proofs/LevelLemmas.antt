@@ -1,5 +1,5 @@
 -- What is still to come from nested levels.
-use Rattle.std.proofs.Common.{◌≡◌, ℕ, ◌<◌, ◌≤◌, Bool, true, false, List, [], ◌∷◌, ◌++◌, Option, None, Some, refl, ap, sym, subst, ◌∙◌, arith}
+use Rattle.std.proofs.Common.{◌≡◌, ℕ, ◌<◌, ◌≤◌, false, List, [], ◌∷◌, ◌++◌, None, ap, sym, ◌∙◌, arith}
 use Rattle.tox_time.specs.declared.slice.Slice.{Slice}
 use Rattle.tox_time.specs.declared.item.Item.{Item}
 use Rattle.tox_time.specs.declared.ending.Ending.{Ending}
@@ -10,8 +10,8 @@ use Rattle.tox_defs.specs.Op.{op_giving, op_reaction}
 use Rattle.tox_defs.specs.Look.{as_chunk, rest_of}
 use Rattle.tox_defs.specs.Level.{level_gives}
 use Rattle.tox_defs.proofs.FlowLemmas.{Continues-counted}
-use Rattle.tox_defs.proofs.Levels.{rest_of-read, rest_of-unread, level_gives-running, level_gives-ended}
-use Rattle.tox_plan.specs.Levels.{to_come_from, AreNested, AreDrained, AreRead, OnlyEnds}
+use Rattle.tox_defs.proofs.Levels.{rest_of-read, rest_of-unread, level_gives-running}
+use Rattle.tox_plan.specs.Levels.{to_come_from, AreNested, AreDrained}
 
 -- the rest from a piece's start to its stop is the piece
 pub rest_of-piece : (start : ℕ) (piece : Slice) → piece.span.start ≡ start → start < piece.span.stop → rest_of start piece.span.stop piece.instant ≡ as_chunk piece ∷ []

@@ -1,17 +1,16 @@
 -- What a pull brings is what comes next from all the levels.
-use Rattle.std.proofs.Common.{◌≡◌, ℕ, ◌^◌, ◌<◌, ◌≤◌, length, true, false, List, [], ◌∷◌, ◌++◌, Option, None, Some, refl, ap, sym, subst, ◌∙◌, arith}
+use Rattle.std.proofs.Common.{◌≡◌, ℕ, ◌^◌, ◌≤◌, false, List, [], ◌∷◌, Option, None, Some, refl, ap, sym, subst, ◌∙◌, arith}
 use Rattle.std.specs.Prelude.{MatchOption}
 use Rattle.tox_time.specs.declared.slice.Slice.{Slice}
 use Rattle.tox_time.specs.declared.item.Item.{Item}
 use Rattle.tox_time.specs.declared.ending.Ending.{Ending}
 use Rattle.tox_time.specs.Table.{final_of}
 use Rattle.tox_defs.specs.declared.level.Level.{Level}
-use Rattle.tox_defs.specs.declared.level.Advanced.{Advanced}
 use Rattle.tox_defs.specs.Op.{op_giving, is_mute}
 use Rattle.tox_defs.specs.Look.{as_chunk}
 use Rattle.tox_defs.specs.Level.{level_gives, IsSound, IsNextPiece, IsAtEnd}
 use Rattle.tox_defs.proofs.Levels.{level_gives-ended}
-use Rattle.tox_plan.specs.Levels.{to_come_from, IsLevel, AreNested, AreDrained, AreRead, IsNext, OnlyEnds, HaveEnded, IsTheEnd}
+use Rattle.tox_plan.specs.Levels.{to_come_from, AreNested, AreDrained, AreRead, IsNext, OnlyEnds}
 use Rattle.tox_plan.proofs.LevelLemmas.{level_gives-filled, level_gives-final}
 
 -- the first level's next piece

@@ -1,12 +1,12 @@
 -- A runner before and after each of its calls.
-use Rattle.std.proofs.Common.{max, ◌≡◌, ℕ, ◌<◌, ◌≤◌, ◌+◌, ◌*◌, ◌^◌, Bool, true, false, List, [], ◌∷◌, ◌++◌, length, Option, Some, None, refl, ap, ◌∙◌, sym, subst, arith, ◌⊎◌, inl, inr}
+use Rattle.std.proofs.Common.{◌≡◌, ℕ, ◌<◌, ◌≤◌, ◌+◌, ◌*◌, ◌^◌, Bool, true, false, List, [], ◌∷◌, ◌++◌, map, length, length-append, append_assoc, Option, Some, None, refl, ap, ◌∙◌, sym, subst, arith, ◌⊎◌, inl, inr}
 use Rattle.std.proofs.Math.Nat.{mul-le-mul_right}
 use Rattle.std.proofs.Math.Seq.{take-append_seam}
 use Rattle.std.specs.List.{refill}
-use Rattle.std.specs.Prelude.{is_some, IsSome, if◌then◌else◌, All, MatchOption}
+use Rattle.std.specs.Prelude.{is_some, IsSome, IsNone, IfSome, All, MatchOption}
 use Rattle.tox_time.specs.declared.slice.Slice.{Slice}
 use Rattle.tox_time.specs.declared.item.Item.{Item}
-use Rattle.tox_time.specs.declared.item.Item.TheVariants.{Quiet}
+use Rattle.tox_time.specs.declared.item.Item.TheVariants.{Chunk, Closed, Reset, Quiet}
 use Rattle.tox_time.specs.declared.ending.Ending.{Ending}
 use Rattle.tox_time.specs.declared.ending.Ending.TheVariants.{StillOpen, Closed as ClosedEnding, Reset as ResetEnding}
 use Rattle.tox_time.specs.Stream.{IsStream}
@@ -19,17 +19,45 @@ use Rattle.tox_defs.specs.Look.{as_chunk}
 use Rattle.tox_defs.specs.Level.{ending_or}
 use Rattle.tox_compile.specs.Meaning.{op_reactions}
 use Rattle.tox_plan.specs.Levels.{levels_at_start, to_come_from, AreNested, AreDrained, IsNext, OnlyEnds, HaveEnded}
-use Rattle.tox_plan.specs.Running.{Running, IsRunning, to_come, HasNoChunk, next_piece, no_piece}
-use Rattle.tox_plan.specs.Cuts.{IsCut}
+use Rattle.tox_plan.specs.Running.{Running, IsRunning, IsFound, to_come, found_chunk, reader_at, HasNoChunk, next_piece, no_piece}
+use Rattle.tox_plan.specs.Cuts.{IsCut, IsOneCut, KeepsOffers, BeginsApart, Reach}
 use Rattle.tox_plan.proofs.LevelLemmas.{nested-below, nested-longer, drained-at, drained-offered}
 use Rattle.tox_plan.proofs.Endings.{drained-final}
-use Rattle.tox_plan.proofs.Starts.{read-at_start, nested-at_start, means-at_start, length-levels_at_start}
+use Rattle.tox_plan.proofs.Starts.{nested-at_start, means-at_start, length-levels_at_start}
 
-pub to_come-running : (runner : Running) (items : List Item) → runner.ending ≡ None → to_come runner items ≡ to_come_from runner.words runner.position runner.levels runner.piece items
-to_come-running runner items running = ap (λ ending. ending_or ending (to_come_from runner.words runner.position runner.levels runner.piece items)) running
+pub to_come-running : (runner : Running) (items : List Item) → runner.ending ≡ None
+    → to_come runner items ≡ found_chunk runner.found ++ to_come_from runner.words (reader_at runner.position runner.found) runner.levels runner.piece items
+to_come-running runner items running =
+    ap (λ ending. ending_or ending (found_chunk runner.found ++ to_come_from runner.words (reader_at runner.position runner.found) runner.levels runner.piece items)) running
+
+pub to_come-unfound : (runner : Running) (items : List Item) → runner.ending ≡ None → runner.found ≡ None → to_come runner items ≡ to_come_from runner.words runner.position runner.levels runner.piece items
+to_come-unfound runner items running none =
+    to_come-running runner items running
+    ∙ ap (λ found. found_chunk found ++ to_come_from runner.words (reader_at runner.position found) runner.levels runner.piece items) none
+
+pub to_come-found : (runner : Running) (cut : Slice) (items : List Item) → runner.ending ≡ None → runner.found ≡ Some cut
+    → to_come runner items ≡ as_chunk cut ∷ to_come_from runner.words cut.span.stop runner.levels runner.piece items
+to_come-found runner cut items running some =
+    to_come-running runner items running
+    ∙ ap (λ found. found_chunk found ++ to_come_from runner.words (reader_at runner.position found) runner.levels runner.piece items) some
 
 pub to_come-ended : (runner : Running) (ending : Ending) (items : List Item) → runner.ending ≡ Some ending → to_come runner items ≡ final_of ending ∷ []
-to_come-ended runner ending items ended = ap (λ ending. ending_or ending (to_come_from runner.words runner.position runner.levels runner.piece items)) ended
+to_come-ended runner ending items ended =
+    ap (λ ending. ending_or ending (found_chunk runner.found ++ to_come_from runner.words (reader_at runner.position runner.found) runner.levels runner.piece items)) ended
+
+-- nothing is found beyond the end of the offered piece
+pub read-unfound : (runner : Running) → IsRunning runner → runner.read ≡ true → runner.found ≡ None
+read-unfound runner invariant read = by runner.found refl
+  where
+    by : (found : Option Slice) → runner.found ≡ found → runner.found ≡ None
+    by None is = is
+    by (Some cut) is =
+        let found : IsFound runner cut = subst (λ found. IfSome found (IsFound runner)) is invariant.found in
+        absurd (let both : true ≡ false = sym read ∙ found.unread in cc)
+
+-- what is found is not the piece's end, and no ending
+pub found-cut : (runner : Running) (cut : Slice) → IsRunning runner → runner.found ≡ Some cut → IsFound runner cut
+found-cut runner cut invariant is = subst (λ found. IfSome found (IsFound runner)) is invariant.found
 
 -- drained levels keep no ending
 pub drained-open : (start : ℕ) (levels : List Level) (source : Slice) → AreDrained start levels source → HaveEnded levels → ⊥
@@ -52,12 +80,18 @@ drained-no_chunk words start levels source nested drained =
     let last : (last : Ending) × (to_come_from words start levels source (final_of StillOpen ∷ []) ≡ final_of last ∷ []) = drained-final words start levels source StillOpen nested drained in
     subst HasNoChunk (sym last.1) (final-no_chunk last.0)
 
--- no chunk comes any more from an idle runner, unless it is offered one
-pub idle-no_chunk : (runner : Running) → IsRunning runner → runner.idle ≡ true → HasNoChunk (to_come runner (Quiet ∷ []))
-idle-no_chunk runner invariant idle = from runner.ending refl
+-- no chunk comes any more from a runner that has read its piece, unless it is offered one
+pub read-no_chunk : (runner : Running) → IsRunning runner → runner.read ≡ true → HasNoChunk (to_come runner (Quiet ∷ []))
+read-no_chunk runner invariant read = from runner.ending refl
   where
+    none : runner.found ≡ None
+    none = read-unfound runner invariant read
+
     from : (ending : Option Ending) → runner.ending ≡ ending → HasNoChunk (to_come runner (Quiet ∷ []))
-    from None is = subst HasNoChunk (sym (to_come-running runner (Quiet ∷ []) is)) (drained-no_chunk runner.words runner.position runner.levels runner.piece (invariant.nested is) (invariant.drained idle is))
+    from None is =
+        let drained : AreDrained runner.position runner.levels runner.piece = invariant.drained read is in
+        let nested : AreNested runner.position runner.levels runner.piece = subst (λ found. AreNested (reader_at runner.position found) runner.levels runner.piece) none (invariant.nested is) in
+        subst HasNoChunk (sym (to_come-unfound runner (Quiet ∷ []) is none)) (drained-no_chunk runner.words runner.position runner.levels runner.piece nested drained)
     from (Some ending) is = subst HasNoChunk (sym (to_come-ended runner ending (Quiet ∷ []) is)) (final-no_chunk ending)
 
 -- a round of looks fits the counter of turns
@@ -66,69 +100,214 @@ turns_fit levels turns cuts pieces counted few few_cuts few_pieces =
     let most : levels * (cuts + pieces) ≤ 16 * (cuts + pieces) = mul-le-mul_right (cuts + pieces) few in
     omega arith
 
--- a runner that isn't idle has no ending
-pub busy-ending : (runner : Running) → IsRunning runner → runner.idle ≡ false → runner.ending ≡ None
-busy-ending runner invariant busy = unknown runner.ending (λ some. let idle : runner.idle ≡ true = invariant.idle some in absurd (let both : true ≡ false = sym idle ∙ busy in cc))
+-- a runner that has not read its piece has no ending
+pub unread-ending : (runner : Running) → IsRunning runner → runner.read ≡ false → runner.ending ≡ None
+unread-ending runner invariant unread = unknown runner.ending (λ some. let read : runner.read ≡ true = invariant.ended some in absurd (let both : true ≡ false = sym read ∙ unread in cc))
+
+pub unread-busy : (runner : Running) → IsRunning runner → runner.read ≡ false → runner.idle ≡ false
+unread-busy runner invariant unread = by runner.idle refl
+  where
+    by : (idle : Bool) → runner.idle ≡ idle → runner.idle ≡ false
+    by false is = is
+    by true is = absurd (let both : true ≡ false = sym (invariant.idle is) ∙ unread in cc)
 
 -- a slice that was lent and kept its length is what was written through it
 pub refill-whole : (n : ℕ) (old new : List Level) → length new ≡ n → refill n old new ≡ new
 refill-whole n old new same_length = rw (← same_length) (take-append_seam new _)
 
--- a runner after a cut
-module _ (old : Running) (levels : List Level) (turns : ℕ) (slice : Slice) where
-  abbrev pub after_cut : Running
-  after_cut = record {
+-- a runner that found its next cut
+module _ (old : Running) (levels : List Level) (turns : ℕ) (cut : Slice) where
+  abbrev pub after_found : Running
+  after_found = record {
     levels = levels;
     words = old.words;
-    position = slice.span.stop;
+    position = old.position;
     piece = old.piece;
     latest = old.latest;
+    found = Some cut;
+    read = old.read;
     ending = old.ending;
     finished = old.finished;
     idle = old.idle;
     turns = turns;
+    cuts = old.cuts;
+    pieces = old.pieces;
+  }
+
+  module _ (invariant : IsRunning old) (unread : old.read ≡ false) (unfound : old.found ≡ None) (next : IsNext old.words old.position old.levels levels old.piece cut) where
+    pub IsRunning-after_found : length levels ≡ length old.levels → turns ≤ old.turns + length old.levels → old.turns ≤ turns → (0 < length old.levels → old.turns < turns) → IsRunning after_found
+    IsRunning-after_found same_length few_turns more looked =
+        let counted : length old.levels + old.turns ≤ length old.levels * (old.cuts + old.pieces) = rw (unfound, unread) at invariant.counted in
+        let cuts_looked : 0 < length old.levels → old.cuts + 0 ≤ old.turns = rw unfound at invariant.looked in
+        record {
+          nested = λ _. next.nested;
+          drained = λ read. absurd (let both : true ≡ false = sym read ∙ unread in cc);
+          found = record { begins = next.begins; some = next.some; unread = unread };
+          ended = invariant.ended;
+          idle = invariant.idle;
+          cause = λ some. absurd (let both : true ≡ false = sym (invariant.ended some) ∙ unread in cc);
+          told = invariant.told;
+          reached = invariant.reached;
+          here = invariant.here;
+          few = invariant.few;
+          few_levels = rw same_length invariant.few_levels;
+          few_cuts = invariant.few_cuts;
+          few_pieces = invariant.few_pieces;
+          counted = rw same_length (omega (arith, counted, few_turns));
+          looked = λ some. omega (arith, cuts_looked (rw (← same_length) some), looked (rw (← same_length) some));
+        }
+
+    pub to_come-after_found : (items : List Item) → to_come after_found items ≡ to_come old items
+    to_come-after_found items =
+        let none : old.ending ≡ None = unread-ending old invariant unread in
+        to_come-found after_found cut items none refl ∙ sym (next.gives items) ∙ sym (to_come-unfound old items none unfound)
+
+-- a runner that has read its piece to the end
+module _ (old : Running) (levels : List Level) (turns : ℕ) (ending : Option Ending) where
+  abbrev pub after_read : Running
+  after_read = record {
+    levels = levels;
+    words = old.words;
+    position = old.position;
+    piece = old.piece;
+    latest = old.latest;
+    found = old.found;
+    read = true;
+    ending = ending;
+    finished = old.finished;
+    idle = old.idle;
+    turns = turns;
+    cuts = old.cuts;
+    pieces = old.pieces;
+  }
+
+  module _ (invariant : IsRunning old) (unread : old.read ≡ false) (unfound : old.found ≡ None) where
+    pub IsRunning-after_read : (ending ≡ None → AreDrained old.position levels old.piece × AreNested old.position levels old.piece) → (IsSome ending → HaveEnded levels)
+        → length levels ≡ length old.levels → turns ≤ old.turns + length old.levels → old.turns ≤ turns → IsRunning after_read
+    IsRunning-after_read drained kept same_length few_turns more =
+        let counted : length old.levels + old.turns ≤ length old.levels * (old.cuts + old.pieces) = rw (unfound, unread) at invariant.counted in
+        let cuts_looked : 0 < length old.levels → old.cuts + 0 ≤ old.turns = rw unfound at invariant.looked in
+        let running : old.finished ≡ true → ⊥ = (λ told. let both : true ≡ false = sym (invariant.ended (invariant.told told)) ∙ unread in absurd (cc)) in
+        record {
+          nested = λ none. rw unfound (drained none).1;
+          drained = λ read none. (drained none).0;
+          found = subst (λ found. IfSome found (IsFound after_read)) (sym unfound) tt;
+          ended = λ some. refl;
+          idle = λ idle. refl;
+          cause = λ some. inr (kept some);
+          told = λ told. absurd (running told);
+          reached = invariant.reached;
+          here = invariant.here;
+          few = invariant.few;
+          few_levels = rw same_length invariant.few_levels;
+          few_cuts = invariant.few_cuts;
+          few_pieces = invariant.few_pieces;
+          counted = rw (unfound, same_length) (omega (arith, counted, few_turns));
+          looked = λ some. rw unfound (omega (arith, cuts_looked (rw (← same_length) some), more));
+        }
+
+-- a runner that gives the cut that it found
+module _ (old : Running) (cut : Slice) where
+  abbrev pub after_given : Running
+  after_given = record {
+    levels = old.levels;
+    words = old.words;
+    position = cut.span.stop;
+    piece = old.piece;
+    latest = old.latest;
+    found = None;
+    read = old.read;
+    ending = old.ending;
+    finished = old.finished;
+    idle = old.idle;
+    turns = old.turns;
     cuts = old.cuts + 1;
     pieces = old.pieces;
   }
 
-  pub IsRunning-after_cut : IsRunning old → old.idle ≡ false → IsNext old.words old.position old.levels levels old.piece slice
-      → length levels ≡ length old.levels → turns ≤ old.turns + length old.levels → old.turns ≤ turns → (0 < length old.levels → old.turns < turns) → IsRunning after_cut
-  IsRunning-after_cut invariant busy next same_length few_turns more looked =
-      let none : old.ending ≡ None = busy-ending old invariant busy in
-      let known : IsSome old.ending → ⊥ = (λ some. let open_yet : is_some old.ending ≡ false = ap is_some none in absurd (cc)) in
-      let below : slice.span.stop ≤ old.piece.span.stop = nested-below slice.span.stop levels old.piece next.nested in
-      let counted : length old.levels + old.turns ≤ length old.levels * (old.cuts + old.pieces) = rw busy at invariant.counted in
-      record {
-        nested = λ _. next.nested;
-        drained = λ idle. absurd (let e : true ≡ false = sym idle ∙ busy in cc);
-        idle = invariant.idle;
-        cause = λ some. absurd (known some);
-        told = invariant.told;
-        reached = below;
-        here = λ busy. omega (arith, invariant.here busy, next.some);
-        few = invariant.few;
-        few_levels = rw same_length invariant.few_levels;
-        few_cuts = omega (arith, invariant.few_cuts, next.some);
-        few_pieces = invariant.few_pieces;
-        counted = rw (busy, same_length) (omega (arith, counted));
-        looked = λ some. omega (arith, invariant.looked (rw (← same_length) some), looked (rw (← same_length) some));
-      }
+  module _ (invariant : IsRunning old) (some : old.found ≡ Some cut) where
+    found : IsFound old cut
+    found = found-cut old cut invariant some
 
-  pub IsCut-after_cut : IsRunning old → old.idle ≡ false → IsNext old.words old.position old.levels levels old.piece slice → IsCut old after_cut slice
-  IsCut-after_cut invariant busy next =
-      let none : old.ending ≡ None = busy-ending old invariant busy in
-      record {
-        within = record {
-          from = omega (arith, invariant.here busy, next.begins);
-          some = omega (arith, next.begins, next.some);
-          to = nested-below slice.span.stop levels old.piece next.nested;
-        };
-        cuts = slice ∷ [];
-        parts = (refl, omega (arith, next.begins, next.some), refl, refl);
-        gives = λ items. to_come-running old items none ∙ next.gives items
-            ∙ ap (λ items. as_chunk slice ∷ items) (sym (to_come-running after_cut items none));
-        counted = refl;
-      }
+    nested : AreNested cut.span.stop old.levels old.piece
+    nested = subst (λ found. AreNested (reader_at old.position found) old.levels old.piece) some (invariant.nested (unread-ending old invariant found.unread))
+
+    pub IsRunning-after_given : IsRunning after_given
+    IsRunning-after_given =
+        let counted : 0 + old.turns ≤ length old.levels * (old.cuts + old.pieces) = rw some at invariant.counted in
+        let cuts_looked : 0 < length old.levels → old.cuts + 1 ≤ old.turns = rw some at invariant.looked in
+        let below : cut.span.stop ≤ old.piece.span.stop = nested-below cut.span.stop old.levels old.piece nested in
+        record {
+          nested = λ _. nested;
+          drained = λ read. absurd (let both : true ≡ false = sym read ∙ found.unread in cc);
+          found = tt;
+          ended = invariant.ended;
+          idle = invariant.idle;
+          cause = invariant.cause;
+          told = invariant.told;
+          reached = below;
+          here = λ busy. omega (arith, invariant.here busy, found.some);
+          few = invariant.few;
+          few_levels = invariant.few_levels;
+          few_cuts = omega (arith, invariant.few_cuts, found.some);
+          few_pieces = invariant.few_pieces;
+          counted = rw found.unread (omega (arith, counted));
+          looked = λ some. omega (arith, cuts_looked some);
+        }
+
+    pub IsOneCut-after_given : IsOneCut old after_given cut
+    IsOneCut-after_given =
+        let none : old.ending ≡ None = unread-ending old invariant found.unread in
+        record {
+          begins = found.begins;
+          some = omega (arith, found.begins, found.some);
+          stands = refl;
+          within = record {
+            from = omega (arith, invariant.here (unread-busy old invariant found.unread), found.begins);
+            some = omega (arith, found.begins, found.some);
+            to = nested-below cut.span.stop old.levels old.piece nested;
+          };
+          gives = λ items. to_come-found old cut items none some ∙ ap (λ items. as_chunk cut ∷ items) (sym (to_come-unfound after_given items none refl));
+          counted = refl;
+        }
+
+-- cuts at one instant are together a slice
+pub Reach-append : (start middle stop instant : ℕ) (xs ys : List Slice) → Reach start middle instant xs → Reach middle stop instant ys → Reach start stop instant (xs ++ ys)
+Reach-append start middle stop instant [] ys reach others = rw reach others
+Reach-append start middle stop instant (x ∷ xs) ys reach others = (reach.0, reach.1, reach.2, Reach-append x.span.stop middle stop instant xs ys reach.3 others)
+
+map-append : (xs ys : List Slice) → map as_chunk (xs ++ ys) ≡ map as_chunk xs ++ map as_chunk ys
+map-append [] ys = refl
+map-append (x ∷ xs) ys = ap (λ items. as_chunk x ∷ items) (map-append xs ys)
+
+pub IsCut-one : (old new : Running) (cut : Slice) → IsOneCut old new cut → IsCut old new cut
+IsCut-one old new cut one = record {
+  within = one.within;
+  cuts = cut ∷ [];
+  parts = (refl, one.some, refl, refl);
+  gives = one.gives;
+  counted = one.counted;
+}
+
+-- one more cut at the slice's instant makes the slice longer
+pub IsCut-longer : (old middle new : Running) (slice : Slice) (stop : ℕ) → IsCut old middle slice → middle.position ≡ slice.span.stop → middle.piece ≡ old.piece
+    → IsOneCut middle new (record { span = record { start = middle.position; stop = stop }; instant = slice.instant })
+    → IsCut old new (record { span = record { start = slice.span.start; stop = stop }; instant = slice.instant })
+IsCut-longer old middle new slice stop cut at piece one =
+    let last : Slice = record { span = record { start = middle.position; stop = stop }; instant = slice.instant } in
+    record {
+      within = record {
+        from = cut.within.from;
+        some = omega (arith, cut.within.some, at, one.some);
+        to = subst (λ piece. stop ≤ piece.span.stop) piece one.within.to;
+      };
+      cuts = cut.cuts ++ last ∷ [];
+      parts = Reach-append slice.span.start slice.span.stop stop slice.instant cut.cuts (last ∷ []) cut.parts (at, omega (arith, at, one.some), refl, refl);
+      gives = λ items. cut.gives items ∙ ap (λ items. map as_chunk cut.cuts ++ items) (one.gives items)
+          ∙ sym (append_assoc (map as_chunk cut.cuts) (as_chunk last ∷ []) (to_come new items))
+          ∙ ap (λ given. given ++ to_come new items) (sym (map-append cut.cuts (last ∷ [])));
+      counted = one.counted ∙ ap (λ n. n + 1) cut.counted ∙ omega (arith, length-append cut.cuts (last ∷ []));
+    }
 
 -- a runner after an offer
 module _ (old : Running) (len instant : ℕ) where
@@ -139,6 +318,8 @@ module _ (old : Running) (len instant : ℕ) where
     position = old.position;
     piece = next_piece old len instant;
     latest = instant;
+    found = old.found;
+    read = false;
     ending = old.ending;
     finished = old.finished;
     idle = false;
@@ -147,33 +328,42 @@ module _ (old : Running) (len instant : ℕ) where
     pieces = old.pieces + 1;
   }
 
-  pub IsRunning-after_offer : IsRunning old → old.idle ≡ true → old.ending ≡ None → 0 < len → old.piece.span.stop + len ≤ 2 ^ 40 → IsRunning after_offer
-  IsRunning-after_offer invariant idle none some few =
-      let known : IsSome old.ending → ⊥ = (λ some. let open_yet : is_some old.ending ≡ false = ap is_some none in absurd (cc)) in
-      let at : old.piece.span.stop ≡ old.position = drained-at old.position old.levels old.piece (invariant.drained idle none) in
-      let counted : 0 + old.turns ≤ length old.levels * (old.cuts + old.pieces) = rw idle at invariant.counted in
-      record {
-        nested = λ _. nested-longer old.position old.levels old.piece (next_piece old len instant) (omega arith) (invariant.nested none);
-        drained = λ idle. absurd (let e : false ≡ true = idle in cc);
-        idle = λ some. absurd (known some);
-        cause = λ some. absurd (known some);
-        told = invariant.told;
-        reached = omega (arith, invariant.reached);
-        here = λ busy. omega (arith, at);
-        few = few;
-        few_levels = invariant.few_levels;
-        few_cuts = invariant.few_cuts;
-        few_pieces = omega (arith, invariant.few_pieces);
-        counted = omega (arith, counted);
-        looked = invariant.looked;
-      }
+  module _ (invariant : IsRunning old) (idle : old.idle ≡ true) (none : old.ending ≡ None) where
+    unfound : old.found ≡ None
+    unfound = read-unfound old invariant (invariant.idle idle)
 
-  pub to_come-after_offer : IsRunning old → old.idle ≡ true → old.ending ≡ None → 0 < len → (items : List Item)
-      → to_come after_offer items ≡ to_come old (as_chunk (next_piece old len instant) ∷ items)
-  to_come-after_offer invariant idle none some items =
-      to_come-running after_offer items none
-      ∙ drained-offered old.words old.position old.levels old.piece (next_piece old len instant) items (invariant.drained idle none) refl (omega arith)
-      ∙ sym (to_come-running old (as_chunk (next_piece old len instant) ∷ items) none)
+    drained : AreDrained old.position old.levels old.piece
+    drained = invariant.drained (invariant.idle idle) none
+
+    pub IsRunning-after_offer : 0 < len → old.piece.span.stop + len ≤ 2 ^ 40 → IsRunning after_offer
+    IsRunning-after_offer some few =
+        let known : IsSome old.ending → ⊥ = (λ some. let open_yet : is_some old.ending ≡ false = ap is_some none in absurd (cc)) in
+        let at : old.piece.span.stop ≡ old.position = drained-at old.position old.levels old.piece drained in
+        let counted : 0 + old.turns ≤ length old.levels * (old.cuts + old.pieces) = rw (unfound, invariant.idle idle) at invariant.counted in
+        let cuts_looked : 0 < length old.levels → old.cuts + 0 ≤ old.turns = rw unfound at invariant.looked in
+        record {
+          nested = λ _. nested-longer (reader_at old.position old.found) old.levels old.piece (next_piece old len instant) (omega arith) (invariant.nested none);
+          drained = λ read. absurd (let e : false ≡ true = read in cc);
+          found = subst (λ found. IfSome found (IsFound after_offer)) (sym unfound) tt;
+          ended = λ some. absurd (known some);
+          idle = λ idle. absurd (let e : false ≡ true = idle in cc);
+          cause = λ some. absurd (known some);
+          told = invariant.told;
+          reached = omega (arith, invariant.reached);
+          here = λ busy. omega (arith, at);
+          few = few;
+          few_levels = invariant.few_levels;
+          few_cuts = invariant.few_cuts;
+          few_pieces = omega (arith, invariant.few_pieces);
+          counted = rw unfound (omega (arith, counted));
+          looked = λ some. rw unfound (cuts_looked some);
+        }
+
+    pub to_come-after_offer : 0 < len → (items : List Item) → to_come after_offer items ≡ to_come old (as_chunk (next_piece old len instant) ∷ items)
+    to_come-after_offer some items =
+        to_come-unfound after_offer items none unfound
+        ∙ drained-offered old.words old.position old.levels old.piece (next_piece old len instant) items drained refl (omega arith)
+        ∙ sym (to_come-unfound old (as_chunk (next_piece old len instant) ∷ items) none unfound)
 
 -- a runner that was offered nothing yet
 module _ (ops : List Op) (words : List ℕ) (known : Option Ending) where
@@ -184,6 +374,8 @@ module _ (ops : List Op) (words : List ℕ) (known : Option Ending) where
     position = 0;
     piece = no_piece;
     latest = 0;
+    found = None;
+    read = true;
     ending = known;
     finished = false;
     idle = true;
@@ -199,8 +391,10 @@ module _ (ops : List Op) (words : List ℕ) (known : Option Ending) where
   pub IsRunning-first : All IsOp ops → length ops ≤ 16 → MatchOption known (AreDrained 0 (levels_at_start ops) no_piece) (OnlyEnds words 0 (levels_at_start ops) no_piece) → (IsSome known → HaveEnded (levels_at_start ops)) → IsRunning first_runner
   IsRunning-first fit few knows kept = record {
     nested = λ _. nested-at_start ops fit;
-    drained = λ idle none. known_at_start known refl knows none;
-    idle = λ some. refl;
+    drained = λ read none. known_at_start known refl knows none;
+    found = tt;
+    ended = λ some. refl;
+    idle = λ idle. refl;
     cause = λ some. inr (kept some);
     told = λ told. absurd (let e : false ≡ true = told in cc);
     reached = omega arith;
@@ -215,7 +409,7 @@ module _ (ops : List Op) (words : List ℕ) (known : Option Ending) where
 
   means_by : (ending : Option Ending) → known ≡ ending → All IsOp ops → MatchOption known (AreDrained 0 (levels_at_start ops) no_piece) (OnlyEnds words 0 (levels_at_start ops) no_piece) → (items : List Item) → IsStream items
       → to_come first_runner items ≡ flow_through (op_reactions ops words) items
-  means_by None is fit knows items stream = to_come-running first_runner items is ∙ means-at_start ops words items fit stream
+  means_by None is fit knows items stream = to_come-unfound first_runner items is refl ∙ means-at_start ops words items fit stream
   means_by (Some ending) is fit knows items stream =
       let only : OnlyEnds words 0 (levels_at_start ops) no_piece ending = rw is at knows in
       to_come-ended first_runner ending items is ∙ sym (only items) ∙ means-at_start ops words items fit stream
@@ -225,14 +419,50 @@ module _ (ops : List Op) (words : List ℕ) (known : Option Ending) where
   means-first fit knows items stream = means_by known refl fit knows items stream
 
 -- the ending is known exactly where the source's end was told, or some level's ending is known
-pub ended_exactly : (runner : Running) → IsRunning runner
+pub ended_exactly : (runner : Running) → IsRunning runner → runner.idle ≡ true
     → (IsSome runner.ending → (runner.idle ≡ true) × ((runner.finished ≡ true) ⊎ HaveEnded runner.levels)) × ((runner.idle ≡ true) × ((runner.finished ≡ true) ⊎ HaveEnded runner.levels) → IsSome runner.ending)
-ended_exactly runner invariant = (λ some. (invariant.idle some, invariant.cause some), λ ended. from runner.ending refl ended.0 ended.1)
+ended_exactly runner invariant idle = (λ some. (idle, invariant.cause some), λ ended. from runner.ending refl ended.1)
   where
-    from : (ending : Option Ending) → runner.ending ≡ ending → runner.idle ≡ true → (runner.finished ≡ true) ⊎ HaveEnded runner.levels → IsSome runner.ending
-    from (Some ending) is idle cause = rw is refl
-    from None is idle (inl told) = invariant.told told
-    from None is idle (inr ended) = absurd (drained-open runner.position runner.levels runner.piece (invariant.drained idle is) ended)
+    from : (ending : Option Ending) → runner.ending ≡ ending → (runner.finished ≡ true) ⊎ HaveEnded runner.levels → IsSome runner.ending
+    from (Some ending) is cause = rw is refl
+    from None is (inl told) = invariant.told told
+    from None is (inr ended) = absurd (drained-open runner.position runner.levels runner.piece (invariant.drained (invariant.idle idle) is) ended)
+
+-- a slice stays what it is where nothing more is given
+pub IsCut-same : (old middle new : Running) (slice : Slice) → IsCut old middle slice → ((items : List Item) → to_come new items ≡ to_come middle items) → new.cuts ≡ middle.cuts → IsCut old new slice
+IsCut-same old middle new slice cut same counted = record {
+  within = cut.within;
+  cuts = cut.cuts;
+  parts = cut.parts;
+  gives = λ items. cut.gives items ∙ ap (λ items. map as_chunk cut.cuts ++ items) (sym (same items));
+  counted = counted ∙ cut.counted;
+}
+
+pub keeps-both : (old middle new : Running) → KeepsOffers old middle → KeepsOffers middle new → KeepsOffers old new
+keeps-both old middle new first second = record {
+  words = second.words ∙ first.words;
+  piece = second.piece ∙ first.piece;
+  latest = second.latest ∙ first.latest;
+  finished = second.finished ∙ first.finished;
+  pieces = second.pieces ∙ first.pieces;
+  levels = second.levels ∙ first.levels;
+  ops = second.ops ∙ first.ops;
+}
+
+-- where a look finds no cut, no chunk is left
+pub look-none : (old new : Running) → IsRunning new → (IsNone new.found → new.read ≡ true) → new.found ≡ None → ((items : List Item) → to_come new items ≡ to_come old items)
+    → HasNoChunk (to_come new (Quiet ∷ [])) × HasNoChunk (to_come old (Quiet ∷ []))
+look-none old new invariant read none same =
+    let chunks : HasNoChunk (to_come new (Quiet ∷ [])) = read-no_chunk new invariant (read (subst IsNone (sym none) refl)) in
+    (chunks, subst HasNoChunk (same (Quiet ∷ [])) chunks)
+
+-- a list with no chunk has none at an instant
+pub no_chunk-apart : (instant : ℕ) (items : List Item) → HasNoChunk items → BeginsApart instant items
+no_chunk-apart instant [] none = tt
+no_chunk-apart instant (Chunk span t ∷ items) none = absurd none
+no_chunk-apart instant (Closed t ∷ items) none = tt
+no_chunk-apart instant (Reset t ∷ items) none = tt
+no_chunk-apart instant (Quiet ∷ items) none = tt
 
 pub none_of : (ending : Option Ending) → is_some ending ≡ false → ending ≡ None
 none_of None none = refl

@@ -1,6 +1,6 @@
 -- The levels of a plan at their start mean what the plan means.
-use Rattle.std.proofs.Common.{◌≡◌, ℕ, ◌+◌, ◌<◌, ◌≤◌, Bool, true, false, List, [], ◌∷◌, ◌++◌, length, length-append, Option, Some, None, refl, ap, sym, subst, ◌∙◌, arith}
-use Rattle.std.specs.Prelude.{All, is_some, IsSome}
+use Rattle.std.proofs.Common.{◌≡◌, ℕ, false, List, [], ◌∷◌, ◌++◌, length, length-append, None, refl, ap, sym, subst, ◌∙◌, arith}
+use Rattle.std.specs.Prelude.{All}
 use Rattle.std.proofs.lemmas.List.Elements.{All-head, All-tail}
 use Rattle.tox_time.specs.declared.item.Item.{Item}
 use Rattle.tox_time.specs.Stream.{IsStream}
@@ -10,7 +10,7 @@ use Rattle.tox_defs.specs.declared.op.Op.TheVariants.{Delay, Pace, Slow, Mute, C
 use Rattle.tox_defs.specs.declared.level.Level.{Level}
 use Rattle.tox_defs.specs.Reaction.{flow, flow_through}
 use Rattle.tox_defs.specs.Op.{IsOp, is_mute, op_reaction}
-use Rattle.tox_defs.specs.Level.{level_gives, IsSound}
+use Rattle.tox_defs.specs.Level.{level_gives}
 use Rattle.tox_defs.proofs.StreamKeepers.{flow_from-muted}
 use Rattle.tox_defs.proofs.OpStreams.{IsStream-op_flow}
 use Rattle.tox_compile.specs.Meaning.{op_reactions}

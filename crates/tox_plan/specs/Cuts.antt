@@ -1,8 +1,10 @@
 -- The cuts that a slice is made of.
-use Rattle.std.specs.Prelude.{◌≡◌, ℕ, ◌+◌, ◌<◌, ◌≤◌, List, [], ◌∷◌, ◌++◌, map, length}
+use Rattle.std.specs.Prelude.{◌≡◌, ◌≢◌, ℕ, ◌+◌, ◌<◌, ◌≤◌, List, [], ◌∷◌, ◌++◌, map, length}
 use Rattle.tox_time.specs.declared.slice.Slice.{Slice}
 use Rattle.tox_time.specs.declared.item.Item.{Item}
+use Rattle.tox_time.specs.declared.item.Item.TheVariants.{Chunk, Closed, Reset, Quiet}
 use Rattle.tox_defs.specs.Look.{as_chunk}
+use Rattle.tox_plan.specs.Levels.{ops_of}
 use Rattle.tox_plan.specs.Running.{Running, to_come}
 
 -- nonempty cuts at one instant that reach from one position to another
@@ -24,3 +26,30 @@ pub record IsCut (old new : Running) (slice : Slice) : Type 0 where
   pub parts : Reach slice.span.start slice.span.stop slice.instant cuts
   pub gives : (items : List Item) → to_come old items ≡ map as_chunk cuts ++ to_come new items
   pub counted : new.cuts ≡ old.cuts + length cuts
+
+-- the slice is the next cut by itself
+pub record IsOneCut (old new : Running) (cut : Slice) : Type 0 where
+  pub begins : cut.span.start ≡ old.position
+  pub some : cut.span.start < cut.span.stop
+  pub stands : new.position ≡ cut.span.stop
+  pub within : IsWithin old.piece cut
+  pub gives : (items : List Item) → to_come old items ≡ as_chunk cut ∷ to_come new items
+  pub counted : new.cuts ≡ old.cuts + 1
+
+-- the offers, the words and the plan's operations stay
+pub record KeepsOffers (old new : Running) : Type 0 where
+  pub words : new.words ≡ old.words
+  pub piece : new.piece ≡ old.piece
+  pub latest : new.latest ≡ old.latest
+  pub finished : new.finished ≡ old.finished
+  pub pieces : new.pieces ≡ old.pieces
+  pub levels : length new.levels ≡ length old.levels
+  pub ops : ops_of new.levels ≡ ops_of old.levels
+
+-- the next chunk to come, if there is one, leaves at another instant
+abbrev pub BeginsApart : ℕ → List Item → Type 0
+BeginsApart instant [] = Unit {0}
+BeginsApart instant (Chunk span t ∷ items) = t ≢ instant
+BeginsApart instant (Closed t ∷ items) = Unit {0}
+BeginsApart instant (Reset t ∷ items) = Unit {0}
+BeginsApart instant (Quiet ∷ items) = Unit {0}

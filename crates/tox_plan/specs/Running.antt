@@ -1,5 +1,5 @@
 -- A runner as a value, and its remaining output.
-use Rattle.std.specs.Prelude.{◌≡◌, ℕ, ◌+◌, ◌*◌, ◌<◌, ◌≤◌, ◌^◌, Bool, true, false, if◌then◌else◌, List, [], ◌∷◌, length, Option, None, IsSome, ◌⊎◌, Result, Ok, Err, Some, is_some}
+use Rattle.std.specs.Prelude.{◌≡◌, ℕ, ◌+◌, ◌*◌, ◌<◌, ◌≤◌, ◌^◌, Bool, true, false, if◌then◌else◌, List, [], ◌∷◌, ◌++◌, length, Option, None, IsSome, IfSome, ◌⊎◌, Result, Ok, Err, Some, is_some}
 use Rattle.tox_time.specs.declared.slice.Slice.{Slice}
 use Rattle.tox_time.specs.declared.item.Item.{Item}
 use Rattle.tox_time.specs.declared.item.Item.TheVariants.{Chunk, Closed, Reset, Quiet}
@@ -7,6 +7,7 @@ use Rattle.tox_time.specs.declared.ending.Ending.{Ending}
 use Rattle.tox_time.specs.declared.arrivals.ArrivalFault.{ArrivalFault}
 use Rattle.tox_time.specs.Arrivals.{piece_fault}
 use Rattle.tox_defs.specs.declared.level.Level.{Level}
+use Rattle.tox_defs.specs.Look.{as_chunk}
 use Rattle.tox_defs.specs.Level.{ending_or}
 use Rattle.tox_plan.specs.Levels.{to_come_from, AreNested, AreDrained, HaveEnded}
 
@@ -20,7 +21,10 @@ pub record Running : Type 0 where
   -- the piece that was offered last, and the last instant
   pub piece : Slice
   pub latest : ℕ
-  -- the ending, once it is known, and whether the source's end was told
+  -- a cut that was found beyond the last slice, and whether no other is left of the offered piece
+  pub found : Option Slice
+  pub read : Bool
+  -- the ending, once it is found, and whether the source's end was told
   pub ending : Option Ending
   pub finished : Bool
   pub idle : Bool
@@ -28,9 +32,23 @@ pub record Running : Type 0 where
   pub cuts : ℕ
   pub pieces : ℕ
 
+-- a found cut is the next chunk, and the levels' reader stands behind it
+abbrev pub found_chunk : Option Slice → List Item
+found_chunk None = []
+found_chunk (Some cut) = as_chunk cut ∷ []
+
+abbrev pub reader_at : ℕ → Option Slice → ℕ
+reader_at position None = position
+reader_at position (Some cut) = cut.span.stop
+
 -- the remaining output, if these items follow the offered pieces
 abbrev pub to_come : Running → List Item → List Item
-to_come runner items = ending_or runner.ending (to_come_from runner.words runner.position runner.levels runner.piece items)
+to_come runner items =
+    ending_or runner.ending (found_chunk runner.found ++ to_come_from runner.words (reader_at runner.position runner.found) runner.levels runner.piece items)
+
+-- the ending that an idle runner knows
+abbrev pub known_ending : Running → Option Ending
+known_ending runner = if runner.idle then runner.ending else None
 
 -- a list of items with no chunk
 abbrev pub HasNoChunk : List Item → Type 0
@@ -40,17 +58,35 @@ HasNoChunk (Closed t ∷ items) = HasNoChunk items
 HasNoChunk (Reset t ∷ items) = HasNoChunk items
 HasNoChunk (Quiet ∷ items) = HasNoChunk items
 
+-- how many cuts were found and not given
+abbrev pub found_count : Option Slice → ℕ
+found_count None = 0
+found_count (Some cut) = 1
+
+-- the looks of one round, where a next one is due
+abbrev pub round_due : Bool → Option Slice → ℕ → ℕ
+round_due read (Some cut) round = 0
+round_due read None round = if read then 0 else round
+
 -- each turn looks at one operation: at most one round of looks for a cut or an offered piece.
--- A runner that isn't idle has a round in hand.
+-- A runner that may have to look has a round in hand.
 abbrev pub AreCounted : Running → Type 0
 AreCounted runner =
-    (if runner.idle then 0 else length runner.levels) + runner.turns ≤ length runner.levels * (runner.cuts + runner.pieces)
+    round_due runner.read runner.found (length runner.levels) + runner.turns ≤ length runner.levels * (runner.cuts + runner.pieces)
+
+-- a found cut begins where the next slice does, and the piece was not read to its end
+pub record IsFound (runner : Running) (cut : Slice) : Type 0 where
+  pub begins : cut.span.start ≡ runner.position
+  pub some : runner.position < cut.span.stop
+  pub unread : runner.read ≡ false
 
 -- what holds of every runner
 pub record IsRunning (runner : Running) : Type 0 where
-  pub nested : runner.ending ≡ None → AreNested runner.position runner.levels runner.piece
-  pub drained : runner.idle ≡ true → runner.ending ≡ None → AreDrained runner.position runner.levels runner.piece
-  pub idle : IsSome runner.ending → runner.idle ≡ true
+  pub nested : runner.ending ≡ None → AreNested (reader_at runner.position runner.found) runner.levels runner.piece
+  pub drained : runner.read ≡ true → runner.ending ≡ None → AreDrained runner.position runner.levels runner.piece
+  pub found : IfSome runner.found (IsFound runner)
+  pub ended : IsSome runner.ending → runner.read ≡ true
+  pub idle : runner.idle ≡ true → runner.read ≡ true
   pub cause : IsSome runner.ending → (runner.finished ≡ true) ⊎ HaveEnded runner.levels
   pub told : runner.finished ≡ true → IsSome runner.ending
   pub reached : runner.position ≤ runner.piece.span.stop
@@ -60,7 +96,7 @@ pub record IsRunning (runner : Running) : Type 0 where
   pub few_cuts : runner.cuts ≤ runner.position
   pub few_pieces : runner.pieces ≤ runner.piece.span.stop
   pub counted : AreCounted runner
-  pub looked : 0 < length runner.levels → runner.cuts ≤ runner.turns
+  pub looked : 0 < length runner.levels → runner.cuts + found_count runner.found ≤ runner.turns
 
 -- where nothing was offered yet
 abbrev pub no_piece : Slice

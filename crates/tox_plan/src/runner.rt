@@ -7,11 +7,11 @@ ghost use Rattle.tox_time.specs.Table.{final_of};
 ghost use Rattle.tox_defs.specs.Look.{as_chunk};
 ghost use Rattle.tox_compile.specs.Meaning.{Ops, means, deadline_of};
 ghost use Rattle.tox_plan.specs.Levels.{HaveEnded, ops_of};
-ghost use Rattle.tox_plan.specs.Running.{to_come, HasNoChunk, next_piece, no_piece, offer_answer};
-ghost use Rattle.tox_plan.specs.Cuts.{IsCut};
+ghost use Rattle.tox_plan.specs.Running.{to_come, HasNoChunk, known_ending, next_piece, no_piece, offer_answer};
+ghost use Rattle.tox_plan.specs.Cuts.{IsCut, IsOneCut, KeepsOffers, BeginsApart};
 ghost use Rattle.tox_plan.specs.Given.{HasGiven, GoesOn, IsLasting, IsWhole};
 
-use crate::levels::{Pulled, known_ending, last_of, pull, push_levels};
+use crate::levels::{self, Pulled, last_of, pull, push_levels};
 use arrayvec::ArrayVec;
 use std::marker::Model;
 use tox_compile::Plan;
@@ -29,6 +29,8 @@ pub struct Runner<'w> {
     position: u64,
     piece: Slice,
     latest: Micros,
+    found: Option<Slice>,
+    read: bool,
     ending: Option<Ending>,
     finished: bool,
     idle: bool,
@@ -60,7 +62,7 @@ impl<'w> Runner<'w> {
     {
         let mut levels = ArrayVec::new();
         push_levels(&mut levels, plan.ops());
-        let ending = known_ending(&levels);
+        let ending = levels::known_ending(&levels);
         Runner {
             levels,
             words,
@@ -70,6 +72,8 @@ impl<'w> Runner<'w> {
                 instant: Micros::ZERO,
             },
             latest: Micros::ZERO,
+            found: None,
+            read: true,
             ending,
             finished: false,
             idle: true,
@@ -121,14 +125,17 @@ impl<'w> Runner<'w> {
         };
         self.latest = instant;
         self.pieces += 1;
+        self.read = false;
         self.idle = false;
         Ok(())
     }
 
-    /// The next slice of the offered piece, or None exactly where none is left; the runner is then idle.
+    /// The next slice of the offered piece, all that is left of it at one instant; or None exactly where nothing is
+    /// left, and the runner is then idle.
     pub fn next_cut(&mut self) -> Option<Slice>
         ensures some { IfSome result (IsCut self.old self.new) }
         ensures place { IfSome result (λ slice. (slice.span.start ≡ self.old.position) × (self.new.position ≡ slice.span.stop) × (self.new.idle ≡ false)) }
+        ensures apart { IfSome result (λ slice. BeginsApart slice.instant (to_come self.new (Quiet ∷ []))) }
         ensures none { IsNone result ↔ HasNoChunk (to_come self.old (Quiet ∷ [])) }
         ensures idle { IfNone result ((self.new.idle ≡ true) × (self.new.position ≡ self.old.position) × (self.new.cuts ≡ self.old.cuts) × ((items : List OneItem) → to_come self.new items ≡ to_come self.old items)) }
         ensures kept { (self.new.words ≡ self.old.words) × (self.new.finished ≡ self.old.finished) × (self.new.piece ≡ self.old.piece) × (self.new.latest ≡ self.old.latest) × (self.new.pieces ≡ self.old.pieces) × (length self.new.levels ≡ length self.old.levels) }
@@ -136,10 +143,67 @@ impl<'w> Runner<'w> {
         ensures given { MatchOption result (GoesOn self.old [] [] self.new) (λ slice. GoesOn self.old [] (slice ∷ []) self.new) }
         ensures lasting { (plan : Ops) (offered : List OneItem) (given : List OneSlice) → HasGiven plan offered given self.new → IsLasting plan self.new.words offered given }
         ensures whole { IfNone result ((plan : Ops) (offered : List OneItem) (given : List OneSlice) → HasGiven plan offered given self.old → IsWhole plan self.old.words offered given) }
-        ensures turns { self.new.turns ≤ self.old.turns + length self.old.levels }
     {
-        if self.idle {
+        let mut slice = self.cut()?;
+        while let Some(stop) = self.cut_at(&slice.instant) {
+            slice.span.stop = stop;
+        }
+        Some(slice)
+    }
+
+    /// The next cut by itself. Where none is left the runner is then idle.
+    fn cut(&mut self) -> Option<Slice>
+        ensures some { IfSome result (λ cut. IsOneCut self.old self.new cut × (self.new.idle ≡ false)) }
+        ensures none { IsNone result ↔ HasNoChunk (to_come self.old (Quiet ∷ [])) }
+        ensures idle { IfNone result ((self.new.idle ≡ true) × (self.new.position ≡ self.old.position) × (self.new.cuts ≡ self.old.cuts) × ((items : List OneItem) → to_come self.new items ≡ to_come self.old items)) }
+        ensures kept { KeepsOffers self.old self.new }
+    {
+        self.look();
+        let Some(cut) = self.found else {
+            self.idle = true;
             return None;
+        };
+        self.give(&cut);
+        Some(cut)
+    }
+
+    /// Where the next cut stops, if it leaves at this instant; it is then given.
+    fn cut_at(&mut self, instant: &Micros) -> Option<u64>
+        ensures some { IfSome result (λ stop. IsOneCut self.old self.new (record { span = record { start = self.old.position; stop = stop }; instant = instant.now })) }
+        ensures none { IfNone result (((items : List OneItem) → to_come self.new items ≡ to_come self.old items) × (self.new.position ≡ self.old.position) × (self.new.cuts ≡ self.old.cuts) × BeginsApart instant.now (to_come self.new (Quiet ∷ []))) }
+        ensures idle { self.new.idle ≡ self.old.idle }
+        ensures kept { KeepsOffers self.old self.new }
+    {
+        self.look();
+        let cut = self.found?;
+        if cut.instant != *instant {
+            return None;
+        }
+        self.give(&cut);
+        Some(cut.span.stop)
+    }
+
+    /// Gives the found cut.
+    fn give(&mut self, cut: &Slice)
+        requires { self.old.found ≡ Some cut.now }
+        ensures cut { IsOneCut self.old self.new cut.now }
+        ensures idle { self.new.idle ≡ self.old.idle }
+        ensures kept { KeepsOffers self.old self.new }
+    {
+        self.found = None;
+        self.position = cut.span.stop;
+        self.cuts += 1;
+    }
+
+    /// Finds the next cut, where it isn't found yet and one may be left.
+    fn look(&mut self)
+        ensures found { IsNone self.new.found → self.new.read ≡ true }
+        ensures to_come { (items : List OneItem) → to_come self.new items ≡ to_come self.old items }
+        ensures same { (self.new.position ≡ self.old.position) × (self.new.cuts ≡ self.old.cuts) × (self.new.idle ≡ self.old.idle) }
+        ensures kept { KeepsOffers self.old self.new }
+    {
+        if self.read || self.found.is_some() {
+            return;
         }
         match pull(
             &mut self.levels,
@@ -148,20 +212,12 @@ impl<'w> Runner<'w> {
             self.words,
             &mut self.turns,
         ) {
-            Pulled::Piece(slice) => {
-                self.position = slice.span.stop;
-                self.cuts += 1;
-                Some(slice)
-            }
+            Pulled::Piece(cut) => self.found = Some(cut),
             Pulled::End(ending) => {
                 self.ending = Some(ending);
-                self.idle = true;
-                None
+                self.read = true;
             }
-            Pulled::Nothing => {
-                self.idle = true;
-                None
-            }
+            Pulled::Nothing => self.read = true,
         }
     }
 
@@ -208,11 +264,11 @@ impl<'w> Runner<'w> {
     /// The link's ending, known after `finish` or `quiet`, or once an operation has given its final: nothing
     /// else is then to come.
     pub fn ending(&self) -> Option<Ending>
-        ensures value { result ≡ self.now.ending }
+        ensures value { result ≡ known_ending self.now }
         ensures known { IsSome result ↔ ((self.now.idle ≡ true) × ((self.now.finished ≡ true) ⊎ HaveEnded self.now.levels)) }
         ensures only { IfSome result (λ ending. (items : List OneItem) → to_come self.now items ≡ final_of ending ∷ []) }
     {
-        self.ending
+        if self.idle { self.ending } else { None }
     }
 
     /// How often `next_cut` looked at an operation: at most once for each operation, for each cut and each piece.

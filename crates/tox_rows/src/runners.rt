@@ -56,3 +56,17 @@ fn a_runner_goes_on_until_its_source_ends(rt: HostRuntime) -> Result<(), Fail> {
     assert_eq!(rt; runner.turns(), 2);
     Ok(())
 }
+
+#[test]
+fn neighbours_of_one_instant_are_one_slice(rt: HostRuntime) -> Result<(), Fail> {
+    let words = Words::from_list(rt.alloc(), &[0, 1, 2])?;
+    let slicer = "slicer:average_size=2,size_variation=1";
+    let plan = compile(&chain_of(&rt, &[slicer]), &words);
+    let mut runner = Runner::new(&plan, &words);
+    assert!(rt; runner.is_idle());
+    assert_eq!(rt; runner.offer(5, Micros::ZERO), Ok(()));
+    assert_eq!(rt; runner.next_cut(), Some(slice(0, 5, 0)));
+    assert_eq!(rt; runner.cuts(), 2);
+    assert_eq!(rt; runner.next_cut(), None);
+    Ok(())
+}

@@ -1,5 +1,5 @@
 -- One more arrival: what it makes was given, and the others are still to come.
-use Rattle.std.proofs.Common.{rules, ◌≡◌, ◌∷◌, ◌+◌, List, [], drop, sym, ap, subst, ◌∙◌, refl}
+use Rattle.std.proofs.Common.{◌≡◌, ◌∷◌, ◌+◌, List, [], drop, sym, ap, subst, ◌∙◌, refl}
 use Rattle.std.specs.Prelude.{Any}
 use Rattle.tox_time.specs.declared.item.Item.{Item}
 use Rattle.tox_time.specs.Arrivals.{arrival_list}

@@ -1,6 +1,5 @@
 -- What was given, and what is still to come for the other arrivals, is what the plan means for all of them.
-use Rattle.std.proofs.Common.{◌≡◌, true, List, [], drop}
-use Rattle.tox_time.specs.declared.item.Item.{Item}
+use Rattle.std.proofs.Common.{◌≡◌, true, [], drop}
 use Rattle.tox_time.specs.Arrivals.{arrival_list}
 use Rattle.tox_time.specs.Neighbours.{AreNeighbours}
 use Rattle.tox_plan.specs.Delivering.{Goes, stop_from}

@@ -1,11 +1,8 @@
 -- One more cut.
-use Rattle.std.proofs.Common.{◌≡◌, ◌∷◌, ◌++◌, [], List, sym, ap, subst, ◌∙◌}
+use Rattle.std.proofs.Common.{◌≡◌, ◌∷◌, ◌++◌, [], sym, subst, ◌∙◌}
 use Rattle.std.specs.Prelude.{Any}
-use Rattle.tox_time.specs.declared.slice.Slice.{Slice}
-use Rattle.tox_time.specs.declared.item.Item.{Item}
-use Rattle.tox_time.specs.Neighbours.{AreNeighbours, LiesIn}
+use Rattle.tox_time.specs.Neighbours.{LiesIn}
 use Rattle.tox_plan.specs.Cuts.{IsCut}
-use Rattle.tox_plan.specs.Delivering.{Goes, stop_from}
 use Rattle.tox_plan.proofs.Deliveries.{goes-on, goes-cut, stop_from-append, neighbours-append, any-within}
 use Rattle.tox_plan.proofs.delivery.take_cuts.Goals as goal
 

@@ -1,6 +1,5 @@
 -- The end of the arrivals is not before the last one.
 use Rattle.std.proofs.Common.{◌≤◌, arith}
-use Rattle.tox_plan.specs.Delivering.{MayFollow}
 use Rattle.tox_plan.proofs.delivery.take_item.Goals as goal
 
 pub finish-requires-clause-later : goal.finish-requires-clause-later

@@ -1,8 +1,7 @@
 -- The level that is advanced has a rest of its own, or the piece that upstream gave.
-use Rattle.std.proofs.Common.{rules, ◌≡◌, ◌≤◌, List, [], ◌∷◌, length, sym, ap, subst, ◌∙◌, arith, inl}
+use Rattle.std.proofs.Common.{rules, ◌≡◌, ◌≤◌, ◌∷◌, length, sym, ap, subst, arith, inl}
 use Rattle.std.specs.Prelude.{is_some}
 use Rattle.std.proofs.lemmas.List.{nil_from_length}
-use Rattle.tox_defs.specs.declared.level.Level.{Level}
 use Rattle.tox_defs.specs.Level.{IsSound, IsAtEnd}
 use Rattle.tox_plan.specs.Levels.{MatchPulled, IsNext, AreNested, OnlyEnds}
 use Rattle.tox_plan.proofs.LevelLemmas.{nested-below}

@@ -1,5 +1,5 @@
 -- Past the plan's deadline nothing changes.
-use Rattle.std.proofs.Common.{◌≡◌, true, ap, ◌∙◌}
+use Rattle.std.proofs.Common.{ap, ◌∙◌}
 use Rattle.tox_plan.specs.RunnerInside.{running}
 use Rattle.tox_plan.proofs.Deadlines.{past-deadline}
 use Rattle.tox_plan.proofs.runner.Runner.end_with.Goals as goal

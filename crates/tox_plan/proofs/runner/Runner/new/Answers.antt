@@ -1,13 +1,11 @@
 -- A new runner has the levels of its plan, which mean what the plan means.
-use Rattle.std.proofs.Common.{◌≡◌, length, refl, ◌∙◌, ap, sym, subst, arith}
-use Rattle.std.specs.Prelude.{MatchOption, IsSome}
-use Rattle.tox_compile.specs.Meaning.{IsPlan}
-use Rattle.tox_defs.specs.declared.level.Level.{Level}
+use Rattle.std.proofs.Common.{◌≡◌, refl, ◌∙◌, ap, subst}
+use Rattle.std.specs.Prelude.{MatchOption}
 use Rattle.tox_plan.specs.Levels.{ops_of, levels_at_start, AreNested, AreRead, AreDrained, OnlyEnds, HaveEnded}
-use Rattle.tox_plan.specs.Running.{no_piece, to_come, IsRunning}
+use Rattle.tox_plan.specs.Running.{no_piece}
 use Rattle.tox_plan.proofs.Starts.{ops_of-at_start, read-at_start, nested-at_start}
 use Rattle.tox_plan.proofs.Givens.{given-new}
-use Rattle.tox_plan.proofs.RunnerLemmas.{IsRunning-first, means-first, first_runner}
+use Rattle.tox_plan.proofs.RunnerLemmas.{IsRunning-first, means-first}
 use Rattle.tox_plan.proofs.runner.Runner.new.Goals as goal
 
 -- the levels are those of the plan

@@ -1,5 +1,5 @@
 -- An accepted offer keeps what holds of a runner.
-use Rattle.std.proofs.Common.{◌≡◌, true, None, refl, ap, sym, ◌∙◌, arith}
+use Rattle.std.proofs.Common.{ap, sym, ◌∙◌, arith}
 use Rattle.tox_plan.specs.RunnerInside.{running}
 use Rattle.tox_defs.specs.Look.{as_chunk}
 use Rattle.tox_plan.specs.Running.{next_piece}

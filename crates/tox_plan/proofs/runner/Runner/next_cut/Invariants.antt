@@ -1,0 +1,16 @@
+-- The slice is the cuts that were given so far, all at its instant.
+use Rattle.std.proofs.Common.{◌≡◌, ◌-◌, false}
+use Rattle.tox_plan.specs.Cuts.{IsCut, KeepsOffers}
+use Rattle.tox_plan.proofs.runner.Runner.next_cut.Given as goal
+
+abbrev pub invariant-loop-stop : goal.invariant-loop-stop
+invariant-loop-stop l = record {
+  cut : IsCut l.fn.self l.self l.slice;
+  begins : l.slice.span.start ≡ l.fn.self.position;
+  stands : l.self.position ≡ l.slice.span.stop;
+  busy : l.self.idle ≡ false;
+  kept : KeepsOffers l.fn.self l.self;
+}
+
+abbrev pub decreases-loop-stop : goal.decreases-loop-stop
+decreases-loop-stop l = l.self.piece.span.stop - l.self.position
