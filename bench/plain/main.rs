@@ -233,7 +233,41 @@ fn print(out: &mut impl Write, pieces: &[Piece], items: &[Item]) -> io::Result<(
     }
 }
 
+fn pass(toxics: &[String], words: &[u32], mut items: Vec<Item>) -> Option<Vec<Item>> {
+    for (place, toxic) in toxics.iter().enumerate() {
+        let (toxic, toxicity) = read_toxic(toxic)?;
+        if u64::from(words[place % words.len()] % 1000) < toxicity {
+            items = flow(toxic, place as u64, words, &items);
+        }
+    }
+    Some(items)
+}
+
+/// So many arrivals of so many bytes, a microsecond apart, with no text: how many slices of one arrival and instant leave, and when the last.
+fn deliver(words: &[String]) -> Option<()> {
+    let (length, count): (u64, u64) = (words[0].parse().ok()?, words[1].parse().ok()?);
+    let chunk = |place| Item::Chunk(place * length, (place + 1) * length, place);
+    let mut items: Vec<Item> = (0..count).map(chunk).collect();
+    items.push(Item::Quiet);
+    let items = pass(&words[2..], &[7, 11, 250, 3, 1999, 4, 123_456_789], items)?;
+    let mut slices: Vec<(u64, u64, u64)> = Vec::new();
+    for item in &items {
+        if let Item::Chunk(start, stop, instant) = *item {
+            match slices.last_mut() {
+                Some((first, last, at)) if *at == instant && *first / length == start / length => *last = stop,
+                _ => slices.push((start, stop, instant)),
+            }
+        }
+    }
+    println!("{} slices, the last at {}", slices.len(), slices.last()?.2);
+    Some(())
+}
+
 fn main() -> Result<(), Box<dyn Error>> {
+    if std::env::args().nth(1).is_some_and(|first| first == "--deliver") {
+        let words: Vec<String> = std::env::args().skip(2).collect();
+        return Ok(deliver(&words).ok_or("a bad line")?);
+    }
     let mut toxics: Vec<String> = std::env::args().skip(1).collect();
     let mut words = vec![0];
     if toxics.first().is_some_and(|first| first == "--words") {
@@ -242,13 +276,8 @@ fn main() -> Result<(), Box<dyn Error>> {
     }
     let mut text = Vec::new();
     io::stdin().read_to_end(&mut text)?;
-    let (pieces, mut items) = read_arrivals(&text).ok_or("a bad line")?;
-    for (place, toxic) in toxics.iter().enumerate() {
-        let (toxic, toxicity) = read_toxic(toxic).ok_or("a bad toxic")?;
-        if u64::from(words[place % words.len()] % 1000) < toxicity {
-            items = flow(toxic, place as u64, &words, &items);
-        }
-    }
+    let (pieces, items) = read_arrivals(&text).ok_or("a bad line")?;
+    let items = pass(&toxics, &words, items).ok_or("a bad toxic")?;
     let mut out = BufWriter::new(io::stdout().lock());
     print(&mut out, &pieces, &items)?;
     Ok(out.flush()?)
