@@ -12,6 +12,8 @@ mod ends;
 #[cfg(test)]
 mod network;
 #[cfg(test)]
+mod plan_texts;
+#[cfg(test)]
 mod plans;
 #[cfg(test)]
 mod random;
