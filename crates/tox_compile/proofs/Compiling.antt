@@ -1,7 +1,7 @@
 -- One operation for each applied toxic means what the chain does.
-use Rattle.std.proofs.Common.{◌≡◌, ℕ, ◌+◌, ◌≤◌, Bool, true, false, List, [], ◌∷◌, ◌++◌, map, length, drop, refl, ap, sym, ◌∙◌, arith, if◌then◌else◌}
+use Rattle.std.proofs.Common.{◌≡◌, ℕ, ◌+◌, ◌≤◌, true, false, List, [], ◌∷◌, map, length, drop, refl, ap, ◌∙◌, if◌then◌else◌}
 use Rattle.std.specs.Prelude.{All}
-use Rattle.std.proofs.lemmas.List.{append-nil, drop_all}
+use Rattle.std.proofs.lemmas.List.{drop_all}
 use Rattle.std.proofs.lemmas.List.Elements.{All-nil, All-cons, All-head, All-tail}
 use Rattle.tox_time.specs.declared.item.Item.{Item}
 use Rattle.tox_words.specs.Draw.{draw}
@@ -11,8 +11,8 @@ use Rattle.tox_defs.specs.Toxic.{IsInRange}
 use Rattle.tox_defs.specs.Chain.{Toxics, IsChain}
 use Rattle.tox_defs.specs.Applied.{is_applied}
 use Rattle.tox_defs.specs.Reaction.{flow_through}
-use Rattle.tox_defs.specs.Flow.{Placed, toxic_reaction, applied_from, applied, reactions_of, chain_flow}
-use Rattle.tox_defs.specs.Op.{IsOp, op_reaction, op_of}
+use Rattle.tox_defs.specs.Flow.{Placed, toxic_reaction, applied_from, applied, chain_flow}
+use Rattle.tox_defs.specs.Op.{IsOp, op_of}
 use Rattle.tox_defs.proofs.OpOf.{op_reaction-op_of, IsOp-op_of}
 use Rattle.tox_defs.proofs.ChainStreams.{in_range-applied}
 use Rattle.tox_compile.specs.Compiled.{op_of_placed, ops_of}
@@ -52,6 +52,5 @@ pub ops_from-skipped : (place : ℕ) (entry : Entry) (entries : List Entry) (wor
 ops_from-skipped place entry entries words is = ap (λ met. map op_of_placed (if met then record { place = place; toxic = entry.toxic } ∷ applied_from (place + 1) entries words else applied_from (place + 1) entries words)) is
 
 -- no toxics are left behind the last place
-pub ops_from-end : (ops all : List Op) (place : ℕ) (entries : List Entry) (words : List ℕ) → length entries ≤ place → ops ++ ops_from place (drop place entries) words ≡ all → ops ≡ all
-ops_from-end ops all place entries words past is =
-    sym (append-nil ops) ∙ ap (λ entries. ops ++ ops_from place entries words) (sym (drop_all place entries past)) ∙ is
+pub ops_from-end : (place : ℕ) (entries : List Entry) (words : List ℕ) → length entries ≤ place → ops_from place (drop place entries) words ≡ []
+ops_from-end place entries words past = ap (λ entries. ops_from place entries words) (drop_all place entries past)

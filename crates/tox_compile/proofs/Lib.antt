@@ -1,1 +1,10 @@
 pub mod Compiling
+pub mod Delays
+pub mod Slows
+pub mod Cutoffs
+pub mod Limits
+pub mod Mutes
+pub mod Joins
+pub mod NormalForms
+pub mod Sums
+pub mod CompileTurns

@@ -1,4 +1,4 @@
--- The operations that a chain is compiled into.
+-- The operations of a chain's applied toxics.
 use Rattle.std.specs.Prelude.{ℕ, List, map}
 use Rattle.tox_defs.specs.declared.op.Op.{Op}
 use Rattle.tox_defs.specs.Chain.{Toxics}

@@ -1,3 +1,5 @@
 pub mod Meaning
 pub mod Compiled
+pub mod Normal
+pub mod NormalInside
 pub mod PlanInside

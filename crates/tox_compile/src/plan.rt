@@ -4,16 +4,18 @@ ghost use Rattle.tox_defs.specs.declared.chain.TheConstants.{MOST_TOXICS};
 ghost use Rattle.tox_time.specs.declared.item.Item.{Item as OneItem};
 ghost use Rattle.tox_time.specs.Stream.{IsStream};
 ghost use Rattle.tox_defs.specs.Flow.{chain_flow};
-ghost use Rattle.tox_compile.specs.Compiled.{ops_of};
+ghost use Rattle.tox_compile.specs.Normal.{normal_form};
 ghost use Rattle.tox_compile.specs.Meaning.{deadline_of, earlier, means};
 
+use crate::normal::add;
 use arrayvec::ArrayVec;
 use std::marker::Model;
 use tox_defs::{Chain, MOST_TOXICS, Op};
 use tox_time::Micros;
 use tox_words::Words;
 
-/// What a chain is compiled into: the operations that stand for its applied toxics, in order.
+/// What a chain is compiled into: the operations of its applied toxics in order, each joined to the last one
+/// where a rule allows.
 #[derive(Drop)]
 pub struct Plan {
     ops: ArrayVec<Op, MOST_TOXICS>,
@@ -73,23 +75,15 @@ fn earlier(instant: Micros, other: Option<Micros>) -> Micros
 
 /// The plan of a chain for a link with these words.
 pub fn compile(chain: &Chain, words: &Words) -> Plan
-    ensures ops { result.ops ≡ ops_of chain.now words.now }
+    ensures ops { result.ops ≡ normal_form chain.now words.now }
     ensures means { (items : List OneItem) → IsStream items → means result words.now items ≡ chain_flow chain.now words.now items }
 {
     let mut ops = ArrayVec::new();
     let entries = chain.entries();
     for (place, entry) in entries.iter().enumerate() {
         if entry.is_applied(place, words) {
-            append(&mut ops, &Op::of(&entry.toxic, place));
+            add(&mut ops, &Op::of(&entry.toxic, place));
         }
     }
     Plan { ops }
-}
-
-/// Adds an item behind the others.
-fn append<T: Copy>(list: &mut ArrayVec<T, MOST_TOXICS>, item: &T)
-    requires { array_vec_len list.old < MOST_TOXICS }
-    ensures { list.new.items ≡ list.old.items ++ item.now ∷ [] }
-{
-    list.push(*item);
 }

@@ -11,3 +11,4 @@ mod OpenRuns
 mod PrintTurns
 mod PiecesOf
 mod Causes
+mod PlanLines

@@ -5,6 +5,7 @@ pub mod ArrivedInside
 pub mod Reading
 pub mod Writing
 pub mod ResultText
+pub mod PlanText
 pub mod OpenRun
 pub mod DryRun
 pub mod Toxics

@@ -62,11 +62,15 @@ run_line (first ∷ others) = bytes_line first.instant first.position (map (λ b
 abbrev pub lines_text : List Delivered → List ℕ
 lines_text bytes = flat_map run_line (runs_of bytes)
 
+-- the words of an ending
+abbrev pub ending_words : Ending → List ℕ
+ending_words StillOpen = codes "open"
+ending_words (ClosedAt t) = codes "closed " ++ decimal t
+ending_words (ResetAt t) = codes "reset " ++ decimal t
+
 -- the line of an ending
 abbrev pub ending_line : Ending → List ℕ
-ending_line StillOpen = codes "open\n"
-ending_line (ClosedAt t) = codes "closed " ++ decimal t ++ codes "\n"
-ending_line (ResetAt t) = codes "reset " ++ decimal t ++ codes "\n"
+ending_line ending = ending_words ending ++ codes "\n"
 
 -- the result of what arrived, by the table and the ending of what was delivered
 abbrev pub result_text : Arrived → List ℕ → Ending → List ℕ

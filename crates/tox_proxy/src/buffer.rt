@@ -111,7 +111,7 @@ impl Buffer {
 }
 
 /// Writes all the bytes. After an `Err` a front of them is written.
-fn write_all<W: Sink>(writer: &mut W, bytes: &[u8]) -> Result<(), EndFault>
+pub(crate) fn write_all<W: Sink>(writer: &mut W, bytes: &[u8]) -> Result<(), EndFault>
     requires { W.failed writer.old ≡ false }
     ensures ok { OnOk result (W.written writer.new ≡ append_known (W.written writer.old) bytes.now) }
     ensures working { OnOk result (W.failed writer.new ≡ false) }

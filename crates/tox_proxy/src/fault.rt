@@ -22,3 +22,8 @@ pub enum DryFault {
     #[error("{0} {1}")]
     Arrival(ArrivalFault, u64),
 }
+
+/// A write failed, or took nothing.
+#[derive(Clone, Copy, Debug, PartialEq, Eq, Error)]
+#[error("L4 WriteFault")]
+pub struct WriteFault;

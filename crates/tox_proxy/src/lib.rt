@@ -7,11 +7,13 @@ mod dry;
 mod fault;
 mod line;
 mod lines;
+mod plan_text;
 mod printing;
 mod reading;
 mod toxics;
 
 pub use dry::dry_run;
-pub use fault::DryFault;
+pub use fault::{DryFault, WriteFault};
+pub use plan_text::print_plan;
 pub use reading::MOST_INPUT;
 pub use toxics::{ToxicsFault, read_chain};

@@ -14,6 +14,8 @@ mod network;
 #[cfg(test)]
 mod orders;
 #[cfg(test)]
+mod plan_texts;
+#[cfg(test)]
 mod plans;
 #[cfg(test)]
 mod random;

@@ -12,14 +12,12 @@ fn each_toxic_has_its_operation(rt: HostRuntime) -> Result<(), Fail> {
         &rt,
         &[
             "latency:latency=3",
-            "latency:latency=5,jitter=2",
             "bandwidth:rate=7",
+            "latency:latency=5,jitter=2",
             "slow_close:delay=2",
             "limit_data:bytes=9",
             "slicer:average_size=4,size_variation=1,delay=6",
             "reset_peer:timeout=8",
-            "timeout:timeout=50",
-            "timeout",
         ],
     );
     let plan = compile(&chain, &words);
@@ -30,13 +28,13 @@ fn each_toxic_has_its_operation(rt: HostRuntime) -> Result<(), Fail> {
             jitter: 0,
             lane: 0,
         },
+        Op::Pace { rate: 7 },
         Op::Delay {
             fixed: 0,
             latency: 5,
             jitter: 2,
-            lane: 1,
+            lane: 2,
         },
-        Op::Pace { rate: 7 },
         Op::Slow { millis: 2 },
         Op::Limit { bytes: 9 },
         Op::Slicing {
@@ -48,15 +46,37 @@ fn each_toxic_has_its_operation(rt: HostRuntime) -> Result<(), Fail> {
         Op::Cutoff {
             instant: Micros::from_millis(8),
         },
-        Op::Mute {
-            ending: Ending::Closed(Micros::from_millis(50)),
-        },
-        Op::Mute {
-            ending: Ending::StillOpen,
-        },
     ];
     assert_eq!(rt; plan.ops(), ops.as_slice());
-    assert_eq!(rt; plan.deadline(), Some(Micros::ZERO));
+    assert_eq!(rt; plan.deadline(), Some(Micros::from_millis(8)));
+    Ok(())
+}
+
+#[test]
+fn a_timeout_stands_alone(rt: HostRuntime) -> Result<(), Fail> {
+    let words = Words::from_list(rt.alloc(), &[0])?;
+    let cases = [
+        (
+            "timeout:timeout=50",
+            "bandwidth:rate=7",
+            Ending::Closed(Micros::from_millis(50)),
+        ),
+        ("latency:latency=3", "timeout", Ending::StillOpen),
+        (
+            "timeout",
+            "reset_peer:timeout=8",
+            Ending::Reset(Micros::from_millis(8)),
+        ),
+    ];
+    for (first, second, ending) in cases {
+        let plan = compile(&chain_of(&rt, &[first, second]), &words);
+        assert_eq!(rt;
+            plan.ops(),
+            [Op::Mute { ending }].as_slice(),
+            "{first} {second}"
+        );
+        assert_eq!(rt; plan.deadline(), Some(Micros::ZERO));
+    }
     Ok(())
 }
 

@@ -12,6 +12,10 @@ pub enum Task<'a> {
         words: Option<&'a str>,
         toxics: Vec<&'a str>,
     },
+    Plan {
+        words: Option<&'a str>,
+        toxics: Vec<&'a str>,
+    },
 }
 
 /// Reads the command line. An error is `clap`'s own text, help too.
@@ -21,13 +25,15 @@ pub fn read<'a, S: AsStr>(alloc: Global, words: &'a [S]) -> Result<Task<'a>, Err
 }
 
 fn task_of<'a>(alloc: Global, matches: &ArgMatches<'a>) -> Result<Task<'a>, Error> {
-    let Some((_, given)) = matches.subcommand() else {
+    let Some((name, given)) = matches.subcommand() else {
         return Err(toxi(alloc)?.error(ErrorKind::MissingSubcommand, "a command is required")?);
     };
-    Ok(Task::Dry {
-        words: given.get_str("words"),
-        toxics: toxics_of(alloc, given)?,
-    })
+    let words = given.get_str("words");
+    let toxics = toxics_of(alloc, given)?;
+    match name {
+        "plan" => Ok(Task::Plan { words, toxics }),
+        _ => Ok(Task::Dry { words, toxics }),
+    }
 }
 
 fn toxics_of<'a>(alloc: Global, given: &ArgMatches<'a>) -> Result<Vec<&'a str>, AllocError> {
@@ -43,21 +49,36 @@ fn toxi<'a>(alloc: Global) -> Result<Command<'a>, AllocError> {
         .about("A TCP proxy that adds scripted faults")
         .after_help(help::PROGRAM)
         .subcommand_required(true)
-        .subcommand(dry(alloc)?)
+        .subcommand(dry(alloc)?)?
+        .subcommand(plan(alloc)?)
 }
 
 fn dry<'a>(alloc: Global) -> Result<Command<'a>, AllocError> {
-    let words = Arg::new(alloc, "words").long("words").value_name("W").help(
-        "The random words: 1 to 4096 numbers up to 4294967295, parted by commas [default: 0]",
-    );
-    let toxics = Arg::new(alloc, "toxics")
-        .value_name("TOXIC")
-        .help("The toxics that the link meets, in order, at most 16")
-        .num_args(0..)
-        .action(ArgAction::Append);
     Command::new(alloc, "dry")
         .about("Prints when each byte would leave, and how the link would end")
         .after_help(help::DRY)
-        .arg(words)?
-        .arg(toxics)
+        .arg(words(alloc))?
+        .arg(toxics(alloc))
+}
+
+fn plan<'a>(alloc: Global) -> Result<Command<'a>, AllocError> {
+    Command::new(alloc, "plan")
+        .about("Prints what the toxics are compiled into")
+        .after_help(help::PLAN)
+        .arg(words(alloc))?
+        .arg(toxics(alloc))
+}
+
+fn words<'a>(alloc: Global) -> Arg<'a> {
+    Arg::new(alloc, "words").long("words").value_name("W").help(
+        "The random words: 1 to 4096 numbers up to 4294967295, parted by commas [default: 0]",
+    )
+}
+
+fn toxics<'a>(alloc: Global) -> Arg<'a> {
+    Arg::new(alloc, "toxics")
+        .value_name("TOXIC")
+        .help("The toxics that the link meets, in order, at most 16")
+        .num_args(0..)
+        .action(ArgAction::Append)
 }

@@ -40,3 +40,24 @@ Example:
 prints
   100000 0..2 6162
   closed 100000";
+
+/// Below the options of `toxi plan`.
+pub const PLAN: &str = "\
+The output has a line for each operation that the toxics come to, in order, or `pass` where there is none:
+
+  delay MS                                delays all data
+  delay MS jitter MS MS lane PLACE        delays all data, and each piece by the second plus or minus the third
+  pace KB                                 passes KB kilobytes (of 1000 bytes) a second
+  slicing BYTES BYTES MICROS lane PLACE   cuts data into pieces of the first plus or minus the second
+  limit BYTES                             closes after so many bytes
+  cutoff MICROS                           resets the connection at that instant
+  slow MS                                 delays the closing
+  mute open, mute closed MICROS or mute reset MICROS
+                                          drops all data, and ends so
+
+A lane is the place, from 0, of the toxic whose words are drawn. `toxi dry --help` shows each toxic.
+
+Example:
+  toxi plan latency:latency=10 slow_close latency:latency=1
+prints
+  delay 11";

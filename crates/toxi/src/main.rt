@@ -4,6 +4,7 @@
 mod command_line;
 mod dry;
 mod help;
+mod plan;
 
 use command_line::Task;
 use std::process::ExitCode;
@@ -32,8 +33,11 @@ fn perform<R: Input + Print + Eprint + AllocGlobal>(
     rt: &R,
     task: &Task<'_>,
 ) -> io::Result<ExitCode> {
-    let Task::Dry { words, toxics } = task;
-    match dry::dry(rt, *words, toxics.as_slice()) {
+    let answer = match task {
+        Task::Dry { words, toxics } => dry::dry(rt, *words, toxics.as_slice()),
+        Task::Plan { words, toxics } => plan::plan(rt, *words, toxics.as_slice()),
+    };
+    match answer {
         Ok(()) => Ok(ExitCode::SUCCESS),
         Err(fault) => {
             eprintln!(rt; "toxi: {fault}")?;

@@ -1,0 +1,51 @@
+-- Delays: two add where one of them is the same for all chunks, and one of nothing does nothing.
+use Rattle.std.proofs.Common.{◌≡◌, ℕ, ◌+◌, ◌≤◌, max, List, [], ◌∷◌, refl, arith, ap}
+use Rattle.tox_time.specs.declared.micros.TheConstants.{HORIZON}
+use Rattle.tox_time.specs.declared.item.Item.{Item}
+use Rattle.tox_time.specs.declared.item.Item.TheVariants.{Chunk, Closed, Reset, Quiet}
+use Rattle.tox_time.specs.Time.{plus}
+use Rattle.tox_time.specs.Stream.{span_len, IsStreamFrom}
+use Rattle.tox_defs.specs.Reaction.{counted, flow_from}
+use Rattle.tox_defs.specs.Givings.{delayed}
+use Rattle.tox_defs.proofs.OpenStates.{open_state}
+
+-- a delay whose second part is always the same
+pub delays_join_second : (first : ℕ → ℕ) (second : ℕ) (both : ℕ → ℕ) → ((i : ℕ) → both i ≡ first i + second) → (items : List Item) (c p1 n1 b1 p2 n2 b2 n b position since : ℕ) → p1 ≤ p2 → p2 ≤ HORIZON → plus p1 second ≤ max p2 (plus 0 second) → IsStreamFrom position since items → flow_from (counted (delayed (λ _. second))) (open_state p2 c n2 b2) (flow_from (counted (delayed first)) (open_state p1 c n1 b1) items) ≡ flow_from (counted (delayed both)) (open_state p2 c n b) items
+delays_join_second first second both sum [] c p1 n1 b1 p2 n2 b2 n b position since order fits kept stream = refl
+delays_join_second first second both sum (Chunk span t ∷ items) c p1 n1 b1 p2 n2 b2 n b position since order fits kept stream =
+    let wait : both c ≡ first c + second = sum c in
+    let same : max p2 (plus (max p1 (plus t (first c))) second) ≡ max p2 (plus t (both c)) = omega (arith, wait, kept) in
+    let others = delays_join_second first second both sum items (c + 1) (max p1 (plus t (first c))) (n1 + 1) (b1 + (span_len span + 0)) (max p2 (plus (max p1 (plus t (first c))) second)) (n2 + 1) (b2 + (span_len span + 0)) (n + 1) (b + (span_len span + 0)) span.stop t (omega (arith, order, fits)) (omega (arith, fits)) (omega arith) stream.4 in
+    cc
+delays_join_second first second both sum (Closed t ∷ items) c p1 n1 b1 p2 n2 b2 n b position since order fits kept stream =
+    let same : max p2 (max p1 t) ≡ max p2 t = omega arith in rw stream.2 (ap (λ at. Closed at ∷ []) same)
+delays_join_second first second both sum (Reset t ∷ items) c p1 n1 b1 p2 n2 b2 n b position since order fits kept stream =
+    let same : max p2 (max p1 t) ≡ max p2 t = omega arith in rw stream.2 (ap (λ at. Reset at ∷ []) same)
+delays_join_second first second both sum (Quiet ∷ items) c p1 n1 b1 p2 n2 b2 n b position since order fits kept stream = rw stream refl
+
+-- a delay whose first part is always the same
+pub delays_join_first : (first : ℕ) (second both : ℕ → ℕ) → ((i : ℕ) → both i ≡ first + second i) → (items : List Item) (c p1 n1 b1 p2 n2 b2 n b position since : ℕ) → p1 ≤ p2 → p2 ≤ HORIZON → p1 ≤ plus since first → IsStreamFrom position since items → flow_from (counted (delayed second)) (open_state p2 c n2 b2) (flow_from (counted (delayed (λ _. first))) (open_state p1 c n1 b1) items) ≡ flow_from (counted (delayed both)) (open_state p2 c n b) items
+delays_join_first first second both sum [] c p1 n1 b1 p2 n2 b2 n b position since order fits kept stream = refl
+delays_join_first first second both sum (Chunk span t ∷ items) c p1 n1 b1 p2 n2 b2 n b position since order fits kept stream =
+    let wait : both c ≡ first + second c = sum c in
+    let same : max p2 (plus (max p1 (plus t first)) (second c)) ≡ max p2 (plus t (both c)) = omega (arith, wait, kept, stream.2) in
+    let others = delays_join_first first second both sum items (c + 1) (max p1 (plus t first)) (n1 + 1) (b1 + (span_len span + 0)) (max p2 (plus (max p1 (plus t first)) (second c))) (n2 + 1) (b2 + (span_len span + 0)) (n + 1) (b + (span_len span + 0)) span.stop t (omega (arith, order, fits)) (omega (arith, fits)) (omega (arith, kept, stream.2)) stream.4 in
+    cc
+delays_join_first first second both sum (Closed t ∷ items) c p1 n1 b1 p2 n2 b2 n b position since order fits kept stream =
+    let same : max p2 (max p1 t) ≡ max p2 t = omega arith in rw stream.2 (ap (λ at. Closed at ∷ []) same)
+delays_join_first first second both sum (Reset t ∷ items) c p1 n1 b1 p2 n2 b2 n b position since order fits kept stream =
+    let same : max p2 (max p1 t) ≡ max p2 t = omega arith in rw stream.2 (ap (λ at. Reset at ∷ []) same)
+delays_join_first first second both sum (Quiet ∷ items) c p1 n1 b1 p2 n2 b2 n b position since order fits kept stream = rw stream refl
+
+-- a delay of nothing
+pub delay_vanishes : (wait : ℕ → ℕ) → ((i : ℕ) → wait i ≡ 0) → (items : List Item) (p c n b position since : ℕ) → p ≤ since → IsStreamFrom position since items → flow_from (counted (delayed wait)) (open_state p c n b) items ≡ items
+delay_vanishes wait none [] p c n b position since before stream = refl
+delay_vanishes wait none (Chunk span t ∷ items) p c n b position since before stream =
+    let same : max p (plus t (wait c)) ≡ t = omega (arith, none c, before, stream.2, stream.3) in
+    let others = delay_vanishes wait none items (max p (plus t (wait c))) (c + 1) (n + 1) (b + (span_len span + 0)) span.stop t (omega (arith, same)) stream.4 in
+    cc
+delay_vanishes wait none (Closed t ∷ items) p c n b position since before stream =
+    let same : max p t ≡ t = omega (arith, before, stream.0) in rw stream.2 (ap (λ at. Closed at ∷ []) same)
+delay_vanishes wait none (Reset t ∷ items) p c n b position since before stream =
+    let same : max p t ≡ t = omega (arith, before, stream.0) in rw stream.2 (ap (λ at. Reset at ∷ []) same)
+delay_vanishes wait none (Quiet ∷ items) p c n b position since before stream = rw stream refl

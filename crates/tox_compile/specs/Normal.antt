@@ -1,0 +1,65 @@
+-- The normal form of a plan: each operation joined to the last one where a rule allows.
+use Rattle.std.specs.Prelude.{ℕ, ◌+◌, ◌*◌, ◌==◌, ◌&&◌, min, Bool, false, List, [], ◌∷◌, fold, Option, None, Some, nat_lt, if◌then◌else◌}
+use Rattle.tox_time.specs.declared.ending.Ending.{Ending}
+use Rattle.tox_time.specs.declared.ending.Ending.TheVariants.{StillOpen, Closed, Reset}
+use Rattle.tox_time.specs.Time.{plus}
+use Rattle.tox_defs.specs.declared.op.Op.{Op}
+use Rattle.tox_defs.specs.declared.op.Op.TheVariants.{Delay, Slow, Mute, Cutoff, Limit}
+use Rattle.tox_defs.specs.Chain.{Toxics}
+use Rattle.tox_compile.specs.Compiled.{ops_of}
+
+-- whether an operation does nothing: a delay of zero without jitter, or a slow close of zero
+abbrev pub vanishes : Op → Bool
+vanishes (Delay fixed latency jitter lane) = fixed == 0 && (jitter == 0)
+vanishes (Slow millis) = millis == 0
+vanishes op = false
+
+-- an ending whose close comes so many milliseconds later
+abbrev pub slowed : ℕ → Ending → Ending
+slowed millis (Closed t) = Closed (plus t (1000 * millis))
+slowed millis ending = ending
+
+-- an ending before the instant, and else a reset at it
+abbrev pub cut_at : ℕ → Ending → Ending
+cut_at instant StillOpen = Reset instant
+cut_at instant (Closed t) = if nat_lt t instant then Closed t else Reset instant
+cut_at instant (Reset t) = if nat_lt t instant then Reset t else Reset instant
+
+-- what an operation makes of the ending of a mute before it
+abbrev pub after_mute : Op → Ending → Ending
+after_mute (Slow millis) ending = slowed millis ending
+after_mute (Cutoff instant) ending = cut_at instant ending
+after_mute (Mute last) ending = last
+after_mute op ending = ending
+
+-- the one operation that stands for two neighbours, where a rule joins them
+abbrev pub joined : Op → Op → Option Op
+joined (Delay fixed latency jitter lane) (Delay more latency' jitter' lane') =
+    if jitter' == 0 then Some (Delay (fixed + more) latency jitter lane)
+    else if jitter == 0 then Some (Delay (fixed + more) latency' jitter' lane')
+    else None
+joined (Slow millis) (Slow more) = Some (Slow (millis + more))
+joined (Limit bytes) (Limit other) = Some (Limit (min bytes other))
+joined (Cutoff instant) (Cutoff other) = Some (Cutoff (min instant other))
+joined (Mute ending) op = Some (Mute (after_mute op ending))
+joined first second = None
+
+-- the one, or where there is none the two
+abbrev pub one_or_two : Option Op → Op → Op → List Op
+one_or_two (Some one) first second = one ∷ []
+one_or_two None first second = first ∷ second ∷ []
+
+-- the operations with one more, joined to the last where a rule allows
+abbrev pub with_last : List Op → Op → List Op
+with_last [] op = op ∷ []
+with_last (last ∷ []) op = one_or_two (joined last op) last op
+with_last (first ∷ second ∷ ops) op = first ∷ with_last (second ∷ ops) op
+
+-- the operations with one more: a mute takes the place of all before it, and what does nothing is left out
+abbrev pub with_op : List Op → Op → List Op
+with_op ops (Mute ending) = Mute ending ∷ []
+with_op ops op = if vanishes op then ops else with_last ops op
+
+-- the operations of the applied toxics, one after the other
+abbrev pub normal_form : Toxics → List ℕ → List Op
+normal_form chain words = fold with_op [] (ops_of chain words)

@@ -1,0 +1,120 @@
+//! Operations joined to the ones before them.
+ghost use Rattle.std.specs.Prelude.{◌≡◌, ◌+◌, ◌<◌, ◌^◌, [], ◌∷◌, ◌++◌, All};
+ghost use Rattle.arrayvec.specs.ArrayVec.{array_vec_len};
+ghost use Rattle.tox_defs.specs.declared.chain.TheConstants.{MOST_TOXICS};
+ghost use Rattle.tox_compile.specs.Normal.{vanishes, joined, with_last, with_op};
+ghost use Rattle.tox_compile.specs.NormalInside.{millis_of, with_more};
+
+use arrayvec::ArrayVec;
+use tox_defs::{MOST_TOXICS, Op, State};
+
+/// Adds an operation behind the others. A mute takes the place of all of them, and what does nothing is left out.
+pub(crate) fn add(ops: &mut ArrayVec<Op, MOST_TOXICS>, op: &Op)
+    requires room { array_vec_len ops.old < MOST_TOXICS }
+    requires sums { All (λ last. millis_of last + millis_of op.now < 2 ^ 32) ops.old.items }
+    ensures { ops.new.items ≡ with_op ops.old.items op.now }
+{
+    if matches!(op, Op::Mute { .. }) {
+        ops.clear();
+        append(ops, op);
+    } else if !vanishes(op) {
+        join_last(ops, op);
+    }
+}
+
+/// Adds an operation behind the others, joined to the last where a rule allows.
+fn join_last(ops: &mut ArrayVec<Op, MOST_TOXICS>, op: &Op)
+    requires room { array_vec_len ops.old < MOST_TOXICS }
+    requires sums { All (λ last. millis_of last + millis_of op.now < 2 ^ 32) ops.old.items }
+    ensures { ops.new.items ≡ with_last ops.old.items op.now }
+{
+    let Some(last) = &ops.pop() else {
+        append(ops, op);
+        return;
+    };
+    if let Some(one) = &joined(last, op) {
+        append(ops, one);
+    } else {
+        append(ops, last);
+        append(ops, op);
+    }
+}
+
+/// Whether an operation does nothing.
+fn vanishes(op: &Op) -> bool
+    ensures { result ≡ vanishes op.now }
+{
+    match op {
+        Op::Delay { fixed, jitter, .. } => *fixed == 0 && *jitter == 0,
+        Op::Slow { millis } => *millis == 0,
+        _ => false,
+    }
+}
+
+/// The one operation that stands for two neighbours, where a rule joins them.
+fn joined(first: &Op, second: &Op) -> Option<Op>
+    requires { millis_of first.now + millis_of second.now < 2 ^ 32 }
+    ensures { result ≡ joined first.now second.now }
+{
+    match (first, second) {
+        (
+            Op::Delay { .. },
+            Op::Delay {
+                fixed,
+                jitter: 0,
+                ..
+            },
+        ) => Some(with_more(first, *fixed)),
+        (
+            Op::Delay {
+                fixed,
+                jitter: 0,
+                ..
+            },
+            Op::Delay { .. },
+        ) => Some(with_more(second, *fixed)),
+        (Op::Slow { .. }, Op::Slow { millis }) => Some(with_more(first, *millis)),
+        (Op::Limit { bytes }, Op::Limit { bytes: other }) => Some(Op::Limit {
+            bytes: *bytes.min(other),
+        }),
+        (Op::Cutoff { instant }, Op::Cutoff { instant: other }) => Some(Op::Cutoff {
+            instant: *instant.min(other),
+        }),
+        (Op::Mute { ending }, op) => Some(Op::Mute {
+            ending: op.last(&State::default(), ending),
+        }),
+        _ => None,
+    }
+}
+
+/// The operation, where it delays every chunk or a close, with so many milliseconds more.
+fn with_more(op: &Op, more: u32) -> Op
+    requires { millis_of op.now + more < 2 ^ 32 }
+    ensures { result ≡ with_more op.now more }
+{
+    match op {
+        Op::Delay {
+            fixed,
+            latency,
+            jitter,
+            lane,
+        } => Op::Delay {
+            fixed: fixed + more,
+            latency: *latency,
+            jitter: *jitter,
+            lane: *lane,
+        },
+        Op::Slow { millis } => Op::Slow {
+            millis: millis + more,
+        },
+        _ => *op,
+    }
+}
+
+/// Adds an item behind the others.
+fn append<T: Copy>(list: &mut ArrayVec<T, MOST_TOXICS>, item: &T)
+    requires { array_vec_len list.old < MOST_TOXICS }
+    ensures { list.new.items ≡ list.old.items ++ item.now ∷ [] }
+{
+    list.push(*item);
+}
