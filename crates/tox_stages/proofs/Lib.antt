@@ -1,0 +1,4 @@
+pub mod Places
+pub mod Working
+pub mod Joined
+pub mod Rested
