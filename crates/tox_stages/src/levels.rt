@@ -2,6 +2,7 @@
 ghost use Rattle.std.specs.Prelude.{◌≡◌, ◌+◌, ◌<◌, ◌≤◌, All, [], length, Some, IfOk};
 ghost use Rattle.rtrb.specs.Ring.{sent, received, SameProducer, SameConsumer};
 ghost use Rattle.tox_time.specs.Arrivals.{arrival_list};
+ghost use Rattle.tox_time.specs.Neighbours.{AreNeighbours};
 ghost use Rattle.tox_time.specs.Table.{IsOutcomeOf};
 ghost use Rattle.tox_words.specs.Draw.{draw};
 ghost use Rattle.tox_defs.specs.Chain.{IsEntry};
@@ -173,6 +174,7 @@ pub fn run_stages<R: Threads + Wait + Sync, G: Gate>(
     requires some { 1 ≤ cap }
     requires most { cap ≤ 1024 }
     ensures flow { IfOk result (IsOutcomeOf (chain_flow chain.now words.now (arrival_list arrivals.now))) }
+    ensures neighbours { IfOk result (λ outcome. AreNeighbours (arrival_list arrivals.now) 0 outcome.slices) }
     ensures network { IfOk result (IsNetworkAtRest cap chain.now words.now (arrival_list arrivals.now)) }
 {
     thread::scope(
@@ -181,6 +183,7 @@ pub fn run_stages<R: Threads + Wait + Sync, G: Gate>(
         |scope| -> Result<Outcome, StageFault>
             requires { 1 ≤ cap }
             ensures flow { IfOk result (IsOutcomeOf (chain_flow chain.entry.now words.entry.now (arrival_list arrivals.entry.now))) }
+            ensures neighbours { IfOk result (λ outcome. AreNeighbours (arrival_list arrivals.entry.now) 0 outcome.slices) }
             ensures network { IfOk result (IsNetworkAtRest cap chain.entry.now words.entry.now (arrival_list arrivals.entry.now)) }
         {
             let Ok((mut first, consumer)) = RingBuffer::new(alloc, cap) else {

@@ -7,7 +7,7 @@ use Rattle.tox_network.specs.Shown.{shown}
 use Rattle.tox_network.proofs.ShownItems.{outcome_shown}
 use Rattle.tox_stages.specs.Passing.{PassesOn, Delivers, reactions_from}
 use Rattle.tox_stages.proofs.Joined.{from_ring}
-use Rattle.tox_stages.proofs.Rested.{network_at_rest}
+use Rattle.tox_stages.proofs.Rested.{network_at_rest, delivered_neighbours}
 use Rattle.tox_stages.proofs.levels.fn.run_stages.scope.Goals as goal
 
 pub returns : goal.returns
@@ -23,5 +23,6 @@ returns g c =
     let passes : PassesOn (reactions_of chain words) items delivered = from_ring (reactions_of chain words) items below known delivered c.in_ok-consumer.ensures.stream ring (subst (λ entries. Delivers (reactions_from 0 entries words) below delivered) c.entries.ensures.value c.in_ok-consumer.ensures.delivered) in
     record {
       flow = outcome_shown outcome _ passes.flowed;
+      neighbours = delivered_neighbours chain words items outcome c.entries.ensures.chain passes;
       network = network_at_rest c.captures.cap chain words items outcome c.requires passes;
     }
