@@ -7,4 +7,5 @@ pub mod Writing
 pub mod ResultText
 pub mod OpenRun
 pub mod DryRun
+pub mod StagesRun
 pub mod Toxics

@@ -1,4 +1,5 @@
 use thiserror::Error;
+use tox_stages::StageFault;
 use tox_time::ArrivalFault;
 
 /// Why a dry run failed. Lines count from 1.
@@ -21,4 +22,15 @@ pub enum DryFault {
     /// The arrival of this line was refused.
     #[error("{0} {1}")]
     Arrival(ArrivalFault, u64),
+}
+
+/// Why a run of stages failed.
+#[derive(Clone, Copy, Debug, PartialEq, Eq, Error)]
+pub enum StagesFault {
+    /// As a dry run does.
+    #[error("{0}")]
+    Dry(DryFault),
+    /// The stages gave no outcome.
+    #[error("{0}")]
+    Stages(StageFault),
 }

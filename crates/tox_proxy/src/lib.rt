@@ -9,9 +9,11 @@ mod line;
 mod lines;
 mod printing;
 mod reading;
+mod stages;
 mod toxics;
 
 pub use dry::dry_run;
-pub use fault::DryFault;
+pub use fault::{DryFault, StagesFault};
 pub use reading::MOST_INPUT;
+pub use stages::stages_run;
 pub use toxics::{ToxicsFault, read_chain};

@@ -24,4 +24,6 @@ mod staged;
 #[cfg(test)]
 mod stages;
 #[cfg(test)]
+mod threads;
+#[cfg(test)]
 mod worked;
