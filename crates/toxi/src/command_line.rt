@@ -1,5 +1,7 @@
 //! The command line, as `clap` reads it.
 use crate::help;
+use crate::stages::{Cap, DEFAULT_CAP, MOST_CAP};
+use clap::builder::ValueParser;
 use clap::error::ErrorKind;
 use clap::{Arg, ArgAction, ArgMatches, Command, Error};
 use std::alloc::{AllocError, Global};
@@ -12,6 +14,11 @@ pub enum Task<'a> {
         words: Option<&'a str>,
         toxics: Vec<&'a str>,
     },
+    Stages {
+        cap: Cap,
+        words: Option<&'a str>,
+        toxics: Vec<&'a str>,
+    },
 }
 
 /// Reads the command line. An error is `clap`'s own text, help too.
@@ -21,13 +28,24 @@ pub fn read<'a, S: AsStr>(alloc: Global, words: &'a [S]) -> Result<Task<'a>, Err
 }
 
 fn task_of<'a>(alloc: Global, matches: &ArgMatches<'a>) -> Result<Task<'a>, Error> {
-    let Some((_, given)) = matches.subcommand() else {
+    let Some((name, given)) = matches.subcommand() else {
         return Err(toxi(alloc)?.error(ErrorKind::MissingSubcommand, "a command is required")?);
     };
-    Ok(Task::Dry {
-        words: given.get_str("words"),
-        toxics: toxics_of(alloc, given)?,
+    let words = given.get_str("words");
+    let toxics = toxics_of(alloc, given)?;
+    Ok(match name {
+        "stages" => Task::Stages {
+            cap: cap_of(given),
+            words,
+            toxics,
+        },
+        _ => Task::Dry { words, toxics },
     })
+}
+
+/// The room of each ring. `clap` refuses what is none.
+fn cap_of(given: &ArgMatches<'_>) -> Cap {
+    Cap::new(given.get_one::<usize>("cap").unwrap_or(DEFAULT_CAP))
 }
 
 fn toxics_of<'a>(alloc: Global, given: &ArgMatches<'a>) -> Result<Vec<&'a str>, AllocError> {
@@ -43,21 +61,42 @@ fn toxi<'a>(alloc: Global) -> Result<Command<'a>, AllocError> {
         .about("A TCP proxy that adds scripted faults")
         .after_help(help::PROGRAM)
         .subcommand_required(true)
-        .subcommand(dry(alloc)?)
+        .subcommand(dry(alloc)?)?
+        .subcommand(stages(alloc)?)
 }
 
 fn dry<'a>(alloc: Global) -> Result<Command<'a>, AllocError> {
-    let words = Arg::new(alloc, "words").long("words").value_name("W").help(
-        "The random words: 1 to 4096 numbers up to 4294967295, parted by commas [default: 0]",
-    );
-    let toxics = Arg::new(alloc, "toxics")
-        .value_name("TOXIC")
-        .help("The toxics that the link meets, in order, at most 16")
-        .num_args(0..)
-        .action(ArgAction::Append);
     Command::new(alloc, "dry")
         .about("Prints when each byte would leave, and how the link would end")
         .after_help(help::DRY)
-        .arg(words)?
-        .arg(toxics)
+        .arg(words_argument(alloc))?
+        .arg(toxics_argument(alloc))
+}
+
+fn stages<'a>(alloc: Global) -> Result<Command<'a>, AllocError> {
+    let cap = Arg::new(alloc, "cap")
+        .long("cap")
+        .value_name("N")
+        .help("The room of each ring, in items: 1 to 1024 [default: 4]")
+        .value_parser(ValueParser::unsigned(1, MOST_CAP as u64));
+    Command::new(alloc, "stages")
+        .about("Prints what `dry` prints, by a thread for each toxic")
+        .after_help(help::STAGES)
+        .arg(cap)?
+        .arg(words_argument(alloc))?
+        .arg(toxics_argument(alloc))
+}
+
+fn words_argument<'a>(alloc: Global) -> Arg<'a> {
+    Arg::new(alloc, "words").long("words").value_name("W").help(
+        "The random words: 1 to 4096 numbers up to 4294967295, parted by commas [default: 0]",
+    )
+}
+
+fn toxics_argument<'a>(alloc: Global) -> Arg<'a> {
+    Arg::new(alloc, "toxics")
+        .value_name("TOXIC")
+        .help("The toxics that the link meets, in order, at most 16")
+        .num_args(0..)
+        .action(ArgAction::Append)
 }

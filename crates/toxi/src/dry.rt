@@ -2,11 +2,11 @@
 use std::alloc::Global;
 use std::io;
 use thiserror::Error;
-use tox_proxy::{DryFault, ToxicsFault, dry_run, read_chain};
+use tox_proxy::{DryFault, StagesFault, ToxicsFault, dry_run, read_chain};
 use tox_time::Real;
 use tox_words::{Words, WordsFault};
 
-/// Why a dry run was not done.
+/// Why a run was not done.
 #[derive(Debug, Drop, Error)]
 pub enum Fault {
     #[error("{0}")]
@@ -15,6 +15,8 @@ pub enum Fault {
     Toxics(ToxicsFault),
     #[error("{0}")]
     Dry(DryFault),
+    #[error("{0}")]
+    Stages(StagesFault),
 }
 
 /// Reads the words, then the toxics from the left, and then the input. Without words the table is the one word 0.
@@ -30,7 +32,8 @@ pub fn dry<R: Input + Print + AllocGlobal>(
     dry_run(rt.alloc(), &mut reader, &mut writer, &chain, &words).map_err(Fault::Dry)
 }
 
-fn words_of(alloc: Global, text: Option<&str>) -> Result<Words, WordsFault> {
+/// The table that a text writes, or that of the one word 0.
+pub fn words_of(alloc: Global, text: Option<&str>) -> Result<Words, WordsFault> {
     match text {
         Some(text) => Words::from_text(alloc, text),
         None => Words::from_list(alloc, &[0]),

@@ -40,3 +40,15 @@ Example:
 prints
   100000 0..2 6162
   closed 100000";
+
+/// Below the options of `toxi stages`.
+pub const STAGES: &str = "\
+A TOXIC, the input and the output are those of `toxi dry`; see `toxi dry --help`.
+
+A thread works for each applied toxic, over rings of N items. The output doesn't depend on N.
+
+Example:
+  printf '0 data 6162\\n50 eof\\n' | toxi stages --cap 1 latency:latency=100
+prints
+  100000 0..2 6162
+  closed 100000";
