@@ -8,7 +8,7 @@ use tox_time::{Ending, Item, Outcome, Slice, SliceList};
 
 /// The list that was delivered: a slice for each chunk, and the ending of the final.
 #[derive(Drop)]
-pub(crate) struct Delivered {
+pub struct Delivered {
     slices: SliceList,
     ending: Option<Ending>,
 }
@@ -25,7 +25,7 @@ impl Model for Delivered {
 
 impl Delivered {
     /// Nothing was; takes no memory.
-    pub(crate) fn new(alloc: Global) -> Delivered
+    pub fn new(alloc: Global) -> Delivered
         ensures { result ≡ [] }
     {
         Delivered {
@@ -35,7 +35,7 @@ impl Delivered {
     }
 
     /// Adds an item. Memory is taken for a chunk alone.
-    pub(crate) fn push(&mut self, item: Item) -> Result<(), AllocError>
+    pub fn push(&mut self, item: Item) -> Result<(), AllocError>
         requires { has_final self.old ≡ false }
         ensures ok { OnOk result (self.new ≡ self.old ++ item ∷ []) }
         ensures err { OnErr result (self.new ≡ self.old) }
@@ -51,7 +51,7 @@ impl Delivered {
     }
 
     /// The slices and the ending.
-    pub(crate) fn into_outcome(self) -> Outcome
+    pub fn into_outcome(self) -> Outcome
         requires { has_final self ≡ true }
         ensures { shown result.slices (Some result.ending) ≡ self }
     {

@@ -10,6 +10,8 @@ mod queues;
 mod stages;
 mod waiting;
 
+pub use delivered::Delivered;
 pub use fault::StepFault;
 pub use moves::Move;
 pub use network::Network;
+pub use waiting::Waiting;

@@ -8,7 +8,7 @@ use tox_time::{Arrivals, Item};
 
 /// The arrivals that are not in the network yet, with the `Quiet` that isn't stored.
 #[derive(Drop)]
-pub(crate) struct Waiting<'a> {
+pub struct Waiting<'a> {
     items: &'a [Item],
     entered: usize,
     quiet: bool,
@@ -39,7 +39,7 @@ fn is_open(items: &[Item]) -> bool
 
 impl<'a> Waiting<'a> {
     /// All arrivals wait.
-    pub(crate) fn new(arrivals: &'a Arrivals) -> Waiting<'a>
+    pub fn new(arrivals: &'a Arrivals) -> Waiting<'a>
         ensures all { result ≡ record { arrived = arrival_list arrivals.now; waiting = arrival_list arrivals.now } }
         ensures list { IsArrivalList (arrival_list arrivals.now) }
         ensures bound { arrived (arrival_list arrivals.now) ≤ 2 ^ 40 }
@@ -52,14 +52,14 @@ impl<'a> Waiting<'a> {
         }
     }
 
-    pub(crate) fn is_empty(&self) -> bool
+    pub fn is_empty(&self) -> bool
         ensures { IsTrue result ↔ (self.now.waiting ≡ []) }
     {
         self.entered == self.items.len() && !self.quiet
     }
 
     /// Takes the next arrival.
-    pub(crate) fn pop(&mut self) -> Item
+    pub fn pop(&mut self) -> Item
         requires { self.old.waiting ≢ [] }
         ensures next { self.old.waiting ≡ result ∷ self.new.waiting }
         ensures arrived { self.new.arrived ≡ self.old.arrived }

@@ -8,4 +8,5 @@ pub mod ResultText
 pub mod PlanText
 pub mod OpenRun
 pub mod DryRun
+pub mod StagesRun
 pub mod Toxics

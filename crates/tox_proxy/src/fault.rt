@@ -1,4 +1,5 @@
 use thiserror::Error;
+use tox_stages::StageFault;
 use tox_time::ArrivalFault;
 
 /// Why a dry run failed. Lines count from 1.
@@ -27,3 +28,14 @@ pub enum DryFault {
 #[derive(Clone, Copy, Debug, PartialEq, Eq, Error)]
 #[error("L4 WriteFault")]
 pub struct WriteFault;
+
+/// Why a run of stages failed.
+#[derive(Clone, Copy, Debug, PartialEq, Eq, Error)]
+pub enum StagesFault {
+    /// As a dry run does.
+    #[error("{0}")]
+    Dry(DryFault),
+    /// The stages gave no outcome.
+    #[error("{0}")]
+    Stages(StageFault),
+}

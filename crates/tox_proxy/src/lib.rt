@@ -10,10 +10,12 @@ mod lines;
 mod plan_text;
 mod printing;
 mod reading;
+mod stages;
 mod toxics;
 
 pub use dry::dry_run;
-pub use fault::{DryFault, WriteFault};
+pub use fault::{DryFault, StagesFault, WriteFault};
 pub use plan_text::print_plan;
 pub use reading::MOST_INPUT;
+pub use stages::stages_run;
 pub use toxics::{ToxicsFault, read_chain};

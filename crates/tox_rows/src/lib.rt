@@ -30,4 +30,6 @@ mod staged;
 #[cfg(test)]
 mod stages;
 #[cfg(test)]
+mod threads;
+#[cfg(test)]
 mod worked;

@@ -1,3 +1,5 @@
+ghost use Rattle.std.specs.Prelude.{◌≡◌};
+
 use crate::micros::Micros;
 use crate::span::Span;
 
@@ -12,4 +14,18 @@ pub enum Item {
     Reset(Micros),
     /// Nothing more ever arrives.
     Quiet,
+}
+
+impl Item {
+    ghost use Rattle.tox_time.specs.Stream.{is_final};
+
+    /// Whether nothing comes after it: it is no chunk.
+    pub fn is_final(&self) -> bool
+        ensures { result ≡ is_final self.now }
+    {
+        match self {
+            Item::Chunk(..) => false,
+            Item::Closed(_) | Item::Reset(_) | Item::Quiet => true,
+        }
+    }
 }

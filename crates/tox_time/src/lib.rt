@@ -5,6 +5,7 @@
 mod arrivals;
 mod ending;
 mod ends;
+mod gate;
 mod item;
 mod memory_sink;
 mod memory_source;
@@ -18,6 +19,7 @@ mod stream;
 pub use arrivals::{ArrivalFault, Arrivals};
 pub use ending::Ending;
 pub use ends::{EndFault, Sink, Source};
+pub use gate::Gate;
 pub use item::Item;
 pub use memory_sink::MemorySink;
 pub use memory_source::MemorySource;

@@ -1,5 +1,7 @@
 //! The command line, as `clap` reads it.
 use crate::help;
+use crate::stages::{Cap, DEFAULT_CAP, MOST_CAP};
+use clap::builder::ValueParser;
 use clap::error::ErrorKind;
 use clap::{Arg, ArgAction, ArgMatches, Command, Error};
 use std::alloc::{AllocError, Global};
@@ -13,6 +15,8 @@ pub enum Task<'a> {
         toxics: Vec<&'a str>,
     },
     Plan {
+    Stages {
+        cap: Cap,
         words: Option<&'a str>,
         toxics: Vec<&'a str>,
     },
@@ -34,6 +38,19 @@ fn task_of<'a>(alloc: Global, matches: &ArgMatches<'a>) -> Result<Task<'a>, Erro
         "plan" => Ok(Task::Plan { words, toxics }),
         _ => Ok(Task::Dry { words, toxics }),
     }
+    Ok(match name {
+        "stages" => Task::Stages {
+            cap: cap_of(given),
+            words,
+            toxics,
+        },
+        _ => Task::Dry { words, toxics },
+    })
+}
+
+/// The room of each ring. `clap` refuses what is none.
+fn cap_of(given: &ArgMatches<'_>) -> Cap {
+    Cap::new(given.get_one::<usize>("cap").unwrap_or(DEFAULT_CAP))
 }
 
 fn toxics_of<'a>(alloc: Global, given: &ArgMatches<'a>) -> Result<Vec<&'a str>, AllocError> {
@@ -51,6 +68,7 @@ fn toxi<'a>(alloc: Global) -> Result<Command<'a>, AllocError> {
         .subcommand_required(true)
         .subcommand(dry(alloc)?)?
         .subcommand(plan(alloc)?)
+        .subcommand(stages(alloc)?)
 }
 
 fn dry<'a>(alloc: Global) -> Result<Command<'a>, AllocError> {
@@ -70,12 +88,32 @@ fn plan<'a>(alloc: Global) -> Result<Command<'a>, AllocError> {
 }
 
 fn words<'a>(alloc: Global) -> Arg<'a> {
+        .arg(words_argument(alloc))?
+        .arg(toxics_argument(alloc))
+}
+
+fn stages<'a>(alloc: Global) -> Result<Command<'a>, AllocError> {
+    let cap = Arg::new(alloc, "cap")
+        .long("cap")
+        .value_name("N")
+        .help("The room of each ring, in items: 1 to 1024 [default: 4]")
+        .value_parser(ValueParser::unsigned(1, MOST_CAP as u64));
+    Command::new(alloc, "stages")
+        .about("Prints what `dry` prints, by a thread for each toxic")
+        .after_help(help::STAGES)
+        .arg(cap)?
+        .arg(words_argument(alloc))?
+        .arg(toxics_argument(alloc))
+}
+
+fn words_argument<'a>(alloc: Global) -> Arg<'a> {
     Arg::new(alloc, "words").long("words").value_name("W").help(
         "The random words: 1 to 4096 numbers up to 4294967295, parted by commas [default: 0]",
     )
 }
 
 fn toxics<'a>(alloc: Global) -> Arg<'a> {
+fn toxics_argument<'a>(alloc: Global) -> Arg<'a> {
     Arg::new(alloc, "toxics")
         .value_name("TOXIC")
         .help("The toxics that the link meets, in order, at most 16")

@@ -7,6 +7,11 @@ use tox_time::Real;
 use tox_words::{Words, WordsFault};
 
 /// Why a dry run was not done, or a plan not printed.
+use tox_proxy::{DryFault, StagesFault, ToxicsFault, dry_run, read_chain};
+use tox_time::Real;
+use tox_words::{Words, WordsFault};
+
+/// Why a run was not done.
 #[derive(Debug, Drop, Error)]
 pub enum Fault {
     #[error("{0}")]
@@ -17,6 +22,7 @@ pub enum Fault {
     Dry(DryFault),
     #[error("{0}")]
     Write(WriteFault),
+    Stages(StagesFault),
 }
 
 /// Reads the words, then the toxics from the left, and then the input. Without words the table is the one word 0.
@@ -33,6 +39,7 @@ pub fn dry<R: Input + Print + AllocGlobal>(
 }
 
 /// The table of words that a command line gives.
+/// The table that a text writes, or that of the one word 0.
 pub fn words_of(alloc: Global, text: Option<&str>) -> Result<Words, WordsFault> {
     match text {
         Some(text) => Words::from_text(alloc, text),

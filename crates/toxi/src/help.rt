@@ -61,3 +61,14 @@ Example:
   toxi plan latency:latency=10 slow_close latency:latency=1
 prints
   delay 11";
+/// Below the options of `toxi stages`.
+pub const STAGES: &str = "\
+A TOXIC, the input and the output are those of `toxi dry`; see `toxi dry --help`.
+
+A thread works for each applied toxic, over rings of N items. The output doesn't depend on N.
+
+Example:
+  printf '0 data 6162\\n50 eof\\n' | toxi stages --cap 1 latency:latency=100
+prints
+  100000 0..2 6162
+  closed 100000";

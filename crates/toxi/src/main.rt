@@ -5,9 +5,12 @@ mod command_line;
 mod dry;
 mod help;
 mod plan;
+mod stages;
 
 use command_line::Task;
 use std::process::ExitCode;
+use std::sync::Wait;
+use std::thread::Threads;
 use std::{env, io};
 
 /// The status of a command line that is refused.
@@ -29,7 +32,7 @@ fn main(rt: HostRuntime) -> io::Result<ExitCode> {
 }
 
 /// Does what the command line asks for. A fault is one line on standard error.
-fn perform<R: Input + Print + Eprint + AllocGlobal>(
+fn perform<R: Input + Print + Eprint + AllocGlobal + Threads + Wait + Sync>(
     rt: &R,
     task: &Task<'_>,
 ) -> io::Result<ExitCode> {
@@ -38,6 +41,11 @@ fn perform<R: Input + Print + Eprint + AllocGlobal>(
         Task::Plan { words, toxics } => plan::plan(rt, *words, toxics.as_slice()),
     };
     match answer {
+    let done = match task {
+        Task::Dry { words, toxics } => dry::dry(rt, *words, toxics.as_slice()),
+        Task::Stages { cap, words, toxics } => stages::stages(rt, cap, *words, toxics.as_slice()),
+    };
+    match done {
         Ok(()) => Ok(ExitCode::SUCCESS),
         Err(fault) => {
             eprintln!(rt; "toxi: {fault}")?;

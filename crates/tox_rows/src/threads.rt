@@ -1,0 +1,102 @@
+//! Running stages beside the compiled plan.
+use crate::chains::chain_of;
+use crate::staged::table_of;
+use std::test::Fail;
+use tox_plan::deliver;
+use tox_proxy::{DryFault, StagesFault, stages_run};
+use tox_stages::{StageFault, run_stages};
+use tox_time::{Arrivals, Gate, MemorySink, MemorySource, Micros};
+use tox_words::Words;
+
+/// A gate at which nobody stops.
+struct Open;
+
+impl Gate for Open {
+    fn pass(&self, _stage: usize, _nth: u64) {}
+}
+
+/// Each toxic alone, and two in a row.
+const CHAINS: [&[&str]; 8] = [
+    &["latency:latency=1,jitter=1"],
+    &["bandwidth:rate=1"],
+    &["slow_close:delay=1"],
+    &["timeout:timeout=50"],
+    &["reset_peer:timeout=20"],
+    &["slicer:average_size=2,size_variation=1,delay=10"],
+    &["limit_data:bytes=4"],
+    &["limit_data:bytes=4", "latency:latency=1"],
+];
+
+#[test]
+fn threads_deliver_what_the_plan_does(rt: HostRuntime) -> Result<(), Fail> {
+    let words = Words::from_list(rt.alloc(), &[0, 1, 2])?;
+    let mut arrivals = Arrivals::new(rt.alloc());
+    for (len, micros) in [(3, 0), (3, 10), (1, 20000)] {
+        arrivals.push(len, Micros::ZERO.after(micros))?;
+    }
+    arrivals.eof(Micros::ZERO.after(20005))?;
+    for toxics in CHAINS {
+        let chain = chain_of(&rt, toxics);
+        let planned = deliver(rt.alloc(), &chain, &words, &arrivals)?;
+        let expected = table_of(rt.alloc(), &planned)?;
+        for cap in [1, 2, 1024] {
+            let running = run_stages(&rt, rt.alloc(), &chain, &words, &arrivals, cap, &Open)?;
+            let table = table_of(rt.alloc(), &running)?;
+            assert_eq!(rt;
+                table.as_slice(),
+                expected.as_slice(),
+                "{toxics:?} at {cap}"
+            );
+            assert_eq!(rt; running.ending, planned.ending, "{toxics:?} at {cap}");
+        }
+    }
+    Ok(())
+}
+
+#[test]
+fn a_text_runs_in_threads(rt: HostRuntime) -> Result<(), Fail> {
+    let words = Words::from_list(rt.alloc(), &[0])?;
+    let chain = chain_of(&rt, &["limit_data:bytes=4", "latency:latency=1"]);
+    let cases = [
+        (
+            "0 data 616263\n10 data 646566\n",
+            Ok(()),
+            "1000 0..3 616263\n1010 3..4 64\nclosed 1010\n",
+        ),
+        (
+            "0 data 61\n\n5 eof 6\n",
+            Err(StagesFault::Dry(DryFault::BadLine(3))),
+            "",
+        ),
+    ];
+    for (text, answer, written) in cases {
+        let mut reader = MemorySource::new(text.as_bytes().to_vec(rt.alloc())?, 7, None);
+        let mut writer = MemorySink::new(rt.alloc(), 100, 7, None)?;
+        let ran = stages_run(
+            &rt,
+            rt.alloc(),
+            &mut reader,
+            &mut writer,
+            &chain,
+            &words,
+            1,
+            &Open,
+        );
+        assert_eq!(rt; ran, answer, "{text}");
+        assert_eq!(rt; writer.bytes(), written.as_bytes(), "{text}");
+    }
+    Ok(())
+}
+
+#[test]
+fn faults_of_the_stages_have_names(rt: HostRuntime) -> Result<(), Fail> {
+    let faults = [
+        (StageFault::OutOfMemory, "F0 OutOfMemory"),
+        (StageFault::SpawnRefused, "F1 SpawnRefused"),
+    ];
+    for (fault, name) in faults {
+        let text = format!(in rt.alloc(); "{}", StagesFault::Stages(fault))?;
+        assert_eq!(rt; text.as_str(), name);
+    }
+    Ok(())
+}

@@ -1,0 +1,5 @@
+pub mod Places
+pub mod Working
+pub mod Joined
+pub mod Within
+pub mod Rested

@@ -1,0 +1,7 @@
+use Rattle.rtrb.specs.Ring.{received, SameConsumer}
+use Rattle.tox_stages.specs.Collecting.{Collects}
+use Rattle.tox_stages.proofs.source_and_sink.drain.Given as goal
+
+-- what was received is collected
+abbrev pub invariant-loop : goal.invariant-loop
+invariant-loop l = SameConsumer l.initial.consumer l.consumer × Collects l.collected (received l.consumer)

@@ -1,0 +1,4 @@
+pub mod Passing
+pub mod Collecting
+pub mod Workers
+pub mod AtRest

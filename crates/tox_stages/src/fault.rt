@@ -1,0 +1,11 @@
+use thiserror::Error;
+
+/// Why running stages gave no outcome.
+#[derive(Clone, Copy, Debug, PartialEq, Eq, Error)]
+pub enum StageFault {
+    #[error("F0 OutOfMemory")]
+    OutOfMemory,
+    /// A thread can't be had.
+    #[error("F1 SpawnRefused")]
+    SpawnRefused,
+}

@@ -1,0 +1,213 @@
+//! The chain of workers, built level by level.
+ghost use Rattle.std.specs.Prelude.{◌≡◌, ◌+◌, ◌<◌, ◌≤◌, All, [], length, Some, IfOk};
+ghost use Rattle.rtrb.specs.Ring.{sent, received, SameProducer, SameConsumer};
+ghost use Rattle.tox_time.specs.Arrivals.{arrival_list};
+ghost use Rattle.tox_time.specs.Neighbours.{AreNeighbours};
+ghost use Rattle.tox_time.specs.Table.{IsOutcomeOf};
+ghost use Rattle.tox_words.specs.Draw.{draw};
+ghost use Rattle.tox_defs.specs.Chain.{IsEntry};
+ghost use Rattle.tox_defs.specs.Flow.{chain_flow, toxic_reaction};
+ghost use Rattle.tox_defs.specs.Toxic.{IsInRange};
+ghost use Rattle.tox_network.specs.Shown.{shown};
+ghost use Rattle.tox_stages.specs.AtRest.{IsNetworkAtRest};
+ghost use Rattle.tox_stages.specs.Passing.{Delivers, IsLinkStream, SendsFlow, reactions_from};
+ghost use Rattle.tox_stages.specs.Workers.{IsWorkerOf};
+
+use crate::fault::StageFault;
+use crate::source_and_sink::feed_and_drain;
+use crate::waiting::push_waiting;
+use crate::worker::{Ends, SendsFlowOf, work};
+use rtrb::{Consumer, Producer, RingBuffer};
+use std::alloc::Global;
+use std::snapshot::Snapshot;
+use std::sync::Wait;
+use std::thread;
+use std::thread::{PromisedHandle, Scope, Threads};
+use tox_defs::{Chain, Entry, Toxic};
+use tox_time::{Arrivals, Gate, Item, Outcome};
+use tox_words::Words;
+
+/// What all levels share.
+#[derive(Drop)]
+struct Pipeline<'s, R, G> {
+    rt: &'s R,
+    alloc: Global,
+    words: &'s Words,
+    arrivals: &'s Arrivals,
+    cap: usize,
+    gate: &'s G,
+}
+
+/// A worker that was started, and the consumer of the ring behind it.
+type Started<'s> = (PromisedHandle<Ends, SendsFlowOf<'s>>, Consumer<Item>);
+
+/// Starts the worker of a toxic, which promises its flow. Where a ring or a thread can't be had, the consumer is dropped.
+fn start<'s, E: 's, R: Threads + Wait + Sync, G: Gate>(
+    pipeline: &Pipeline<'s, R, G>,
+    scope: &'s Scope<'s, E>,
+    stage_number: usize,
+    toxic: Toxic,
+    lane: usize,
+    consumer: Consumer<Item>,
+) -> Result<Started<'s>, StageFault>
+    requires in_range { IsInRange toxic }
+    requires lane { lane < 16 }
+    requires fresh { received consumer ≡ [] }
+    ensures { IfOk result (λ started. IsWorkerOf started.0.promise toxic lane pipeline.now.words.now consumer started.1) }
+{
+    let Ok((producer, next)) = RingBuffer::new(pipeline.alloc, pipeline.cap) else {
+        return Err(StageFault::OutOfMemory);
+    };
+    let rt = pipeline.rt;
+    let gate = pipeline.gate;
+    let words = pipeline.words;
+    let promise = SendsFlowOf {
+        toxic,
+        lane,
+        words,
+        consumer: Snapshot::of(&consumer),
+        producer: Snapshot::of(&producer),
+    };
+    let worker = scope.spawn_with(
+        promise,
+        move || -> Ends
+            requires { IsInRange toxic × (lane < 16) × (received consumer ≡ []) × (sent producer ≡ []) }
+            ensures consumer { SameConsumer consumer result.consumer }
+            ensures producer { SameProducer producer result.producer }
+            ensures flow { SendsFlow (toxic_reaction toxic (draw words.entry.now lane)) (received result.consumer) (sent result.producer) }
+        {
+            work(
+                rt,
+                gate,
+                stage_number,
+                toxic,
+                lane,
+                words,
+                consumer,
+                producer,
+            )
+        },
+    );
+    match worker {
+        Ok(worker) => Ok((worker, next)),
+        Err(_) => Err(StageFault::SpawnRefused),
+    }
+}
+
+/// The stages of the toxics from place `lane` of the chain on. Gives back the consumer of the ring before them, with
+/// what was delivered.
+///
+/// Where a ring or a thread can't be had, nothing was sent yet: `Quiet` alone is, on which each worker ends.
+fn level<'s, E: 's, R: Threads + Wait + Sync, G: Gate>(
+    pipeline: &Pipeline<'s, R, G>,
+    scope: &'s Scope<'s, E>,
+    entries: &[Entry],
+    lane: usize,
+    stage_number: usize,
+    first: &mut Producer<Item>,
+    consumer: Consumer<Item>,
+) -> Result<(Consumer<Item>, Outcome), StageFault>
+    requires fresh { (sent first.old ≡ []) × (received consumer ≡ []) }
+    requires entries { All IsEntry entries.now }
+    requires lanes { lane + length entries.now ≤ 16 }
+    requires stages { stage_number ≤ lane }
+    ensures first { SameProducer first.old first.new }
+    ensures consumer { IfOk result (λ ended. SameConsumer consumer ended.0) }
+    ensures stream { IfOk result (λ _. IsLinkStream (arrival_list pipeline.now.arrivals.now)) }
+    ensures sent { IfOk result (λ _. sent first.new ≡ arrival_list pipeline.now.arrivals.now) }
+    ensures delivered { IfOk result (λ ended. Delivers (reactions_from lane entries.now pipeline.now.words.now) (received ended.0) (shown ended.1.slices (Some ended.1.ending))) }
+{
+    let rt = pipeline.rt;
+    let Some((entry, rest)) = entries.split_first() else {
+        return feed_and_drain(rt, pipeline.alloc, pipeline.arrivals, first, consumer);
+    };
+    if !entry.is_applied(lane, pipeline.words) {
+        return level(
+            pipeline,
+            scope,
+            rest,
+            lane + 1,
+            stage_number,
+            first,
+            consumer,
+        );
+    }
+    let started = start(pipeline, scope, stage_number, entry.toxic, lane, consumer);
+    let (worker, next) = match started {
+        Ok(started) => started,
+        Err(fault) => {
+            push_waiting(rt, first, Item::Quiet);
+            return Err(fault);
+        }
+    };
+    let below = level(
+        pipeline,
+        scope,
+        rest,
+        lane + 1,
+        stage_number + 1,
+        first,
+        next,
+    );
+    let Ends {
+        consumer,
+        mut producer,
+    } = worker.join(rt);
+    let (mut next, outcome) = below?;
+    next.slots_beside(&mut producer);
+    Ok((consumer, outcome))
+}
+
+/// What a chain delivers of these arrivals, on a link with these words, by a thread for each applied toxic over rings
+/// of `cap` items, 1 to 1024. Worker k tells the gate of each item that it took before it works on it.
+///
+/// All threads have ended when it answers.
+pub fn run_stages<R: Threads + Wait + Sync, G: Gate>(
+    rt: &R,
+    alloc: Global,
+    chain: &Chain,
+    words: &Words,
+    arrivals: &Arrivals,
+    cap: usize,
+    gate: &G,
+) -> Result<Outcome, StageFault>
+    requires some { 1 ≤ cap }
+    requires most { cap ≤ 1024 }
+    ensures flow { IfOk result (IsOutcomeOf (chain_flow chain.now words.now (arrival_list arrivals.now))) }
+    ensures neighbours { IfOk result (λ outcome. AreNeighbours (arrival_list arrivals.now) 0 outcome.slices) }
+    ensures network { IfOk result (IsNetworkAtRest cap chain.now words.now (arrival_list arrivals.now)) }
+{
+    thread::scope(
+        thread::scope_env(),
+        rt,
+        |scope| -> Result<Outcome, StageFault>
+            requires { 1 ≤ cap }
+            ensures flow { IfOk result (IsOutcomeOf (chain_flow chain.entry.now words.entry.now (arrival_list arrivals.entry.now))) }
+            ensures neighbours { IfOk result (λ outcome. AreNeighbours (arrival_list arrivals.entry.now) 0 outcome.slices) }
+            ensures network { IfOk result (IsNetworkAtRest cap chain.entry.now words.entry.now (arrival_list arrivals.entry.now)) }
+        {
+            let Ok((mut first, consumer)) = RingBuffer::new(alloc, cap) else {
+                return Err(StageFault::OutOfMemory);
+            };
+            let pipeline = Pipeline {
+                rt,
+                alloc,
+                words,
+                arrivals,
+                cap,
+                gate,
+            };
+            let (mut consumer, outcome) = level(
+                &pipeline,
+                scope,
+                chain.entries(),
+                0,
+                0,
+                &mut first,
+                consumer,
+            )?;
+            consumer.slots_beside(&mut first);
+            Ok(outcome)
+        },
+    )
+}

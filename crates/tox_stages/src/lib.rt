@@ -1,0 +1,15 @@
+//! The meaning of a chain in real threads: a worker for each applied toxic, with a ring before it and one behind it.
+#![tactic(auto)]
+
+mod collected;
+mod fault;
+mod levels;
+mod source_and_sink;
+mod waiting;
+mod worker;
+
+pub use fault::StageFault;
+pub use levels::run_stages;
+
+#[cfg(test)]
+mod tests;

@@ -1,0 +1,77 @@
+//! The two ends of the chain, held by one thread: what arrives is sent, and what is delivered is collected.
+ghost use Rattle.std.specs.Prelude.{◌≡◌, List, [], ◌++◌, Some, IfOk};
+ghost use Rattle.rtrb.specs.Ring.{sent, received, SameProducer, SameConsumer};
+ghost use Rattle.tox_time.specs.declared.item.Item.{Item as OneItem};
+ghost use Rattle.tox_time.specs.Arrivals.{arrival_list};
+ghost use Rattle.tox_network.specs.Shown.{shown};
+ghost use Rattle.tox_stages.specs.Collecting.{Collects};
+ghost use Rattle.tox_stages.specs.Passing.{Delivers, IsLinkStream};
+
+use crate::collected::Collected;
+use crate::fault::StageFault;
+use rtrb::{Consumer, Producer};
+use std::alloc::Global;
+use std::sync::Wait;
+use std::thread;
+use tox_network::Waiting;
+use tox_time::{Arrivals, Item, Outcome};
+
+/// Sends arrivals while the ring has room.
+fn fill(first: &mut Producer<Item>, waiting: &mut Waiting<'_>)
+    ensures ring { SameProducer first.old first.new }
+    ensures sent { sent first.new ++ waiting.new.waiting ≡ sent first.old ++ waiting.old.waiting }
+{
+    while !waiting.is_empty() && !first.is_full() {
+        first.push_reserved(waiting.pop());
+    }
+}
+
+/// Collects what is in the ring, up to the final.
+fn drain(consumer: &mut Consumer<Item>, collected: &mut Collected)
+    requires { Collects collected.old (received consumer.old) }
+    ensures ring { SameConsumer consumer.old consumer.new }
+    ensures kept { Collects collected.new (received consumer.new) }
+{
+    for _ in 0..consumer.capacity() {
+        if collected.has_ended() {
+            return;
+        }
+        let Ok(item) = consumer.pop() else {
+            return;
+        };
+        collected.keep(item);
+    }
+}
+
+/// Sends the arrivals with their final into the first ring and collects what comes out of the last, in turn, until
+/// both are done.
+pub(crate) fn feed_and_drain<R: Wait>(
+    rt: &R,
+    alloc: Global,
+    arrivals: &Arrivals,
+    first: &mut Producer<Item>,
+    consumer: Consumer<Item>,
+) -> Result<(Consumer<Item>, Outcome), StageFault>
+    requires { (sent first.old ≡ []) × (received consumer ≡ []) }
+    ensures first { SameProducer first.old first.new }
+    ensures consumer { IfOk result (λ ended. SameConsumer consumer ended.0) }
+    ensures stream { IsLinkStream (arrival_list arrivals.now) }
+    ensures sent { IfOk result (λ _. sent first.new ≡ arrival_list arrivals.now) }
+    ensures delivered { IfOk result (λ ended. Delivers [] (received ended.0) (shown ended.1.slices (Some ended.1.ending))) }
+{
+    let mut waiting = Waiting::new(arrivals);
+    let mut consumer = consumer;
+    let mut collected = Collected::new(alloc);
+    for _ in rt.forever() {
+        fill(first, &mut waiting);
+        drain(&mut consumer, &mut collected);
+        if waiting.is_empty() && collected.has_ended() {
+            let Ok(outcome) = collected.into_outcome() else {
+                return Err(StageFault::OutOfMemory);
+            };
+            return Ok((consumer, outcome));
+        }
+        thread::yield_now();
+    }
+    unreachable!()
+}

@@ -1,0 +1,88 @@
+//! The worker of one stage.
+ghost use Rattle.std.specs.Prelude.{◌≡◌, ◌<◌, [], ◌∷◌, ◌++◌};
+ghost use Rattle.rtrb.specs.Ring.{sent, received, SameProducer, SameConsumer};
+ghost use Rattle.tox_words.specs.Draw.{draw};
+ghost use Rattle.tox_defs.specs.Toxic.{IsInRange};
+ghost use Rattle.tox_defs.specs.Flow.{toxic_reaction};
+ghost use Rattle.tox_stages.specs.Passing.{SendsFlow};
+
+use crate::waiting::{pop_waiting, push_waiting};
+use rtrb::{Consumer, Producer};
+use std::snapshot::Snapshot;
+use std::sync::Wait;
+use std::thread::Promise;
+use tox_defs::{Stage, Toxic};
+use tox_time::{Gate, Item, MOST_BYTES};
+use tox_words::Words;
+
+/// The two ends that a worker hands back.
+#[derive(Drop)]
+pub(crate) struct Ends {
+    pub(crate) consumer: Consumer<Item>,
+    pub(crate) producer: Producer<Item>,
+}
+
+/// A worker's promise: these are the ends that it was given, and it sent the flow of what it received.
+#[derive(Drop)]
+pub(crate) struct SendsFlowOf<'w> {
+    pub(crate) toxic: Toxic,
+    pub(crate) lane: usize,
+    pub(crate) words: &'w Words,
+    pub(crate) consumer: Snapshot<Consumer<Item>>,
+    pub(crate) producer: Snapshot<Producer<Item>>,
+}
+
+impl<'w> Promise<Ends> for SendsFlowOf<'w> {
+    ghost kept_by = { λ promise ends. SameConsumer promise.consumer.value ends.consumer × SameProducer promise.producer.value ends.producer × SendsFlow (toxic_reaction promise.toxic (draw promise.words.now promise.lane)) (received ends.consumer) (sent ends.producer) };
+}
+
+/// Sends all that the stage has to emit.
+fn emit_all<R: Wait>(rt: &R, stage: &mut Stage<'_>, producer: &mut Producer<Item>)
+    ensures ring { SameProducer producer.old producer.new }
+    ensures sent { sent producer.new ≡ sent producer.old ++ stage.old.pending }
+    ensures stage { stage.new ≡ record stage.old { pending = [] } }
+{
+    while let Some(item) = stage.emit() {
+        push_waiting(rt, producer, item);
+    }
+}
+
+/// Takes items until the final, and sends what the toxic gives for each.
+///
+/// An item that doesn't go on with those before it would end the work; none comes.
+pub(crate) fn work<R: Wait, G: Gate>(
+    rt: &R,
+    gate: &G,
+    stage_number: usize,
+    toxic: Toxic,
+    lane: usize,
+    words: &Words,
+    consumer: Consumer<Item>,
+    producer: Producer<Item>,
+) -> Ends
+    requires in_range { IsInRange toxic }
+    requires lane { lane < 16 }
+    requires fresh { (received consumer ≡ []) × (sent producer ≡ []) }
+    ensures consumer { SameConsumer consumer result.consumer }
+    ensures producer { SameProducer producer result.producer }
+    ensures flow { SendsFlow (toxic_reaction toxic (draw words.now lane)) (received result.consumer) (sent result.producer) }
+{
+    let mut stage = Stage::new(toxic, lane, words);
+    let mut consumer = consumer;
+    let mut producer = producer;
+    for nth in 0..=MOST_BYTES {
+        let item = pop_waiting(rt, &mut consumer);
+        gate.pass(stage_number, nth);
+        if !stage.may_take(&item) {
+            push_waiting(rt, &mut producer, Item::Quiet);
+            return Ends { consumer, producer };
+        }
+        let is_last = item.is_final();
+        stage.take(item);
+        emit_all(rt, &mut stage, &mut producer);
+        if is_last {
+            return Ends { consumer, producer };
+        }
+    }
+    unreachable!()
+}
