@@ -11,3 +11,6 @@ mod OpenRuns
 mod PrintTurns
 mod PiecesOf
 mod Causes
+mod Listed
+mod ShortParts
+mod PickParts

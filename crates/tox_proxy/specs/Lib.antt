@@ -8,3 +8,9 @@ pub mod ResultText
 pub mod OpenRun
 pub mod DryRun
 pub mod Toxics
+pub mod Files
+pub mod ShortForm
+pub mod PickText
+pub mod PrintingPick
+pub mod Setup
+pub mod Picking
