@@ -1,9 +1,14 @@
 //! The command line, as `clap` reads it.
 use crate::help;
+use clap::builder::ValueParser;
 use clap::error::ErrorKind;
-use clap::{Arg, ArgAction, ArgMatches, Command, Error};
+use clap::{Arg, ArgAction, ArgMatches, Command, Error, value_parser};
 use std::alloc::{AllocError, Global};
 use std::convert::AsStr;
+use tox_proxy::PickRequest;
+
+/// The most connections of a proxy, which are numbered from 1.
+const MOST_CONNECTIONS: u64 = 1_000_000;
 
 /// What the command line asks for.
 #[derive(Debug, Drop)]
@@ -12,6 +17,7 @@ pub enum Task<'a> {
         words: Option<&'a str>,
         toxics: Vec<&'a str>,
     },
+    Pick(PickRequest<'a>),
 }
 
 /// Reads the command line. An error is `clap`'s own text, help too.
@@ -21,12 +27,37 @@ pub fn read<'a, S: AsStr>(alloc: Global, words: &'a [S]) -> Result<Task<'a>, Err
 }
 
 fn task_of<'a>(alloc: Global, matches: &ArgMatches<'a>) -> Result<Task<'a>, Error> {
-    let Some((_, given)) = matches.subcommand() else {
+    let Some((name, given)) = matches.subcommand() else {
         return Err(toxi(alloc)?.error(ErrorKind::MissingSubcommand, "a command is required")?);
     };
-    Ok(Task::Dry {
-        words: given.get_str("words"),
-        toxics: toxics_of(alloc, given)?,
+    match name {
+        "pick" => match pick_of(given) {
+            Some(request) => Ok(Task::Pick(request)),
+            None => Err(toxi(alloc)?.error(
+                ErrorKind::MissingRequiredArgument,
+                "pick needs each of its options",
+            )?),
+        },
+        _ => Ok(Task::Dry {
+            words: given.get_str("words"),
+            toxics: toxics_of(alloc, given)?,
+        }),
+    }
+}
+
+/// What `pick` is asked, where each of its options is there.
+fn pick_of<'a>(given: &ArgMatches<'a>) -> Option<PickRequest<'a>> {
+    let conn = given.get_one::<u64>("conn")?;
+    if conn < 1 || MOST_CONNECTIONS < conn {
+        return None;
+    }
+    Some(PickRequest {
+        config: given.get_str("config")?,
+        script: given.get_str("script")?,
+        proxy: given.get_str("proxy")?,
+        conn,
+        stream: given.get_str("stream")?,
+        seed: given.get_one::<u64>("seed")?,
     })
 }
 
@@ -43,7 +74,8 @@ fn toxi<'a>(alloc: Global) -> Result<Command<'a>, AllocError> {
         .about("A TCP proxy that adds scripted faults")
         .after_help(help::PROGRAM)
         .subcommand_required(true)
-        .subcommand(dry(alloc)?)
+        .subcommand(dry(alloc)?)?
+        .subcommand(pick(alloc)?)
 }
 
 fn dry<'a>(alloc: Global) -> Result<Command<'a>, AllocError> {
@@ -60,4 +92,49 @@ fn dry<'a>(alloc: Global) -> Result<Command<'a>, AllocError> {
         .after_help(help::DRY)
         .arg(words)?
         .arg(toxics)
+}
+
+fn pick<'a>(alloc: Global) -> Result<Command<'a>, AllocError> {
+    let conn = needed(
+        alloc,
+        "conn",
+        "N",
+        "The number of the connection, 1 to 1000000",
+    )
+    .value_parser(ValueParser::unsigned(1, MOST_CONNECTIONS));
+    let seed = needed(
+        alloc,
+        "seed",
+        "N",
+        "What the random words are made from, 0 to 2^64 - 1",
+    )
+    .value_parser(value_parser!(u64));
+    Command::new(alloc, "pick")
+        .about("Prints what a numbered connection meets, from the files and the seed alone")
+        .after_help(help::PICK)
+        .arg(needed(
+            alloc,
+            "config",
+            "FILE",
+            "The populate file: the proxies, in JSON",
+        ))?
+        .arg(needed(
+            alloc,
+            "script",
+            "FILE",
+            "The script: the toxics of connections, in TOML",
+        ))?
+        .arg(needed(alloc, "proxy", "NAME", "The proxy's name"))?
+        .arg(conn)?
+        .arg(needed(alloc, "stream", "STREAM", "upstream or downstream"))?
+        .arg(seed)
+}
+
+/// An option that must be given.
+fn needed<'a>(alloc: Global, name: &'a str, value: &'a str, help: &'a str) -> Arg<'a> {
+    Arg::new(alloc, name)
+        .long(name)
+        .value_name(value)
+        .help(help)
+        .required(true)
 }

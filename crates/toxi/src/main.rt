@@ -4,9 +4,12 @@
 mod command_line;
 mod dry;
 mod help;
+mod pick;
 
 use command_line::Task;
+use std::fmt::Display;
 use std::process::ExitCode;
+use std::rt::Files;
 use std::{env, io};
 
 /// The status of a command line that is refused.
@@ -27,13 +30,20 @@ fn main(rt: HostRuntime) -> io::Result<ExitCode> {
     }
 }
 
-/// Does what the command line asks for. A fault is one line on standard error.
-fn perform<R: Input + Print + Eprint + AllocGlobal>(
+/// Does what the command line asks for.
+fn perform<R: Input + Print + Eprint + Files + AllocGlobal>(
     rt: &R,
     task: &Task<'_>,
 ) -> io::Result<ExitCode> {
-    let Task::Dry { words, toxics } = task;
-    match dry::dry(rt, *words, toxics.as_slice()) {
+    match task {
+        Task::Dry { words, toxics } => tell(rt, dry::dry(rt, *words, toxics.as_slice())),
+        Task::Pick(request) => tell(rt, pick::pick(rt, request)),
+    }
+}
+
+/// The status of what was done. A fault is one line on standard error.
+fn tell<F: Display + Drop>(rt: &impl Eprint, done: Result<(), F>) -> io::Result<ExitCode> {
+    match done {
         Ok(()) => Ok(ExitCode::SUCCESS),
         Err(fault) => {
             eprintln!(rt; "toxi: {fault}")?;
