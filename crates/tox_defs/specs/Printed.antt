@@ -1,5 +1,5 @@
 -- The printed short form of a toxic with its toxicity.
-use Rattle.std.specs.Prelude.{ℕ, List, [], ◌∷◌, ◌++◌, codes, map}
+use Rattle.std.specs.Prelude.{ℕ, List, [], ◌∷◌, ◌++◌, codes, map, take}
 use Rattle.std.specs.Fmt.{decimal}
 use Rattle.std.specs.List.{join_with_byte, zip}
 use Rattle.tox_defs.specs.Kind.{attributes_of, name_of}
@@ -27,6 +27,10 @@ values_of (Timeout timeout) = timeout ∷ []
 values_of (ResetPeer timeout) = timeout ∷ []
 values_of (Slicer average_size size_variation delay) = average_size ∷ size_variation ∷ delay ∷ []
 values_of (LimitData bytes) = bytes ∷ []
+
+-- the first three values, with a 0 for each that isn't there
+abbrev pub three_of : List ℕ → List ℕ
+three_of values = take 3 (values ++ 0 ∷ 0 ∷ 0 ∷ [])
 
 -- a key, `=` and a value
 abbrev pub printed_pair : List ℕ × ℕ → List ℕ

@@ -3,6 +3,7 @@ ghost use Rattle.std.specs.List.{list_any};
 ghost use Rattle.std.specs.Str.{bytes_eq};
 ghost use Rattle.tox_defs.specs.Kind.{attributes_of, checked, kind_of, name_of, toxic_of};
 ghost use Rattle.tox_defs.specs.KindInside.{narrowed, saturated};
+ghost use Rattle.tox_defs.specs.Printed.{three_of, type_of, values_of};
 ghost use Rattle.tox_defs.specs.Toxic.{IsInRange};
 
 use crate::toxic::{Toxic, ToxicFault};
@@ -116,6 +117,41 @@ impl Kind {
                 delay: third,
             },
             Kind::LimitData => Toxic::LimitData { bytes: first },
+        }
+    }
+}
+
+impl Toxic {
+    /// The type of the toxic.
+    pub fn kind(&self) -> Kind
+        ensures { result ≡ type_of self.now }
+    {
+        match self {
+            Toxic::Latency { .. } => Kind::Latency,
+            Toxic::Bandwidth { .. } => Kind::Bandwidth,
+            Toxic::SlowClose { .. } => Kind::SlowClose,
+            Toxic::Timeout { .. } => Kind::Timeout,
+            Toxic::ResetPeer { .. } => Kind::ResetPeer,
+            Toxic::Slicer { .. } => Kind::Slicer,
+            Toxic::LimitData { .. } => Kind::LimitData,
+        }
+    }
+
+    /// The values of the attributes, in the order of [`Kind::attributes`], and 0 past the last one.
+    pub fn values(&self) -> [u64; 3]
+        ensures { result ≡ three_of (values_of self.now) }
+    {
+        match *self {
+            Toxic::Latency { latency, jitter } => [u64::from(latency), u64::from(jitter), 0],
+            Toxic::Bandwidth { rate } => [u64::from(rate), 0, 0],
+            Toxic::SlowClose { delay } => [u64::from(delay), 0, 0],
+            Toxic::Timeout { timeout } | Toxic::ResetPeer { timeout } => [u64::from(timeout), 0, 0],
+            Toxic::Slicer {
+                average_size,
+                size_variation,
+                delay,
+            } => [u64::from(average_size), u64::from(size_variation), delay],
+            Toxic::LimitData { bytes } => [bytes, 0, 0],
         }
     }
 }

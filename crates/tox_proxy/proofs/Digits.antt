@@ -9,12 +9,10 @@ use Rattle.std.proofs.lemmas.List.{get_or_past}
 use Rattle.std.proofs.lemmas.List.Sums.{AllPass-from_list_all}
 use Rattle.std.proofs.lemmas.Result.{OkIff-at_err}
 use Rattle.std.proofs.lemmas.Str.{IsUtf8-from_ascii}
-use Rattle.std.proofs.lemmas.Str.Parse.{IsNumeralModel, numerals_by_value, parse_digits, digits_value_short}
+use Rattle.std.proofs.lemmas.Str.Parse.{parse_digits, digits_value_short}
 use Rattle.tox_time.specs.declared.micros.TheConstants.{HORIZON}
 use Rattle.tox_words.specs.Decimal.{decimal}
-
-ascii_digits : IsNumeralModel (λ text. list_all is_ascii_digit text ≡ true) (digits_value 10)
-ascii_digits = numerals_by_value _ (search rules)
+use Rattle.tox_words.proofs.Numbers.{ascii_digits}
 
 digit_below : (c : ℕ) → is_ascii_digit c ≡ true → c < 128
 digit_below c digit = search (rules, tests)

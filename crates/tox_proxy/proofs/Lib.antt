@@ -12,3 +12,6 @@ mod PrintTurns
 mod PiecesOf
 mod Causes
 mod PlanLines
+mod Listed
+mod ShortParts
+mod PickParts

@@ -1,8 +1,9 @@
 -- One turn of the loop over the lines.
 use Rattle.std.proofs.Common.{◌≡◌, ℕ, ◌+◌, ◌<◌, List, length, drop, get_or, Ok, Err, sym, ap, ◌∙◌}
 use Rattle.std.proofs.lemmas.List.{at_drop_more}
+use Rattle.tox_time.specs.Steps.{◌>>=◌}
 use Rattle.tox_proxy.specs.declared.fault.DryFault.{DryFault}
-use Rattle.tox_proxy.specs.ArrivalsText.{Arrived, with_line, with_lines, ◌>>=◌}
+use Rattle.tox_proxy.specs.ArrivalsText.{Arrived, with_line, with_lines}
 
 with_lines-turn : (n i : ℕ) (lines : List (List ℕ)) (arrived : Arrived) (line : List ℕ) → (i < length lines) × (line ≡ get_or lines i line)
     → with_lines n (drop i lines) arrived ≡ (with_line n arrived line >>= with_lines (n + 1) (drop (i + 1) lines))

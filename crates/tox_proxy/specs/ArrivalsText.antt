@@ -5,6 +5,7 @@ use Rattle.tox_time.specs.declared.item.Item.{Item}
 use Rattle.tox_time.specs.declared.item.Item.TheVariants.{Closed}
 use Rattle.tox_time.specs.declared.arrivals.ArrivalFault.{ArrivalFault}
 use Rattle.tox_time.specs.Arrivals.{push_fault, eof_fault, next_chunk}
+use Rattle.tox_time.specs.Steps.{◌>>=◌}
 use Rattle.tox_proxy.specs.declared.fault.DryFault.{DryFault}
 use Rattle.tox_proxy.specs.declared.fault.DryFault.TheVariants.{BadLine, Arrival}
 use Rattle.tox_proxy.specs.Line.{Line, arrival, end, line_of}
@@ -41,12 +42,6 @@ with_read n arrived (Some (end t)) = unless_refused n (eof_fault arrived.items t
 -- what the n-th line leaves: an empty one says nothing
 abbrev pub with_line : ℕ → Arrived → List ℕ → Result Arrived DryFault
 with_line n arrived line = if length line == 0 then Ok arrived else with_read n arrived (line_of line)
-
--- one step, and the next where it met no fault
-infixl 10 ◌>>=◌
-abbrev pub ◌>>=◌ : {A B : Type 0} → Result A DryFault → (A → Result B DryFault) → Result B DryFault
-Ok x >>= next = next x
-Err fault >>= next = Err fault
 
 -- what the lines leave one after the other, from the n-th on
 abbrev pub with_lines : ℕ → List (List ℕ) → Arrived → Result Arrived DryFault

@@ -10,3 +10,9 @@ pub mod OpenRun
 pub mod DryRun
 pub mod StagesRun
 pub mod Toxics
+pub mod Files
+pub mod ShortForm
+pub mod PickText
+pub mod PrintingPick
+pub mod Setup
+pub mod Picking

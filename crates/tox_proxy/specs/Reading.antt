@@ -3,6 +3,8 @@ use Rattle.std.specs.Prelude.{◌≡◌, ℕ, ◌<◌, ◌≤◌, Bool, true, Li
 use Rattle.std.specs.Io.KnownBytes.{prepend_known, IsAtEnd}
 use Rattle.tox_proxy.specs.declared.fault.DryFault.{DryFault}
 use Rattle.tox_proxy.specs.declared.fault.DryFault.TheVariants.{OutOfMemory, BadLine, TooLong, ReadFault, WriteFault, Arrival}
+use Rattle.tox_proxy.specs.declared.reading.InputFault.{InputFault}
+use Rattle.tox_proxy.specs.declared.reading.InputFault.TheVariants as input
 use Rattle.tox_proxy.specs.declared.reading.TheConstants.{MOST_INPUT}
 use Rattle.tox_proxy.specs.ArrivalsText.{arrivals_of}
 
@@ -23,6 +25,18 @@ pub record IsTooLong (before after : Option (List ℕ)) : Type 0 where
   pub taken : List ℕ
   pub given : before ≡ prepend_known taken after
   pub long : MOST_INPUT < length taken
+
+-- why an input was not read whole
+abbrev pub HasInputCause : Option (List ℕ) → Option (List ℕ) → Bool → InputFault → Type 0
+HasInputCause before after failed input.OutOfMemory = Unit {0}
+HasInputCause before after failed input.TooLong = IsTooLong before after
+HasInputCause before after failed input.ReadFault = failed ≡ true
+
+-- why an input was not read whole, as a fault of a dry run
+abbrev pub dry_fault : InputFault → DryFault
+dry_fault input.OutOfMemory = OutOfMemory
+dry_fault input.TooLong = TooLong
+dry_fault input.ReadFault = ReadFault
 
 -- a text was read whose first fault is this one
 pub record SpellsFault (before after : Option (List ℕ)) (fault : DryFault) : Type 0 where

@@ -1,5 +1,6 @@
 -- Chains as a command line gives them: one short form for each toxic.
 use Rattle.std.specs.Prelude.{ℕ, ◌+◌, List, [], ◌∷◌, ◌++◌, length, nat_lt, Result, Ok, Err, if◌then◌else◌}
+use Rattle.tox_time.specs.Steps.{◌>>=◌}
 use Rattle.tox_defs.specs.Chain.{Toxics}
 use Rattle.tox_defs.specs.Short.{short_of}
 use Rattle.tox_defs.specs.declared.toxic.Toxic.{Toxic}
@@ -19,12 +20,6 @@ with_read n chain (Ok read) =
 -- what the n-th short form leaves
 abbrev pub with_short : ℕ → Toxics → List ℕ → Result Toxics ToxicsFault
 with_short n chain text = with_read n chain (short_of text)
-
--- one step, and the next where it met no fault
-infixl 10 ◌>>=◌
-abbrev pub ◌>>=◌ : {A B : Type 0} → Result A ToxicsFault → (A → Result B ToxicsFault) → Result B ToxicsFault
-Ok x >>= next = next x
-Err fault >>= next = Err fault
 
 -- what the short forms leave one after the other, from the n-th on
 abbrev pub with_shorts : ℕ → List (List ℕ) → Toxics → Result Toxics ToxicsFault

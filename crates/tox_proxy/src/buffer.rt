@@ -1,5 +1,5 @@
 //! Bytes on their way to a writer, many for each of its calls.
-ghost use Rattle.std.specs.Prelude.{◌≡◌, [], ◌++◌, false, true, ◌≤◌, length, IfOk, OnOk, OnErr, decimal};
+ghost use Rattle.std.specs.Prelude.{◌≡◌, [], ◌++◌, false, true, ◌≤◌, length, IfOk, OnOk, OnErr, decimal, flat_map};
 ghost use Rattle.std.specs.Io.KnownBytes.{append_known};
 ghost use Rattle.hex.specs.Hex.{encode_lower};
 ghost use Rattle.tox_proxy.specs.Writing.{AppendsFront, Prints};
@@ -51,6 +51,21 @@ impl Buffer {
             return write_all(writer, bytes);
         }
         self.bytes.extend_from_slice(bytes).unwrap();
+        Ok(())
+    }
+
+    /// Adds several parts, one behind the other.
+    pub(crate) fn put_all<W: Sink>(
+        &mut self,
+        writer: &mut W,
+        parts: &[&[u8]],
+    ) -> Result<(), EndFault>
+        requires { W.failed writer.old ≡ false }
+        ensures { Prints result (W.written writer.old) self.old (W.written writer.new) self.new (W.failed writer.new) (flat_map (λ part. part.now) parts.now) }
+    {
+        for part in parts {
+            self.put(writer, part)?;
+        }
         Ok(())
     }
 

@@ -1,3 +1,6 @@
+ghost use Rattle.std.specs.Prelude.{◌≡◌};
+
+use crate::reading::InputFault;
 use thiserror::Error;
 use tox_stages::StageFault;
 use tox_time::ArrivalFault;
@@ -38,4 +41,18 @@ pub enum StagesFault {
     /// The stages gave no outcome.
     #[error("{0}")]
     Stages(StageFault),
+}
+
+impl From<InputFault> for DryFault {
+    ghost use Rattle.tox_proxy.specs.Reading.{dry_fault};
+
+    ghost from_gives = { λ cause fault. fault ≡ dry_fault cause };
+
+    fn from(fault: InputFault) -> DryFault {
+        match fault {
+            InputFault::OutOfMemory => DryFault::OutOfMemory,
+            InputFault::TooLong => DryFault::TooLong,
+            InputFault::ReadFault => DryFault::ReadFault,
+        }
+    }
 }

@@ -1,8 +1,7 @@
 //! Reading an input whole.
 ghost use Rattle.std.specs.Prelude.{◌≡◌, ◌+◌, ◌<◌, false, length, IfOk, IfErr};
-ghost use Rattle.tox_proxy.specs.Reading.{HasCause, IsRead, TakesAtMost};
+ghost use Rattle.tox_proxy.specs.Reading.{HasInputCause, IsRead, TakesAtMost};
 
-use crate::fault::DryFault;
 use std::alloc::{AllocError, Global};
 use tox_time::Source;
 
@@ -12,15 +11,25 @@ pub const MOST_INPUT: usize = 16_777_216;
 /// How many bytes are asked for at once.
 const BLOCK: usize = 65_536;
 
+/// Why an input was not read whole.
+#[derive(Clone, Copy, Debug, PartialEq, Eq)]
+pub(crate) enum InputFault {
+    OutOfMemory,
+    /// It has more than [`MOST_INPUT`] bytes.
+    TooLong,
+    /// A read failed.
+    ReadFault,
+}
+
 /// All the bytes that a reader has still to give. At most one more than [`MOST_INPUT`] are taken.
-pub(crate) fn read_input<R: Source>(alloc: Global, reader: &mut R) -> Result<Vec<u8>, DryFault>
+pub(crate) fn read_input<R: Source>(alloc: Global, reader: &mut R) -> Result<Vec<u8>, InputFault>
     requires { R.failed reader.old ≡ false }
     ensures ok { IfOk result (λ text. IsRead (R.remaining reader.old) (R.remaining reader.new) text.items) }
-    ensures fault { IfErr result (HasCause (R.remaining reader.old) (R.remaining reader.new) (R.failed reader.new) false) }
+    ensures fault { IfErr result (HasInputCause (R.remaining reader.old) (R.remaining reader.new) (R.failed reader.new)) }
     ensures most { TakesAtMost (MOST_INPUT + 1) (R.remaining reader.old) (R.remaining reader.new) }
 {
     let Ok(mut block) = zeros(alloc, BLOCK) else {
-        return Err(DryFault::OutOfMemory);
+        return Err(InputFault::OutOfMemory);
     };
     read_by_blocks(alloc, reader, &mut block)
 }
@@ -36,11 +45,11 @@ fn read_by_blocks<R: Source>(
     alloc: Global,
     reader: &mut R,
     block: &mut [u8],
-) -> Result<Vec<u8>, DryFault>
+) -> Result<Vec<u8>, InputFault>
     requires working { R.failed reader.old ≡ false }
     requires room { 0 < length block.old }
     ensures ok { IfOk result (λ text. IsRead (R.remaining reader.old) (R.remaining reader.new) text.items) }
-    ensures fault { IfErr result (HasCause (R.remaining reader.old) (R.remaining reader.new) (R.failed reader.new) false) }
+    ensures fault { IfErr result (HasInputCause (R.remaining reader.old) (R.remaining reader.new) (R.failed reader.new)) }
     ensures most { TakesAtMost (MOST_INPUT + 1) (R.remaining reader.old) (R.remaining reader.new) }
 {
     let mut text = Vec::new(alloc);
@@ -48,14 +57,14 @@ fn read_by_blocks<R: Source>(
         let wanted = block.len().min(MOST_INPUT + 1 - text.len());
         let part = &mut block[..wanted];
         let Ok(count) = reader.read(part) else {
-            return Err(DryFault::ReadFault);
+            return Err(InputFault::ReadFault);
         };
         if count == 0 {
             return Ok(text);
         }
         if text.extend_from_slice(&part[..count]).is_err() {
-            return Err(DryFault::OutOfMemory);
+            return Err(InputFault::OutOfMemory);
         }
     }
-    Err(DryFault::TooLong)
+    Err(InputFault::TooLong)
 }

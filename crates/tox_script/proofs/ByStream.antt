@@ -9,9 +9,9 @@ use Rattle.tox_time.specs.declared.stream.Stream.{Stream}
 use Rattle.tox_time.specs.declared.stream.Stream.TheVariants.{Upstream, Downstream}
 use Rattle.tox_defs.specs.declared.chain.TheConstants.{MOST_TOXICS}
 use Rattle.tox_script.specs.Chains.{has_name, on, pushed, put_toxic}
-use Rattle.tox_script.specs.Steps.{◌>>=◌}
+use Rattle.tox_time.specs.Steps.{◌>>=◌}
 use Rattle.tox_script.specs.NamedChain.{NamedToxics, with_toxic}
-use Rattle.tox_script.specs.StreamName.{same_stream}
+use Rattle.tox_time.specs.StreamName.{same_stream}
 use Rattle.tox_script.specs.Toxic.{NamedToxic}
 use Rattle.tox_script.specs.Toxics.{behind, chain_on, chains_of, is_on}
 use Rattle.tox_script.specs.declared.chains.Chains.{Chains}

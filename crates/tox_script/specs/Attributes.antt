@@ -8,7 +8,7 @@ use Rattle.tox_defs.specs.declared.toxic.Toxic.{Toxic}
 use Rattle.tox_defs.specs.declared.toxic.ToxicFault.{ToxicFault}
 use Rattle.tox_defs.specs.declared.toxic.ToxicFault.TheVariants.{OutOfRange, UnknownAttribute}
 use Rattle.tox_script.specs.Fields.{has_only, whole}
-use Rattle.tox_script.specs.Steps.{◌>>=◌}
+use Rattle.tox_time.specs.Steps.{◌>>=◌}
 
 -- whether a type has all of these attributes
 abbrev pub are_known : Kind → Option Data → Bool

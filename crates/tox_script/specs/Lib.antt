@@ -1,6 +1,4 @@
-pub mod Steps
 pub mod Fields
-pub mod StreamName
 pub mod ToxicFields
 pub mod Attributes
 pub mod Toxic

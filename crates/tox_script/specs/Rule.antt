@@ -2,7 +2,7 @@
 use Rattle.std.specs.Prelude.{ℕ, List, [], ◌∷◌, codes, Option, Result, Ok}
 use Rattle.toml.specs.Data.{Data, Items, get}
 use Rattle.tox_script.specs.Fields.{needed, optional, sized_text, tables_of, unless_unknown, whole_between}
-use Rattle.tox_script.specs.Steps.{◌>>=◌, told_as}
+use Rattle.tox_time.specs.Steps.{◌>>=◌, told_as}
 use Rattle.tox_script.specs.Toxics.{read_chains}
 use Rattle.tox_script.specs.declared.chains.Chains.{Chains}
 use Rattle.tox_script.specs.declared.fault.Field.{Field}

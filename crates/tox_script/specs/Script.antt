@@ -4,7 +4,7 @@ use Rattle.std.specs.Str.{is_utf8}
 use Rattle.toml.specs.Data.{Data, table, Items, no_items, item, get}
 use Rattle.toml.specs.Parse.{parse_document}
 use Rattle.tox_script.specs.Fields.{tables_of, unless_unknown}
-use Rattle.tox_script.specs.Steps.{◌>>=◌, told_as}
+use Rattle.tox_time.specs.Steps.{◌>>=◌, told_as}
 use Rattle.tox_script.specs.Rule.{Rule, Rules, rule_of}
 use Rattle.tox_script.specs.declared.fault.Field.{Field}
 use Rattle.tox_script.specs.declared.fault.Field.TheVariants as field

@@ -9,8 +9,8 @@ use Rattle.tox_defs.specs.declared.toxic.ToxicFault.{ToxicFault}
 use Rattle.tox_defs.specs.declared.toxic.ToxicFault.TheVariants.{ToxicityNotThousandths, UnknownType}
 use Rattle.tox_script.specs.Attributes.{toxic_with}
 use Rattle.tox_script.specs.Fields.{whole_between}
-use Rattle.tox_script.specs.Steps.{◌>>=◌}
-use Rattle.tox_script.specs.StreamName.{stream_name}
+use Rattle.tox_time.specs.Steps.{◌>>=◌}
+use Rattle.tox_time.specs.StreamName.{stream_name}
 use Rattle.tox_script.specs.ToxicFields.{ToxicFields}
 
 -- a toxic of a rule: its stream, its entry in a chain, and its name

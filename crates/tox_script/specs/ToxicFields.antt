@@ -6,8 +6,8 @@ use Rattle.toml.specs.Data.{Data, as_str, get}
 use Rattle.tox_time.specs.declared.stream.Stream.{Stream}
 use Rattle.tox_time.specs.declared.stream.Stream.TheVariants.{Downstream}
 use Rattle.tox_script.specs.Fields.{is_table, needed, optional, passing, sized_text, unless_unknown}
-use Rattle.tox_script.specs.Steps.{◌>>=◌}
-use Rattle.tox_script.specs.StreamName.{stream_named}
+use Rattle.tox_time.specs.Steps.{◌>>=◌}
+use Rattle.tox_time.specs.StreamName.{stream_named}
 use Rattle.tox_script.specs.declared.fault.Field.{Field}
 use Rattle.tox_script.specs.declared.fault.Field.TheVariants as field
 

@@ -6,9 +6,9 @@ use Rattle.toml.specs.Data.{Data, Items, no_items, item}
 use Rattle.tox_time.specs.declared.stream.Stream.{Stream}
 use Rattle.tox_time.specs.declared.stream.Stream.TheVariants.{Upstream, Downstream}
 use Rattle.tox_defs.specs.declared.chain.TheConstants.{MOST_TOXICS}
-use Rattle.tox_script.specs.Steps.{◌>>=◌, told_as}
+use Rattle.tox_time.specs.Steps.{◌>>=◌, told_as}
 use Rattle.tox_script.specs.NamedChain.{NamedToxics}
-use Rattle.tox_script.specs.StreamName.{same_stream}
+use Rattle.tox_time.specs.StreamName.{same_stream}
 use Rattle.tox_script.specs.Toxic.{NamedToxic, named_toxic}
 use Rattle.tox_script.specs.ToxicFields.{toxic_fields}
 use Rattle.tox_script.specs.declared.chains.Chains.{Chains}

@@ -10,7 +10,6 @@ mod named_toxic;
 mod rule;
 mod rule_fields;
 mod script;
-mod stream_name;
 #[cfg(test)]
 mod tests;
 mod toxic_fields;

@@ -7,7 +7,6 @@ ghost use Rattle.tox_script.specs.Views.{fields_view, toxic_view};
 
 use crate::attributes::toxic_with;
 use crate::fields::whole_between;
-use crate::stream_name::stream_name;
 use crate::toxic_fields::ToxicFields;
 use std::alloc::{AllocError, Global};
 use toml::Value;
@@ -51,7 +50,7 @@ impl<'a> NamedToxic<'a> {
     {
         match self.told_name {
             Some(name) => String::from_str(alloc, name),
-            None => { format!(in alloc; "{}_{}", self.kind.name(), stream_name(self.stream)) }
+            None => { format!(in alloc; "{}_{}", self.kind.name(), self.stream.name()) }
         }
     }
 }

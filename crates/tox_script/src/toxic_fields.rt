@@ -6,7 +6,6 @@ ghost use Rattle.tox_script.specs.Views.{fields_view};
 
 use crate::fault::Field;
 use crate::fields::{has_only, sized_text};
-use crate::stream_name::stream_named;
 use toml::Value;
 use tox_time::Stream;
 
@@ -97,7 +96,7 @@ fn stream_of(table: &Value) -> Result<Stream, Field>
 fn stream_text(value: &Value) -> Option<Stream>
     ensures { result ≡ stream_text (view value.now) }
 {
-    stream_named(value.as_str()?)
+    Stream::of_name(value.as_str()?)
 }
 
 /// The table of attributes, where there is one.

@@ -6,3 +6,5 @@ pub mod Arrivals
 pub mod ArrivalsInside
 pub mod Ends
 pub mod MemoryEnds
+pub mod Steps
+pub mod StreamName

@@ -3,9 +3,13 @@ use crate::help;
 use crate::stages::{Cap, DEFAULT_CAP, MOST_CAP};
 use clap::builder::ValueParser;
 use clap::error::ErrorKind;
-use clap::{Arg, ArgAction, ArgMatches, Command, Error};
+use clap::{Arg, ArgAction, ArgMatches, Command, Error, value_parser};
 use std::alloc::{AllocError, Global};
 use std::convert::AsStr;
+use tox_proxy::PickRequest;
+
+/// The most connections of a proxy, which are numbered from 1.
+const MOST_CONNECTIONS: u64 = 1_000_000;
 
 /// What the command line asks for.
 #[derive(Debug, Drop)]
@@ -15,11 +19,15 @@ pub enum Task<'a> {
         toxics: Vec<&'a str>,
     },
     Plan {
+        words: Option<&'a str>,
+        toxics: Vec<&'a str>,
+    },
     Stages {
         cap: Cap,
         words: Option<&'a str>,
         toxics: Vec<&'a str>,
     },
+    Pick(PickRequest<'a>),
 }
 
 /// Reads the command line. An error is `clap`'s own text, help too.
@@ -32,19 +40,45 @@ fn task_of<'a>(alloc: Global, matches: &ArgMatches<'a>) -> Result<Task<'a>, Erro
     let Some((name, given)) = matches.subcommand() else {
         return Err(toxi(alloc)?.error(ErrorKind::MissingSubcommand, "a command is required")?);
     };
+    if name == "pick" {
+        return pick_task(alloc, given);
+    }
     let words = given.get_str("words");
     let toxics = toxics_of(alloc, given)?;
-    match name {
-        "plan" => Ok(Task::Plan { words, toxics }),
-        _ => Ok(Task::Dry { words, toxics }),
-    }
     Ok(match name {
+        "plan" => Task::Plan { words, toxics },
         "stages" => Task::Stages {
             cap: cap_of(given),
             words,
             toxics,
         },
         _ => Task::Dry { words, toxics },
+    })
+}
+
+fn pick_task<'a>(alloc: Global, given: &ArgMatches<'a>) -> Result<Task<'a>, Error> {
+    match pick_of(given) {
+        Some(request) => Ok(Task::Pick(request)),
+        None => Err(toxi(alloc)?.error(
+            ErrorKind::MissingRequiredArgument,
+            "pick needs each of its options",
+        )?),
+    }
+}
+
+/// What `pick` is asked, where each of its options is there.
+fn pick_of<'a>(given: &ArgMatches<'a>) -> Option<PickRequest<'a>> {
+    let conn = given.get_one::<u64>("conn")?;
+    if conn < 1 || MOST_CONNECTIONS < conn {
+        return None;
+    }
+    Some(PickRequest {
+        config: given.get_str("config")?,
+        script: given.get_str("script")?,
+        proxy: given.get_str("proxy")?,
+        conn,
+        stream: given.get_str("stream")?,
+        seed: given.get_one::<u64>("seed")?,
     })
 }
 
@@ -67,27 +101,23 @@ fn toxi<'a>(alloc: Global) -> Result<Command<'a>, AllocError> {
         .after_help(help::PROGRAM)
         .subcommand_required(true)
         .subcommand(dry(alloc)?)?
-        .subcommand(plan(alloc)?)
-        .subcommand(stages(alloc)?)
+        .subcommand(plan(alloc)?)?
+        .subcommand(stages(alloc)?)?
+        .subcommand(pick(alloc)?)
 }
 
 fn dry<'a>(alloc: Global) -> Result<Command<'a>, AllocError> {
     Command::new(alloc, "dry")
         .about("Prints when each byte would leave, and how the link would end")
         .after_help(help::DRY)
-        .arg(words(alloc))?
-        .arg(toxics(alloc))
+        .arg(words_argument(alloc))?
+        .arg(toxics_argument(alloc))
 }
 
 fn plan<'a>(alloc: Global) -> Result<Command<'a>, AllocError> {
     Command::new(alloc, "plan")
         .about("Prints what the toxics are compiled into")
         .after_help(help::PLAN)
-        .arg(words(alloc))?
-        .arg(toxics(alloc))
-}
-
-fn words<'a>(alloc: Global) -> Arg<'a> {
         .arg(words_argument(alloc))?
         .arg(toxics_argument(alloc))
 }
@@ -106,13 +136,57 @@ fn stages<'a>(alloc: Global) -> Result<Command<'a>, AllocError> {
         .arg(toxics_argument(alloc))
 }
 
+fn pick<'a>(alloc: Global) -> Result<Command<'a>, AllocError> {
+    let conn = needed(
+        alloc,
+        "conn",
+        "N",
+        "The number of the connection, 1 to 1000000",
+    )
+    .value_parser(ValueParser::unsigned(1, MOST_CONNECTIONS));
+    let seed = needed(
+        alloc,
+        "seed",
+        "N",
+        "What the random words are made from, 0 to 2^64 - 1",
+    )
+    .value_parser(value_parser!(u64));
+    Command::new(alloc, "pick")
+        .about("Prints what a numbered connection meets, from the files and the seed alone")
+        .after_help(help::PICK)
+        .arg(needed(
+            alloc,
+            "config",
+            "FILE",
+            "The populate file: the proxies, in JSON",
+        ))?
+        .arg(needed(
+            alloc,
+            "script",
+            "FILE",
+            "The script: the toxics of connections, in TOML",
+        ))?
+        .arg(needed(alloc, "proxy", "NAME", "The proxy's name"))?
+        .arg(conn)?
+        .arg(needed(alloc, "stream", "STREAM", "upstream or downstream"))?
+        .arg(seed)
+}
+
+/// An option that must be given.
+fn needed<'a>(alloc: Global, name: &'a str, value: &'a str, help: &'a str) -> Arg<'a> {
+    Arg::new(alloc, name)
+        .long(name)
+        .value_name(value)
+        .help(help)
+        .required(true)
+}
+
 fn words_argument<'a>(alloc: Global) -> Arg<'a> {
     Arg::new(alloc, "words").long("words").value_name("W").help(
         "The random words: 1 to 4096 numbers up to 4294967295, parted by commas [default: 0]",
     )
 }
 
-fn toxics<'a>(alloc: Global) -> Arg<'a> {
 fn toxics_argument<'a>(alloc: Global) -> Arg<'a> {
     Arg::new(alloc, "toxics")
         .value_name("TOXIC")

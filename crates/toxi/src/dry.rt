@@ -2,16 +2,11 @@
 use std::alloc::Global;
 use std::io;
 use thiserror::Error;
-use tox_proxy::{DryFault, ToxicsFault, WriteFault, dry_run, read_chain};
+use tox_proxy::{DryFault, StagesFault, ToxicsFault, WriteFault, dry_run, read_chain};
 use tox_time::Real;
 use tox_words::{Words, WordsFault};
 
-/// Why a dry run was not done, or a plan not printed.
-use tox_proxy::{DryFault, StagesFault, ToxicsFault, dry_run, read_chain};
-use tox_time::Real;
-use tox_words::{Words, WordsFault};
-
-/// Why a run was not done.
+/// Why nothing was printed of a link's words and toxics, or not all.
 #[derive(Debug, Drop, Error)]
 pub enum Fault {
     #[error("{0}")]
@@ -22,6 +17,7 @@ pub enum Fault {
     Dry(DryFault),
     #[error("{0}")]
     Write(WriteFault),
+    #[error("{0}")]
     Stages(StagesFault),
 }
 
@@ -38,8 +34,7 @@ pub fn dry<R: Input + Print + AllocGlobal>(
     dry_run(rt.alloc(), &mut reader, &mut writer, &chain, &words).map_err(Fault::Dry)
 }
 
-/// The table of words that a command line gives.
-/// The table that a text writes, or that of the one word 0.
+/// The table of words that a command line gives, or that of the one word 0.
 pub fn words_of(alloc: Global, text: Option<&str>) -> Result<Words, WordsFault> {
     match text {
         Some(text) => Words::from_text(alloc, text),

@@ -5,7 +5,7 @@ pub const PROGRAM: &str = "\
 Example:
   printf '0 data 6162\\n50 eof\\n' | toxi dry latency:latency=100
 
-`toxi dry --help` shows each toxic and the lines of the input.
+`toxi dry --help` shows each toxic and the lines of the input, `toxi pick --help` the files.
 A fault is one line on standard error, and the status is then 1.";
 
 /// Below the options of `toxi dry`.
@@ -72,3 +72,33 @@ Example:
 prints
   100000 0..2 6162
   closed 100000";
+/// Below the options of `toxi pick`.
+pub const PICK: &str = "\
+A FILE has at most 16777216 bytes. docs/PROFILE.md tells the formats whole.
+
+The populate file is a JSON array of proxies:
+
+  [{\"name\": \"a\", \"upstream\": \"localhost:1\"}]
+
+The script has rules. A connection of a proxy meets the toxics of the first rule that covers it:
+
+  [[rule]]
+  proxy = \"a\"
+  first = 2
+  last = 3
+
+  [[rule.toxic]]
+  type = \"latency\"
+  attributes = { latency = 100 }
+
+The output has a line for the proxy, and one for each toxic of the chain: its place from 0, whether the connection meets
+it under the words of the seed, its short form and its name:
+
+  proxy <name> listen <address> upstream <address> enabled|disabled
+  <place> applied|skipped <short form> <name>
+
+Example, with the files above as proxies.json and script.toml:
+  toxi pick --config proxies.json --script script.toml --proxy a --conn 3 --stream downstream --seed 1
+prints
+  proxy a listen localhost:0 upstream localhost:1 enabled
+  0 applied latency:latency=100,jitter=0,toxicity=1000 latency_downstream";

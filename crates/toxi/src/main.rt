@@ -4,11 +4,14 @@
 mod command_line;
 mod dry;
 mod help;
+mod pick;
 mod plan;
 mod stages;
 
 use command_line::Task;
+use std::fmt::Display;
 use std::process::ExitCode;
+use std::rt::Files;
 use std::sync::Wait;
 use std::thread::Threads;
 use std::{env, io};
@@ -31,20 +34,23 @@ fn main(rt: HostRuntime) -> io::Result<ExitCode> {
     }
 }
 
-/// Does what the command line asks for. A fault is one line on standard error.
-fn perform<R: Input + Print + Eprint + AllocGlobal + Threads + Wait + Sync>(
+/// Does what the command line asks for.
+fn perform<R: Input + Print + Eprint + Files + AllocGlobal + Threads + Wait + Sync>(
     rt: &R,
     task: &Task<'_>,
 ) -> io::Result<ExitCode> {
-    let answer = match task {
-        Task::Dry { words, toxics } => dry::dry(rt, *words, toxics.as_slice()),
-        Task::Plan { words, toxics } => plan::plan(rt, *words, toxics.as_slice()),
-    };
-    match answer {
-    let done = match task {
-        Task::Dry { words, toxics } => dry::dry(rt, *words, toxics.as_slice()),
-        Task::Stages { cap, words, toxics } => stages::stages(rt, cap, *words, toxics.as_slice()),
-    };
+    match task {
+        Task::Dry { words, toxics } => tell(rt, dry::dry(rt, *words, toxics.as_slice())),
+        Task::Plan { words, toxics } => tell(rt, plan::plan(rt, *words, toxics.as_slice())),
+        Task::Stages { cap, words, toxics } => {
+            tell(rt, stages::stages(rt, cap, *words, toxics.as_slice()))
+        }
+        Task::Pick(request) => tell(rt, pick::pick(rt, request)),
+    }
+}
+
+/// The status of what was done. A fault is one line on standard error.
+fn tell<F: Display + Drop>(rt: &impl Eprint, done: Result<(), F>) -> io::Result<ExitCode> {
     match done {
         Ok(()) => Ok(ExitCode::SUCCESS),
         Err(fault) => {

@@ -1,0 +1,57 @@
+//! Files, read whole.
+ghost use Rattle.std.specs.Prelude.{◌≡◌, ◌≤◌, false, vec_len, IfOk, IfErr};
+ghost use Rattle.tox_proxy.specs.Files.{HasFileCause, Names};
+ghost use Rattle.tox_proxy.specs.Reading.{IsRead};
+
+use crate::reading::{InputFault, MOST_INPUT, read_input};
+use std::alloc::Global;
+use std::fs;
+use std::rt::Files;
+use thiserror::Error;
+use tox_time::{Real, Source};
+
+/// Why a file was not read.
+#[derive(Clone, Copy, Debug, PartialEq, Eq, Error)]
+pub enum FileFault<'a> {
+    #[error("P0 OutOfMemory")]
+    OutOfMemory,
+    /// The file of this name couldn't be opened, or a read of it failed.
+    #[error("P1 FileFault {0}")]
+    Unreadable(&'a str),
+    /// The file of this name has more than [`MOST_INPUT`] bytes.
+    #[error("P2 FileTooLong {0}")]
+    TooLong(&'a str),
+}
+
+/// The bytes of a file, of which at most one more than [`MOST_INPUT`] are read.
+pub fn read_file<'a, F: Files>(
+    rt: &F,
+    alloc: Global,
+    name: &'a str,
+) -> Result<Vec<u8>, FileFault<'a>>
+    ensures short { IfOk result (λ bytes. vec_len bytes ≤ MOST_INPUT) }
+    ensures named { IfErr result (Names name.now) }
+{
+    let Ok(file) = fs::open(rt, name) else {
+        return Err(FileFault::Unreadable(name));
+    };
+    read_named(alloc, &mut Real::new(file), name)
+}
+
+/// The bytes that a file has still to give.
+fn read_named<'a, R: Source>(
+    alloc: Global,
+    reader: &mut R,
+    name: &'a str,
+) -> Result<Vec<u8>, FileFault<'a>>
+    requires { R.failed reader.old ≡ false }
+    ensures ok { IfOk result (λ bytes. IsRead (R.remaining reader.old) (R.remaining reader.new) bytes.items) }
+    ensures fault { IfErr result (HasFileCause name.now (R.remaining reader.old) (R.remaining reader.new) (R.failed reader.new)) }
+{
+    match read_input(alloc, reader) {
+        Ok(bytes) => Ok(bytes),
+        Err(InputFault::OutOfMemory) => Err(FileFault::OutOfMemory),
+        Err(InputFault::TooLong) => Err(FileFault::TooLong(name)),
+        Err(InputFault::ReadFault) => Err(FileFault::Unreadable(name)),
+    }
+}
