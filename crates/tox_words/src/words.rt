@@ -1,8 +1,9 @@
-ghost use Rattle.std.specs.Prelude.{◌≡◌, ◌≢◌, ◌≤◌, IfOk, IfErr, IsOk, IsOkUnless, length};
+ghost use Rattle.std.specs.Prelude.{◌≡◌, ◌≢◌, ◌<◌, ◌≤◌, ◌+◌, ◌*◌, ◌%◌, IfOk, IfErr, IsOk, IsOkUnless, length};
 ghost use Rattle.tox_words.specs.Draw.{draw};
 ghost use Rattle.tox_words.specs.Seeded.{seeded_words};
 ghost use Rattle.tox_words.specs.Table.{IsWordTable, table_of};
 ghost use Rattle.tox_words.specs.WordsText.{table_of_text};
+ghost use Rattle.tox_words.specs.declared.words.TheConstants.{MOST_WORDS};
 ghost use Rattle.tox_words.specs.declared.fault.WordsFault.TheVariants.{OutOfMemory};
 
 use crate::fault::WordsFault;
@@ -112,8 +113,19 @@ impl Words {
     pub fn draw(&self, lane: usize, j: u64) -> u32
         ensures { result ≡ draw self.now lane j }
     {
-        let len = self.len();
-        let turn = (j % len as u64) as usize;
-        self.words[(lane % len + LANES * turn) % len]
+        self.words[place_of(lane, j, self.len())]
     }
+}
+
+/// Where the `j`-th word of a lane stands in a table of `len` words. What a link draws takes one division.
+fn place_of(lane: usize, j: u64, len: usize) -> usize
+    requires some { 0 < len }
+    requires most { len ≤ MOST_WORDS }
+    ensures { result ≡ (lane + 16 * j) % len }
+{
+    if lane < LANES && j < u64::MAX / LANES as u64 {
+        return ((lane as u64 + LANES as u64 * j) % len as u64) as usize;
+    }
+    let turn = (j % len as u64) as usize;
+    (lane % len + LANES * turn) % len
 }
