@@ -1,5 +1,5 @@
 //! The worker of one stage.
-ghost use Rattle.std.specs.Prelude.{◌≡◌, ◌<◌, [], ◌∷◌, ◌++◌};
+ghost use Rattle.std.specs.Prelude.{◌≡◌, ◌<◌, [], ◌++◌};
 ghost use Rattle.rtrb.specs.Ring.{sent, received, SameProducer, SameConsumer};
 ghost use Rattle.tox_words.specs.Draw.{draw};
 ghost use Rattle.tox_defs.specs.Toxic.{IsInRange};
