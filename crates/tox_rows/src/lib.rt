@@ -12,6 +12,8 @@ mod ends;
 #[cfg(test)]
 mod network;
 #[cfg(test)]
+mod picks;
+#[cfg(test)]
 mod plans;
 #[cfg(test)]
 mod random;
