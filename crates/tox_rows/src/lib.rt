@@ -16,6 +16,8 @@ mod orders;
 #[cfg(test)]
 mod plan_texts;
 #[cfg(test)]
+mod picks;
+#[cfg(test)]
 mod plans;
 #[cfg(test)]
 mod random;
