@@ -14,9 +14,9 @@ mod network;
 #[cfg(test)]
 mod orders;
 #[cfg(test)]
-mod plan_texts;
-#[cfg(test)]
 mod picks;
+#[cfg(test)]
+mod plan_texts;
 #[cfg(test)]
 mod plans;
 #[cfg(test)]
