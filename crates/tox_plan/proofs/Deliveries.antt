@@ -19,7 +19,7 @@ use Rattle.tox_plan.specs.Running.{Running, to_come, no_piece}
 use Rattle.tox_plan.specs.Cuts.{Reach, IsCut, IsWithin}
 use Rattle.tox_plan.specs.Delivering.{Goes, stop_from, MayFollow, EndsAt, StandsAt, StandsBehind}
 
-slices_table-append : (xs ys : List Slice) → slices_table (xs ++ ys) ≡ slices_table xs ++ slices_table ys
+pub slices_table-append : (xs ys : List Slice) → slices_table (xs ++ ys) ≡ slices_table xs ++ slices_table ys
 slices_table-append [] ys = refl
 slices_table-append (x ∷ xs) ys =
     ap (λ ts. replicate (span_len x.span) x.instant ++ ts) (slices_table-append xs ys) ∙ sym (append_assoc (replicate (span_len x.span) x.instant) (slices_table xs) (slices_table ys))

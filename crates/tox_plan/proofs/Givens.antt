@@ -13,7 +13,7 @@ use Rattle.tox_plan.specs.Delivering.{Goes}
 use Rattle.tox_plan.specs.Given.{HasGiven, GoesOn, IsLasting, IsWhole}
 use Rattle.tox_plan.proofs.Deliveries.{goes-cut}
 
-table-no_chunk : (items : List Item) → HasNoChunk items → table items ≡ []
+pub table-no_chunk : (items : List Item) → HasNoChunk items → table items ≡ []
 table-no_chunk [] none = refl
 table-no_chunk (Chunk span t ∷ items) none = absurd none
 table-no_chunk (Closed t ∷ items) none = table-no_chunk items none

@@ -8,3 +8,4 @@ pub mod EveryRun
 pub mod Late
 pub mod Deadlines
 pub mod Givens
+pub mod Orders

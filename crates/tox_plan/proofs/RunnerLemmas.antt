@@ -460,9 +460,9 @@ look-none old new invariant read none same =
 pub no_chunk-apart : (instant : ℕ) (items : List Item) → HasNoChunk items → BeginsApart instant items
 no_chunk-apart instant [] none = tt
 no_chunk-apart instant (Chunk span t ∷ items) none = absurd none
-no_chunk-apart instant (Closed t ∷ items) none = tt
-no_chunk-apart instant (Reset t ∷ items) none = tt
-no_chunk-apart instant (Quiet ∷ items) none = tt
+no_chunk-apart instant (Closed t ∷ items) none = none
+no_chunk-apart instant (Reset t ∷ items) none = none
+no_chunk-apart instant (Quiet ∷ items) none = none
 
 pub none_of : (ending : Option Ending) → is_some ending ≡ false → ending ≡ None
 none_of None none = refl

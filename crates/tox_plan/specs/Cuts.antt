@@ -5,7 +5,7 @@ use Rattle.tox_time.specs.declared.item.Item.{Item}
 use Rattle.tox_time.specs.declared.item.Item.TheVariants.{Chunk, Closed, Reset, Quiet}
 use Rattle.tox_defs.specs.Look.{as_chunk}
 use Rattle.tox_plan.specs.Levels.{ops_of}
-use Rattle.tox_plan.specs.Running.{Running, to_come}
+use Rattle.tox_plan.specs.Running.{Running, HasNoChunk, to_come}
 
 -- nonempty cuts at one instant that reach from one position to another
 abbrev pub Reach : ℕ → ℕ → ℕ → List Slice → Type 0
@@ -46,10 +46,10 @@ pub record KeepsOffers (old new : Running) : Type 0 where
   pub levels : length new.levels ≡ length old.levels
   pub ops : ops_of new.levels ≡ ops_of old.levels
 
--- the next chunk to come, if there is one, leaves at another instant
+-- the next chunk to come, if there is one, has bytes, and leaves at another instant
 abbrev pub BeginsApart : ℕ → List Item → Type 0
 BeginsApart instant [] = Unit {0}
-BeginsApart instant (Chunk span t ∷ items) = t ≢ instant
-BeginsApart instant (Closed t ∷ items) = Unit {0}
-BeginsApart instant (Reset t ∷ items) = Unit {0}
-BeginsApart instant (Quiet ∷ items) = Unit {0}
+BeginsApart instant (Chunk span t ∷ items) = (span.start < span.stop) × (t ≢ instant)
+BeginsApart instant (Closed t ∷ items) = HasNoChunk items
+BeginsApart instant (Reset t ∷ items) = HasNoChunk items
+BeginsApart instant (Quiet ∷ items) = HasNoChunk items

@@ -1,5 +1,5 @@
 -- What a runner has given so far, beside its plan's meaning.
-use Rattle.std.specs.Prelude.{◌≡◌, ℕ, List, [], ◌∷◌, ◌++◌}
+use Rattle.std.specs.Prelude.{◌≡◌, ℕ, ◌<◌, List, [], ◌∷◌, ◌++◌}
 use Rattle.tox_time.specs.declared.slice.Slice.{Slice}
 use Rattle.tox_time.specs.declared.item.Item.{Item}
 use Rattle.tox_time.specs.declared.item.Item.TheVariants.{Quiet}
@@ -22,6 +22,11 @@ GoesOn old pieces slices new =
 abbrev pub IsLasting : Ops → List ℕ → List Item → List Slice → Type 0
 IsLasting plan words offered given =
     (items : List Item) → IsStream (offered ++ items) → IsPrefix (slices_table given) (table (means plan words (offered ++ items)))
+
+-- no byte of these instants leaves as early as that
+abbrev pub AreAfter : ℕ → List ℕ → Type 0
+AreAfter instant [] = Unit {0}
+AreAfter instant (t ∷ ts) = (instant < t) × AreAfter instant ts
 
 -- all that the offered pieces bring was given
 abbrev pub IsWhole : Ops → List ℕ → List Item → List Slice → Type 0

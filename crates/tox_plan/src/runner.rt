@@ -1,15 +1,15 @@
-ghost use Rattle.std.specs.Prelude.{◌≡◌, ℕ, ◌+◌, ◌*◌, ◌^◌, ◌<◌, ◌≤◌, ◌↔◌, ◌⊎◌, List, [], ◌∷◌, length, true, false, None, Some, IsSome, IsNone, IfSome, IfNone, MatchOption, OnOk, OnErr};
+ghost use Rattle.std.specs.Prelude.{◌≡◌, ℕ, ◌+◌, ◌*◌, ◌^◌, ◌<◌, ◌≤◌, ◌↔◌, ◌⊎◌, List, [], ◌∷◌, ◌++◌, length, true, false, None, Some, IsSome, IsNone, IfSome, IfNone, MatchOption, OnOk, OnErr};
 ghost use Rattle.tox_time.specs.declared.item.Item.{Item as OneItem};
 ghost use Rattle.tox_time.specs.declared.item.Item.TheVariants.{Closed, Quiet};
 ghost use Rattle.tox_time.specs.declared.slice.Slice.{Slice as OneSlice};
 ghost use Rattle.tox_time.specs.Stream.{IsStream, IsStreamFrom};
-ghost use Rattle.tox_time.specs.Table.{final_of};
+ghost use Rattle.tox_time.specs.Table.{final_of, table};
 ghost use Rattle.tox_defs.specs.Look.{as_chunk};
-ghost use Rattle.tox_compile.specs.Meaning.{Ops, means, deadline_of};
+ghost use Rattle.tox_compile.specs.Meaning.{Ops, IsPlan, means, deadline_of};
 ghost use Rattle.tox_plan.specs.Levels.{HaveEnded, ops_of};
 ghost use Rattle.tox_plan.specs.Running.{to_come, HasNoChunk, known_ending, next_piece, no_piece, offer_answer};
 ghost use Rattle.tox_plan.specs.Cuts.{IsCut, IsOneCut, KeepsOffers, BeginsApart};
-ghost use Rattle.tox_plan.specs.Given.{HasGiven, GoesOn, IsLasting, IsWhole};
+ghost use Rattle.tox_plan.specs.Given.{HasGiven, GoesOn, IsLasting, IsWhole, AreAfter};
 
 use crate::levels::{self, Pulled, last_of, pull, push_levels};
 use arrayvec::ArrayVec;
@@ -142,6 +142,8 @@ impl<'w> Runner<'w> {
         ensures ops { ops_of self.new.levels ≡ ops_of self.old.levels }
         ensures given { MatchOption result (GoesOn self.old [] [] self.new) (λ slice. GoesOn self.old [] (slice ∷ []) self.new) }
         ensures lasting { (plan : Ops) (offered : List OneItem) (given : List OneSlice) → HasGiven plan offered given self.new → IsLasting plan self.new.words offered given }
+        ensures later { IfSome result (λ slice. (plan : Ops) (offered : List OneItem) (given : List OneSlice) → IsPlan plan → IsStream (offered ++ Quiet ∷ []) → HasGiven plan offered given self.old
+            → AreAfter slice.instant (table (to_come self.new (Quiet ∷ [])))) }
         ensures whole { IfNone result ((plan : Ops) (offered : List OneItem) (given : List OneSlice) → HasGiven plan offered given self.old → IsWhole plan self.old.words offered given) }
     {
         let mut slice = self.cut()?;

@@ -1,6 +1,9 @@
 -- Cuts at one instant are together a slice, and what was given goes on with it.
-use Rattle.std.proofs.Common.{refl, sym, subst, ◌∙◌}
+use Rattle.std.proofs.Common.{[], ◌∷◌, ◌++◌, refl, sym, subst, ◌∙◌}
 use Rattle.std.specs.Prelude.{IsNone}
+use Rattle.std.proofs.lemmas.List.{append-nil}
+use Rattle.tox_plan.specs.Given.{HasGiven}
+use Rattle.tox_plan.proofs.Orders.{left-after}
 use Rattle.tox_plan.proofs.Givens.{given-cut, whole}
 use Rattle.tox_plan.proofs.RunnerLemmas.{IsCut-one, IsCut-longer, IsCut-same, keeps-both}
 use Rattle.tox_plan.proofs.runner.Runner.next_cut.Goals as goal
@@ -34,3 +37,10 @@ returns-clause-given c =
     let none = c.in_default.ensures.none in
     given-cut c.args.self.now c.cut_at.new.self c.loop-stop.slice (c.cut_at.ensures.kept.words ∙ on.kept.words)
     (IsCut-same c.args.self.now c.loop-stop.self c.cut_at.new.self c.loop-stop.slice on.cut none.0 none.2)
+
+pub returns-clause-later : goal.returns-clause-later
+returns-clause-later c =
+    λ plan offered given fits stream has.
+    left-after plan offered given c.loop-stop.slice c.cut_at.new.self fits stream
+    (subst (λ offered. HasGiven plan offered (given ++ c.loop-stop.slice ∷ []) c.cut_at.new.self) (append-nil offered) (returns-clause-given c plan offered given has))
+    c.loop-stop.invariant.cut.within.some c.in_default.ensures.none.3
