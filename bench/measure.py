@@ -17,10 +17,9 @@ FOUR = [
 ]
 
 
-def write_load(path, length):
-    """As many arrivals of this length as fit the greatest input, a microsecond apart."""
+def write_load(path, length, room=INPUT):
+    """As many arrivals of this length as fit an input of that many bytes, a microsecond apart."""
     data = os.urandom(length).hex()
-    room = INPUT
     micros = 0
     with open(path, "w") as text:
         while True:
