@@ -449,6 +449,14 @@ keeps-both old middle new first second = record {
   ops = second.ops ∙ first.ops;
 }
 
+-- a round of looks for one cut, and for one more
+pub one-round : (levels old new before after : ℕ) → new ≤ old + levels → after ≡ before + 1 → new + levels * before ≤ old + levels * after
+one-round levels old new before after few counted = rw counted (omega (arith, few))
+
+pub more-rounds : (levels levels' first old new before middle after : ℕ) → levels' ≡ levels → old + levels * before ≤ first + levels * middle → new ≤ old + levels' → after ≡ middle + 1
+    → new + levels * before ≤ first + levels * after
+more-rounds levels levels' first old new before middle after same rounds few counted = rw counted (omega (arith, same, rounds, few))
+
 -- where a look finds no cut, no chunk is left
 pub look-none : (old new : Running) → IsRunning new → (IsNone new.found → new.read ≡ true) → new.found ≡ None → ((items : List Item) → to_come new items ≡ to_come old items)
     → HasNoChunk (to_come new (Quiet ∷ [])) × HasNoChunk (to_come old (Quiet ∷ []))

@@ -9,7 +9,7 @@ use Rattle.tox_lend.specs.Lent.{IsExactSlice}
 use Rattle.tox_lend.specs.declared.lent.Lent.{Lent}
 use Rattle.tox_plan.specs.declared.slices.Slices.{Slices}
 use Rattle.tox_plan.specs.Running.{Running, to_come, HasNoChunk}
-use Rattle.tox_plan.specs.Cuts.{IsCut}
+use Rattle.tox_plan.specs.Cuts.{IsCut, BeginsApart}
 use Rattle.tox_plan.specs.Levels.{ops_of}
 
 -- the piece has the start, the length and the instant of the last accepted offer
@@ -41,6 +41,7 @@ pub record LendsNext (old new : Slices) (lent : Lent) : Type 0 where
   pub cut : IsCut old.runner new.runner slice
   pub starts : slice.span.start ≡ old.runner.position
   pub stops : new.runner.position ≡ slice.span.stop
+  pub apart : BeginsApart slice.instant (to_come new.runner (Quiet ∷ []))
   pub exact : IsExactSlice old.piece.now slice.span slice.instant lent
 
 -- nothing of the piece is left, and the runner is idle

@@ -131,7 +131,8 @@ impl<'w> Runner<'w> {
     }
 
     /// The next slice of the offered piece, all that is left of it at one instant; or None exactly where nothing is
-    /// left, and the runner is then idle.
+    /// left, and the runner is then idle. It looks at each operation at most once for each cut that it gives, and
+    /// once more.
     pub fn next_cut(&mut self) -> Option<Slice>
         ensures some { IfSome result (IsCut self.old self.new) }
         ensures place { IfSome result (λ slice. (slice.span.start ≡ self.old.position) × (self.new.position ≡ slice.span.stop) × (self.new.idle ≡ false)) }
@@ -140,6 +141,7 @@ impl<'w> Runner<'w> {
         ensures idle { IfNone result ((self.new.idle ≡ true) × (self.new.position ≡ self.old.position) × (self.new.cuts ≡ self.old.cuts) × ((items : List OneItem) → to_come self.new items ≡ to_come self.old items)) }
         ensures kept { (self.new.words ≡ self.old.words) × (self.new.finished ≡ self.old.finished) × (self.new.piece ≡ self.old.piece) × (self.new.latest ≡ self.old.latest) × (self.new.pieces ≡ self.old.pieces) × (length self.new.levels ≡ length self.old.levels) }
         ensures ops { ops_of self.new.levels ≡ ops_of self.old.levels }
+        ensures turns { self.new.turns + length self.old.levels * self.old.cuts ≤ self.old.turns + length self.old.levels * (self.new.cuts + 1) }
         ensures given { MatchOption result (GoesOn self.old [] [] self.new) (λ slice. GoesOn self.old [] (slice ∷ []) self.new) }
         ensures lasting { (plan : Ops) (offered : List OneItem) (given : List OneSlice) → HasGiven plan offered given self.new → IsLasting plan self.new.words offered given }
         ensures later { IfSome result (λ slice. (plan : Ops) (offered : List OneItem) (given : List OneSlice) → IsPlan plan → IsStream (offered ++ Quiet ∷ []) → HasGiven plan offered given self.old
@@ -158,6 +160,7 @@ impl<'w> Runner<'w> {
         ensures some { IfSome result (λ cut. IsOneCut self.old self.new cut × (self.new.idle ≡ false)) }
         ensures none { IsNone result ↔ HasNoChunk (to_come self.old (Quiet ∷ [])) }
         ensures idle { IfNone result ((self.new.idle ≡ true) × (self.new.position ≡ self.old.position) × (self.new.cuts ≡ self.old.cuts) × ((items : List OneItem) → to_come self.new items ≡ to_come self.old items)) }
+        ensures turns { self.new.turns ≤ self.old.turns + length self.old.levels }
         ensures kept { KeepsOffers self.old self.new }
     {
         self.look();
@@ -174,6 +177,7 @@ impl<'w> Runner<'w> {
         ensures some { IfSome result (λ stop. IsOneCut self.old self.new (record { span = record { start = self.old.position; stop = stop }; instant = instant.now })) }
         ensures none { IfNone result (((items : List OneItem) → to_come self.new items ≡ to_come self.old items) × (self.new.position ≡ self.old.position) × (self.new.cuts ≡ self.old.cuts) × BeginsApart instant.now (to_come self.new (Quiet ∷ []))) }
         ensures idle { self.new.idle ≡ self.old.idle }
+        ensures turns { self.new.turns ≤ self.old.turns + length self.old.levels }
         ensures kept { KeepsOffers self.old self.new }
     {
         self.look();
@@ -189,7 +193,7 @@ impl<'w> Runner<'w> {
     fn give(&mut self, cut: &Slice)
         requires { self.old.found ≡ Some cut.now }
         ensures cut { IsOneCut self.old self.new cut.now }
-        ensures idle { self.new.idle ≡ self.old.idle }
+        ensures same { (self.new.idle ≡ self.old.idle) × (self.new.turns ≡ self.old.turns) }
         ensures kept { KeepsOffers self.old self.new }
     {
         self.found = None;
@@ -202,6 +206,7 @@ impl<'w> Runner<'w> {
         ensures found { IsNone self.new.found → self.new.read ≡ true }
         ensures to_come { (items : List OneItem) → to_come self.new items ≡ to_come self.old items }
         ensures same { (self.new.position ≡ self.old.position) × (self.new.cuts ≡ self.old.cuts) × (self.new.idle ≡ self.old.idle) }
+        ensures turns { self.new.turns ≤ self.old.turns + length self.old.levels }
         ensures kept { KeepsOffers self.old self.new }
     {
         if self.read || self.found.is_some() {

@@ -1,11 +1,11 @@
 -- Cuts at one instant are together a slice, and what was given goes on with it.
-use Rattle.std.proofs.Common.{[], ◌∷◌, ◌++◌, refl, sym, subst, ◌∙◌}
+use Rattle.std.proofs.Common.{[], ◌∷◌, ◌++◌, length, refl, sym, subst, ◌∙◌}
 use Rattle.std.specs.Prelude.{IsNone}
 use Rattle.std.proofs.lemmas.List.{append-nil}
 use Rattle.tox_plan.specs.Given.{HasGiven}
 use Rattle.tox_plan.proofs.Orders.{left-after}
 use Rattle.tox_plan.proofs.Givens.{given-cut, whole}
-use Rattle.tox_plan.proofs.RunnerLemmas.{IsCut-one, IsCut-longer, IsCut-same, keeps-both}
+use Rattle.tox_plan.proofs.RunnerLemmas.{one-round, more-rounds, IsCut-one, IsCut-longer, IsCut-same, keeps-both}
 use Rattle.tox_plan.proofs.runner.Runner.next_cut.Goals as goal
 
 pub returns-in_err-slice-clause-whole : goal.returns-in_err-slice-clause-whole
@@ -19,6 +19,7 @@ loop-stop-init c = record {
   stands = c.in_ok-slice.ensures.some.0.stands;
   busy = c.in_ok-slice.ensures.some.1;
   kept = c.cut.ensures.kept;
+  rounds = one-round (length c.args.self.now.levels) c.args.self.now.turns c.cut.new.self.turns c.args.self.now.cuts c.cut.new.self.cuts c.cut.ensures.turns c.in_ok-slice.ensures.some.0.counted;
 }
 
 pub loop-stop-preserved : goal.loop-stop-preserved
@@ -29,6 +30,8 @@ loop-stop-preserved c =
       stands = c.in-Some.ensures.some.stands;
       busy = c.cut_at.ensures.idle ∙ on.busy;
       kept = keeps-both c.args.self.now c.loop-stop.self c.cut_at.new.self on.kept c.cut_at.ensures.kept;
+      rounds = more-rounds (length c.args.self.now.levels) (length c.loop-stop.self.levels) c.args.self.now.turns c.loop-stop.self.turns c.cut_at.new.self.turns c.args.self.now.cuts c.loop-stop.self.cuts c.cut_at.new.self.cuts
+          on.kept.levels on.rounds c.cut_at.ensures.turns c.in-Some.ensures.some.counted;
     }
 
 pub returns-clause-given : goal.returns-clause-given

@@ -1,5 +1,5 @@
 -- The slice is the cuts that were given so far, all at its instant.
-use Rattle.std.proofs.Common.{◌≡◌, ◌-◌, false}
+use Rattle.std.proofs.Common.{◌≡◌, ◌+◌, ◌-◌, ◌*◌, ◌≤◌, length, false}
 use Rattle.tox_plan.specs.Cuts.{IsCut, KeepsOffers}
 use Rattle.tox_plan.proofs.runner.Runner.next_cut.Given as goal
 
@@ -10,6 +10,7 @@ invariant-loop-stop l = record {
   stands : l.self.position ≡ l.slice.span.stop;
   busy : l.self.idle ≡ false;
   kept : KeepsOffers l.fn.self l.self;
+  rounds : l.self.turns + length l.fn.self.levels * l.fn.self.cuts ≤ l.fn.self.turns + length l.fn.self.levels * l.self.cuts;
 }
 
 abbrev pub decreases-loop-stop : goal.decreases-loop-stop
