@@ -57,20 +57,19 @@ impl Level {
         };
         match &self.op.look(&self.state, &rest, words) {
             Look::Piece(piece) => {
-                self.state = self.state.after_piece_of(self.stop, piece);
+                self.state.add_piece_of(self.stop, piece);
                 Advanced::Piece(*piece)
             }
             Look::LastPiece(piece, ending) => {
-                self.state = self
-                    .state
-                    .after_piece(piece)
-                    .after_chunk()
-                    .after_ending(ending);
+                self.state.add_piece(piece);
+                self.state.add_chunk();
+                self.state.add_ending(ending);
                 self.ending = Some(*ending);
                 Advanced::Piece(*piece)
             }
             Look::Ended(ending) => {
-                self.state = self.state.after_chunk().after_ending(ending);
+                self.state.add_chunk();
+                self.state.add_ending(ending);
                 self.ending = Some(*ending);
                 Advanced::End(*ending)
             }

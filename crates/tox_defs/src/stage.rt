@@ -89,7 +89,7 @@ impl<'w> Stage<'w> {
                     self.start = span.stop;
                 } else if self.level.op.is_mute() {
                     self.start = span.stop;
-                    self.level.state = self.level.state.after_chunk();
+                    self.level.state.add_chunk();
                 }
                 return;
             }
@@ -99,7 +99,7 @@ impl<'w> Stage<'w> {
         };
         if !self.level.state.done {
             let last = self.level.op.last(&self.level.state, &ending);
-            self.level.state = self.level.state.after_ending(&last);
+            self.level.state.add_ending(&last);
             self.level.ending = Some(last);
         }
     }

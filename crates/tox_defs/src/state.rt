@@ -21,60 +21,47 @@ impl State {
     ghost use Rattle.tox_defs.specs.Reaction.{with_piece, with_chunk, with_ending};
     ghost use Rattle.tox_defs.specs.Look.{after_piece_of};
 
-    /// The state after one more piece was given.
-    pub(crate) fn after_piece(&self, piece: &Slice) -> State
-        requires pieces { self.now.pieces + 1 < 2 ^ 64 }
-        requires bytes { self.now.passed + (piece.now.span.stop - piece.now.span.start) < 2 ^ 64 }
+    /// One more piece was given.
+    pub(crate) fn add_piece(&mut self, piece: &Slice)
+        requires pieces { self.old.pieces + 1 < 2 ^ 64 }
+        requires bytes { self.old.passed + (piece.now.span.stop - piece.now.span.start) < 2 ^ 64 }
         requires order { piece.now.span.start ≤ piece.now.span.stop }
-        ensures { result ≡ with_piece self.now piece.now }
+        ensures { self.new ≡ with_piece self.old piece.now }
     {
-        State {
-            previous: piece.instant,
-            pieces: self.pieces + 1,
-            passed: self.passed + (piece.span.stop - piece.span.start),
-            ..*self
-        }
+        self.previous = piece.instant;
+        self.pieces += 1;
+        self.passed += piece.span.stop - piece.span.start;
     }
 
-    /// The state after a chunk was done with.
-    pub(crate) fn after_chunk(&self) -> State
-        requires { self.now.chunks + 1 < 2 ^ 64 }
-        ensures { result ≡ with_chunk self.now }
+    /// One more chunk is done with.
+    pub(crate) fn add_chunk(&mut self)
+        requires { self.old.chunks + 1 < 2 ^ 64 }
+        ensures { self.new ≡ with_chunk self.old }
     {
-        State {
-            chunks: self.chunks + 1,
-            ..*self
-        }
+        self.chunks += 1;
     }
 
-    /// The state after a piece of a chunk that stops at `stop`: the chunk counts with its last piece.
-    pub(crate) fn after_piece_of(&self, stop: u64, piece: &Slice) -> State
-        requires chunks { self.now.chunks + 1 < 2 ^ 64 }
-        requires pieces { self.now.pieces + 1 < 2 ^ 64 }
-        requires bytes { self.now.passed + (piece.now.span.stop - piece.now.span.start) < 2 ^ 64 }
+    /// A piece of a chunk that stops at `stop` was given: the chunk counts with its last piece.
+    pub(crate) fn add_piece_of(&mut self, stop: u64, piece: &Slice)
+        requires chunks { self.old.chunks + 1 < 2 ^ 64 }
+        requires pieces { self.old.pieces + 1 < 2 ^ 64 }
+        requires bytes { self.old.passed + (piece.now.span.stop - piece.now.span.start) < 2 ^ 64 }
         requires order { piece.now.span.start ≤ piece.now.span.stop }
-        ensures { result ≡ after_piece_of stop self.now piece.now }
+        ensures { self.new ≡ after_piece_of stop self.old piece.now }
     {
-        let after = self.after_piece(piece);
+        self.add_piece(piece);
         if piece.span.stop == stop {
-            after.after_chunk()
-        } else {
-            after
+            self.add_chunk();
         }
     }
 
-    /// The state after the ending was given.
-    pub(crate) fn after_ending(&self, ending: &Ending) -> State
-        ensures { result ≡ with_ending self.now ending.now }
+    /// The ending was given.
+    pub(crate) fn add_ending(&mut self, ending: &Ending)
+        ensures { self.new ≡ with_ending self.old ending.now }
     {
-        let previous = match ending {
-            Ending::StillOpen => self.previous,
-            Ending::Closed(instant) | Ending::Reset(instant) => *instant,
-        };
-        State {
-            previous,
-            done: true,
-            ..*self
+        if let Ending::Closed(instant) | Ending::Reset(instant) = ending {
+            self.previous = *instant;
         }
+        self.done = true;
     }
 }

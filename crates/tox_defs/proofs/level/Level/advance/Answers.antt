@@ -4,15 +4,15 @@ use Rattle.tox_defs.proofs.level.Level.advance.Goals as goal
 
 pub returns-in-Piece : goal.returns-in-Piece
 returns-in-Piece c =
-    rw c.after_piece_of-self.ensures
+    rw c.add_piece_of.ensures
     (level_at_piece c.args.words.now c.args.start c.args.self.now c.in-Piece.piece c.requires.open c.requires.some c.requires.sound (λ items. rw c.in-Piece.is at (c.look.ensures.finds items)) (rw c.in-Piece.is at c.look.ensures.front))
 
 pub returns-in-LastPiece : goal.returns-in-LastPiece
 returns-in-LastPiece c =
-    rw (c.after_ending-self.ensures, c.after_chunk.ensures, c.after_piece.ensures)
+    rw (c.add_ending.ensures, c.add_chunk.ensures, c.add_piece.ensures)
     (level_at_last_piece c.args.words.now c.args.start c.args.self.now c.in-LastPiece.piece c.in-LastPiece.ending c.requires.open c.requires.some c.requires.sound (λ items. rw c.in-LastPiece.is at (c.look.ensures.finds items)) (rw c.in-LastPiece.is at c.look.ensures.front))
 
 pub returns-in-Ended : goal.returns-in-Ended
 returns-in-Ended c =
-    rw (c.after_ending-self-in-Ended.ensures, c.after_chunk-in-Ended.ensures)
+    rw (c.add_ending-in-Ended.ensures, c.add_chunk-in-Ended.ensures)
     (level_at_end c.args.words.now c.args.start c.args.self.now c.in-Ended.ending c.requires.open c.requires.some (λ items. rw c.in-Ended.is at (c.look.ensures.finds items)))

@@ -15,5 +15,5 @@ returns-then-not-self c =
       | in-Reset w ↦ w.in-Reset.is ∙ ap final_of (sym w.ending-is)
       | in-Quiet w ↦ w.in-Quiet.is ∙ ap final_of (sym w.ending-is)
     ] in
-    rw (c.after_ending-self-inside.ensures, c.after-self-inside.ensures)
+    rw (c.add_ending.ensures, c.after-self-inside.ensures)
     (took_final c.self.inside.words.now c.self.inside.start c.self.inside.level c.self.inside.place c.args.self.now c.args.item c.match-item.ending c.last-last.result none read c.if-not-self.true c.self.view_is is c.last-last.ensures)
