@@ -23,7 +23,7 @@ use Rattle.tox_plan.specs.Levels.{to_come_from, ops_of, AreNested, AreDrained}
 use Rattle.tox_plan.specs.Running.{Running, IsRunning, reader_at, to_come}
 use Rattle.tox_plan.proofs.Late.{AreLate, IsLateOp, late-stream, final-stream, late-flow, final-flow}
 use Rattle.tox_plan.proofs.LevelLemmas.{to_come_from-read}
-use Rattle.tox_plan.proofs.RunnerLemmas.{to_come-unfound, to_come-ended, read-unfound}
+use Rattle.tox_plan.proofs.RunnerLemmas.{to_come-unfound, to_come-ended, idle-unfound, idle-drained}
 
 -- no operation cuts anything off before an instant
 abbrev pub AreLateOps : ℕ → List Op → Type 0
@@ -201,10 +201,10 @@ module _ (runner : Running) (invariant : IsRunning runner) (idle : runner.idle �
       → to_come runner items ≡ to_come runner (Quiet ∷ [])
   past-running d position since items running fits is from stream =
       let found = stop-deadline d (ops_of runner.levels) is in
-      let unfound : runner.found ≡ None = read-unfound runner invariant (invariant.idle idle) in
+      let unfound : runner.found ≡ None = idle-unfound runner invariant idle in
       let nested : AreNested runner.position runner.levels runner.piece = subst (λ found. AreNested (reader_at runner.position found) runner.levels runner.piece) unfound (invariant.nested running) in
       to_come-unfound runner items running unfound
-      ∙ same-later d runner.words runner.position runner.levels runner.piece items (Quiet ∷ []) fits nested (invariant.drained (invariant.idle idle) running) found.0 found.1
+      ∙ same-later d runner.words runner.position runner.levels runner.piece items (Quiet ∷ []) fits nested (idle-drained runner invariant idle running) found.0 found.1
       (record { late = late-stream d position since items from stream; final = final-stream position since items stream }) (record { late = tt; final = refl })
       ∙ sym (to_come-unfound runner (Quiet ∷ []) running unfound)
 

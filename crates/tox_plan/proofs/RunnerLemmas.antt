@@ -1,5 +1,5 @@
 -- A runner before and after each of its calls.
-use Rattle.std.proofs.Common.{◌≡◌, ℕ, ◌<◌, ◌≤◌, ◌+◌, ◌*◌, ◌^◌, Bool, true, false, List, [], ◌∷◌, ◌++◌, map, length, length-append, append_assoc, Option, Some, None, refl, ap, ◌∙◌, sym, subst, arith, ◌⊎◌, inl, inr}
+use Rattle.std.proofs.Common.{◌≡◌, ℕ, ◌<◌, ◌≤◌, ◌+◌, ◌*◌, ◌^◌, Bool, true, false, not, List, [], ◌∷◌, ◌++◌, map, length, length-append, append_assoc, Option, Some, None, refl, ap, ◌∙◌, sym, subst, arith, ◌⊎◌, inl, inr}
 use Rattle.std.proofs.Math.Nat.{mul-le-mul_right}
 use Rattle.std.proofs.Math.Seq.{take-append_seam}
 use Rattle.std.specs.List.{refill}
@@ -18,8 +18,8 @@ use Rattle.tox_defs.specs.Op.{IsOp}
 use Rattle.tox_defs.specs.Look.{as_chunk}
 use Rattle.tox_defs.specs.Level.{ending_or}
 use Rattle.tox_compile.specs.Meaning.{op_reactions}
-use Rattle.tox_plan.specs.Levels.{levels_at_start, to_come_from, AreNested, AreDrained, IsNext, OnlyEnds, HaveEnded}
-use Rattle.tox_plan.specs.Running.{Running, IsRunning, IsFound, to_come, found_chunk, reader_at, HasNoChunk, next_piece, no_piece}
+use Rattle.tox_plan.specs.Levels.{levels_at_start, to_come_from, AreNested, AreDrained, IsNext, OnlyEnds, HaveEnded, AreOpenUnless}
+use Rattle.tox_plan.specs.Running.{Running, IsRunning, IsFound, to_come, found_chunk, reader_at, round_due, HasNoChunk, next_piece, no_piece}
 use Rattle.tox_plan.specs.Cuts.{IsCut, IsOneCut, KeepsOffers, BeginsApart, Reach}
 use Rattle.tox_plan.proofs.LevelLemmas.{nested-below, nested-longer, drained-at, drained-offered}
 use Rattle.tox_plan.proofs.Endings.{drained-final}
@@ -45,25 +45,34 @@ pub to_come-ended : (runner : Running) (ending : Ending) (items : List Item) →
 to_come-ended runner ending items ended =
     ap (λ ending. ending_or ending (found_chunk runner.found ++ to_come_from runner.words (reader_at runner.position runner.found) runner.levels runner.piece items)) ended
 
--- nothing is found beyond the end of the offered piece
-pub read-unfound : (runner : Running) → IsRunning runner → runner.read ≡ true → runner.found ≡ None
-read-unfound runner invariant read = by runner.found refl
+-- an idle runner has found nothing
+pub idle-unfound : (runner : Running) → IsRunning runner → runner.idle ≡ true → runner.found ≡ None
+idle-unfound runner invariant idle = by runner.found refl
   where
     by : (found : Option Slice) → runner.found ≡ found → runner.found ≡ None
     by None is = is
     by (Some cut) is =
         let found : IsFound runner cut = subst (λ found. IfSome found (IsFound runner)) is invariant.found in
-        absurd (let both : true ≡ false = sym read ∙ found.unread in cc)
+        absurd (let both : true ≡ false = sym idle ∙ found.busy in cc)
 
--- what is found is not the piece's end, and no ending
+-- the levels of an idle runner with no ending are drained
+pub idle-drained : (runner : Running) → IsRunning runner → runner.idle ≡ true → runner.ending ≡ None → AreDrained runner.position runner.levels runner.piece
+idle-drained runner invariant idle none =
+    subst (λ found. AreDrained (reader_at runner.position found) runner.levels runner.piece) (idle-unfound runner invariant idle) (invariant.drained (invariant.idle idle) none)
+
+-- what is found comes before any ending
 pub found-cut : (runner : Running) (cut : Slice) → IsRunning runner → runner.found ≡ Some cut → IsFound runner cut
 found-cut runner cut invariant is = subst (λ found. IfSome found (IsFound runner)) is invariant.found
 
 -- drained levels keep no ending
-pub drained-open : (start : ℕ) (levels : List Level) (source : Slice) → AreDrained start levels source → HaveEnded levels → ⊥
-drained-open start [] source drained ended = ended
-drained-open start (level ∷ levels) source drained (inl some) = let none : is_some level.ending ≡ false = ap is_some drained.1 in absurd (cc)
-drained-open start (level ∷ levels) source drained (inr others) = drained-open level.stop levels source drained.2 others
+pub drained-unended : (start : ℕ) (levels : List Level) (source : Slice) → AreDrained start levels source → HaveEnded levels → ⊥
+drained-unended start [] source drained ended = ended
+drained-unended start (level ∷ levels) source drained (inl some) = let none : is_some level.ending ≡ false = ap is_some drained.1 in absurd (cc)
+drained-unended start (level ∷ levels) source drained (inr others) = drained-unended level.stop levels source drained.2 others
+
+pub none_of : (ending : Option Ending) → is_some ending ≡ false → ending ≡ None
+none_of None none = refl
+none_of (Some ending) none = absurd (cc)
 
 pub unknown : (ending : Option Ending) → (IsSome ending → ⊥) → ending ≡ None
 unknown None none = refl
@@ -81,15 +90,12 @@ drained-no_chunk words start levels source nested drained =
     subst HasNoChunk (sym last.1) (final-no_chunk last.0)
 
 -- no chunk comes any more from a runner that has read its piece, unless it is offered one
-pub read-no_chunk : (runner : Running) → IsRunning runner → runner.read ≡ true → HasNoChunk (to_come runner (Quiet ∷ []))
-read-no_chunk runner invariant read = from runner.ending refl
+pub read-no_chunk : (runner : Running) → IsRunning runner → runner.read ≡ true → runner.found ≡ None → HasNoChunk (to_come runner (Quiet ∷ []))
+read-no_chunk runner invariant read none = from runner.ending refl
   where
-    none : runner.found ≡ None
-    none = read-unfound runner invariant read
-
     from : (ending : Option Ending) → runner.ending ≡ ending → HasNoChunk (to_come runner (Quiet ∷ []))
     from None is =
-        let drained : AreDrained runner.position runner.levels runner.piece = invariant.drained read is in
+        let drained : AreDrained runner.position runner.levels runner.piece = subst (λ found. AreDrained (reader_at runner.position found) runner.levels runner.piece) none (invariant.drained read is) in
         let nested : AreNested runner.position runner.levels runner.piece = subst (λ found. AreNested (reader_at runner.position found) runner.levels runner.piece) none (invariant.nested is) in
         subst HasNoChunk (sym (to_come-unfound runner (Quiet ∷ []) is none)) (drained-no_chunk runner.words runner.position runner.levels runner.piece nested drained)
     from (Some ending) is = subst HasNoChunk (sym (to_come-ended runner ending (Quiet ∷ []) is)) (final-no_chunk ending)
@@ -111,12 +117,30 @@ unread-busy runner invariant unread = by runner.idle refl
     by false is = is
     by true is = absurd (let both : true ≡ false = sym (invariant.idle is) ∙ unread in cc)
 
+-- at most one round is due
+round_due-most : (read : Bool) (found : Option Slice) (round : ℕ) → round_due read found round ≤ round
+round_due-most true None round = omega arith
+round_due-most false None round = omega arith
+round_due-most read (Some cut) round = omega arith
+
 -- a slice that was lent and kept its length is what was written through it
 pub refill-whole : (n : ℕ) (old new : List Level) → length new ≡ n → refill n old new ≡ new
 refill-whole n old new same_length = rw (← same_length) (take-append_seam new _)
 
--- a runner that found its next cut
-module _ (old : Running) (levels : List Level) (turns : ℕ) (cut : Slice) where
+pub not-true : (b : Bool) → not b ≡ true → b ≡ false
+not-true false is = refl
+not-true true is = absurd (cc)
+
+-- nothing is left behind a cut that stops where the piece does, where no level keeps an ending
+pub drained-behind : (start : ℕ) (levels : List Level) (source : Slice) → AreNested start levels source → (HaveEnded levels → ⊥) → start ≡ source.span.stop → AreDrained start levels source
+drained-behind start [] source nested unended at = sym at
+drained-behind start (level ∷ levels) source nested unended at =
+    let below : level.stop ≤ source.span.stop = nested-below level.stop levels source nested.1 in
+    let read : level.stop ≡ start = omega (arith, nested.0.sound.within, below, at) in
+    (read, unknown level.ending (λ some. unended (inl some)), drained-behind level.stop levels source nested.1 (λ ended. unended (inr ended)) (read ∙ at))
+
+-- a runner that found its next cut, and whether it is the last
+module _ (old : Running) (levels : List Level) (turns : ℕ) (ended : Bool) (cut : Slice) (last : Bool) where
   abbrev pub after_found : Running
   after_found = record {
     levels = levels;
@@ -125,26 +149,30 @@ module _ (old : Running) (levels : List Level) (turns : ℕ) (cut : Slice) where
     piece = old.piece;
     latest = old.latest;
     found = Some cut;
-    read = old.read;
+    read = last;
     ending = old.ending;
     finished = old.finished;
     idle = old.idle;
     turns = turns;
+    ended = ended;
     cuts = old.cuts;
     pieces = old.pieces;
   }
 
   module _ (invariant : IsRunning old) (unread : old.read ≡ false) (unfound : old.found ≡ None) (next : IsNext old.words old.position old.levels levels old.piece cut) where
-    pub IsRunning-after_found : length levels ≡ length old.levels → turns ≤ old.turns + length old.levels → old.turns ≤ turns → (0 < length old.levels → old.turns < turns) → IsRunning after_found
-    IsRunning-after_found same_length few_turns more looked =
+    pub IsRunning-after_found : (last ≡ true → AreDrained cut.span.stop levels old.piece) → AreOpenUnless ended levels → length levels ≡ length old.levels → turns ≤ old.turns + length old.levels → old.turns ≤ turns → (0 < length old.levels → old.turns < turns) → IsRunning after_found
+    IsRunning-after_found drained unended same_length few_turns more looked =
+        let busy : old.idle ≡ false = unread-busy old invariant unread in
+        let running : old.ending ≡ None = unread-ending old invariant unread in
         let counted : length old.levels + old.turns ≤ length old.levels * (old.cuts + old.pieces) = rw (unfound, unread) at invariant.counted in
         let cuts_looked : 0 < length old.levels → old.cuts + 0 ≤ old.turns = rw unfound at invariant.looked in
         record {
           nested = λ _. next.nested;
-          drained = λ read. absurd (let both : true ≡ false = sym read ∙ unread in cc);
-          found = record { begins = next.begins; some = next.some; unread = unread };
-          ended = invariant.ended;
-          idle = invariant.idle;
+          drained = λ read none. drained read;
+          found = record { begins = next.begins; some = next.some; busy = busy; running = running };
+          unended = unended;
+          ended = λ some. absurd (let known : is_some old.ending ≡ true = some in let unknown : is_some old.ending ≡ false = ap is_some running in cc);
+          idle = λ idle. absurd (let both : true ≡ false = sym idle ∙ busy in cc);
           cause = λ some. absurd (let both : true ≡ false = sym (invariant.ended some) ∙ unread in cc);
           told = invariant.told;
           reached = invariant.reached;
@@ -163,7 +191,7 @@ module _ (old : Running) (levels : List Level) (turns : ℕ) (cut : Slice) where
         to_come-found after_found cut items none refl ∙ sym (next.gives items) ∙ sym (to_come-unfound old items none unfound)
 
 -- a runner that has read its piece to the end
-module _ (old : Running) (levels : List Level) (turns : ℕ) (ending : Option Ending) where
+module _ (old : Running) (levels : List Level) (turns : ℕ) (ended : Bool) (ending : Option Ending) where
   abbrev pub after_read : Running
   after_read = record {
     levels = levels;
@@ -177,21 +205,23 @@ module _ (old : Running) (levels : List Level) (turns : ℕ) (ending : Option En
     finished = old.finished;
     idle = old.idle;
     turns = turns;
+    ended = ended;
     cuts = old.cuts;
     pieces = old.pieces;
   }
 
   module _ (invariant : IsRunning old) (unread : old.read ≡ false) (unfound : old.found ≡ None) where
-    pub IsRunning-after_read : (ending ≡ None → AreDrained old.position levels old.piece × AreNested old.position levels old.piece) → (IsSome ending → HaveEnded levels)
+    pub IsRunning-after_read : (ending ≡ None → AreDrained old.position levels old.piece × AreNested old.position levels old.piece) → (IsSome ending → HaveEnded levels) → AreOpenUnless ended levels
         → length levels ≡ length old.levels → turns ≤ old.turns + length old.levels → old.turns ≤ turns → IsRunning after_read
-    IsRunning-after_read drained kept same_length few_turns more =
+    IsRunning-after_read drained kept unended same_length few_turns more =
         let counted : length old.levels + old.turns ≤ length old.levels * (old.cuts + old.pieces) = rw (unfound, unread) at invariant.counted in
         let cuts_looked : 0 < length old.levels → old.cuts + 0 ≤ old.turns = rw unfound at invariant.looked in
         let running : old.finished ≡ true → ⊥ = (λ told. let both : true ≡ false = sym (invariant.ended (invariant.told told)) ∙ unread in absurd (cc)) in
         record {
           nested = λ none. rw unfound (drained none).1;
-          drained = λ read none. (drained none).0;
+          drained = λ read none. rw unfound (drained none).0;
           found = subst (λ found. IfSome found (IsFound after_read)) (sym unfound) tt;
+          unended = unended;
           ended = λ some. refl;
           idle = λ idle. refl;
           cause = λ some. inr (kept some);
@@ -221,6 +251,7 @@ module _ (old : Running) (cut : Slice) where
     finished = old.finished;
     idle = old.idle;
     turns = old.turns;
+    ended = old.ended;
     cuts = old.cuts + 1;
     pieces = old.pieces;
   }
@@ -230,7 +261,7 @@ module _ (old : Running) (cut : Slice) where
     found = found-cut old cut invariant some
 
     nested : AreNested cut.span.stop old.levels old.piece
-    nested = subst (λ found. AreNested (reader_at old.position found) old.levels old.piece) some (invariant.nested (unread-ending old invariant found.unread))
+    nested = subst (λ found. AreNested (reader_at old.position found) old.levels old.piece) some (invariant.nested found.running)
 
     pub IsRunning-after_given : IsRunning after_given
     IsRunning-after_given =
@@ -239,8 +270,9 @@ module _ (old : Running) (cut : Slice) where
         let below : cut.span.stop ≤ old.piece.span.stop = nested-below cut.span.stop old.levels old.piece nested in
         record {
           nested = λ _. nested;
-          drained = λ read. absurd (let both : true ≡ false = sym read ∙ found.unread in cc);
+          drained = λ read none. subst (λ found. AreDrained (reader_at old.position found) old.levels old.piece) some (invariant.drained read none);
           found = tt;
+          unended = invariant.unended;
           ended = invariant.ended;
           idle = invariant.idle;
           cause = invariant.cause;
@@ -251,19 +283,19 @@ module _ (old : Running) (cut : Slice) where
           few_levels = invariant.few_levels;
           few_cuts = omega (arith, invariant.few_cuts, found.some);
           few_pieces = invariant.few_pieces;
-          counted = rw found.unread (omega (arith, counted));
+          counted = omega (arith, counted, round_due-most old.read None (length old.levels));
           looked = λ some. omega (arith, cuts_looked some);
         }
 
     pub IsOneCut-after_given : IsOneCut old after_given cut
     IsOneCut-after_given =
-        let none : old.ending ≡ None = unread-ending old invariant found.unread in
+        let none : old.ending ≡ None = found.running in
         record {
           begins = found.begins;
           some = omega (arith, found.begins, found.some);
           stands = refl;
           within = record {
-            from = omega (arith, invariant.here (unread-busy old invariant found.unread), found.begins);
+            from = omega (arith, invariant.here found.busy, found.begins);
             some = omega (arith, found.begins, found.some);
             to = nested-below cut.span.stop old.levels old.piece nested;
           };
@@ -324,16 +356,17 @@ module _ (old : Running) (len instant : ℕ) where
     finished = old.finished;
     idle = false;
     turns = old.turns;
+    ended = old.ended;
     cuts = old.cuts;
     pieces = old.pieces + 1;
   }
 
   module _ (invariant : IsRunning old) (idle : old.idle ≡ true) (none : old.ending ≡ None) where
     unfound : old.found ≡ None
-    unfound = read-unfound old invariant (invariant.idle idle)
+    unfound = idle-unfound old invariant idle
 
     drained : AreDrained old.position old.levels old.piece
-    drained = invariant.drained (invariant.idle idle) none
+    drained = idle-drained old invariant idle none
 
     pub IsRunning-after_offer : 0 < len → old.piece.span.stop + len ≤ 2 ^ 40 → IsRunning after_offer
     IsRunning-after_offer some few =
@@ -345,6 +378,7 @@ module _ (old : Running) (len instant : ℕ) where
           nested = λ _. nested-longer (reader_at old.position old.found) old.levels old.piece (next_piece old len instant) (omega arith) (invariant.nested none);
           drained = λ read. absurd (let e : false ≡ true = read in cc);
           found = subst (λ found. IfSome found (IsFound after_offer)) (sym unfound) tt;
+          unended = invariant.unended;
           ended = λ some. absurd (known some);
           idle = λ idle. absurd (let e : false ≡ true = idle in cc);
           cause = λ some. absurd (known some);
@@ -380,6 +414,7 @@ module _ (ops : List Op) (words : List ℕ) (known : Option Ending) where
     finished = false;
     idle = true;
     turns = 0;
+    ended = is_some known;
     cuts = 0;
     pieces = 0;
   }
@@ -393,6 +428,7 @@ module _ (ops : List Op) (words : List ℕ) (known : Option Ending) where
     nested = λ _. nested-at_start ops fit;
     drained = λ read none. known_at_start known refl knows none;
     found = tt;
+    unended = λ none. drained-unended 0 (levels_at_start ops) no_piece (known_at_start known refl knows (none_of known none));
     ended = λ some. refl;
     idle = λ idle. refl;
     cause = λ some. inr (kept some);
@@ -426,7 +462,7 @@ ended_exactly runner invariant idle = (λ some. (idle, invariant.cause some), λ
     from : (ending : Option Ending) → runner.ending ≡ ending → (runner.finished ≡ true) ⊎ HaveEnded runner.levels → IsSome runner.ending
     from (Some ending) is cause = rw is refl
     from None is (inl told) = invariant.told told
-    from None is (inr ended) = absurd (drained-open runner.position runner.levels runner.piece (invariant.drained (invariant.idle idle) is) ended)
+    from None is (inr ended) = absurd (drained-unended runner.position runner.levels runner.piece (idle-drained runner invariant idle is) ended)
 
 -- a slice stays what it is where nothing more is given
 pub IsCut-same : (old middle new : Running) (slice : Slice) → IsCut old middle slice → ((items : List Item) → to_come new items ≡ to_come middle items) → new.cuts ≡ middle.cuts → IsCut old new slice
@@ -461,7 +497,7 @@ more-rounds levels levels' first old new before middle after same rounds few cou
 pub look-none : (old new : Running) → IsRunning new → (IsNone new.found → new.read ≡ true) → new.found ≡ None → ((items : List Item) → to_come new items ≡ to_come old items)
     → HasNoChunk (to_come new (Quiet ∷ [])) × HasNoChunk (to_come old (Quiet ∷ []))
 look-none old new invariant read none same =
-    let chunks : HasNoChunk (to_come new (Quiet ∷ [])) = read-no_chunk new invariant (read (subst IsNone (sym none) refl)) in
+    let chunks : HasNoChunk (to_come new (Quiet ∷ [])) = read-no_chunk new invariant (read (subst IsNone (sym none) refl)) none in
     (chunks, subst HasNoChunk (same (Quiet ∷ [])) chunks)
 
 -- a list with no chunk has none at an instant
@@ -471,7 +507,3 @@ no_chunk-apart instant (Chunk span t ∷ items) none = absurd none
 no_chunk-apart instant (Closed t ∷ items) none = none
 no_chunk-apart instant (Reset t ∷ items) none = none
 no_chunk-apart instant (Quiet ∷ items) none = none
-
-pub none_of : (ending : Option Ending) → is_some ending ≡ false → ending ≡ None
-none_of None none = refl
-none_of (Some ending) none = absurd (cc)

@@ -1,5 +1,5 @@
 -- What is still to come from the levels of a plan, the last operation first.
-use Rattle.std.specs.Prelude.{◌≡◌, ℕ, ◌<◌, ◌≤◌, false, List, [], ◌∷◌, ◌++◌, Option, Some, None, IsSome, ◌⊎◌}
+use Rattle.std.specs.Prelude.{◌≡◌, ℕ, ◌<◌, ◌≤◌, Bool, false, List, [], ◌∷◌, ◌++◌, Option, Some, None, IsSome, ◌⊎◌}
 use Rattle.tox_time.specs.declared.slice.Slice.{Slice}
 use Rattle.tox_time.specs.declared.item.Item.{Item}
 use Rattle.tox_time.specs.declared.ending.Ending.{Ending}
@@ -74,6 +74,10 @@ OnlyEnds words start levels source ending = (items : List Item) → to_come_from
 abbrev pub HaveEnded : List Level → Type 0
 HaveEnded [] = ⊥
 HaveEnded (level ∷ levels) = IsSome level.ending ⊎ HaveEnded levels
+
+-- where no ending was found, no level keeps one
+abbrev pub AreOpenUnless : Bool → List Level → Type 0
+AreOpenUnless ended levels = ended ≡ false → HaveEnded levels → ⊥
 
 -- a pull brought the ending, which some level keeps
 pub record IsTheEnd (words : List ℕ) (start : ℕ) (old new : List Level) (source : Slice) (ending : Ending) : Type 0 where

@@ -14,7 +14,8 @@ running runner = record {
   ending = runner.ending;
   finished = runner.finished;
   idle = runner.idle;
-  turns = runner.turns;
+  turns = runner.looks.turns;
+  ended = runner.looks.ended;
   cuts = runner.cuts;
   pieces = runner.pieces;
 }

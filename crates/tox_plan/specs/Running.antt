@@ -9,7 +9,7 @@ use Rattle.tox_time.specs.Arrivals.{piece_fault}
 use Rattle.tox_defs.specs.declared.level.Level.{Level}
 use Rattle.tox_defs.specs.Look.{as_chunk}
 use Rattle.tox_defs.specs.Level.{ending_or}
-use Rattle.tox_plan.specs.Levels.{to_come_from, AreNested, AreDrained, HaveEnded}
+use Rattle.tox_plan.specs.Levels.{to_come_from, AreNested, AreDrained, HaveEnded, AreOpenUnless}
 
 -- what a runner is seen as
 pub record Running : Type 0 where
@@ -21,7 +21,7 @@ pub record Running : Type 0 where
   -- the piece that was offered last, and the last instant
   pub piece : Slice
   pub latest : ℕ
-  -- a cut that was found beyond the last slice, and whether no other is left of the offered piece
+  -- a cut that was found beyond the last slice, and whether nothing else is left of the offered piece
   pub found : Option Slice
   pub read : Bool
   -- the ending, once it is found, and whether the source's end was told
@@ -29,6 +29,8 @@ pub record Running : Type 0 where
   pub finished : Bool
   pub idle : Bool
   pub turns : ℕ
+  -- whether some level may keep an ending
+  pub ended : Bool
   pub cuts : ℕ
   pub pieces : ℕ
 
@@ -74,17 +76,19 @@ abbrev pub AreCounted : Running → Type 0
 AreCounted runner =
     round_due runner.read runner.found (length runner.levels) + runner.turns ≤ length runner.levels * (runner.cuts + runner.pieces)
 
--- a found cut begins where the next slice does, and the piece was not read to its end
+-- a found cut begins where the next slice does, and comes before any ending
 pub record IsFound (runner : Running) (cut : Slice) : Type 0 where
   pub begins : cut.span.start ≡ runner.position
   pub some : runner.position < cut.span.stop
-  pub unread : runner.read ≡ false
+  pub busy : runner.idle ≡ false
+  pub running : runner.ending ≡ None
 
 -- what holds of every runner
 pub record IsRunning (runner : Running) : Type 0 where
   pub nested : runner.ending ≡ None → AreNested (reader_at runner.position runner.found) runner.levels runner.piece
-  pub drained : runner.read ≡ true → runner.ending ≡ None → AreDrained runner.position runner.levels runner.piece
+  pub drained : runner.read ≡ true → runner.ending ≡ None → AreDrained (reader_at runner.position runner.found) runner.levels runner.piece
   pub found : IfSome runner.found (IsFound runner)
+  pub unended : AreOpenUnless runner.ended runner.levels
   pub ended : IsSome runner.ending → runner.read ≡ true
   pub idle : runner.idle ≡ true → runner.read ≡ true
   pub cause : IsSome runner.ending → (runner.finished ≡ true) ⊎ HaveEnded runner.levels

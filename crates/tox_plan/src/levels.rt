@@ -4,7 +4,7 @@ ghost use Rattle.std.specs.Prelude.{◌≡◌, ℕ, ◌+◌, ◌^◌, ◌<◌, �
 ghost use Rattle.tox_time.specs.Table.{final_of};
 ghost use Rattle.tox_time.specs.declared.slice.Slice.{Slice as OneSlice};
 ghost use Rattle.tox_defs.specs.declared.chain.TheConstants.{MOST_TOXICS};
-ghost use Rattle.tox_plan.specs.Levels.{AreNested, AreDrained, AreRead, HaveEnded, OnlyEnds, MatchPulled, levels_at_start, level_at_start, ending_at_start, ops_of, to_come_from};
+ghost use Rattle.tox_plan.specs.Levels.{AreNested, AreDrained, AreRead, HaveEnded, AreOpenUnless, OnlyEnds, MatchPulled, levels_at_start, level_at_start, ending_at_start, ops_of, to_come_from};
 
 use arrayvec::ArrayVec;
 use tox_defs::{Advanced, Level, MOST_TOXICS, Op};
@@ -20,6 +20,15 @@ pub(crate) enum Pulled {
     End(Ending),
     /// Nothing, until the source has another piece.
     Nothing,
+}
+
+/// What the looks at levels counted and found.
+#[derive(Clone, Copy, Debug, PartialEq, Eq)]
+pub(crate) struct Looks {
+    /// How often a level was looked at.
+    pub(crate) turns: u64,
+    /// Whether some level may keep an ending.
+    pub(crate) ended: bool,
 }
 
 /// The rest of a source's piece, of which the bytes from `start` on are unread.
@@ -47,26 +56,27 @@ pub(crate) fn pull(
     start: u64,
     source: &Slice,
     words: &Words,
-    turns: &mut u64,
+    looks: &mut Looks,
 ) -> Pulled
     requires nested { AreNested start levels.old source.now }
     requires few { source.now.span.stop ≤ 2 ^ 40 }
-    requires room { turns.old + length levels.old < 2 ^ 64 }
+    requires room { looks.old.turns + length levels.old < 2 ^ 64 }
     ensures pulled { MatchPulled words.now start levels.old levels.new source.now result }
     ensures ops { ops_of levels.new ≡ ops_of levels.old }
-    ensures turns { turns.new ≤ turns.old + length levels.old }
-    ensures more { turns.old ≤ turns.new }
-    ensures looked { 0 < length levels.old → turns.old < turns.new }
+    ensures turns { looks.new.turns ≤ looks.old.turns + length levels.old }
+    ensures more { looks.old.turns ≤ looks.new.turns }
+    ensures looked { 0 < length levels.old → looks.old.turns < looks.new.turns }
+    ensures ended { AreOpenUnless looks.old.ended levels.old → AreOpenUnless looks.new.ended levels.new }
 {
     let Some((level, upstream)) = levels.split_first_mut() else {
         return pull_source(start, source);
     };
-    *turns += 1;
+    looks.turns += 1;
     if let Some(ending) = level.ending {
         return Pulled::End(ending);
     }
     if start == level.stop {
-        match pull(upstream, start, source, words, turns) {
+        match pull(upstream, start, source, words, looks) {
             Pulled::Piece(piece) => {
                 level.stop = piece.span.stop;
                 level.instant = piece.instant;
@@ -75,7 +85,9 @@ pub(crate) fn pull(
             Pulled::Nothing => return Pulled::Nothing,
         }
     }
-    match level.advance(start, words) {
+    let advanced = level.advance(start, words);
+    looks.ended |= level.ending.is_some();
+    match advanced {
         Advanced::Piece(piece) => Pulled::Piece(piece),
         Advanced::End(ending) => Pulled::End(ending),
     }

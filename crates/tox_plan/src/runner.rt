@@ -11,7 +11,7 @@ ghost use Rattle.tox_plan.specs.Running.{to_come, HasNoChunk, known_ending, next
 ghost use Rattle.tox_plan.specs.Cuts.{IsCut, IsOneCut, KeepsOffers, BeginsApart};
 ghost use Rattle.tox_plan.specs.Given.{HasGiven, GoesOn, IsLasting, IsWhole, AreAfter};
 
-use crate::levels::{self, Pulled, last_of, pull, push_levels};
+use crate::levels::{self, Looks, Pulled, last_of, pull, push_levels};
 use arrayvec::ArrayVec;
 use std::marker::Model;
 use tox_compile::Plan;
@@ -34,7 +34,7 @@ pub struct Runner<'w> {
     ending: Option<Ending>,
     finished: bool,
     idle: bool,
-    turns: u64,
+    looks: Looks,
     cuts: u64,
     pieces: u64,
 }
@@ -77,7 +77,10 @@ impl<'w> Runner<'w> {
             ending,
             finished: false,
             idle: true,
-            turns: 0,
+            looks: Looks {
+                turns: 0,
+                ended: ending.is_some(),
+            },
             cuts: 0,
             pieces: 0,
         }
@@ -217,9 +220,12 @@ impl<'w> Runner<'w> {
             self.position,
             &self.piece,
             self.words,
-            &mut self.turns,
+            &mut self.looks,
         ) {
-            Pulled::Piece(cut) => self.found = Some(cut),
+            Pulled::Piece(cut) => {
+                self.read = cut.span.stop == self.piece.span.stop && !self.looks.ended;
+                self.found = Some(cut);
+            }
             Pulled::End(ending) => {
                 self.ending = Some(ending);
                 self.read = true;
@@ -228,15 +234,15 @@ impl<'w> Runner<'w> {
         }
     }
 
-    /// The source ended at `instant`: how the link ends. The last instant is then this one.
-    pub fn finish(&mut self, instant: Micros) -> Ending
+    /// The source ended at `end`: how the link ends. The last instant is then this one.
+    pub fn finish(&mut self, end: Micros) -> Ending
         requires idle { self.old.idle ≡ true }
-        requires later { self.old.latest ≤ instant }
-        ensures last { to_come self.old (Closed instant ∷ []) ≡ final_of result ∷ [] }
-        ensures ended { self.new ≡ record self.old { ending = Some result; finished = true; latest = instant } }
+        requires later { self.old.latest ≤ end }
+        ensures last { to_come self.old (Closed end ∷ []) ≡ final_of result ∷ [] }
+        ensures ended { self.new ≡ record self.old { ending = Some result; finished = true; latest = end } }
     {
-        let ending = self.end_with(&Ending::Closed(instant));
-        self.latest = instant;
+        let ending = self.end_with(&Ending::Closed(end));
+        self.latest = end;
         ending
     }
 
@@ -284,7 +290,7 @@ impl<'w> Runner<'w> {
         ensures most { result ≤ length self.now.levels * (self.now.cuts + self.now.pieces) }
         ensures least { 0 < length self.now.levels → self.now.cuts ≤ result }
     {
-        self.turns
+        self.looks.turns
     }
 
     /// How many cuts were given.

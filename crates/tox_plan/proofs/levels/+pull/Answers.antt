@@ -14,8 +14,8 @@ returns-in_default-clause-pulled t c =
     let empty : length c.args.levels.now ≡ 0 = search rules in
     subst (λ levels. MatchPulled c.args.words.now c.args.start levels levels c.args.source.now c.pull_source.result) (sym (nil_from_length c.args.levels.now empty)) (c.pull_source.ensures c.args.words.now)
 
-pub advance-requires-clause-sound : goal.advance-requires-clause-sound
-advance-requires-clause-sound t c =
+pub advance-advanced-requires-clause-sound : goal.advance-advanced-requires-clause-sound
+advance-advanced-requires-clause-sound t c =
     let nested : AreNested c.args.start (c.in-Some.level.now ∷ c.in-Some.upstream.now) c.args.source.now = search rules in
     elim c.if-start-level.branch [
       | then-start-level+in-Piece w ↦
@@ -26,20 +26,20 @@ advance-requires-clause-sound t c =
       | else-start-level w ↦ subst (λ level. IsSound c.args.start level) (sym w.level-is) nested.0.sound
     ]
 
-pub returns-in-End-advance-clause-pulled : goal.returns-in-End-advance-clause-pulled
-returns-in-End-advance-clause-pulled t c =
+pub returns-in-End-advanced-clause-pulled : goal.returns-in-End-advanced-clause-pulled
+returns-in-End-advanced-clause-pulled t c =
     let is : c.args.levels.now ≡ c.in-Some.level.now ∷ c.in-Some.upstream.now = search rules in
-    let advanced : IsAtEnd c.args.words.now c.args.start c.if-start-level.level c.advance.new.self c.in-End-advance.ending = c.in-End-advance.ensures in
+    let advanced : IsAtEnd c.args.words.now c.args.start c.if-start-level.level c.advance-advanced.new.self c.in-End-advanced.ending = c.in-End-advanced.ensures in
     record {
-      only = subst (λ levels. OnlyEnds c.args.words.now c.args.start levels c.args.source.now c.in-End-advance.ending) (sym is)
+      only = subst (λ levels. OnlyEnds c.args.words.now c.args.start levels c.args.source.now c.in-End-advanced.ending) (sym is)
           (elim c.if-start-level.branch [
             | then-start-level+in-Piece w ↦
                 filled-end c.args.words.now c.args.start c.in-Some.upstream.now w.pull.new.levels c.in-Some.level.now c.args.source.now w.in-Piece.piece c.in_default-ending.is (sym w.if-start-level.true) w.in-Piece.ensures.pulled
-                c.advance.new.self c.in-End-advance.ending
-                (subst (λ level. IsAtEnd c.args.words.now c.args.start level c.advance.new.self c.in-End-advance.ending) w.level-is advanced)
+                c.advance-advanced.new.self c.in-End-advanced.ending
+                (subst (λ level. IsAtEnd c.args.words.now c.args.start level c.advance-advanced.new.self c.in-End-advanced.ending) w.level-is advanced)
             | else-start-level w ↦
-                here-end c.args.words.now c.args.start c.in-Some.upstream.now c.in-Some.level.now c.advance.new.self c.args.source.now c.in-End-advance.ending
-                (subst (λ level. IsAtEnd c.args.words.now c.args.start level c.advance.new.self c.in-End-advance.ending) w.level-is advanced)
+                here-end c.args.words.now c.args.start c.in-Some.upstream.now c.in-Some.level.now c.advance-advanced.new.self c.args.source.now c.in-End-advanced.ending
+                (subst (λ level. IsAtEnd c.args.words.now c.args.start level c.advance-advanced.new.self c.in-End-advanced.ending) w.level-is advanced)
           ]);
       kept = inl (ap is_some advanced.ended);
     }
