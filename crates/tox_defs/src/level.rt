@@ -41,6 +41,7 @@ impl Level {
 
     /// The next piece of the present chunk, of which the bytes from `start` on are unread, or the ending where
     /// the operation gives no piece before it. An ending that was found is kept in `ending`.
+    #[inline(always)]
     pub fn advance(&mut self, start: u64, words: &Words) -> Advanced
         requires some { start < self.old.stop }
         requires heard { is_mute self.old.op ≡ false }

@@ -49,7 +49,9 @@ fn front(rest: &Slice, bytes: u64) -> Span
 }
 
 impl Op {
-    /// Looks at the rest of a chunk for the next piece that the operation gives.
+    /// Looks at the rest of a chunk for the next piece that the operation gives. A call of its own would cost each
+    /// look a quarter, so it is always inlined, as is [`Level::advance`](crate::Level::advance).
+    #[inline(always)]
     pub(crate) fn look(&self, state: &State, rest: &Slice, words: &Words) -> Look
         requires operation { IsOp self.now }
         requires heard { is_mute self.now ≡ false }

@@ -1,6 +1,7 @@
 -- What a pull brings is what comes next from all the levels.
-use Rattle.std.proofs.Common.{◌≡◌, ℕ, ◌^◌, ◌≤◌, false, List, [], ◌∷◌, Option, None, Some, refl, ap, sym, subst, ◌∙◌, arith}
-use Rattle.std.specs.Prelude.{MatchOption}
+use Rattle.std.proofs.Common.{◌≡◌, ℕ, ◌^◌, ◌≤◌, false, List, [], ◌∷◌, ◌++◌, append_assoc, Option, None, Some, refl, ap, sym, subst, ◌∙◌, arith, inl, inr}
+use Rattle.std.specs.Prelude.{MatchOption, is_some}
+use Rattle.std.proofs.lemmas.List.{append-nil}
 use Rattle.tox_time.specs.declared.slice.Slice.{Slice}
 use Rattle.tox_time.specs.declared.item.Item.{Item}
 use Rattle.tox_time.specs.declared.ending.Ending.{Ending}
@@ -10,8 +11,10 @@ use Rattle.tox_defs.specs.Op.{op_giving, is_mute}
 use Rattle.tox_defs.specs.Look.{as_chunk}
 use Rattle.tox_defs.specs.Level.{level_gives, IsSound, IsNextPiece, IsAtEnd}
 use Rattle.tox_defs.proofs.Levels.{level_gives-ended}
-use Rattle.tox_plan.specs.Levels.{to_come_from, AreNested, AreDrained, AreRead, IsNext, OnlyEnds}
-use Rattle.tox_plan.proofs.LevelLemmas.{level_gives-filled, level_gives-final}
+use Rattle.tox_plan.specs.declared.levels.Pulled.{Pulled}
+use Rattle.tox_plan.specs.declared.levels.Pulled.TheVariants.{Piece, End, Nothing}
+use Rattle.tox_plan.specs.Levels.{to_come_from, ops_of, AreNested, AreDrained, AreRead, HaveEnded, IsNext, IsFrom, MatchGiven, MatchPulled, OnlyEnds}
+use Rattle.tox_plan.proofs.LevelLemmas.{nested-below, level_gives-filled, level_gives-final}
 
 -- the first level's next piece
 advanced-piece : (words : List ℕ) (start : ℕ) (levels upstream : List Level) (level new : Level) (source piece : Slice)
@@ -90,3 +93,31 @@ pub knows-none : (level : Level) (upstream : List Level) (known : Option Ending)
 knows-none level upstream known knows is running words start source nested read =
     let drained : AreDrained level.stop upstream source = rw is at (knows words level.stop source nested.1 read.1) in
     (read.0, running, drained)
+
+-- what a level that has nothing left gives for the piece that comes from upstream
+pub passed-piece : (words : List ℕ) (start : ℕ) (old new : List Level) (level later : Level) (source piece : Slice) (given : Pulled) → level.ending ≡ None → level.stop ≡ start → is_mute level.op ≡ false
+    → IsNext words start old new source piece → MatchGiven words start (record { op = level.op; state = level.state; stop = piece.span.stop; instant = piece.instant; ending = level.ending }) later given → MatchPulled words start (level ∷ old) (later ∷ new) source given
+passed-piece words start old new level later source piece (Piece found) running read heard next given = filled-piece words start old new level source piece running read next later found heard given
+passed-piece words start old new level later source piece (End ending) running read heard next given = record {
+  only = filled-end words start old new level source piece running read next later ending given;
+  kept = inl (ap is_some given.ended);
+}
+passed-piece words start old new level later source piece Nothing running read heard next given = absurd given
+
+-- a piece that comes begins where the reader stands
+pub pulled-from : (words : List ℕ) (start : ℕ) (old new : List Level) (source : Slice) (given : Pulled) → source.span.stop ≤ 2 ^ 40 → MatchPulled words start old new source given → IsFrom start given
+pulled-from words start old new source (Piece piece) few next =
+    let below : piece.span.stop ≤ source.span.stop = nested-below piece.span.stop new source next.nested in
+    (next.begins, omega (arith, next.begins, next.some), omega (arith, below, few))
+pulled-from words start old new source (End ending) few end = tt
+pulled-from words start old new source Nothing few nothing = tt
+
+-- the operations of levels behind others
+pub ops_of-append : (xs ys : List Level) → ops_of (xs ++ ys) ≡ ops_of ys ++ ops_of xs
+ops_of-append [] ys = sym (append-nil (ops_of ys))
+ops_of-append (x ∷ xs) ys = ap (λ ops. ops ++ x.op ∷ []) (ops_of-append xs ys) ∙ append_assoc (ops_of ys) (ops_of xs) (x.op ∷ [])
+
+-- an ending that is kept behind other levels
+pub ended-behind : (xs ys : List Level) → HaveEnded ys → HaveEnded (xs ++ ys)
+ended-behind [] ys ended = ended
+ended-behind (x ∷ xs) ys ended = inr (ended-behind xs ys ended)

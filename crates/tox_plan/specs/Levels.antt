@@ -1,5 +1,5 @@
 -- What is still to come from the levels of a plan, the last operation first.
-use Rattle.std.specs.Prelude.{◌≡◌, ℕ, ◌<◌, ◌≤◌, Bool, false, List, [], ◌∷◌, ◌++◌, Option, Some, None, IsSome, ◌⊎◌}
+use Rattle.std.specs.Prelude.{◌≡◌, ◌≢◌, ℕ, ◌^◌, ◌<◌, ◌≤◌, Bool, false, List, [], ◌∷◌, ◌++◌, Option, Some, None, IsSome, ◌⊎◌}
 use Rattle.tox_time.specs.declared.slice.Slice.{Slice}
 use Rattle.tox_time.specs.declared.item.Item.{Item}
 use Rattle.tox_time.specs.declared.ending.Ending.{Ending}
@@ -10,7 +10,7 @@ use Rattle.tox_defs.specs.declared.level.Level.{Level}
 use Rattle.tox_defs.specs.Reaction.{first_state}
 use Rattle.tox_defs.specs.Op.{is_mute}
 use Rattle.tox_defs.specs.Look.{as_chunk, rest_of}
-use Rattle.tox_defs.specs.Level.{level_gives, IsSound}
+use Rattle.tox_defs.specs.Level.{level_gives, IsSound, IsNextPiece, IsAtEnd}
 use Rattle.tox_plan.specs.declared.levels.Pulled.{Pulled}
 use Rattle.tox_plan.specs.declared.levels.Pulled.TheVariants.{Piece, End, Nothing}
 
@@ -49,6 +49,17 @@ abbrev pub AreNested : ℕ → List Level → Slice → Type 0
 AreNested start [] source = start ≤ source.span.stop
 AreNested start (level ∷ levels) source = IsLevel start level × AreNested level.stop levels source
 
+-- a level that has nothing left for a reader at `start`
+pub record IsRead (start : ℕ) (level : Level) : Type 0 where
+  pub nested : IsLevel start level
+  pub read : level.stop ≡ start
+  pub open_yet : level.ending ≡ None
+
+-- the first of these levels, if there is one, has a rest or an ending
+abbrev pub BeginsUnread : ℕ → List Level → Type 0
+BeginsUnread start [] = Unit {0}
+BeginsUnread start (level ∷ levels) = level.ending ≡ None → level.stop ≢ start
+
 -- each level's chunk is read to its end, and so is the source's piece
 abbrev pub AreRead : ℕ → List Level → Slice → Type 0
 AreRead start [] source = source.span.stop ≡ start
@@ -83,6 +94,18 @@ AreOpenUnless ended levels = ended ≡ false → HaveEnded levels → ⊥
 pub record IsTheEnd (words : List ℕ) (start : ℕ) (old new : List Level) (source : Slice) (ending : Ending) : Type 0 where
   pub only : OnlyEnds words start old source ending
   pub kept : HaveEnded new
+
+-- a piece, if one comes, begins where the reader stands
+abbrev pub IsFrom : ℕ → Pulled → Type 0
+IsFrom start (Piece piece) = (piece.span.start ≡ start) × (start < piece.span.stop) × (piece.span.stop ≤ 2 ^ 40)
+IsFrom start (End ending) = Unit {0}
+IsFrom start Nothing = Unit {0}
+
+-- what one level gave
+abbrev pub MatchGiven : List ℕ → ℕ → Level → Level → Pulled → Type 0
+MatchGiven words start old new (Piece piece) = IsNextPiece words start old new piece
+MatchGiven words start old new (End ending) = IsAtEnd words start old new ending
+MatchGiven words start old new Nothing = ⊥
 
 -- what a pull brought
 abbrev pub MatchPulled : List ℕ → ℕ → List Level → List Level → Slice → Pulled → Type 0

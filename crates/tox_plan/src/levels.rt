@@ -1,10 +1,13 @@
 //! The levels of a plan at work, the last operation first. Each one's unread rest reaches from the stop of the
 //! level downstream to its own, so the ends nest.
-ghost use Rattle.std.specs.Prelude.{◌≡◌, ℕ, ◌+◌, ◌^◌, ◌<◌, ◌≤◌, List, [], ◌∷◌, ◌++◌, length, IsSome, MatchOption};
+ghost use Rattle.std.specs.Prelude.{◌≡◌, ℕ, ◌+◌, ◌^◌, ◌<◌, ◌≤◌, List, [], ◌∷◌, ◌++◌, length, take, drop, All, None, false, IsSome, MatchOption};
 ghost use Rattle.tox_time.specs.Table.{final_of};
 ghost use Rattle.tox_time.specs.declared.slice.Slice.{Slice as OneSlice};
 ghost use Rattle.tox_defs.specs.declared.chain.TheConstants.{MOST_TOXICS};
-ghost use Rattle.tox_plan.specs.Levels.{AreNested, AreDrained, AreRead, HaveEnded, AreOpenUnless, OnlyEnds, MatchPulled, levels_at_start, level_at_start, ending_at_start, ops_of, to_come_from};
+ghost use Rattle.tox_defs.specs.declared.level.Level.{Level as OneLevel};
+ghost use Rattle.tox_defs.specs.Op.{is_mute};
+ghost use Rattle.tox_defs.specs.Level.{IsSound};
+ghost use Rattle.tox_plan.specs.Levels.{AreNested, AreDrained, AreRead, HaveEnded, AreOpenUnless, IsRead, BeginsUnread, IsFrom, MatchGiven, OnlyEnds, MatchPulled, levels_at_start, level_at_start, ending_at_start, ops_of, to_come_from};
 
 use arrayvec::ArrayVec;
 use tox_defs::{Advanced, Level, MOST_TOXICS, Op};
@@ -49,7 +52,8 @@ fn pull_source(start: u64, source: &Slice) -> Pulled
     })
 }
 
-/// Pulls the next piece through the levels, where the reader of the first one stands at `start`.
+/// Pulls the next piece through the levels, where the reader of the first one stands at `start`: the nearest level
+/// that has a rest or an ending gives it, or else the source does, and the levels in front of it pass it on.
 /// Each look at a level is one turn.
 pub(crate) fn pull(
     levels: &mut [Level],
@@ -68,23 +72,110 @@ pub(crate) fn pull(
     ensures looked { 0 < length levels.old → looks.old.turns < looks.new.turns }
     ensures ended { AreOpenUnless looks.old.ended levels.old → AreOpenUnless looks.new.ended levels.new }
 {
-    let Some((level, upstream)) = levels.split_first_mut() else {
+    let read = count_read(levels, start);
+    let (read, unread) = levels.split_at_mut(read);
+    let mut pulled = pull_nearest(unread, start, source, words, looks);
+    pass(read, start, &mut pulled, words, looks);
+    pulled
+}
+
+/// How many of the first levels have nothing left, where their reader stands at `start`.
+fn count_read(levels: &[Level], start: u64) -> usize
+    ensures most { result ≤ length levels.now }
+    ensures read { (source : OneSlice) → AreNested start levels.now source → All (IsRead start) (take result levels.now) × AreNested start (drop result levels.now) source }
+    ensures unread { BeginsUnread start (drop result levels.now) }
+{
+    match levels.split_first() {
+        Some((level, upstream)) if level.stop == start && level.ending.is_none() => {
+            1 + count_read(upstream, start)
+        }
+        _ => 0,
+    }
+}
+
+/// What the first of these levels gives, which has a rest or an ending, or the source where there is no level.
+fn pull_nearest(
+    levels: &mut [Level],
+    start: u64,
+    source: &Slice,
+    words: &Words,
+    looks: &mut Looks,
+) -> Pulled
+    requires nested { AreNested start levels.old source.now }
+    requires unread { BeginsUnread start levels.old }
+    requires room { looks.old.turns + length levels.old < 2 ^ 64 }
+    ensures pulled { MatchPulled words.now start levels.old levels.new source.now result }
+    ensures from { source.now.span.stop ≤ 2 ^ 40 → IsFrom start result }
+    ensures ops { ops_of levels.new ≡ ops_of levels.old }
+    ensures turns { looks.new.turns ≤ looks.old.turns + length levels.old }
+    ensures more { looks.old.turns ≤ looks.new.turns }
+    ensures looked { 0 < length levels.old → looks.old.turns < looks.new.turns }
+    ensures ended { AreOpenUnless looks.old.ended levels.old → AreOpenUnless looks.new.ended levels.new }
+{
+    let Some((level, _upstream)) = levels.split_first_mut() else {
         return pull_source(start, source);
     };
     looks.turns += 1;
     if let Some(ending) = level.ending {
         return Pulled::End(ending);
     }
-    if start == level.stop {
-        match pull(upstream, start, source, words, looks) {
-            Pulled::Piece(piece) => {
-                level.stop = piece.span.stop;
-                level.instant = piece.instant;
-            }
-            Pulled::End(ending) => return Pulled::End(level.op.last(&level.state, &ending)),
-            Pulled::Nothing => return Pulled::Nothing,
-        }
+    advance(level, start, words, looks)
+}
+
+/// Passes what comes from upstream through levels that have nothing left, the last of them first.
+fn pass(levels: &mut [Level], start: u64, pulled: &mut Pulled, words: &Words, looks: &mut Looks)
+    requires read { All (IsRead start) levels.old }
+    requires from { IsFrom start pulled.old }
+    requires room { looks.old.turns + length levels.old < 2 ^ 64 }
+    ensures pulled { (source : OneSlice) (old new : List OneLevel) → MatchPulled words.now start old new source pulled.old
+        → MatchPulled words.now start (levels.old ++ old) (levels.new ++ new) source pulled.new }
+    ensures ops { ops_of levels.new ≡ ops_of levels.old }
+    ensures turns { looks.new.turns ≡ looks.old.turns + length levels.old }
+    ensures ended { (upstream : List OneLevel) → AreOpenUnless looks.old.ended upstream → AreOpenUnless looks.new.ended (levels.new ++ upstream) }
+{
+    if let Some((level, downstream)) = levels.split_last_mut() {
+        pass_one(level, start, pulled, words, looks);
+        pass(downstream, start, pulled, words, looks);
     }
+}
+
+/// Passes what comes from upstream through a level that has nothing left.
+fn pass_one(level: &mut Level, start: u64, pulled: &mut Pulled, words: &Words, looks: &mut Looks)
+    requires read { IsRead start level.old }
+    requires from { IsFrom start pulled.old }
+    requires room { looks.old.turns + 1 < 2 ^ 64 }
+    ensures pulled { (source : OneSlice) (old new : List OneLevel) → MatchPulled words.now start old new source pulled.old
+        → MatchPulled words.now start (level.old ∷ old) (level.new ∷ new) source pulled.new }
+    ensures from { IsFrom start pulled.new }
+    ensures op { level.new.op ≡ level.old.op }
+    ensures turns { looks.new.turns ≡ looks.old.turns + 1 }
+    ensures ended { (upstream : List OneLevel) → AreOpenUnless looks.old.ended upstream → AreOpenUnless looks.new.ended (level.new ∷ upstream) }
+{
+    looks.turns += 1;
+    match *pulled {
+        Pulled::Piece(piece) => {
+            level.stop = piece.span.stop;
+            level.instant = piece.instant;
+            *pulled = advance(level, start, words, looks);
+        }
+        Pulled::End(ending) => *pulled = Pulled::End(level.op.last(&level.state, &ending)),
+        Pulled::Nothing => {}
+    }
+}
+
+/// The next piece of a level's rest, or its ending.
+#[inline(always)]
+fn advance(level: &mut Level, start: u64, words: &Words, looks: &mut Looks) -> Pulled
+    requires some { start < level.old.stop }
+    requires heard { is_mute level.old.op ≡ false }
+    requires open { level.old.ending ≡ None }
+    requires sound { IsSound start level.old }
+    ensures given { MatchGiven words.now start level.old level.new result }
+    ensures from { IsFrom start result }
+    ensures op { level.new.op ≡ level.old.op }
+    ensures turns { looks.new.turns ≡ looks.old.turns }
+    ensures ended { (upstream : List OneLevel) → AreOpenUnless looks.old.ended upstream → AreOpenUnless looks.new.ended (level.new ∷ upstream) }
+{
     let advanced = level.advance(start, words);
     looks.ended |= level.ending.is_some();
     match advanced {

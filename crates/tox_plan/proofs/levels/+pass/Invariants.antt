@@ -1,0 +1,6 @@
+-- It goes down the list of levels.
+use Rattle.std.proofs.Common.{length}
+use Rattle.tox_plan.proofs.levels.+pass.Given as goal
+
+abbrev pub decreases-pass : goal.decreases-pass
+decreases-pass l = length l.levels.now

@@ -1,0 +1,26 @@
+-- The nearest level that has something gives it, and the levels in front of it pass it on.
+use Rattle.std.proofs.Common.{rules, ◌≡◌, ◌++◌, ap, sym, subst, ◌∙◌}
+use Rattle.tox_plan.specs.Levels.{MatchPulled, HaveEnded, ops_of}
+use Rattle.tox_plan.proofs.Pulls.{ops_of-append, ended-behind}
+use Rattle.tox_plan.proofs.levels.pull.Goals as goal
+
+parts : (c : goal.After-levels-2-1) → c.split_at_mut-read.result.0.now ++ c.split_at_mut-read.result.1.now ≡ c.args.levels.now
+parts c = search rules
+
+pub returns-clause-pulled : goal.returns-clause-pulled
+returns-clause-pulled c =
+    subst (λ levels. MatchPulled c.args.words.now c.args.start levels (c.pass.new.levels ++ c.pull_nearest-pulled.new.levels) c.args.source.now c.pass.new.pulled) (parts c)
+    (c.pass.ensures.pulled c.args.source.now c.split_at_mut-read.result.1.now c.pull_nearest-pulled.new.levels c.pull_nearest-pulled.ensures.pulled)
+
+pub returns-clause-ops : goal.returns-clause-ops
+returns-clause-ops c =
+    ops_of-append c.pass.new.levels c.pull_nearest-pulled.new.levels
+    ∙ ap (λ ops. ops ++ ops_of c.pass.new.levels) c.pull_nearest-pulled.ensures.ops
+    ∙ ap (λ ops. ops_of c.split_at_mut-read.result.1.now ++ ops) c.pass.ensures.ops
+    ∙ sym (ops_of-append c.split_at_mut-read.result.0.now c.split_at_mut-read.result.1.now)
+    ∙ ap ops_of (parts c)
+
+pub returns-clause-ended : goal.returns-clause-ended
+returns-clause-ended c =
+    λ unended. c.pass.ensures.ended c.pull_nearest-pulled.new.levels
+    (c.pull_nearest-pulled.ensures.ended (λ none ended. unended none (subst (λ levels. HaveEnded levels) (parts c) (ended-behind c.split_at_mut-read.result.0.now c.split_at_mut-read.result.1.now ended))))
