@@ -1,9 +1,8 @@
 -- The one operation for two neighbours does to every stream what the two do.
-use Rattle.std.proofs.Common.{◌≡◌, ℕ, zero, suc, ◌+◌, ◌*◌, ◌≤◌, Bool, true, false, List, [], ◌∷◌, Option, Some, None, refl, arith, ap, sym, subst, ◌∙◌, if◌then◌else◌}
-use Rattle.std.specs.Prelude.{◌==◌, nat_lt}
+use Rattle.std.proofs.Common.{◌≡◌, ℕ, zero, suc, ◌+◌, ◌*◌, Bool, true, false, List, [], ◌∷◌, Option, Some, None, refl, arith, ap, sym, subst, ◌∙◌, if◌then◌else◌}
+use Rattle.std.specs.Prelude.{◌==◌}
 use Rattle.std.proofs.lemmas.Bool.{eqb-true}
 use mathlib.Core.Path.{fun_ext}
-use Rattle.tox_time.specs.declared.micros.TheConstants.{HORIZON}
 use Rattle.tox_time.specs.declared.item.Item.{Item}
 use Rattle.tox_time.specs.declared.ending.Ending.{Ending}
 use Rattle.tox_time.specs.declared.ending.Ending.TheVariants.{StillOpen, Closed as ClosedAt, Reset as ResetAt}
@@ -11,7 +10,7 @@ use Rattle.tox_time.specs.Stream.{IsStream}
 use Rattle.tox_time.specs.Table.{final_of}
 use Rattle.tox_words.specs.Draw.{draw}
 use Rattle.tox_defs.specs.declared.op.Op.{Op}
-use Rattle.tox_defs.specs.declared.op.Op.TheVariants.{Delay, Pace, Slow, Mute, Cutoff, Slicing, Limit}
+use Rattle.tox_defs.specs.declared.op.Op.TheVariants.{Delay, Slow, Mute, Cutoff, Limit}
 use Rattle.tox_defs.specs.Reaction.{counted, flow}
 use Rattle.tox_defs.specs.Givings.{delayed}
 use Rattle.tox_defs.specs.Flow.{varied}
