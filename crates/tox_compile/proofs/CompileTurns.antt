@@ -1,7 +1,7 @@
 -- One toxic more: what the operations so far become stays, there are few of them, and they add little.
 use Rattle.std.proofs.Common.{◌≡◌, ℕ, zero, suc, ◌+◌, ◌*◌, ◌<◌, ◌≤◌, true, false, List, ◌∷◌, length, drop, get_or, drop-cons, add-one, arith, ap, sym, ◌∙◌, subst}
 use Rattle.std.specs.Prelude.{All, fold}
-use Rattle.std.proofs.lemmas.Bool.{leb-true}
+use Rattle.std.proofs.lemmas.Bool.{and_parts, leb-true}
 use Rattle.tox_defs.specs.declared.chain.Entry.{Entry}
 use Rattle.tox_defs.specs.declared.op.Op.{Op}
 use Rattle.tox_defs.specs.declared.toxic.Toxic.{Toxic}
@@ -10,7 +10,7 @@ use Rattle.tox_defs.specs.Toxic.{IsInRange, is_within, is_within_hour}
 use Rattle.tox_defs.specs.Chain.{IsEntry}
 use Rattle.tox_defs.specs.Applied.{is_applied}
 use Rattle.tox_defs.specs.Op.{op_of}
-use Rattle.tox_defs.proofs.OpOf.{both_tests, first_test}
+use Rattle.tox_defs.proofs.OpOf.{both_tests}
 use Rattle.tox_compile.specs.Normal.{with_op}
 use Rattle.tox_compile.specs.NormalInside.{millis_of}
 use Rattle.tox_compile.proofs.Compiling.{ops_from, ops_from-applied, ops_from-skipped, ops_from-end}
@@ -20,7 +20,7 @@ use Rattle.tox_compile.proofs.Sums.{AddAtMost, length-with_op, with_op_adds, sti
 pub millis-op_of : (place : ℕ) (toxic : Toxic) → IsInRange toxic → millis_of (op_of place toxic) ≤ 3_600_000
 millis-op_of place (Latency latency zero) fits =
     let within = both_tests (is_within (Latency latency 0)) false fits in
-    leb-true latency 3_600_000 (first_test (is_within_hour latency) (is_within_hour 0) within.0)
+    leb-true latency 3_600_000 (and_parts (is_within_hour latency) (is_within_hour 0) within.0).0
 millis-op_of place (Latency latency (suc jitter)) fits = omega arith
 millis-op_of place (Bandwidth rate) fits = omega arith
 millis-op_of place (SlowClose delay) fits =

@@ -1,9 +1,8 @@
 -- The one operation for two neighbours does to every stream what the two do.
-use Rattle.std.proofs.Common.{◌≡◌, ℕ, zero, suc, ◌+◌, ◌*◌, ◌≤◌, Bool, true, false, List, Option, Some, None, refl, arith, ap, sym, ◌∙◌, if◌then◌else◌}
-use Rattle.std.specs.Prelude.{◌==◌, nat_lt}
+use Rattle.std.proofs.Common.{◌≡◌, ℕ, zero, suc, ◌+◌, ◌*◌, Bool, true, false, List, [], ◌∷◌, Option, Some, None, refl, arith, ap, sym, subst, ◌∙◌, if◌then◌else◌}
+use Rattle.std.specs.Prelude.{◌==◌}
 use Rattle.std.proofs.lemmas.Bool.{eqb-true}
 use mathlib.Core.Path.{fun_ext}
-use Rattle.tox_time.specs.declared.micros.TheConstants.{HORIZON}
 use Rattle.tox_time.specs.declared.item.Item.{Item}
 use Rattle.tox_time.specs.declared.ending.Ending.{Ending}
 use Rattle.tox_time.specs.declared.ending.Ending.TheVariants.{StillOpen, Closed as ClosedAt, Reset as ResetAt}
@@ -11,13 +10,14 @@ use Rattle.tox_time.specs.Stream.{IsStream}
 use Rattle.tox_time.specs.Table.{final_of}
 use Rattle.tox_words.specs.Draw.{draw}
 use Rattle.tox_defs.specs.declared.op.Op.{Op}
-use Rattle.tox_defs.specs.declared.op.Op.TheVariants.{Delay, Pace, Slow, Mute, Cutoff, Slicing, Limit}
+use Rattle.tox_defs.specs.declared.op.Op.TheVariants.{Delay, Slow, Mute, Cutoff, Limit}
 use Rattle.tox_defs.specs.Reaction.{counted, flow}
 use Rattle.tox_defs.specs.Givings.{delayed}
 use Rattle.tox_defs.specs.Flow.{varied}
 use Rattle.tox_defs.specs.Op.{op_giving, op_reaction, IsOp, IsNormal, EndsInTime}
+use Rattle.tox_defs.proofs.OpStreams.{IsStream-final, IsStream-op_flow}
 use Rattle.tox_defs.proofs.StreamKeepers.{flow_from-muted}
-use Rattle.tox_compile.specs.Normal.{joined, after_mute, slowed, cut_at}
+use Rattle.tox_compile.specs.Normal.{joined, after_mute}
 use Rattle.tox_compile.proofs.Delays.{delays_join_second, delays_join_first}
 use Rattle.tox_compile.proofs.Slows.{slows_join}
 use Rattle.tox_compile.proofs.Limits.{limits_join}
@@ -69,29 +69,16 @@ joint_delays words fixed latency jitter lane more latency' jitter' lane' true no
 joint_delays words fixed latency jitter lane more latency' jitter' lane' false true e' e normal normal' = joint_first words fixed latency jitter lane more latency' jitter' lane' normal normal' (eqb-true jitter 0 e)
 joint_delays words fixed latency jitter lane more latency' jitter' lane' false false e' e normal normal' = tt
 
--- an ending after a mute is one whose instant is one
-slowed-in_time : (millis : ℕ) (end : Ending) → EndsInTime end → EndsInTime (slowed millis end)
-slowed-in_time millis StillOpen fits = tt
-slowed-in_time millis (ClosedAt t) fits = omega arith
-slowed-in_time millis (ResetAt t) fits = fits
+final-in_time : (end : Ending) → IsStream (final_of end ∷ []) → EndsInTime end
+final-in_time StillOpen stream = tt
+final-in_time (ClosedAt t) stream = stream.1
+final-in_time (ResetAt t) stream = stream.1
 
-cut_at-in_time_by : (instant t : ℕ) (before : Bool) → nat_lt t instant ≡ before → t ≤ HORIZON → instant ≤ HORIZON → EndsInTime (cut_at instant (ClosedAt t)) × EndsInTime (cut_at instant (ResetAt t))
-cut_at-in_time_by instant t true e fits within = rw e (fits, fits)
-cut_at-in_time_by instant t false e fits within = rw e (within, within)
-
-cut_at-in_time : (instant : ℕ) (end : Ending) → instant ≤ HORIZON → EndsInTime end → EndsInTime (cut_at instant end)
-cut_at-in_time instant StillOpen within fits = within
-cut_at-in_time instant (ClosedAt t) within fits = (cut_at-in_time_by instant t (nat_lt t instant) refl fits within).0
-cut_at-in_time instant (ResetAt t) within fits = (cut_at-in_time_by instant t (nat_lt t instant) refl fits within).1
-
+-- an ending after a mute is one whose instant is one, since operations give streams for streams
 after_mute-in_time : (op : Op) (end : Ending) → IsOp op → EndsInTime end → EndsInTime (after_mute op end)
-after_mute-in_time (Slow millis) end fits in_time = slowed-in_time millis end in_time
-after_mute-in_time (Cutoff instant) end fits in_time = cut_at-in_time instant end fits in_time
-after_mute-in_time (Mute last) end fits in_time = fits
-after_mute-in_time (Delay fixed latency jitter lane) end fits in_time = in_time
-after_mute-in_time (Pace rate) end fits in_time = in_time
-after_mute-in_time (Slicing average variation micros lane) end fits in_time = in_time
-after_mute-in_time (Limit bytes) end fits in_time = in_time
+after_mute-in_time op end fits in_time =
+    final-in_time (after_mute op end)
+    (subst IsStream (flow-after_mute op [] end) (IsStream-op_flow op [] (final_of end ∷ []) fits (IsStream-final end in_time)))
 
 joint_mute : (words : List ℕ) (end : Ending) (op : Op) → EndsInTime end → IsOp op → DoesAs words (Mute end) op (Mute (after_mute op end))
 joint_mute words end op in_time fits = record {

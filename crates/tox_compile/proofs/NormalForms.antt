@@ -1,7 +1,7 @@
 -- The normal form means what the applied toxics' operations mean, one after the other.
-use Rattle.std.proofs.Common.{◌≡◌, ℕ, ◌*◌, ◌&&◌, Bool, true, false, List, [], ◌∷◌, Option, Some, None, refl, arith, ap, sym, ◌∙◌, if◌then◌else◌}
+use Rattle.std.proofs.Common.{◌≡◌, ℕ, ◌*◌, Bool, true, false, List, [], ◌∷◌, Option, Some, None, refl, arith, ap, sym, ◌∙◌, if◌then◌else◌}
 use Rattle.std.specs.Prelude.{◌==◌, All, fold}
-use Rattle.std.proofs.lemmas.Bool.{eqb-true}
+use Rattle.std.proofs.lemmas.Bool.{and_parts, eqb-true}
 use Rattle.std.proofs.lemmas.List.Elements.{All-nil, All-cons, All-head, All-tail}
 use Rattle.tox_time.specs.declared.item.Item.{Item}
 use Rattle.tox_time.specs.Stream.{IsStream}
@@ -53,10 +53,6 @@ takes_last words (first ∷ second ∷ ops) op fits fits' =
       same = λ items stream. others.same (flow (op_reaction first words) items) (IsStream-op_flow first words items is_first stream);
     }
 
-both : (a b : Bool) → (a && b) ≡ true → (a ≡ true) × (b ≡ true)
-both true b e = (refl, e)
-both false b e = absurd (cc)
-
 -- a delay that does nothing
 delay_same : (words : List ℕ) (fixed latency jitter lane : ℕ) (items : List Item) → IsNormal latency jitter → fixed ≡ 0 → jitter ≡ 0 → IsStream items
     → flow (op_reaction (Delay fixed latency jitter lane) words) items ≡ items
@@ -67,7 +63,7 @@ delay_same words fixed latency jitter lane items normal none still stream =
 -- what vanishes changes no stream
 vanishes_same : (words : List ℕ) (op : Op) (items : List Item) → vanishes op ≡ true → IsOp op → IsStream items → flow (op_reaction op words) items ≡ items
 vanishes_same words (Delay fixed latency jitter lane) items e fits stream =
-    let none = both (fixed == 0) (jitter == 0) e in delay_same words fixed latency jitter lane items fits (eqb-true fixed 0 none.0) (eqb-true jitter 0 none.1) stream
+    let none = and_parts (fixed == 0) (jitter == 0) e in delay_same words fixed latency jitter lane items fits (eqb-true fixed 0 none.0) (eqb-true jitter 0 none.1) stream
 vanishes_same words (Slow millis) items e fits stream =
     let none : millis ≡ 0 = eqb-true millis 0 e in ap (λ millis. flow (op_reaction (Slow millis) words) items) none ∙ slow_vanishes items 0 0 0 0 0 0 stream
 vanishes_same words (Pace rate) items e fits stream = absurd (cc)

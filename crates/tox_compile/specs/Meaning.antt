@@ -3,6 +3,7 @@ use Rattle.std.specs.Prelude.{ℕ, ◌≤◌, min, All, List, [], ◌∷◌, len
 use Rattle.tox_time.specs.declared.item.Item.{Item}
 use Rattle.tox_defs.specs.declared.op.Op.{Op}
 use Rattle.tox_defs.specs.declared.op.Op.TheVariants.{Mute, Cutoff}
+use Rattle.tox_defs.specs.declared.chain.TheConstants.{MOST_TOXICS}
 use Rattle.tox_defs.specs.Reaction.{Reaction, flow_through}
 use Rattle.tox_defs.specs.Op.{op_reaction, IsOp}
 
@@ -12,7 +13,7 @@ pub record Ops : Type 0 where
 
 -- what every plan keeps
 pub record IsPlan (plan : Ops) : Type 0 where
-  pub most : length plan.ops ≤ 16
+  pub most : length plan.ops ≤ MOST_TOXICS
   pub operations : All IsOp plan.ops
 
 -- the reactions of operations, in order

@@ -1,11 +1,12 @@
 -- The normal form of a plan: each operation joined to the last one where a rule allows.
-use Rattle.std.specs.Prelude.{ℕ, ◌+◌, ◌*◌, ◌==◌, ◌&&◌, min, Bool, false, List, [], ◌∷◌, fold, Option, None, Some, nat_lt, if◌then◌else◌}
+use Rattle.std.specs.Prelude.{ℕ, ◌+◌, ◌==◌, ◌&&◌, min, Bool, false, List, [], ◌∷◌, fold, Option, None, Some, if◌then◌else◌}
 use Rattle.tox_time.specs.declared.ending.Ending.{Ending}
-use Rattle.tox_time.specs.declared.ending.Ending.TheVariants.{StillOpen, Closed, Reset}
-use Rattle.tox_time.specs.Time.{plus}
+use Rattle.tox_time.specs.Table.{ending, final_of}
 use Rattle.tox_defs.specs.declared.op.Op.{Op}
 use Rattle.tox_defs.specs.declared.op.Op.TheVariants.{Delay, Slow, Mute, Cutoff, Limit}
 use Rattle.tox_defs.specs.Chain.{Toxics}
+use Rattle.tox_defs.specs.Op.{op_giving}
+use Rattle.tox_defs.specs.Reaction.{first_state}
 use Rattle.tox_compile.specs.Compiled.{ops_of}
 
 -- whether an operation does nothing: a delay of zero without jitter, or a slow close of zero
@@ -14,23 +15,9 @@ vanishes (Delay fixed latency jitter lane) = fixed == 0 && (jitter == 0)
 vanishes (Slow millis) = millis == 0
 vanishes op = false
 
--- an ending whose close comes so many milliseconds later
-abbrev pub slowed : ℕ → Ending → Ending
-slowed millis (Closed t) = Closed (plus t (1000 * millis))
-slowed millis ending = ending
-
--- an ending before the instant, and else a reset at it
-abbrev pub cut_at : ℕ → Ending → Ending
-cut_at instant StillOpen = Reset instant
-cut_at instant (Closed t) = if nat_lt t instant then Closed t else Reset instant
-cut_at instant (Reset t) = if nat_lt t instant then Reset t else Reset instant
-
--- what an operation makes of the ending of a mute before it
+-- what an operation makes of the ending of a mute before it: the ending of what it gives for that alone, whatever the words
 abbrev pub after_mute : Op → Ending → Ending
-after_mute (Slow millis) ending = slowed millis ending
-after_mute (Cutoff instant) ending = cut_at instant ending
-after_mute (Mute last) ending = last
-after_mute op ending = ending
+after_mute op end = ending (op_giving op [] first_state (final_of end))
 
 -- the one operation that stands for two neighbours, where a rule joins them
 abbrev pub joined : Op → Op → Option Op
@@ -41,7 +28,7 @@ joined (Delay fixed latency jitter lane) (Delay more latency' jitter' lane') =
 joined (Slow millis) (Slow more) = Some (Slow (millis + more))
 joined (Limit bytes) (Limit other) = Some (Limit (min bytes other))
 joined (Cutoff instant) (Cutoff other) = Some (Cutoff (min instant other))
-joined (Mute ending) op = Some (Mute (after_mute op ending))
+joined (Mute end) op = Some (Mute (after_mute op end))
 joined first second = None
 
 -- the one, or where there is none the two
@@ -57,7 +44,7 @@ with_last (first ∷ second ∷ ops) op = first ∷ with_last (second ∷ ops) o
 
 -- the operations with one more: a mute takes the place of all before it, and what does nothing is left out
 abbrev pub with_op : List Op → Op → List Op
-with_op ops (Mute ending) = Mute ending ∷ []
+with_op ops (Mute end) = Mute end ∷ []
 with_op ops op = if vanishes op then ops else with_last ops op
 
 -- the operations of the applied toxics, one after the other

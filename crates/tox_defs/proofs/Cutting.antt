@@ -1,6 +1,5 @@
 -- Cutting: a chunk's pieces are its first piece, and then those of the rest.
-use Rattle.std.proofs.Common.{◌≡◌, ℕ, zero, suc, ◌+◌, ◌-◌, ◌*◌, ◌<◌, ◌≤◌, min, max, Bool, true, false, List, [], ◌∷◌, ◌++◌, refl, ap, sym, ◌∙◌, arith, ◌≢◌, ◌⊎◌, inl, inr, eq-eqb}
-use Rattle.std.specs.Prelude.{◌==◌, nat_lt, nat_eq}
+use Rattle.std.proofs.Common.{◌≡◌, ℕ, zero, suc, ◌+◌, ◌-◌, ◌<◌, ◌≤◌, min, max, true, false, List, [], ◌∷◌, ◌++◌, refl, ap, sym, ◌∙◌, arith, ◌≢◌, ◌⊎◌, inl, inr, eq-eqb}
 use Rattle.std.proofs.Math.Dec.{leb}
 use Rattle.std.proofs.lemmas.Bool.{le-ltb, lt-ltb, ne_eqb}
 use Rattle.std.proofs.lemmas.Bool.Decides.{leb_tells}
@@ -9,9 +8,9 @@ use Rattle.tox_time.specs.declared.slice.Slice.{Slice}
 use Rattle.tox_time.specs.declared.item.Item.{Item}
 use Rattle.tox_time.specs.declared.item.Item.TheVariants.{Chunk}
 use Rattle.tox_time.specs.Time.{plus}
-use Rattle.tox_time.specs.Stream.{span_len, latest_from, arrived, has_final}
+use Rattle.tox_time.specs.Stream.{span_len}
 use Rattle.tox_defs.specs.declared.state.State.{State}
-use Rattle.tox_defs.specs.Reaction.{Giving, counted, state_after, with_piece, with_chunk, chunk_count, flow_from, state_from}
+use Rattle.tox_defs.specs.Reaction.{Giving, counted, state_after, with_piece, with_chunk, flow_from, state_from}
 use Rattle.tox_defs.specs.Givings.{cut, pieces_of, leave}
 use Rattle.tox_defs.specs.Look.{as_chunk, rest_of, Continues, after_piece_of, first_span}
 use Rattle.tox_defs.proofs.FlowLemmas.{state_same, Continues-counted}

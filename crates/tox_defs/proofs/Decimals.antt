@@ -3,11 +3,12 @@ use Rattle.std.proofs.Common.{◌≡◌, ℕ, ◌^◌, ◌<◌, ◌==◌, true, 
 use Rattle.std.specs.Char.{is_ascii_digit}
 use Rattle.std.specs.Fmt.{decimal}
 use Rattle.std.specs.List.{list_all}
+use Rattle.std.proofs.lemmas.Bool.{and_parts}
 use Rattle.std.proofs.lemmas.Bool.Decides.{nat_tests}
 use Rattle.std.proofs.lemmas.Fmt.{decimal_nonempty, digits_decimal, digits_value-decimal, length-decimal-le}
 use Rattle.std.proofs.lemmas.Grind.{common_steps}
 use Rattle.tox_words.proofs.Numbers.{ascii_digits}
-use Rattle.tox_defs.proofs.Cuts.{both, lacks}
+use Rattle.tox_defs.proofs.Cuts.{lacks}
 use Rattle.tox_defs.specs.Pairs.{number_of}
 
 digit_no_comma : (byte : ℕ) → is_ascii_digit byte ≡ true → not (byte == 44) ≡ true
@@ -16,7 +17,7 @@ digit_no_comma byte digit = grind (arith, nat_tests)
 digits_no_comma : (text : List ℕ) → list_all is_ascii_digit text ≡ true → lacks (λ byte. byte == 44) text ≡ true
 digits_no_comma [] digits = refl
 digits_no_comma (byte ∷ text) digits =
-    let parts = both (is_ascii_digit byte) (list_all is_ascii_digit text) digits in
+    let parts = and_parts (is_ascii_digit byte) (list_all is_ascii_digit text) digits in
     rw (digit_no_comma byte parts.0) (digits_no_comma text parts.1)
 
 number_of-decimal : (n : ℕ) → n < 10 ^ 18 → number_of (decimal n) ≡ Some n

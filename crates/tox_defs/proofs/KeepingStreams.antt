@@ -1,19 +1,16 @@
 -- A giving that keeps streams at each item gives a stream for a stream.
-use Rattle.std.proofs.Common.{◌≡◌, ℕ, zero, suc, ◌+◌, ◌-◌, ◌*◌, ◌<◌, ◌≤◌, min, max, Bool, true, false, List, [], ◌∷◌, ◌++◌, refl, arith, sym, subst, inl, inr, ◌⊎◌}
-use Rattle.std.specs.Prelude.{nat_lt}
-use Rattle.std.specs.Int.{div_ceil}
+use Rattle.std.proofs.Common.{◌≡◌, ℕ, zero, suc, ◌+◌, ◌-◌, ◌<◌, ◌≤◌, min, max, true, false, List, [], ◌∷◌, ◌++◌, refl, arith, sym, subst, inl, inr, ◌⊎◌}
 use Rattle.std.proofs.lemmas.List.{append-nil}
-use Rattle.std.proofs.lemmas.Bool.{ltb-true}
 use Rattle.tox_time.specs.declared.micros.TheConstants.{HORIZON}
 use Rattle.tox_time.specs.declared.span.Span.{Span}
 use Rattle.tox_time.specs.declared.item.Item.{Item}
 use Rattle.tox_time.specs.declared.item.Item.TheVariants.{Chunk, Closed, Reset, Quiet}
 use Rattle.tox_time.specs.Time.{plus, IsInstant}
-use Rattle.tox_time.specs.Stream.{span_len, has_final, latest_from, is_final, IsStreamFrom}
+use Rattle.tox_time.specs.Stream.{has_final, latest_from, is_final, IsStreamFrom}
 use Rattle.tox_defs.specs.Reaction.{Giving, counted, flow_from, state_after}
 use Rattle.tox_defs.specs.declared.state.State.{State}
-use Rattle.tox_defs.specs.Givings.{in_order, delayed, paced, sliced, closed_later, muted, cut_off, limited, first_bytes, is_before, cut, leave}
-use Rattle.tox_defs.proofs.OpenStates.{open_state, has_final-leave, has_final-first_bytes}
+use Rattle.tox_defs.specs.Givings.{cut, leave}
+use Rattle.tox_defs.proofs.OpenStates.{open_state}
 use Rattle.tox_defs.proofs.FlowLemmas.{flow_from-done, flow_from-last}
 
 -- an item that can come next, after a position and an instant

@@ -80,6 +80,7 @@ level_at_piece words start level piece running some sound finds front =
       within = front.within;
       op = refl;
       stop = refl;
+      instant = refl;
       sound = record {
         within = front.within;
         few = sound.few;
@@ -109,6 +110,7 @@ level_at_last_piece words start level piece ending running some sound finds fron
       within = front.within;
       op = refl;
       stop = refl;
+      instant = refl;
       sound = record {
         within = front.within;
         few = sound.few;
@@ -132,6 +134,7 @@ level_at_end words start level ending running some finds =
     record {
       op = refl;
       stop = refl;
+      instant = refl;
       ended = refl;
       done = refl;
       gives = λ items. gives_now words start level running some items ∙ (finds items).gives

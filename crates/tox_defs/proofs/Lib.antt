@@ -21,6 +21,7 @@ pub mod Passing
 pub mod ChainStreams
 pub mod Places
 pub mod OpStreams
+pub mod Finals
 mod Cuts
 mod Decimals
 mod Mapped

@@ -1,7 +1,7 @@
 -- The operation of a toxic reacts as the toxic does, and is one that a plan may have.
-use Rattle.std.proofs.Common.{◌≡◌, ℕ, zero, suc, ◌+◌, ◌*◌, ◌≤◌, ◌<◌, ◌&&◌, Bool, true, false, Some, None, List, refl, ap, arith, if◌then◌else◌}
+use Rattle.std.proofs.Common.{◌≡◌, ℕ, zero, suc, ◌+◌, ◌*◌, ◌<◌, Bool, true, false, Some, None, List, refl, ap, arith, if◌then◌else◌}
 use Rattle.std.specs.Prelude.{nat_le}
-use Rattle.std.proofs.lemmas.Bool.{leb-true, leb-false}
+use Rattle.std.proofs.lemmas.Bool.{and_parts, leb-true, leb-false}
 use mathlib.Core.Path.{fun_ext}
 use Rattle.tox_words.specs.Draw.{draw}
 use Rattle.tox_defs.specs.declared.toxic.Toxic.{Toxic}
@@ -33,15 +33,11 @@ both_tests false varied_much none = absurd (cc)
 both_tests true true none = absurd (cc)
 both_tests true false none = (refl, refl)
 
-pub first_test : (a b : Bool) → (a && b) ≡ true → a ≡ true
-first_test true b both = refl
-first_test false b both = absurd (cc)
-
 -- what the ranges say that the laws need
 pub rate-positive : (rate : ℕ) → IsInRange (Bandwidth rate) → 0 < rate
 rate-positive rate fits =
     let within = both_tests (is_within (Bandwidth rate)) false fits in
-    leb-true 1 rate (first_test (nat_le 1 rate) (nat_le rate 1000000) within.0)
+    leb-true 1 rate (and_parts (nat_le 1 rate) (nat_le rate 1000000) within.0).0
 
 pub variation-below : (average variation delay : ℕ) → IsInRange (Slicer average variation delay) → variation < average
 variation-below average variation delay fits =

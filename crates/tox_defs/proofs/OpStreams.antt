@@ -1,6 +1,5 @@
 -- Operations give streams for streams.
-use Rattle.std.proofs.Common.{ℕ, zero, suc, ◌+◌, ◌*◌, ◌<◌, ◌≤◌, List, [], ◌∷◌, refl, arith}
-use Rattle.tox_time.specs.declared.micros.TheConstants.{HORIZON}
+use Rattle.std.proofs.Common.{ℕ, ◌+◌, ◌*◌, List, [], ◌∷◌, refl, arith}
 use Rattle.tox_time.specs.declared.item.Item.{Item}
 use Rattle.tox_time.specs.declared.ending.Ending.{Ending}
 use Rattle.tox_time.specs.declared.ending.Ending.TheVariants.{StillOpen, Closed, Reset}
@@ -17,7 +16,7 @@ use Rattle.tox_defs.proofs.Drawn.{varied-positive}
 use Rattle.tox_defs.proofs.KeepingStreams.{IsStreamFrom-flow}
 use Rattle.tox_defs.proofs.StreamKeepers.{flow_from-muted, Whatever, NotAfter, NotAfterEither, delayed_keeps, paced_keeps, sliced_keeps, closed_later_keeps, cut_off_keeps, limited_keeps}
 
-IsStream-final : (ending : Ending) → EndsInTime ending → IsStream (final_of ending ∷ [])
+pub IsStream-final : (ending : Ending) → EndsInTime ending → IsStream (final_of ending ∷ [])
 IsStream-final StillOpen fits = refl
 IsStream-final (Closed t) fits = (omega arith, fits, refl)
 IsStream-final (Reset t) fits = (omega arith, fits, refl)

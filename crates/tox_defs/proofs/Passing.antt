@@ -1,8 +1,8 @@
 -- No toxic gives more bytes than it took.
-use Rattle.std.proofs.Common.{◌≡◌, ℕ, zero, suc, ◌+◌, ◌-◌, ◌*◌, ◌<◌, ◌≤◌, min, max, Bool, true, false, List, [], ◌∷◌, ◌++◌, refl, arith, ap, if◌then◌else◌}
+use Rattle.std.proofs.Common.{◌≡◌, ℕ, zero, suc, ◌+◌, ◌-◌, ◌*◌, ◌≤◌, min, max, Bool, true, false, List, [], ◌∷◌, ◌++◌, refl, arith, if◌then◌else◌}
 use Rattle.std.specs.Prelude.{nat_lt}
 use Rattle.std.specs.Int.{div_ceil}
-use Rattle.std.proofs.lemmas.Bool.{ltb-true, ltb-false}
+use Rattle.std.proofs.lemmas.Bool.{ltb-false}
 use Rattle.tox_time.specs.declared.span.Span.{Span}
 use Rattle.tox_time.specs.declared.item.Item.{Item}
 use Rattle.tox_time.specs.declared.item.Item.TheVariants.{Chunk, Closed, Reset, Quiet}
@@ -15,8 +15,8 @@ use Rattle.tox_time.proofs.StreamLemmas.{arrived-append}
 use Rattle.tox_defs.specs.declared.state.State.{State}
 use Rattle.tox_defs.specs.declared.toxic.Toxic.{Toxic}
 use Rattle.tox_defs.specs.declared.toxic.Toxic.TheVariants.{Latency, Bandwidth, SlowClose, Timeout, ResetPeer, Slicer, LimitData}
-use Rattle.tox_defs.specs.Reaction.{Giving, Reaction, react, counted, flow_from}
-use Rattle.tox_defs.specs.Givings.{cut, leave, first_bytes, cut_off, is_before, limited, muted}
+use Rattle.tox_defs.specs.Reaction.{Giving, react, counted, flow_from}
+use Rattle.tox_defs.specs.Givings.{cut, leave, first_bytes, is_before, limited, muted}
 use Rattle.tox_defs.specs.Flow.{toxic_giving, timeout_ending, varied}
 use Rattle.tox_defs.specs.Laws.{toxic_flow}
 

@@ -1,11 +1,10 @@
 -- A stream may be taken item by item, and has few items.
-use Rattle.std.proofs.Common.{◌≡◌, ℕ, ◌+◌, ◌-◌, ◌^◌, ◌<◌, ◌≤◌, Bool, true, false, List, [], ◌∷◌, length, refl, arith, rules}
-use Rattle.std.proofs.lemmas.Grind.{common_steps}
+use Rattle.std.proofs.Common.{◌≡◌, ℕ, ◌+◌, ◌^◌, ◌≤◌, true, false, List, [], ◌∷◌, length, refl, arith}
 use Rattle.std.proofs.lemmas.Bool.Decides.{nat_tests}
 use Rattle.tox_time.specs.declared.item.Item.{Item}
 use Rattle.tox_time.specs.declared.item.Item.TheVariants.{Chunk, Closed, Reset, Quiet}
-use Rattle.tox_time.specs.Stream.{IsStreamFrom, arrived, span_len}
-use Rattle.tox_defs.specs.Place.{fits, place_after, AllFit}
+use Rattle.tox_time.specs.Stream.{IsStreamFrom, arrived}
+use Rattle.tox_defs.specs.Place.{fits, AllFit}
 
 AllFit-none : (position since : ℕ) (items : List Item) → items ≡ [] → AllFit (record { position = position; latest = since; ended = true }) items
 AllFit-none position since items none = rw none tt

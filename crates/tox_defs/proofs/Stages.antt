@@ -1,5 +1,5 @@
 -- A stage that takes a final.
-use Rattle.std.proofs.Common.{◌≡◌, ℕ, ◌≤◌, false, List, [], ◌∷◌, ◌++◌, None, refl, ap, sym, ◌∙◌, arith}
+use Rattle.std.proofs.Common.{◌≡◌, ℕ, false, List, [], ◌∷◌, ◌++◌, None, ap, sym, ◌∙◌, arith}
 use Rattle.tox_time.specs.declared.item.Item.{Item}
 use Rattle.tox_time.specs.declared.ending.Ending.{Ending}
 use Rattle.tox_time.specs.declared.ending.Ending.TheVariants.{StillOpen, Closed, Reset}
@@ -7,7 +7,7 @@ use Rattle.tox_time.specs.Table.{final_of}
 use Rattle.tox_defs.specs.declared.state.State.{State}
 use Rattle.tox_defs.specs.declared.level.Level.{Level}
 use Rattle.tox_defs.specs.declared.place.Place.{Place}
-use Rattle.tox_defs.specs.Reaction.{react, counted, flow_from, state_from, state_after, with_ending}
+use Rattle.tox_defs.specs.Reaction.{react, flow_from, state_from, state_after, with_ending}
 use Rattle.tox_defs.specs.Op.{op_giving, op_reaction}
 use Rattle.tox_defs.specs.Place.{place_after}
 use Rattle.tox_defs.specs.Level.{level_gives, level_leaves}

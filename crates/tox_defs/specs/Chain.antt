@@ -1,5 +1,5 @@
 -- Chains: toxics in order, each with its toxicity in thousandths.
-use Rattle.std.specs.Prelude.{ℕ, ◌≤◌, List, All, length}
+use Rattle.std.specs.Prelude.{◌≤◌, List, All, length}
 use Rattle.tox_defs.specs.declared.chain.Entry.{Entry}
 use Rattle.tox_defs.specs.declared.chain.TheConstants.{MOST_TOXICS}
 use Rattle.tox_defs.specs.Toxic.{IsInRange}

@@ -54,9 +54,13 @@ applied_from place (entry ∷ entries) words =
 abbrev pub applied : Toxics → List ℕ → List Placed
 applied chain words = applied_from 0 chain.entries words
 
+-- the reactions of the toxics that a link meets, of those from a place on
+abbrev pub reactions_from : ℕ → List Entry → List ℕ → List Reaction
+reactions_from place entries words = map (λ placed. toxic_reaction placed.toxic (draw words placed.place)) (applied_from place entries words)
+
 -- the reactions of the applied toxics, in order
 abbrev pub reactions_of : Toxics → List ℕ → List Reaction
-reactions_of chain words = map (λ placed. toxic_reaction placed.toxic (draw words placed.place)) (applied chain words)
+reactions_of chain words = reactions_from 0 chain.entries words
 
 -- the flow of a chain
 abbrev pub chain_flow : Toxics → List ℕ → List Item → List Item

@@ -54,6 +54,7 @@ pub record IsNextPiece (words : List ℕ) (start : ℕ) (old new : Level) (piece
   pub within : piece.span.stop ≤ old.stop
   pub op : new.op ≡ old.op
   pub stop : new.stop ≡ old.stop
+  pub instant : new.instant ≡ old.instant
   pub sound : IsSound piece.span.stop new
   pub gives : (items : List Item) → level_gives words start old items ≡ as_chunk piece ∷ level_gives words piece.span.stop new items
   pub leaves : level_leaves words start old ≡ level_leaves words piece.span.stop new
@@ -62,6 +63,7 @@ pub record IsNextPiece (words : List ℕ) (start : ℕ) (old new : Level) (piece
 pub record IsAtEnd (words : List ℕ) (start : ℕ) (old new : Level) (ending : Ending) : Type 0 where
   pub op : new.op ≡ old.op
   pub stop : new.stop ≡ old.stop
+  pub instant : new.instant ≡ old.instant
   pub ended : new.ending ≡ Some ending
   pub done : new.state.done ≡ true
   pub gives : (items : List Item) → level_gives words start old items ≡ final_of ending ∷ []

@@ -1,5 +1,5 @@
 -- A toxic at work, as a function on whole lists: its state, its reaction to an item, and its flow.
-use Rattle.std.specs.Prelude.{ℕ, ◌+◌, ◌-◌, Bool, true, false, List, [], ◌∷◌, ◌++◌, if◌then◌else◌}
+use Rattle.std.specs.Prelude.{ℕ, ◌+◌, true, false, List, [], ◌∷◌, ◌++◌, if◌then◌else◌}
 use Rattle.tox_time.specs.declared.item.Item.{Item}
 use Rattle.tox_time.specs.declared.item.Item.TheVariants.{Chunk, Closed, Reset, Quiet}
 use Rattle.tox_time.specs.declared.slice.Slice.{Slice}

@@ -8,7 +8,8 @@ use Rattle.tox_time.specs.declared.ending.Ending.TheVariants.{StillOpen, Closed,
 use Rattle.tox_time.specs.declared.outcome.Outcome.{Outcome}
 use Rattle.tox_time.specs.Stream.{has_final, span_len}
 use Rattle.tox_time.specs.Table.{table, slices_table, ending, IsOutcomeOf}
-use Rattle.tox_network.specs.Shown.{chunk_of, shown}
+use Rattle.tox_defs.specs.Look.{as_chunk}
+use Rattle.tox_network.specs.Shown.{shown}
 
 final_is_shown : (slices : List Slice) (end : Ending) → has_final (shown slices (Some end)) ≡ true
 final_is_shown [] StillOpen = refl
@@ -32,18 +33,18 @@ some_ending slices end self view ended none =
 
 -- a final behind the slices
 pub final_pushed : (slices : List Slice) (end : Option Ending) (self : List Item) (item final : Item) → shown slices end ≡ self → has_final self ≡ false → item ≡ final
-    → map chunk_of slices ++ final ∷ [] ≡ self ++ item ∷ []
+    → map as_chunk slices ++ final ∷ [] ≡ self ++ item ∷ []
 final_pushed slices end self item final view unended is =
     let none : end ≡ None = no_ending slices end self view unended in
-    ap (λ one. map chunk_of slices ++ one ∷ []) (sym is) ∙ ap (λ items. items ++ item ∷ []) (ap (shown slices) (sym none) ∙ view)
+    ap (λ one. map as_chunk slices ++ one ∷ []) (sym is) ∙ ap (λ items. items ++ item ∷ []) (ap (shown slices) (sym none) ∙ view)
 
 -- a chunk behind the slices
-pub chunk_pushed : (slices more : List Slice) (slice : Slice) (end : Option Ending) (self : List Item) (item : Item) → shown slices end ≡ self → has_final self ≡ false → item ≡ chunk_of slice → more ≡ slices ++ slice ∷ []
+pub chunk_pushed : (slices more : List Slice) (slice : Slice) (end : Option Ending) (self : List Item) (item : Item) → shown slices end ≡ self → has_final self ≡ false → item ≡ as_chunk slice → more ≡ slices ++ slice ∷ []
     → shown more end ≡ self ++ item ∷ []
 chunk_pushed slices more slice end self item view unended is pushed =
     let none : end ≡ None = no_ending slices end self view unended in
-    ap (shown more) none ∙ ap (map chunk_of) pushed ∙ map-append chunk_of slices (slice ∷ [])
-    ∙ ap (λ one. map chunk_of slices ++ one ∷ []) (sym is) ∙ ap (λ items. items ++ item ∷ []) (ap (shown slices) (sym none) ∙ view)
+    ap (shown more) none ∙ ap (map as_chunk) pushed ∙ map-append as_chunk slices (slice ∷ [])
+    ∙ ap (λ one. map as_chunk slices ++ one ∷ []) (sym is) ∙ ap (λ items. items ++ item ∷ []) (ap (shown slices) (sym none) ∙ view)
 
 shown_table : (slices : List Slice) (end : Ending) → slices_table slices ≡ table (shown slices (Some end))
 shown_table [] StillOpen = refl

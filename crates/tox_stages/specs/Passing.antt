@@ -1,11 +1,8 @@
 -- What a worker and a level promise of the items that they received.
-use Rattle.std.specs.Prelude.{◌≡◌, ℕ, ◌^◌, ◌≤◌, List, ◌++◌, map}
+use Rattle.std.specs.Prelude.{◌≡◌, ◌^◌, ◌≤◌, List, ◌++◌}
 use Rattle.tox_time.specs.declared.item.Item.{Item}
 use Rattle.tox_time.specs.Stream.{IsStream, arrived}
-use Rattle.tox_words.specs.Draw.{draw}
-use Rattle.tox_defs.specs.declared.chain.Entry.{Entry}
 use Rattle.tox_defs.specs.Reaction.{Reaction, flow, flow_through}
-use Rattle.tox_defs.specs.Flow.{toxic_reaction, applied_from}
 use Rattle.tox_network.specs.Rings.{Ring, PassOn}
 
 -- a stream of as many bytes as a link may carry
@@ -21,10 +18,6 @@ BeginsStream items = (rest : List Item) × IsLinkStream (items ++ rest)
 pub record SendsFlow (reaction : Reaction) (received sent : List Item) : Type 0 where
   pub whole : BeginsStream received → IsLinkStream received
   pub flowed : BeginsStream received → sent ≡ flow reaction received
-
--- the reactions of the toxics that a link meets, of those from a place on
-abbrev pub reactions_from : ℕ → List Entry → List ℕ → List Reaction
-reactions_from place entries words = map (λ placed. toxic_reaction placed.toxic (draw words placed.place)) (applied_from place entries words)
 
 -- a whole stream passed on over rings from stage to stage, the first ring giving what was received, and what came out of the last
 pub record PassesOn (reactions : List Reaction) (received delivered : List Item) : Type 0 where

@@ -6,11 +6,11 @@ ghost use Rattle.tox_time.specs.Neighbours.{AreNeighbours};
 ghost use Rattle.tox_time.specs.Table.{IsOutcomeOf};
 ghost use Rattle.tox_words.specs.Draw.{draw};
 ghost use Rattle.tox_defs.specs.Chain.{IsEntry};
-ghost use Rattle.tox_defs.specs.Flow.{chain_flow, toxic_reaction};
+ghost use Rattle.tox_defs.specs.Flow.{chain_flow, reactions_from, toxic_reaction};
 ghost use Rattle.tox_defs.specs.Toxic.{IsInRange};
 ghost use Rattle.tox_network.specs.Shown.{shown};
 ghost use Rattle.tox_stages.specs.AtRest.{IsNetworkAtRest};
-ghost use Rattle.tox_stages.specs.Passing.{Delivers, IsLinkStream, SendsFlow, reactions_from};
+ghost use Rattle.tox_stages.specs.Passing.{Delivers, IsLinkStream, SendsFlow};
 ghost use Rattle.tox_stages.specs.Workers.{IsWorkerOf};
 
 use crate::fault::StageFault;

@@ -28,17 +28,19 @@ fn await_flag(flag: &AtomicBool) -> bool {
     false
 }
 
-/// A gate at which stage 0 with its second item and stage 1 with its first one each wait for the other.
+/// A gate at which stage 1 with its first item and stage 0 with its `nth` each wait for the other.
 #[derive(Drop)]
 struct Meeting {
+    nth: u64,
     first: AtomicBool,
     second: AtomicBool,
     missed: AtomicBool,
 }
 
 impl Meeting {
-    fn new() -> Meeting {
+    fn new(nth: u64) -> Meeting {
         Meeting {
+            nth,
             first: AtomicBool::new(false),
             second: AtomicBool::new(false),
             missed: AtomicBool::new(false),
@@ -56,7 +58,7 @@ impl Meeting {
 impl Gate for Meeting {
     fn pass(&self, stage: usize, nth: u64) {
         match (stage, nth) {
-            (0, 1) => self.meet(&self.first, &self.second),
+            (0, nth) if nth == self.nth => self.meet(&self.first, &self.second),
             (1, 0) => self.meet(&self.second, &self.first),
             _ => {}
         }
@@ -133,13 +135,13 @@ impl Gate for Log {
     }
 }
 
-/// Latencies of one and of two milliseconds.
+/// Latencies of one and of two milliseconds, between them one that no link meets.
 fn two_latencies() -> Result<Chain, Fail> {
     let mut chain = Chain::new();
-    for latency in [1, 2] {
+    for (latency, toxicity) in [(1, 1000), (9, 0), (2, 1000)] {
         let toxic = Toxic::Latency { latency, jitter: 0 };
         toxic.check()?;
-        chain.push(toxic, 1000)?;
+        chain.push(toxic, toxicity)?;
     }
     Ok(chain)
 }
@@ -193,17 +195,18 @@ fn a_slicer_draws_its_sizes(rt: HostRuntime) -> Result<(), Fail> {
     Ok(())
 }
 
+/// While stage 1 has one item in hand, the ring before it takes as many as it has room for, and stage 0 one more.
 #[test]
 fn two_workers_meet(rt: HostRuntime) -> Result<(), Fail> {
     let words = Words::from_list(rt.alloc(), &[0])?;
     let chain = two_latencies()?;
-    let arrivals = bytes_at_zero(rt.alloc(), 2)?;
-    let gate = Meeting::new();
-    let outcome = run_stages(&rt, rt.alloc(), &chain, &words, &arrivals, 1, &gate)?;
-    assert!(rt; !gate.missed.load(Ordering::SeqCst));
-    let expected = [slice(0, 1, 3000), slice(1, 2, 3000)];
-    assert_eq!(rt; outcome.slices.as_slice(), expected.as_slice());
-    assert_eq!(rt; outcome.ending, Ending::StillOpen);
+    let arrivals = bytes_at_zero(rt.alloc(), 5)?;
+    for (cap, nth) in [(1, 2), (3, 4)] {
+        let gate = Meeting::new(nth);
+        let outcome = run_stages(&rt, rt.alloc(), &chain, &words, &arrivals, cap, &gate)?;
+        assert!(rt; !gate.missed.load(Ordering::SeqCst), "rings of {cap}");
+        assert_eq!(rt; outcome.slices.as_slice().last(), Some(&slice(4, 5, 3000)));
+    }
     Ok(())
 }
 

@@ -5,10 +5,10 @@ use Rattle.std.proofs.lemmas.List.Elements.{All-head}
 use Rattle.rtrb.specs.Ring.{sent, received, known_items}
 use Rattle.tox_words.specs.Draw.{draw}
 use Rattle.tox_defs.specs.Chain.{IsEntry}
-use Rattle.tox_defs.specs.Flow.{toxic_reaction}
+use Rattle.tox_defs.specs.Flow.{reactions_from, toxic_reaction}
 use Rattle.tox_defs.proofs.ChainStreams.{toxic_keeps}
 use Rattle.tox_network.specs.Shown.{shown}
-use Rattle.tox_stages.specs.Passing.{Delivers, SendsFlow, reactions_from}
+use Rattle.tox_stages.specs.Passing.{Delivers, SendsFlow}
 use Rattle.tox_stages.proofs.Joined.{level_up, reactions_from-met}
 use Rattle.tox_stages.proofs.levels.+level.Goals as goal
 

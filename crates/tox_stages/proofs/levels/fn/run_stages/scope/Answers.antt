@@ -2,10 +2,10 @@
 use Rattle.std.proofs.Common.{◌≡◌, ◌++◌, Some, subst}
 use Rattle.rtrb.specs.Ring.{received, known_items}
 use Rattle.tox_time.specs.Arrivals.{arrival_list}
-use Rattle.tox_defs.specs.Flow.{reactions_of}
+use Rattle.tox_defs.specs.Flow.{reactions_from, reactions_of}
 use Rattle.tox_network.specs.Shown.{shown}
 use Rattle.tox_network.proofs.ShownItems.{outcome_shown}
-use Rattle.tox_stages.specs.Passing.{PassesOn, Delivers, reactions_from}
+use Rattle.tox_stages.specs.Passing.{PassesOn, Delivers}
 use Rattle.tox_stages.proofs.Joined.{from_ring}
 use Rattle.tox_stages.proofs.Rested.{network_at_rest, delivered_neighbours}
 use Rattle.tox_stages.proofs.levels.fn.run_stages.scope.Goals as goal
