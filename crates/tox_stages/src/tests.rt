@@ -135,10 +135,10 @@ impl Gate for Log {
     }
 }
 
-/// Latencies of one and of two milliseconds, between them one that no link meets.
-fn two_latencies() -> Result<Chain, Fail> {
+/// Latencies of so many milliseconds, each with its toxicity.
+fn latencies(parts: &[(u32, u16)]) -> Result<Chain, Fail> {
     let mut chain = Chain::new();
-    for (latency, toxicity) in [(1, 1000), (9, 0), (2, 1000)] {
+    for &(latency, toxicity) in parts {
         let toxic = Toxic::Latency { latency, jitter: 0 };
         toxic.check()?;
         chain.push(toxic, toxicity)?;
@@ -195,11 +195,26 @@ fn a_slicer_draws_its_sizes(rt: HostRuntime) -> Result<(), Fail> {
     Ok(())
 }
 
-/// While stage 1 has one item in hand, the ring before it takes as many as it has room for, and stage 0 one more.
 #[test]
 fn two_workers_meet(rt: HostRuntime) -> Result<(), Fail> {
     let words = Words::from_list(rt.alloc(), &[0])?;
-    let chain = two_latencies()?;
+    let chain = latencies(&[(1, 1000), (2, 1000)])?;
+    let arrivals = bytes_at_zero(rt.alloc(), 2)?;
+    let gate = Meeting::new(1);
+    let outcome = run_stages(&rt, rt.alloc(), &chain, &words, &arrivals, 1, &gate)?;
+    assert!(rt; !gate.missed.load(Ordering::SeqCst));
+    let expected = [slice(0, 1, 3000), slice(1, 2, 3000)];
+    assert_eq!(rt; outcome.slices.as_slice(), expected.as_slice());
+    assert_eq!(rt; outcome.ending, Ending::StillOpen);
+    Ok(())
+}
+
+/// While stage 1 has one item in hand, the ring before it takes as many as it has room for, and stage 0 one more. The
+/// toxic between them, which no link meets, has no stage.
+#[test]
+fn rings_have_their_room(rt: HostRuntime) -> Result<(), Fail> {
+    let words = Words::from_list(rt.alloc(), &[0])?;
+    let chain = latencies(&[(1, 1000), (9, 0), (2, 1000)])?;
     let arrivals = bytes_at_zero(rt.alloc(), 5)?;
     for (cap, nth) in [(1, 2), (3, 4)] {
         let gate = Meeting::new(nth);
@@ -213,7 +228,7 @@ fn two_workers_meet(rt: HostRuntime) -> Result<(), Fail> {
 #[test]
 fn each_worker_takes_from_its_own_ring(rt: HostRuntime) -> Result<(), Fail> {
     let words = Words::from_list(rt.alloc(), &[0])?;
-    let chain = two_latencies()?;
+    let chain = latencies(&[(1, 1000), (2, 1000)])?;
     let arrivals = bytes_at_zero(rt.alloc(), 4)?;
     let gate = Log::new();
     let outcome = run_stages(&rt, rt.alloc(), &chain, &words, &arrivals, 1, &gate)?;
