@@ -10,6 +10,8 @@ mod dry;
 #[cfg(test)]
 mod ends;
 #[cfg(test)]
+mod fault_names;
+#[cfg(test)]
 mod network;
 #[cfg(test)]
 mod orders;

@@ -1,4 +1,4 @@
-ghost use Rattle.std.specs.Prelude.{◌≡◌, ◌<◌, ◌↔◌, [], ◌++◌, false, true, Some, min, length, take, IsErr, IfOk, OnOk, OnErr};
+ghost use Rattle.std.specs.Prelude.{◌≡◌, ◌<◌, ◌↔◌, [], ◌++◌, false, true, Some, min, length, take, drop, IsErr, IfOk, OnOk, OnErr};
 ghost use Rattle.std.specs.Io.KnownBytes.{prepend_known, IsAtEnd};
 ghost use Rattle.tox_time.specs.MemoryEnds.{FailsNext, one_more};
 
@@ -53,9 +53,10 @@ impl Source for MemorySource {
         ensures fails { IsErr result ↔ FailsNext self.old.calls }
         ensures count { IfOk result (λ n. n ≡ min (min (length self.old.bytes) self.old.most) (length buffer.new)) }
         ensures bytes { IfOk result (λ n. self.old.bytes ≡ take n buffer.new ++ self.new.bytes) }
+        ensures rest { IfOk result (λ n. drop n buffer.new ≡ drop n buffer.old) }
         ensures end { IfOk result (λ n. n ≡ 0 → 0 < length buffer.new → self.new.bytes ≡ []) }
         ensures working { OnOk result (self.new.failed ≡ false) }
-        ensures fault { OnErr result ((self.new.failed ≡ true) × (self.new.bytes ≡ self.old.bytes)) }
+        ensures fault { OnErr result ((self.new.failed ≡ true) × (self.new.bytes ≡ self.old.bytes) × (buffer.new ≡ buffer.old)) }
         ensures conduct { (self.new.most ≡ self.old.most) × (self.new.calls ≡ one_more self.old.calls) }
     {
         self.calls = self.calls.saturating_add(1);

@@ -1,4 +1,4 @@
-ghost use Rattle.std.specs.Prelude.{◌≡◌, ℕ, ◌+◌, ◌*◌, ◌≤◌, ◌↔◌, min, max, IsSome, IfSome};
+ghost use Rattle.std.specs.Prelude.{◌≡◌, ℕ, ◌+◌, ◌*◌, ◌^◌, ◌≤◌, ◌↔◌, min, max, IsSome, IfSome};
 ghost use Rattle.tox_time.specs.declared.micros.TheConstants.{HORIZON};
 ghost use Rattle.tox_time.specs.Time.{plus, micros_of};
 
@@ -31,6 +31,7 @@ impl Micros {
     pub fn new(micros: u64) -> Option<Micros>
         ensures valid { IsSome result ↔ (micros ≤ HORIZON) }
         ensures value { IfSome result (λ t. t ≡ micros) }
+        ensures horizon { HORIZON ≡ 10 ^ 15 }
     {
         if micros <= HORIZON {
             Some(Micros { micros })

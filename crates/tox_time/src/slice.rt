@@ -46,6 +46,7 @@ impl SliceList {
         Ok(())
     }
 
+    /// The slices, in the order in which they leave.
     pub fn as_slice(&self) -> &[Slice]
         ensures { result.now ≡ self.now }
     {
