@@ -38,11 +38,13 @@ pub record HasPopulated : Type 0 where
 -- a file was read whose first fault as a populate file is this one
 pub record RefusesConfig (fault : ConfigFault) : Type 0 where
   pub bytes : List ℕ
+  pub short : length bytes ≤ MOST_INPUT
   pub refused : populate bytes ≡ Err fault
 
 -- a file was read whose first fault as a script is this one
 pub record RefusesScript (fault : ScriptFault) : Type 0 where
   pub bytes : List ℕ
+  pub short : length bytes ≤ MOST_INPUT
   pub refused : script_of bytes ≡ Err fault
 
 -- why the file of a name defines no proxies

@@ -1,5 +1,5 @@
 //! The dry run: arrivals in, the result of a chain out, with no clock and no socket.
-ghost use Rattle.std.specs.Prelude.{◌≡◌, ◌+◌, [], false, true, OnOk, OnErr, IfOk, IfErr};
+ghost use Rattle.std.specs.Prelude.{◌≡◌, ◌≢◌, ◌+◌, [], false, true, OnOk, OnErr, IfOk, IfErr, Err};
 ghost use Rattle.std.specs.Io.KnownBytes.{append_known};
 ghost use Rattle.tox_time.specs.Arrivals.{arrival_list};
 ghost use Rattle.tox_time.specs.Neighbours.{AreNeighbours};
@@ -8,6 +8,7 @@ ghost use Rattle.tox_proxy.specs.DryRun.{Leaves, Spells, WritesEveryRest, Writes
 ghost use Rattle.tox_proxy.specs.Reading.{HasCause, TakesAtMost};
 ghost use Rattle.tox_proxy.specs.ResultText.{result_text};
 ghost use Rattle.tox_proxy.specs.Writing.{AppendsFront, Prints};
+ghost use Rattle.tox_proxy.specs.declared.fault.DryFault.TheVariants.{WriteFault};
 ghost use Rattle.tox_proxy.specs.declared.reading.TheConstants.{MOST_INPUT};
 
 use crate::arrived::ArrivedText;
@@ -40,6 +41,7 @@ pub fn dry_run<R: Source, W: Sink>(
     ensures ok { OnOk result (WritesResult chain.now words.now (R.remaining reader.old) (R.remaining reader.new) (W.written writer.old) (W.written writer.new)) }
     ensures every_run { OnOk result (WritesEveryRest chain.now words.now (R.remaining reader.old) (R.remaining reader.new) (W.written writer.old) (W.written writer.new)) }
     ensures cause { IfErr result (HasCause (R.remaining reader.old) (R.remaining reader.new) (R.failed reader.new) (W.failed writer.new)) }
+    ensures working { result ≢ Err WriteFault → W.failed writer.new ≡ false }
     ensures left { IfErr result (Leaves chain.now words.now (R.remaining reader.old) (R.remaining reader.new) (W.written writer.old) (W.written writer.new)) }
     ensures most { TakesAtMost (MOST_INPUT + 1) (R.remaining reader.old) (R.remaining reader.new) }
 {

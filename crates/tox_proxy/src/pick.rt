@@ -1,5 +1,5 @@
 //! What a numbered connection meets.
-ghost use Rattle.std.specs.Prelude.{◌≡◌, ◌≤◌, ◌++◌, [], false, true, length, map, string_bytes, OnOk, OnErr, IfErr};
+ghost use Rattle.std.specs.Prelude.{◌≡◌, ◌≢◌, ◌≤◌, ◌++◌, [], false, true, length, map, string_bytes, OnOk, OnErr, IfErr, Err};
 ghost use Rattle.std.specs.Io.KnownBytes.{append_known};
 ghost use Rattle.tox_config.specs.Proxy.{proxy_view};
 ghost use Rattle.tox_proxy.specs.PickText.{applied_word, enabled_word, pick_text, proxy_line, toxic_line, toxics_text};
@@ -44,6 +44,7 @@ pub fn print_pick<W: Sink>(
     requires first { 1 ≤ conn }
     requires last { conn ≤ 1_000_000 }
     ensures ok { OnOk result (W.written writer.new ≡ append_known (W.written writer.old) (pick_text (proxy_view proxy.now) script.now conn stream seed)) }
+    ensures working { result ≢ Err PrintPickFault.WriteFault → W.failed writer.new ≡ false }
     ensures left { IfErr result (Leaves (W.written writer.old) (W.written writer.new) (W.failed writer.new) (pick_text (proxy_view proxy.now) script.now conn stream seed)) }
 {
     let Ok(words) = Words::from_seed(alloc, seed, conn, stream) else {

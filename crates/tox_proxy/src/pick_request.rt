@@ -1,5 +1,5 @@
 //! What `toxi pick` is asked, and its answer.
-ghost use Rattle.std.specs.Prelude.{◌≡◌, ◌≤◌, false, None, Err, OnOk, IfErr};
+ghost use Rattle.std.specs.Prelude.{◌≡◌, ◌≢◌, ◌≤◌, false, None, Err, OnOk, IfErr};
 ghost use Rattle.tox_time.specs.StreamName.{stream_named};
 
 use crate::pick::{PrintPickFault, print_pick};
@@ -69,6 +69,7 @@ impl<'a> PickRequest<'a> {
         requires { W.failed writer.old ≡ false }
         ensures ok { OnOk result (WritesPick self.now (W.written writer.old) (W.written writer.new)) }
         ensures fault { IfErr result (HasPickCause self.now (W.written writer.old) (W.written writer.new) (W.failed writer.new)) }
+        ensures working { result ≢ Err (PickFault.Print PrintPickFault.WriteFault) → W.failed writer.new ≡ false }
         ensures stream_first { stream_named self.now.stream.now ≡ None → result ≡ Err PickFault.BadStream }
     {
         let Some(stream) = Stream::of_name(self.stream) else {

@@ -1,8 +1,10 @@
 //! A run of stages in real threads: arrivals in, the result of a chain out.
-ghost use Rattle.std.specs.Prelude.{◌≡◌, ◌+◌, ◌≤◌, false, OnOk, IfErr};
-ghost use Rattle.tox_proxy.specs.DryRun.{WritesResult};
+ghost use Rattle.std.specs.Prelude.{◌≡◌, ◌≢◌, ◌+◌, ◌≤◌, false, OnOk, IfErr, Err};
+ghost use Rattle.tox_proxy.specs.DryRun.{WritesEveryRest, WritesResult};
 ghost use Rattle.tox_proxy.specs.Reading.{TakesAtMost};
 ghost use Rattle.tox_proxy.specs.StagesRun.{HasStagesCause, StagesLeave};
+ghost use Rattle.tox_proxy.specs.declared.fault.DryFault.TheVariants.{WriteFault};
+ghost use Rattle.tox_proxy.specs.declared.fault.StagesFault.TheVariants.{Dry};
 ghost use Rattle.tox_proxy.specs.declared.reading.TheConstants.{MOST_INPUT};
 
 use crate::buffer::Buffer;
@@ -35,7 +37,9 @@ pub fn stages_run<T: Threads + Wait + Sync, R: Source, W: Sink, G: Gate>(
     requires some { 1 ≤ cap }
     requires most { cap ≤ 1024 }
     ensures ok { OnOk result (WritesResult chain.now words.now (R.remaining reader.old) (R.remaining reader.new) (W.written writer.old) (W.written writer.new)) }
+    ensures every_run { OnOk result (WritesEveryRest chain.now words.now (R.remaining reader.old) (R.remaining reader.new) (W.written writer.old) (W.written writer.new)) }
     ensures cause { IfErr result (HasStagesCause (R.remaining reader.old) (R.remaining reader.new) (R.failed reader.new) (W.failed writer.new)) }
+    ensures working { result ≢ Err (Dry WriteFault) → W.failed writer.new ≡ false }
     ensures left { IfErr result (StagesLeave chain.now words.now (R.remaining reader.old) (R.remaining reader.new) (W.written writer.old) (W.written writer.new)) }
     ensures most { TakesAtMost (MOST_INPUT + 1) (R.remaining reader.old) (R.remaining reader.new) }
 {

@@ -1,11 +1,10 @@
 -- The toxics of a rule so far, by their streams.
 use Rattle.std.specs.Prelude.{ℕ, ◌||◌, Bool, List, length, nat_le, Result, Ok, Err, if◌then◌else◌}
-use Rattle.std.specs.List.{list_any}
-use Rattle.std.specs.Str.{bytes_eq}
 use Rattle.tox_time.specs.declared.stream.Stream.{Stream}
 use Rattle.tox_time.specs.declared.stream.Stream.TheVariants.{Upstream, Downstream}
 use Rattle.tox_defs.specs.declared.chain.Entry.{Entry}
 use Rattle.tox_defs.specs.declared.chain.TheConstants.{MOST_TOXICS}
+use Rattle.tox_script.specs.Fields.{is_among}
 use Rattle.tox_script.specs.NamedChain.{NamedToxics, nothing, with_toxic}
 use Rattle.tox_script.specs.Toxic.{NamedToxic}
 use Rattle.tox_script.specs.declared.chains.Chains.{Chains}
@@ -24,9 +23,7 @@ on Downstream chains = chains.downstream
 
 -- whether a toxic of either stream has a name
 abbrev pub has_name : List ℕ → Chains → Bool
-has_name name chains =
-    list_any (λ other. bytes_eq other name) chains.upstream.names
-    || list_any (λ other. bytes_eq other name) chains.downstream.names
+has_name name chains = is_among chains.upstream.names name || is_among chains.downstream.names name
 
 -- one more toxic on a stream
 abbrev pub pushed : Stream → Entry → List ℕ → Chains → Chains

@@ -68,9 +68,9 @@ abbrev pub keys_of : Data → List (List ℕ)
 keys_of (table ms) = member_keys ms
 keys_of _ = []
 
--- whether a key is one of these
+-- whether a text is one of these
 abbrev pub is_among : List (List ℕ) → List ℕ → Bool
-is_among keys key = list_any (λ other. bytes_eq other key) keys
+is_among texts text = list_any (λ other. bytes_eq other text) texts
 
 -- whether a table has no keys but these
 abbrev pub has_only : List (List ℕ) → Data → Bool

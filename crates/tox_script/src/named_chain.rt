@@ -1,9 +1,8 @@
 //! A chain with the names of its toxics.
 ghost use Rattle.std.specs.Prelude.{◌≡◌, ◌<◌, length, map, string_bytes, nat_le, OnOk, OnErr};
-ghost use Rattle.std.specs.List.{list_any};
-ghost use Rattle.std.specs.Str.{bytes_eq};
 ghost use Rattle.tox_defs.specs.Chain.{IsEntry};
 ghost use Rattle.tox_defs.specs.declared.chain.TheConstants.{MOST_TOXICS as most_toxics};
+ghost use Rattle.tox_script.specs.Fields.{is_among};
 
 use std::alloc::{AllocError, Global};
 use std::marker::Model;
@@ -57,7 +56,7 @@ impl NamedChain {
 
     /// Whether a toxic has this name.
     pub(crate) fn has_name(&self, name: &str) -> bool
-        ensures { result ≡ list_any (λ other. bytes_eq other name.now) self.now.names }
+        ensures { result ≡ is_among self.now.names name.now }
     {
         self.names.iter().any(|other| other.as_str() == name)
     }
