@@ -21,7 +21,7 @@ pub drained-final : (words : List ℕ) (start : ℕ) (levels : List Level) (sour
     → (last : Ending) × (to_come_from words start levels source (final_of end ∷ []) ≡ final_of last ∷ [])
 drained-final words start [] source end nested drained = (end, to_come_from-read words start source (final_of end ∷ []) drained)
 drained-final words start (level ∷ levels) source end nested drained =
-    let before : (last : Ending) × (to_come_from words level.stop levels source (final_of end ∷ []) ≡ final_of last ∷ []) = drained-final words level.stop levels source ending nested.1 drained.2 in
+    let before : (last : Ending) × (to_come_from words level.stop levels source (final_of end ∷ []) ≡ final_of last ∷ []) = drained-final words level.stop levels source end nested.1 drained.2 in
     let after : (last : Ending) × (op_giving level.op words level.state (final_of before.0) ≡ final_of last ∷ []) = giving-final level.op words level.state before.0 in (
       after.0,
       ap (λ items. level_gives words start level items) before.1

@@ -3,9 +3,9 @@ use std::alloc::{AllocError, Global};
 use std::fmt::Display;
 use std::test::Fail;
 use tox_config::ConfigFault;
-use tox_defs::ShortFault;
+use tox_defs::{ShortFault, TooManyToxics};
 use tox_network::StepFault;
-use tox_proxy::{DryFault, FileFault, WriteFault};
+use tox_proxy::{DryFault, FileFault, PrintPickFault, ToxicsFault, WriteFault};
 use tox_script::ScriptFault;
 use tox_time::ArrivalFault;
 use tox_words::WordsFault;
@@ -28,6 +28,8 @@ fn faults_print_their_names(rt: HostRuntime) -> Result<(), Fail> {
         (name(alloc, &ConfigFault::TooMany(64))?, "C8 TooMany 64"),
         (name(alloc, &ScriptFault::OutOfMemory)?, "S0 OutOfMemory"),
         (name(alloc, &ShortFault::DoubleKey)?, "Q2 DoubleKey"),
+        (name(alloc, &TooManyToxics)?, "S9 TooManyToxics"),
+        (name(alloc, &ToxicsFault::TooMany(17))?, "S9 TooManyToxics 17"),
         (name(alloc, &StepFault::OutOfMemory)?, "N0 OutOfMemory"),
         (name(alloc, &StepFault::NotPossible)?, "N1 NotPossible"),
         (name(alloc, &DryFault::OutOfMemory)?, "L0 OutOfMemory"),
@@ -35,6 +37,8 @@ fn faults_print_their_names(rt: HostRuntime) -> Result<(), Fail> {
         (name(alloc, &DryFault::ReadFault)?, "L3 ReadFault"),
         (name(alloc, &DryFault::WriteFault)?, "L4 WriteFault"),
         (name(alloc, &WriteFault)?, "L4 WriteFault"),
+        (name(alloc, &PrintPickFault::OutOfMemory)?, "W0 OutOfMemory"),
+        (name(alloc, &PrintPickFault::WriteFault)?, "L4 WriteFault"),
         (name(alloc, &FileFault::OutOfMemory)?, "P0 OutOfMemory"),
         (name(alloc, &FileFault::TooLong("a"))?, "P2 FileTooLong a"),
     ];

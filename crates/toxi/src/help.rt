@@ -61,6 +61,7 @@ Example:
   toxi plan latency:latency=10 slow_close latency:latency=1
 prints
   delay 11";
+
 /// Below the options of `toxi stages`.
 pub const STAGES: &str = "\
 A TOXIC, the input and the output are those of `toxi dry`; see `toxi dry --help`.
@@ -72,6 +73,7 @@ Example:
 prints
   100000 0..2 6162
   closed 100000";
+
 /// Below the options of `toxi pick`.
 pub const PICK: &str = "\
 A FILE has at most 16777216 bytes. docs/PROFILE.md tells the formats whole.
