@@ -53,7 +53,7 @@ fn a_runner_goes_on_until_its_source_ends(rt: HostRuntime) -> Result<(), Fail> {
     assert_eq!(rt; runner.ending(), Some(Ending::Closed(at(1005))));
     assert!(rt; runner.is_idle());
     assert_eq!(rt; runner.offer(1, at(8)), Err(ArrivalFault::TimeBack));
-    assert_eq!(rt; runner.turns(), 2);
+    assert_eq!(rt; runner.turns(), 1);
     Ok(())
 }
 
