@@ -29,7 +29,10 @@ fn faults_print_their_names(rt: HostRuntime) -> Result<(), Fail> {
         (name(alloc, &ScriptFault::OutOfMemory)?, "S0 OutOfMemory"),
         (name(alloc, &ShortFault::DoubleKey)?, "Q2 DoubleKey"),
         (name(alloc, &TooManyToxics)?, "S9 TooManyToxics"),
-        (name(alloc, &ToxicsFault::TooMany(17))?, "S9 TooManyToxics 17"),
+        (
+            name(alloc, &ToxicsFault::TooMany(17))?,
+            "S9 TooManyToxics 17",
+        ),
         (name(alloc, &StepFault::OutOfMemory)?, "N0 OutOfMemory"),
         (name(alloc, &StepFault::NotPossible)?, "N1 NotPossible"),
         (name(alloc, &DryFault::OutOfMemory)?, "L0 OutOfMemory"),
