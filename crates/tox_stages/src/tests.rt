@@ -135,10 +135,21 @@ impl Gate for Log {
     }
 }
 
-/// Latencies of so many milliseconds, each with its toxicity.
-fn latencies(parts: &[(u32, u16)]) -> Result<Chain, Fail> {
+/// Latencies of one and of two milliseconds.
+fn two_latencies() -> Result<Chain, Fail> {
     let mut chain = Chain::new();
-    for &(latency, toxicity) in parts {
+    for latency in [1, 2] {
+        let toxic = Toxic::Latency { latency, jitter: 0 };
+        toxic.check()?;
+        chain.push(toxic, 1000)?;
+    }
+    Ok(chain)
+}
+
+/// Latencies of one and of two milliseconds, between them one that no link meets.
+fn latencies_around_an_unmet_one() -> Result<Chain, Fail> {
+    let mut chain = Chain::new();
+    for (latency, toxicity) in [(1, 1000), (9, 0), (2, 1000)] {
         let toxic = Toxic::Latency { latency, jitter: 0 };
         toxic.check()?;
         chain.push(toxic, toxicity)?;
@@ -198,7 +209,7 @@ fn a_slicer_draws_its_sizes(rt: HostRuntime) -> Result<(), Fail> {
 #[test]
 fn two_workers_meet(rt: HostRuntime) -> Result<(), Fail> {
     let words = Words::from_list(rt.alloc(), &[0])?;
-    let chain = latencies(&[(1, 1000), (2, 1000)])?;
+    let chain = two_latencies()?;
     let arrivals = bytes_at_zero(rt.alloc(), 2)?;
     let gate = Meeting::new(1);
     let outcome = run_stages(&rt, rt.alloc(), &chain, &words, &arrivals, 1, &gate)?;
@@ -214,7 +225,7 @@ fn two_workers_meet(rt: HostRuntime) -> Result<(), Fail> {
 #[test]
 fn rings_have_their_room(rt: HostRuntime) -> Result<(), Fail> {
     let words = Words::from_list(rt.alloc(), &[0])?;
-    let chain = latencies(&[(1, 1000), (9, 0), (2, 1000)])?;
+    let chain = latencies_around_an_unmet_one()?;
     let arrivals = bytes_at_zero(rt.alloc(), 5)?;
     for (cap, nth) in [(1, 2), (3, 4)] {
         let gate = Meeting::new(nth);
@@ -228,7 +239,7 @@ fn rings_have_their_room(rt: HostRuntime) -> Result<(), Fail> {
 #[test]
 fn each_worker_takes_from_its_own_ring(rt: HostRuntime) -> Result<(), Fail> {
     let words = Words::from_list(rt.alloc(), &[0])?;
-    let chain = latencies(&[(1, 1000), (2, 1000)])?;
+    let chain = two_latencies()?;
     let arrivals = bytes_at_zero(rt.alloc(), 4)?;
     let gate = Log::new();
     let outcome = run_stages(&rt, rt.alloc(), &chain, &words, &arrivals, 1, &gate)?;
