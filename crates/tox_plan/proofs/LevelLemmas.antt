@@ -1,5 +1,6 @@
 -- What is still to come from nested levels.
-use Rattle.std.proofs.Common.{◌≡◌, ℕ, ◌<◌, ◌≤◌, false, List, [], ◌∷◌, ◌++◌, None, ap, sym, ◌∙◌, arith}
+use Rattle.std.proofs.Common.{◌≡◌, ℕ, ◌<◌, ◌≤◌, false, List, [], ◌∷◌, ◌++◌, append_assoc, None, ap, sym, ◌∙◌, arith, inr}
+use Rattle.std.proofs.lemmas.List.{append-nil}
 use Rattle.tox_time.specs.declared.slice.Slice.{Slice}
 use Rattle.tox_time.specs.declared.item.Item.{Item}
 use Rattle.tox_time.specs.declared.ending.Ending.{Ending}
@@ -11,7 +12,7 @@ use Rattle.tox_defs.specs.Look.{as_chunk, rest_of}
 use Rattle.tox_defs.specs.Level.{level_gives}
 use Rattle.tox_defs.proofs.FlowLemmas.{Continues-counted}
 use Rattle.tox_defs.proofs.Levels.{rest_of-read, rest_of-unread, level_gives-running}
-use Rattle.tox_plan.specs.Levels.{to_come_from, AreNested, AreDrained}
+use Rattle.tox_plan.specs.Levels.{to_come_from, ops_of, AreNested, AreDrained, HaveEnded}
 
 -- the rest from a piece's start to its stop is the piece
 pub rest_of-piece : (start : ℕ) (piece : Slice) → piece.span.start ≡ start → start < piece.span.stop → rest_of start piece.span.stop piece.instant ≡ as_chunk piece ∷ []
@@ -64,3 +65,13 @@ drained-offered words start (level ∷ levels) old new items drained after some 
 -- what the source gives where nothing is left of its piece
 pub to_come_from-read : (words : List ℕ) (start : ℕ) (source : Slice) (items : List Item) → source.span.stop ≡ start → to_come_from words start [] source items ≡ items
 to_come_from-read words start source items read = ap (λ rest. rest ++ items) (rest_of-read start source.span.stop source.instant (omega (arith, read)))
+
+-- the operations of levels behind others
+pub ops_of-append : (xs ys : List Level) → ops_of (xs ++ ys) ≡ ops_of ys ++ ops_of xs
+ops_of-append [] ys = sym (append-nil (ops_of ys))
+ops_of-append (x ∷ xs) ys = ap (λ ops. ops ++ x.op ∷ []) (ops_of-append xs ys) ∙ append_assoc (ops_of ys) (ops_of xs) (x.op ∷ [])
+
+-- an ending that is kept behind other levels
+pub ended-behind : (xs ys : List Level) → HaveEnded ys → HaveEnded (xs ++ ys)
+ended-behind [] ys ended = ended
+ended-behind (x ∷ xs) ys ended = inr (ended-behind xs ys ended)

@@ -1,7 +1,6 @@
 -- What a pull brings is what comes next from all the levels.
-use Rattle.std.proofs.Common.{◌≡◌, ℕ, ◌^◌, ◌≤◌, false, List, [], ◌∷◌, ◌++◌, append_assoc, Option, None, Some, refl, ap, sym, subst, ◌∙◌, arith, inl, inr}
+use Rattle.std.proofs.Common.{◌≡◌, ℕ, ◌^◌, ◌≤◌, false, List, [], ◌∷◌, Option, None, Some, refl, ap, sym, subst, ◌∙◌, arith, inl}
 use Rattle.std.specs.Prelude.{MatchOption, is_some}
-use Rattle.std.proofs.lemmas.List.{append-nil}
 use Rattle.tox_time.specs.declared.slice.Slice.{Slice}
 use Rattle.tox_time.specs.declared.item.Item.{Item}
 use Rattle.tox_time.specs.declared.ending.Ending.{Ending}
@@ -13,7 +12,7 @@ use Rattle.tox_defs.specs.Level.{level_gives, IsSound, IsNextPiece, IsAtEnd}
 use Rattle.tox_defs.proofs.Levels.{level_gives-ended}
 use Rattle.tox_plan.specs.declared.levels.Pulled.{Pulled}
 use Rattle.tox_plan.specs.declared.levels.Pulled.TheVariants.{Piece, End, Nothing}
-use Rattle.tox_plan.specs.Levels.{to_come_from, ops_of, AreNested, AreDrained, AreRead, HaveEnded, IsNext, IsFrom, MatchGiven, MatchPulled, OnlyEnds}
+use Rattle.tox_plan.specs.Levels.{to_come_from, AreNested, AreDrained, AreRead, IsNext, IsFrom, MatchGiven, MatchPulled, OnlyEnds}
 use Rattle.tox_plan.proofs.LevelLemmas.{nested-below, level_gives-filled, level_gives-final}
 
 -- the first level's next piece
@@ -41,21 +40,22 @@ here-end words start upstream level new source ending at_end items = at_end.give
 pub known-end : (words : List ℕ) (start : ℕ) (upstream : List Level) (level : Level) (source : Slice) (ending : Ending) → level.ending ≡ Some ending → OnlyEnds words start (level ∷ upstream) source ending
 known-end words start upstream level source ending known items = level_gives-ended words start level ending (to_come_from words level.stop upstream source items) known
 
+-- a level that has a piece from upstream as its present chunk
+abbrev pub filled : Level → Slice → Level
+filled level piece = record { op = level.op; state = level.state; stop = piece.span.stop; instant = piece.instant; ending = level.ending }
+
 -- a pull that brings the first level a piece from upstream
 module _ (words : List ℕ) (start : ℕ) (old upstream : List Level) (level : Level) (source piece : Slice) (running : level.ending ≡ None) (read : level.stop ≡ start) (next : IsNext words start old upstream source piece) where
-  abbrev filled : Level
-  filled = record { op = level.op; state = level.state; stop = piece.span.stop; instant = piece.instant; ending = level.ending }
-
-  filled-gives : (items : List Item) → to_come_from words start (level ∷ old) source items ≡ level_gives words start filled (to_come_from words piece.span.stop upstream source items)
+  filled-gives : (items : List Item) → to_come_from words start (level ∷ old) source items ≡ level_gives words start (filled level piece) (to_come_from words piece.span.stop upstream source items)
   filled-gives items =
       ap (λ stop. level_gives words start level (to_come_from words stop old source items)) read
       ∙ ap (λ items. level_gives words start level items) (next.gives items)
       ∙ level_gives-filled words start level piece (to_come_from words piece.span.stop upstream source items) running read (next.begins ∙ sym read) (omega (arith, next.some, read))
 
-  pub filled-piece : (new : Level) (found : Slice) → is_mute level.op ≡ false → IsNextPiece words start filled new found → IsNext words start (level ∷ old) (new ∷ upstream) source found
-  filled-piece new found heard advanced = advanced-piece words start (level ∷ old) upstream filled new source found filled-gives next.nested heard advanced
+  pub filled-piece : (new : Level) (found : Slice) → is_mute level.op ≡ false → IsNextPiece words start (filled level piece) new found → IsNext words start (level ∷ old) (new ∷ upstream) source found
+  filled-piece new found heard advanced = advanced-piece words start (level ∷ old) upstream (filled level piece) new source found filled-gives next.nested heard advanced
 
-  pub filled-end : (new : Level) (ending : Ending) → IsAtEnd words start filled new ending → OnlyEnds words start (level ∷ old) source ending
+  pub filled-end : (new : Level) (ending : Ending) → IsAtEnd words start (filled level piece) new ending → OnlyEnds words start (level ∷ old) source ending
   filled-end new ending at_end items = filled-gives items ∙ at_end.gives (to_come_from words piece.span.stop upstream source items)
 
 -- an ending that comes from upstream
@@ -66,9 +66,9 @@ upstream-end words start upstream level source ending last running read sound on
     ∙ ap (λ items. level_gives words start level items) (only items)
     ∙ level_gives-final words start level (final_of ending) last read running (sound.running running) (gives words)
 
--- a level that has a piece from upstream as its present chunk
+-- a filled level is sound
 pub filled-sound : (start : ℕ) (level : Level) (piece : Slice) → IsSound start level → start ≤ piece.span.stop → piece.span.stop ≤ 2 ^ 40
-    → IsSound start (record { op = level.op; state = level.state; stop = piece.span.stop; instant = piece.instant; ending = level.ending })
+    → IsSound start (filled level piece)
 filled-sound start level piece sound below few = record {
   within = below;
   few = few;
@@ -96,7 +96,7 @@ knows-none level upstream known knows is running words start source nested read 
 
 -- what a level that has nothing left gives for the piece that comes from upstream
 pub passed-piece : (words : List ℕ) (start : ℕ) (old new : List Level) (level later : Level) (source piece : Slice) (given : Pulled) → level.ending ≡ None → level.stop ≡ start → is_mute level.op ≡ false
-    → IsNext words start old new source piece → MatchGiven words start (record { op = level.op; state = level.state; stop = piece.span.stop; instant = piece.instant; ending = level.ending }) later given → MatchPulled words start (level ∷ old) (later ∷ new) source given
+    → IsNext words start old new source piece → MatchGiven words start (filled level piece) later given → MatchPulled words start (level ∷ old) (later ∷ new) source given
 passed-piece words start old new level later source piece (Piece found) running read heard next given = filled-piece words start old new level source piece running read next later found heard given
 passed-piece words start old new level later source piece (End ending) running read heard next given = record {
   only = filled-end words start old new level source piece running read next later ending given;
@@ -111,13 +111,3 @@ pulled-from words start old new source (Piece piece) few next =
     (next.begins, omega (arith, next.begins, next.some), omega (arith, below, few))
 pulled-from words start old new source (End ending) few end = tt
 pulled-from words start old new source Nothing few nothing = tt
-
--- the operations of levels behind others
-pub ops_of-append : (xs ys : List Level) → ops_of (xs ++ ys) ≡ ops_of ys ++ ops_of xs
-ops_of-append [] ys = sym (append-nil (ops_of ys))
-ops_of-append (x ∷ xs) ys = ap (λ ops. ops ++ x.op ∷ []) (ops_of-append xs ys) ∙ append_assoc (ops_of ys) (ops_of xs) (x.op ∷ [])
-
--- an ending that is kept behind other levels
-pub ended-behind : (xs ys : List Level) → HaveEnded ys → HaveEnded (xs ++ ys)
-ended-behind [] ys ended = ended
-ended-behind (x ∷ xs) ys ended = inr (ended-behind xs ys ended)

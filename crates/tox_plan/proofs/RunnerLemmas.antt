@@ -1,5 +1,5 @@
 -- A runner before and after each of its calls.
-use Rattle.std.proofs.Common.{◌≡◌, ℕ, ◌<◌, ◌≤◌, ◌+◌, ◌*◌, ◌^◌, Bool, true, false, not, List, [], ◌∷◌, ◌++◌, map, length, length-append, append_assoc, Option, Some, None, refl, ap, ◌∙◌, sym, subst, arith, ◌⊎◌, inl, inr}
+use Rattle.std.proofs.Common.{◌≡◌, ℕ, ◌<◌, ◌≤◌, ◌+◌, ◌*◌, ◌^◌, Bool, true, false, List, [], ◌∷◌, ◌++◌, map, length, length-append, append_assoc, Option, Some, None, refl, ap, ◌∙◌, sym, subst, arith, ◌⊎◌, inl, inr}
 use Rattle.std.proofs.Math.Nat.{mul-le-mul_right}
 use Rattle.std.proofs.Math.Seq.{take-append_seam}
 use Rattle.std.specs.List.{refill}
@@ -126,10 +126,6 @@ round_due-most read (Some cut) round = omega arith
 -- a slice that was lent and kept its length is what was written through it
 pub refill-whole : (n : ℕ) (old new : List Level) → length new ≡ n → refill n old new ≡ new
 refill-whole n old new same_length = rw (← same_length) (take-append_seam new _)
-
-pub not-true : (b : Bool) → not b ≡ true → b ≡ false
-not-true false is = refl
-not-true true is = absurd (cc)
 
 -- nothing is left behind a cut that stops where the piece does, where no level keeps an ending
 pub drained-behind : (start : ℕ) (levels : List Level) (source : Slice) → AreNested start levels source → (HaveEnded levels → ⊥) → start ≡ source.span.stop → AreDrained start levels source

@@ -16,6 +16,7 @@ use Rattle.tox_defs.proofs.OpStreams.{IsStream-op_flow}
 use Rattle.tox_compile.specs.Meaning.{op_reactions}
 use Rattle.tox_plan.specs.Levels.{ops_of, ending_at_start, level_at_start, levels_at_start, to_come_from, IsLevel, AreNested, AreRead}
 use Rattle.tox_plan.specs.Running.{no_piece}
+use Rattle.tox_plan.proofs.LevelLemmas.{ops_of-append}
 
 -- a level at its start gives its operation's flow of a stream
 level_gives-at_start : (op : Op) (words : List ℕ) (items : List Item) → IsStream items → level_gives words 0 (level_at_start op) items ≡ flow (op_reaction op words) items
@@ -72,13 +73,9 @@ length-levels_at_start [] = refl
 length-levels_at_start (op ∷ ops) = length-append (levels_at_start ops) (level_at_start op ∷ []) ∙ omega (arith, length-levels_at_start ops)
 
 -- and the plan's operations
-ops_of-snoc : (op : Op) (levels : List Level) → ops_of (levels ++ level_at_start op ∷ []) ≡ op ∷ ops_of levels
-ops_of-snoc op [] = refl
-ops_of-snoc op (level ∷ levels) = ap (λ ops. ops ++ level.op ∷ []) (ops_of-snoc op levels)
-
 pub ops_of-at_start : (ops : List Op) → ops_of (levels_at_start ops) ≡ ops
 ops_of-at_start [] = refl
-ops_of-at_start (op ∷ ops) = ops_of-snoc op (levels_at_start ops) ∙ ap (λ ops. op ∷ ops) (ops_of-at_start ops)
+ops_of-at_start (op ∷ ops) = ops_of-append (levels_at_start ops) (level_at_start op ∷ []) ∙ ap (λ ops. op ∷ ops) (ops_of-at_start ops)
 
 -- for every stream
 pub means-at_start : (ops : List Op) (words : List ℕ) (items : List Item) → All IsOp ops → IsStream items → to_come_from words 0 (levels_at_start ops) no_piece items ≡ flow_through (op_reactions ops words) items

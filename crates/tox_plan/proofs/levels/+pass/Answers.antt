@@ -1,7 +1,7 @@
 -- The last level passes on first, and the others what it gave.
 use Rattle.std.proofs.Common.{rules, ◌≡◌, [], ◌∷◌, ◌++◌, append_assoc, ap, sym, subst, ◌∙◌}
 use Rattle.tox_plan.specs.Levels.{MatchPulled, ops_of}
-use Rattle.tox_plan.proofs.Pulls.{ops_of-append}
+use Rattle.tox_plan.proofs.LevelLemmas.{ops_of-append}
 use Rattle.tox_plan.proofs.levels.+pass.Goals as goal
 
 pub returns-in-Some-clause-pulled : goal.returns-in-Some-clause-pulled

@@ -1,7 +1,7 @@
 -- The nearest level that has something gives it, and the levels in front of it pass it on.
 use Rattle.std.proofs.Common.{rules, ◌≡◌, ◌++◌, ap, sym, subst, ◌∙◌}
 use Rattle.tox_plan.specs.Levels.{MatchPulled, HaveEnded, ops_of}
-use Rattle.tox_plan.proofs.Pulls.{ops_of-append, ended-behind}
+use Rattle.tox_plan.proofs.LevelLemmas.{ops_of-append, ended-behind}
 use Rattle.tox_plan.proofs.levels.pull.Goals as goal
 
 parts : (c : goal.After-levels-2-1) → c.split_at_mut-read.result.0.now ++ c.split_at_mut-read.result.1.now ≡ c.args.levels.now
