@@ -1,5 +1,5 @@
 -- What a pull brings is what comes next from all the levels.
-use Rattle.std.proofs.Common.{◌≡◌, ℕ, ◌^◌, ◌≤◌, false, List, [], ◌∷◌, Option, None, Some, refl, ap, sym, subst, ◌∙◌, arith, inl}
+use Rattle.std.proofs.Common.{◌≡◌, ℕ, ◌^◌, ◌≤◌, false, List, [], ◌∷◌, Option, None, Some, ap, sym, subst, ◌∙◌, arith, inl}
 use Rattle.std.specs.Prelude.{MatchOption, is_some}
 use Rattle.tox_time.specs.declared.slice.Slice.{Slice}
 use Rattle.tox_time.specs.declared.item.Item.{Item}
@@ -9,7 +9,6 @@ use Rattle.tox_defs.specs.declared.level.Level.{Level}
 use Rattle.tox_defs.specs.Op.{op_giving, is_mute}
 use Rattle.tox_defs.specs.Look.{as_chunk}
 use Rattle.tox_defs.specs.Level.{level_gives, IsSound, IsNextPiece, IsAtEnd}
-use Rattle.tox_defs.proofs.Levels.{level_gives-ended}
 use Rattle.tox_plan.specs.declared.levels.Pulled.{Pulled}
 use Rattle.tox_plan.specs.declared.levels.Pulled.TheVariants.{Piece, End, Nothing}
 use Rattle.tox_plan.specs.Levels.{to_come_from, AreNested, AreDrained, AreRead, IsNext, IsFrom, MatchGiven, MatchPulled, OnlyEnds}
@@ -26,19 +25,6 @@ advanced-piece words start levels upstream level new source piece same nested he
   gives = λ items. same items ∙ next.gives (to_come_from words level.stop upstream source items)
       ∙ ap (λ stop. as_chunk piece ∷ level_gives words piece.span.stop new (to_come_from words stop upstream source items)) (sym next.stop);
 }
-
--- a pull that finds a rest at the first level: a piece, or its ending
-pub here-piece : (words : List ℕ) (start : ℕ) (upstream : List Level) (level new : Level) (source piece : Slice) → level.ending ≡ None → AreNested start (level ∷ upstream) source
-    → IsNextPiece words start level new piece → IsNext words start (level ∷ upstream) (new ∷ upstream) source piece
-here-piece words start upstream level new source piece running nested next =
-    advanced-piece words start (level ∷ upstream) upstream level new source piece (λ items. refl) nested.1 (nested.0.heard running) next
-
-pub here-end : (words : List ℕ) (start : ℕ) (upstream : List Level) (level new : Level) (source : Slice) (ending : Ending) → IsAtEnd words start level new ending → OnlyEnds words start (level ∷ upstream) source ending
-here-end words start upstream level new source ending at_end items = at_end.gives (to_come_from words level.stop upstream source items)
-
--- a pull at a level whose ending is known
-pub known-end : (words : List ℕ) (start : ℕ) (upstream : List Level) (level : Level) (source : Slice) (ending : Ending) → level.ending ≡ Some ending → OnlyEnds words start (level ∷ upstream) source ending
-known-end words start upstream level source ending known items = level_gives-ended words start level ending (to_come_from words level.stop upstream source items) known
 
 -- a level that has a piece from upstream as its present chunk
 abbrev pub filled : Level → Slice → Level
@@ -65,19 +51,6 @@ upstream-end words start upstream level source ending last running read sound on
     ap (λ stop. level_gives words start level (to_come_from words stop upstream source items)) read
     ∙ ap (λ items. level_gives words start level items) (only items)
     ∙ level_gives-final words start level (final_of ending) last read running (sound.running running) (gives words)
-
--- a filled level is sound
-pub filled-sound : (start : ℕ) (level : Level) (piece : Slice) → IsSound start level → start ≤ piece.span.stop → piece.span.stop ≤ 2 ^ 40
-    → IsSound start (filled level piece)
-filled-sound start level piece sound below few = record {
-  within = below;
-  few = few;
-  chunks = sound.chunks;
-  pieces = sound.pieces;
-  passed = sound.passed;
-  running = sound.running;
-  operation = sound.operation;
-}
 
 -- the ending that upstream levels know, and what a level makes of it
 abbrev pub Knows : List Level → Option Ending → Type 0

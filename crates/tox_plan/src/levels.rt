@@ -163,7 +163,7 @@ fn pass_one(level: &mut Level, start: u64, pulled: &mut Pulled, words: &Words, l
     }
 }
 
-/// The next piece of a level's rest, or its ending.
+/// The next piece of a level's rest, or its ending. It is inlined as [`Level::advance`] is, which is all the work of a look.
 #[inline(always)]
 fn advance(level: &mut Level, start: u64, words: &Words, looks: &mut Looks) -> Pulled
     requires some { start < level.old.stop }
