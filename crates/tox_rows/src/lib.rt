@@ -1,39 +1,27 @@
-//! Tests from outside that cross crates: worked cases, and the compiled runner beside the stages one after another.
+//! What the tests that cross crates share.
 #![tactic(auto)]
 
-#[cfg(test)]
-mod arrivals;
-#[cfg(test)]
-mod chains;
-#[cfg(test)]
-mod dry;
-#[cfg(test)]
-mod ends;
-#[cfg(test)]
-mod fault_names;
-#[cfg(test)]
-mod network;
-#[cfg(test)]
-mod orders;
-#[cfg(test)]
-mod picks;
-#[cfg(test)]
-mod plan_texts;
-#[cfg(test)]
-mod plans;
-#[cfg(test)]
-mod random;
-#[cfg(test)]
-mod runners;
-#[cfg(test)]
-mod short_forms;
-#[cfg(test)]
-mod slices;
-#[cfg(test)]
-mod staged;
-#[cfg(test)]
-mod stages;
-#[cfg(test)]
-mod threads;
-#[cfg(test)]
-mod worked;
+use std::alloc::{AllocError, Global};
+use tox_defs::{Chain, read_short};
+use tox_time::Outcome;
+
+/// The chain of short forms parted by spaces. None if one of them is refused.
+pub fn chain_of(toxics: &str) -> Option<Chain> {
+    let mut chain = Chain::new();
+    for text in toxics.split_whitespace() {
+        let (toxic, toxicity) = read_short(text).ok()?;
+        chain.push(toxic, toxicity).ok()?;
+    }
+    Some(chain)
+}
+
+/// The instant of each delivered byte, in microseconds.
+pub fn table_of(alloc: Global, outcome: &Outcome) -> Result<Vec<u64>, AllocError> {
+    let mut table = Vec::new(alloc);
+    for slice in outcome.slices.as_slice() {
+        for _ in slice.span.start..slice.span.stop {
+            table.push(slice.instant.get())?;
+        }
+    }
+    Ok(table)
+}

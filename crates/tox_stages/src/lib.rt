@@ -11,5 +11,3 @@ mod worker;
 pub use fault::StageFault;
 pub use levels::run_stages;
 
-#[cfg(test)]
-mod tests;

@@ -11,6 +11,9 @@ use tox_proxy::PickRequest;
 /// The most connections of a proxy, which are numbered from 1.
 const MOST_CONNECTIONS: u64 = 1_000_000;
 
+/// The version, and the kit that proves and builds it.
+const VERSION: &str = "0.1.0 (rattle-kit-13b logic dac8208d650f15bf)";
+
 /// What the command line asks for.
 #[derive(Debug, Drop)]
 pub enum Task<'a> {
@@ -97,6 +100,7 @@ fn toxics_of<'a>(alloc: Global, given: &ArgMatches<'a>) -> Result<Vec<&'a str>, 
 fn toxi<'a>(alloc: Global) -> Result<Command<'a>, AllocError> {
     Command::new(alloc, "toxi")
         .bin_name("toxi")?
+        .version(VERSION)
         .about("A TCP proxy that adds scripted faults")
         .after_help(help::PROGRAM)
         .subcommand_required(true)

@@ -8,29 +8,30 @@ mod pick;
 mod plan;
 mod stages;
 
+use clap::Error;
+use clap::error::ErrorKind;
 use command_line::Task;
+use std::env;
 use std::fmt::Display;
 use std::process::ExitCode;
 use std::rt::Files;
 use std::sync::Wait;
 use std::thread::Threads;
-use std::{env, io};
 
 /// The status of a command line that is refused.
 const WRONG_ARGUMENTS: u8 = 2;
 
-fn main(rt: HostRuntime) -> io::Result<ExitCode> {
+fn main(rt: HostRuntime) -> ExitCode {
     let Ok(arguments) = env::args(&rt) else {
-        eprintln!(rt; "error: an argument isn't UTF-8")?;
-        return Ok(ExitCode::from(WRONG_ARGUMENTS));
+        let _ = eprintln!(rt; "error: an argument isn't UTF-8");
+        return ExitCode::from(WRONG_ARGUMENTS);
     };
-    let words: Vec<String> = arguments.collect(rt.alloc())?;
-    match command_line::read(rt.alloc(), words.as_slice()) {
+    let Ok(arguments) = arguments.collect::<Vec<String>>(rt.alloc()) else {
+        return fail(&rt, &"L0 OutOfMemory");
+    };
+    match command_line::read(rt.alloc(), arguments.as_slice()) {
         Ok(task) => perform(&rt, &task),
-        Err(refusal) => {
-            refusal.print(&rt)?;
-            Ok(ExitCode::from(refusal.exit_code() as u8))
-        }
+        Err(refusal) => refuse(&rt, &refusal),
     }
 }
 
@@ -38,7 +39,7 @@ fn main(rt: HostRuntime) -> io::Result<ExitCode> {
 fn perform<R: Input + Print + Eprint + Files + AllocGlobal + Threads + Wait + Sync>(
     rt: &R,
     task: &Task<'_>,
-) -> io::Result<ExitCode> {
+) -> ExitCode {
     match task {
         Task::Dry { words, toxics } => tell(rt, dry::dry(rt, *words, toxics.as_slice())),
         Task::Plan { words, toxics } => tell(rt, plan::plan(rt, *words, toxics.as_slice())),
@@ -49,13 +50,27 @@ fn perform<R: Input + Print + Eprint + Files + AllocGlobal + Threads + Wait + Sy
     }
 }
 
-/// The status of what was done. A fault is one line on standard error.
-fn tell<F: Display + Drop>(rt: &impl Eprint, done: Result<(), F>) -> io::Result<ExitCode> {
+/// The status of a command.
+fn tell<F: Display + Drop>(rt: &impl Eprint, done: Result<(), F>) -> ExitCode {
     match done {
-        Ok(()) => Ok(ExitCode::SUCCESS),
-        Err(fault) => {
-            eprintln!(rt; "toxi: {fault}")?;
-            Ok(ExitCode::FAILURE)
-        }
+        Ok(()) => ExitCode::SUCCESS,
+        Err(fault) => fail(rt, &fault),
+    }
+}
+
+/// Prints a fault as one line on standard error. If that fails too, the status alone tells of it.
+fn fail<F: Display>(rt: &impl Eprint, fault: &F) -> ExitCode {
+    let _ = eprintln!(rt; "toxi: {fault}");
+    ExitCode::FAILURE
+}
+
+/// Prints what `clap` answers in place of a task: help, the version, or what is wrong with the command line.
+fn refuse<R: Print + Eprint>(rt: &R, refusal: &Error) -> ExitCode {
+    if refusal.kind() == ErrorKind::OutOfMemory {
+        return fail(rt, &"L0 OutOfMemory");
+    }
+    match refusal.print(rt) {
+        Ok(()) => ExitCode::from(refusal.exit_code() as u8),
+        Err(_) => fail(rt, &"L4 WriteFault"),
     }
 }

@@ -2,8 +2,7 @@
 ghost use Rattle.std.specs.Prelude.{◌≤◌};
 
 use crate::random::below;
-use crate::staged::table_of;
-use crate::worked::{arrivals, chain};
+use crate::worked::arrivals;
 use rand_pcg::Lcg64Xsh32;
 use std::alloc::{AllocError, Global};
 use std::process::Abort;
@@ -11,6 +10,7 @@ use std::test::Fail;
 use tox_defs::Chain;
 use tox_network::{Move, Network};
 use tox_plan::deliver;
+use tox_rows::{chain_of, table_of};
 use tox_time::{Arrivals, Outcome};
 use tox_words::Words;
 
@@ -104,7 +104,7 @@ fn drawn_orders_and_the_plan_agree(rt: HostRuntime) -> Result<(), Fail> {
     ];
     for (words, toxics, arrived) in cases {
         let words = Words::from_text(rt.alloc(), words)?;
-        let chain = chain(&rt, toxics);
+        let chain = chain_of(toxics).expect(&rt, "short forms");
         let arrivals = arrivals(&rt, rt.alloc(), arrived)?;
         compare(&rt, rt.alloc(), &chain, &words, &arrivals, 1)?;
         compare(&rt, rt.alloc(), &chain, &words, &arrivals, 2)?;

@@ -55,6 +55,15 @@ fn print_to(alloc: Global, writer: &mut MemorySink) -> Result<Result<(), PrintPi
 }
 
 #[test]
+fn a_toxicity_with_a_point_is_refused(rt: HostRuntime) -> Result<(), Fail> {
+    let script = SCRIPT.replace(rt.alloc(), "toxicity = 0", "toxicity = 0.5")?;
+    let fault = read_script(rt.alloc(), script.as_bytes()).err().ok_or("no fault")?;
+    let line = format!(in rt.alloc(); "{fault}")?;
+    assert_eq!(rt; line.as_str(), "S7 ToxicityNotThousandths 1 2");
+    Ok(())
+}
+
+#[test]
 fn each_write_of_a_pick_may_fail(rt: HostRuntime) -> Result<(), Fail> {
     for call in 1..=19 {
         let mut writer = MemorySink::new(rt.alloc(), ROOM, 10, Some(call))?;

@@ -1,30 +1,27 @@
 //! Running stages beside the compiled plan.
-use crate::chains::chain_of;
-use crate::staged::table_of;
+use crate::gates::{Log, Meeting, Open};
+use std::process::Abort;
+use std::sync::Wait;
+use std::sync::atomic::Ordering;
 use std::test::Fail;
+use std::thread::Threads;
 use tox_plan::deliver;
 use tox_proxy::{DryFault, StagesFault, stages_run};
+use tox_rows::{chain_of, table_of};
 use tox_stages::{StageFault, run_stages};
 use tox_time::{Arrivals, Gate, MemorySink, MemorySource, Micros};
 use tox_words::Words;
 
-/// A gate at which nobody stops.
-struct Open;
-
-impl Gate for Open {
-    fn pass(&self, _stage: usize, _nth: u64) {}
-}
-
 /// Each toxic alone, and two in a row.
-const CHAINS: [&[&str]; 8] = [
-    &["latency:latency=1,jitter=1"],
-    &["bandwidth:rate=1"],
-    &["slow_close:delay=1"],
-    &["timeout:timeout=50"],
-    &["reset_peer:timeout=20"],
-    &["slicer:average_size=2,size_variation=1,delay=10"],
-    &["limit_data:bytes=4"],
-    &["limit_data:bytes=4", "latency:latency=1"],
+const CHAINS: [&str; 8] = [
+    "latency:latency=1,jitter=1",
+    "bandwidth:rate=1",
+    "slow_close:delay=1",
+    "timeout:timeout=50",
+    "reset_peer:timeout=20",
+    "slicer:average_size=2,size_variation=1,delay=10",
+    "limit_data:bytes=4",
+    "limit_data:bytes=4 latency:latency=1",
 ];
 
 #[test]
@@ -36,18 +33,14 @@ fn threads_deliver_what_the_plan_does(rt: HostRuntime) -> Result<(), Fail> {
     }
     arrivals.eof(Micros::ZERO.after(20005))?;
     for toxics in CHAINS {
-        let chain = chain_of(&rt, toxics);
+        let chain = chain_of(toxics).expect(&rt, "short forms");
         let planned = deliver(rt.alloc(), &chain, &words, &arrivals)?;
         let expected = table_of(rt.alloc(), &planned)?;
         for cap in [1, 2, 1024] {
             let running = run_stages(&rt, rt.alloc(), &chain, &words, &arrivals, cap, &Open)?;
             let table = table_of(rt.alloc(), &running)?;
-            assert_eq!(rt;
-                table.as_slice(),
-                expected.as_slice(),
-                "{toxics:?} at {cap}"
-            );
-            assert_eq!(rt; running.ending, planned.ending, "{toxics:?} at {cap}");
+            assert_eq!(rt; table.as_slice(), expected.as_slice(), "{toxics} at {cap}");
+            assert_eq!(rt; running.ending, planned.ending, "{toxics} at {cap}");
         }
     }
     Ok(())
@@ -56,7 +49,8 @@ fn threads_deliver_what_the_plan_does(rt: HostRuntime) -> Result<(), Fail> {
 #[test]
 fn a_text_runs_in_threads(rt: HostRuntime) -> Result<(), Fail> {
     let words = Words::from_list(rt.alloc(), &[0])?;
-    let chain = chain_of(&rt, &["limit_data:bytes=4", "latency:latency=1"]);
+    let toxics = "limit_data:bytes=4 latency:latency=1";
+    let chain = chain_of(toxics).expect(&rt, "short forms");
     let cases = [
         (
             "0 data 616263\n10 data 646566\n",
@@ -85,6 +79,48 @@ fn a_text_runs_in_threads(rt: HostRuntime) -> Result<(), Fail> {
         assert_eq!(rt; ran, answer, "{text}");
         assert_eq!(rt; writer.bytes(), written.as_bytes(), "{text}");
     }
+    Ok(())
+}
+
+/// What `stages_run` writes for two latencies over rings of one item.
+fn run_at<R: Threads + Wait + Sync + AllocGlobal + Abort>(
+    rt: &R,
+    read: &str,
+    gate: &impl Gate,
+) -> Result<String, Fail> {
+    let words = Words::from_list(rt.alloc(), &[0])?;
+    let chain = chain_of("latency:latency=1 latency:latency=2").expect(rt, "short forms");
+    let mut reader = MemorySource::new(read.as_bytes().to_vec(rt.alloc())?, 64, None);
+    let mut writer = MemorySink::new(rt.alloc(), 100, 64, None)?;
+    stages_run(
+        rt,
+        rt.alloc(),
+        &mut reader,
+        &mut writer,
+        &chain,
+        &words,
+        1,
+        gate,
+    )?;
+    Ok(String::from_utf8_lossy(rt.alloc(), writer.bytes())?)
+}
+
+#[test]
+fn workers_of_a_text_meet(rt: HostRuntime) -> Result<(), Fail> {
+    let gate = Meeting::new(1);
+    let written = run_at(&rt, "0 data 61\n0 data 62\n", &gate)?;
+    assert!(rt; !gate.missed.load(Ordering::SeqCst));
+    assert_eq!(rt; written.as_str(), "3000 0..1 61\n3000 1..2 62\nopen\n");
+    Ok(())
+}
+
+#[test]
+fn workers_of_a_text_have_rings_of_their_own(rt: HostRuntime) -> Result<(), Fail> {
+    let gate = Log::new();
+    let written = run_at(&rt, "0 data 61\n0 data 62\n0 data 63\n0 data 64\n", &gate)?;
+    gate.check(&rt);
+    let want = "3000 0..1 61\n3000 1..2 62\n3000 2..3 63\n3000 3..4 64\nopen\n";
+    assert_eq!(rt; written.as_str(), want);
     Ok(())
 }
 

@@ -1,8 +1,7 @@
 //! The compiled runner beside the stages one after another, on chains, words and arrivals drawn at random.
 ghost use Rattle.std.specs.Prelude.{◌<◌};
 
-use crate::chains::push;
-use crate::staged::{outcome_of, staged_items, table_of};
+use crate::staged::{outcome_of, staged_items};
 use rand_pcg::Lcg64Xsh32;
 use rand_pcg::rand_core::utils::NextWord;
 use std::alloc::{AllocError, Global};
@@ -10,6 +9,7 @@ use std::process::Abort;
 use std::test::Fail;
 use tox_defs::{Chain, Toxic};
 use tox_plan::deliver;
+use tox_rows::table_of;
 use tox_time::{Arrivals, Micros};
 use tox_words::Words;
 
@@ -62,7 +62,8 @@ fn chain(rt: &impl Abort, generator: &mut Lcg64Xsh32) -> Chain {
         let toxic = toxic(generator);
         if !matches!(toxic, Toxic::Timeout { .. }) || below(generator, 6) == 0 {
             let toxicity = if below(generator, 4) == 0 { 500 } else { 1000 };
-            push(rt, &mut chain, toxic, toxicity);
+            assert!(rt; toxic.check().is_ok());
+            assert!(rt; chain.push(toxic, toxicity).is_ok());
         }
     }
     chain

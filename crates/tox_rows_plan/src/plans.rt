@@ -1,7 +1,7 @@
 //! What chains are compiled into.
-use crate::chains::chain_of;
 use std::test::Fail;
 use tox_compile::{Op, compile};
+use tox_rows::chain_of;
 use tox_time::{Ending, Micros};
 use tox_words::Words;
 
@@ -9,17 +9,15 @@ use tox_words::Words;
 fn each_toxic_has_its_operation(rt: HostRuntime) -> Result<(), Fail> {
     let words = Words::from_list(rt.alloc(), &[0])?;
     let chain = chain_of(
-        &rt,
-        &[
-            "latency:latency=3",
-            "bandwidth:rate=7",
-            "latency:latency=5,jitter=2",
-            "slow_close:delay=2",
-            "limit_data:bytes=9",
-            "slicer:average_size=4,size_variation=1,delay=6",
-            "reset_peer:timeout=8",
-        ],
-    );
+        "latency:latency=3 \
+         bandwidth:rate=7 \
+         latency:latency=5,jitter=2 \
+         slow_close:delay=2 \
+         limit_data:bytes=9 \
+         slicer:average_size=4,size_variation=1,delay=6 \
+         reset_peer:timeout=8",
+    )
+    .expect(&rt, "short forms");
     let plan = compile(&chain, &words);
     let ops = [
         Op::Delay {
@@ -69,7 +67,9 @@ fn a_timeout_stands_alone(rt: HostRuntime) -> Result<(), Fail> {
         ),
     ];
     for (first, second, ending) in cases {
-        let plan = compile(&chain_of(&rt, &[first, second]), &words);
+        let toxics = format!(in rt.alloc(); "{first} {second}")?;
+        let chain = chain_of(toxics.as_str()).expect(&rt, "short forms");
+        let plan = compile(&chain, &words);
         assert_eq!(rt;
             plan.ops(),
             [Op::Mute { ending }].as_slice(),
@@ -92,14 +92,16 @@ fn toxicities_choose_by_their_lane(rt: HostRuntime) -> Result<(), Fail> {
     for (word, toxicity, count) in cases {
         let words = Words::from_list(rt.alloc(), &[word])?;
         let text = format!(in rt.alloc(); "reset_peer:timeout=1,toxicity={toxicity}")?;
-        let plan = compile(&chain_of(&rt, &[text.as_str()]), &words);
+        let chain = chain_of(text.as_str()).expect(&rt, "a short form");
+        let plan = compile(&chain, &words);
         assert_eq!(rt; plan.ops().len(), count, "word {word}, toxicity {toxicity}");
     }
     let words = Words::from_list(rt.alloc(), &[2, 0])?;
     let chain = chain_of(
-        &rt,
-        &["latency:latency=5,toxicity=0", "latency:latency=1,jitter=1"],
-    );
+        "latency:latency=5,toxicity=0 \
+         latency:latency=1,jitter=1",
+    )
+    .expect(&rt, "short forms");
     let delay = Op::Delay {
         fixed: 0,
         latency: 1,

@@ -1,23 +1,12 @@
 //! Worked cases: words, toxics and arrivals, and what they come to, by the compiled plan and by the stages.
-use crate::chains::push;
-use crate::staged::{outcome_of, staged_items, table_of};
+use crate::staged::{outcome_of, staged_items};
 use std::alloc::{AllocError, Global};
 use std::process::Abort;
 use std::test::Fail;
-use tox_defs::{Chain, read_short};
 use tox_plan::deliver;
+use tox_rows::{chain_of, table_of};
 use tox_time::{Arrivals, Ending, Micros, Outcome};
 use tox_words::Words;
-
-/// The toxics of short forms parted by spaces.
-pub fn chain(rt: &impl Abort, toxics: &str) -> Chain {
-    let mut chain = Chain::new();
-    for text in toxics.split_whitespace() {
-        let (toxic, toxicity) = read_short(text).expect(rt, "a short form");
-        push(rt, &mut chain, toxic, toxicity);
-    }
-    chain
-}
 
 /// Arrivals written as `<bytes>@<micros>`, and the source's end as `eof@<micros>`.
 pub fn arrivals(rt: &impl Abort, alloc: Global, text: &str) -> Result<Arrivals, Fail> {
@@ -168,7 +157,7 @@ fn plan_and_stages_give_the_worked_cases(rt: HostRuntime) -> Result<(), Fail> {
     ];
     for (words, toxics, arrived, expected) in cases {
         let words = Words::from_text(rt.alloc(), words)?;
-        let chain = chain(&rt, toxics);
+        let chain = chain_of(toxics).expect(&rt, "short forms");
         let arrivals = arrivals(&rt, rt.alloc(), arrived)?;
         let delivered = deliver(rt.alloc(), &chain, &words, &arrivals)?;
         assert_eq!(rt;

@@ -63,14 +63,3 @@ pub fn outcome_of(alloc: Global, items: &[Item]) -> Result<Outcome, AllocError> 
     }
     Ok(Outcome { slices, ending })
 }
-
-/// The instant of each byte, in microseconds.
-pub fn table_of(alloc: Global, outcome: &Outcome) -> Result<Vec<u64>, AllocError> {
-    let mut table = Vec::new(alloc);
-    for slice in outcome.slices.as_slice() {
-        for _ in slice.span.start..slice.span.stop {
-            table.push(slice.instant.get())?;
-        }
-    }
-    Ok(table)
-}
