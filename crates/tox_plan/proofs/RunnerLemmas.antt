@@ -20,7 +20,7 @@ use Rattle.tox_defs.specs.Level.{ending_or}
 use Rattle.tox_compile.specs.Meaning.{op_reactions}
 use Rattle.tox_plan.specs.Levels.{levels_at_start, to_come_from, AreNested, AreDrained, IsNext, OnlyEnds, HaveEnded, AreOpenUnless}
 use Rattle.tox_plan.specs.Running.{Running, IsRunning, IsFound, to_come, found_chunk, reader_at, round_due, HasNoChunk, next_piece, no_piece}
-use Rattle.tox_plan.specs.Cuts.{IsCut, IsOneCut, KeepsOffers, BeginsApart, Reach}
+use Rattle.tox_plan.specs.Cuts.{IsCut, IsOneCut, KeepsOffers, BeginsApart, EndsHere, Reach}
 use Rattle.tox_plan.proofs.LevelLemmas.{nested-below, nested-longer, drained-at, drained-silent, drained-offered}
 use Rattle.tox_plan.proofs.Endings.{drained-final}
 use Rattle.tox_plan.proofs.Starts.{nested-at_start, means-at_start, length-levels_at_start}
@@ -458,12 +458,13 @@ ended_exactly runner invariant idle = (λ some. (idle, inr (ends runner.ending r
     ends : (ending : Option Ending) → runner.ending ≡ ending → IsSome ending → to_come runner [] ≢ []
     ends (Some ending) is some silent = let both : final_of ending ∷ [] ≡ [] = sym (to_come-ended runner ending [] is) ∙ silent in absurd (cc)
     ends None is some silent = absurd (cc)
+
     from : (ending : Option Ending) → runner.ending ≡ ending → (runner.finished ≡ true) ⊎ (to_come runner [] ≢ []) → IsSome runner.ending
     from (Some ending) is cause = rw is refl
     from None is (inl told) = invariant.told told
     from None is (inr comes) =
         absurd (comes (to_come-unfound runner [] is (idle-unfound runner invariant idle)
-            ∙ drained-silent runner.words runner.position runner.levels runner.piece (idle-drained runner invariant idle is)))
+        ∙ drained-silent runner.words runner.position runner.levels runner.piece (idle-drained runner invariant idle is)))
 
 -- a slice stays what it is where nothing more is given
 pub IsCut-same : (old middle new : Running) (slice : Slice) → IsCut old middle slice → ((items : List Item) → to_come new items ≡ to_come middle items) → new.cuts ≡ middle.cuts → IsCut old new slice
@@ -508,3 +509,17 @@ no_chunk-apart instant (Chunk span t ∷ items) none = absurd none
 no_chunk-apart instant (Closed t ∷ items) none = none
 no_chunk-apart instant (Reset t ∷ items) none = none
 no_chunk-apart instant (Quiet ∷ items) none = none
+
+-- a slice ends where a look finds no cut
+pub look-ends : (runner : Running) (instant : ℕ) → IsRunning runner → (IsNone runner.found → runner.read ≡ true) → runner.found ≡ None → EndsHere instant runner
+look-ends runner instant invariant read none = from runner.ending refl
+  where
+    is_read : runner.read ≡ true
+    is_read = read (subst IsNone (sym none) refl)
+
+    from : (ending : Option Ending) → runner.ending ≡ ending → EndsHere instant runner
+    from None is =
+        let drained : AreDrained runner.position runner.levels runner.piece = subst (λ found. AreDrained (reader_at runner.position found) runner.levels runner.piece) none (invariant.drained is_read is) in
+        inl (sym (drained-at runner.position runner.levels runner.piece drained))
+    from (Some ending) is =
+        inr (λ items. subst (BeginsApart instant) (sym (to_come-ended runner ending items is)) (no_chunk-apart instant (final_of ending ∷ []) (final-no_chunk ending)))

@@ -1,5 +1,5 @@
 -- The cuts that a slice is made of.
-use Rattle.std.specs.Prelude.{◌≡◌, ◌≢◌, ℕ, ◌+◌, ◌<◌, ◌≤◌, List, [], ◌∷◌, ◌++◌, map, length}
+use Rattle.std.specs.Prelude.{◌≡◌, ◌≢◌, ◌⊎◌, ℕ, ◌+◌, ◌<◌, ◌≤◌, List, [], ◌∷◌, ◌++◌, map, length}
 use Rattle.tox_time.specs.declared.slice.Slice.{Slice}
 use Rattle.tox_time.specs.declared.item.Item.{Item}
 use Rattle.tox_time.specs.declared.item.Item.TheVariants.{Chunk, Closed, Reset, Quiet}
@@ -53,3 +53,8 @@ BeginsApart instant (Chunk span t ∷ items) = (span.start < span.stop) × (t �
 BeginsApart instant (Closed t ∷ items) = HasNoChunk items
 BeginsApart instant (Reset t ∷ items) = HasNoChunk items
 BeginsApart instant (Quiet ∷ items) = HasNoChunk items
+
+-- a slice of this instant can't be longer: the piece is over, or the next chunk leaves at another instant, whatever arrives later
+abbrev pub EndsHere : ℕ → Running → Type 0
+EndsHere instant runner =
+    (runner.position ≡ runner.piece.span.stop) ⊎ ((items : List Item) → BeginsApart instant (to_come runner items))

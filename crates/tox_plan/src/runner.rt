@@ -8,7 +8,7 @@ ghost use Rattle.tox_defs.specs.Look.{as_chunk};
 ghost use Rattle.tox_compile.specs.Meaning.{Ops, IsPlan, means, deadline_of};
 ghost use Rattle.tox_plan.specs.Levels.{levels_at_start, ops_of};
 ghost use Rattle.tox_plan.specs.Running.{to_come, HasNoChunk, known_ending, next_piece, no_piece, offer_answer};
-ghost use Rattle.tox_plan.specs.Cuts.{IsCut, IsOneCut, KeepsOffers, BeginsApart};
+ghost use Rattle.tox_plan.specs.Cuts.{IsCut, IsOneCut, KeepsOffers, BeginsApart, EndsHere};
 ghost use Rattle.tox_plan.specs.Given.{HasGiven, GoesOn, IsLasting, IsWhole, AreAfter};
 
 use crate::levels::{self, Looks, Pulled, last_of, pull, push_levels};
@@ -142,6 +142,7 @@ impl<'w> Runner<'w> {
         ensures some { IfSome result (IsCut self.old self.new) }
         ensures place { IfSome result (λ slice. (slice.span.start ≡ self.old.position) × (self.new.position ≡ slice.span.stop) × (self.new.idle ≡ false)) }
         ensures apart { IfSome result (λ slice. BeginsApart slice.instant (to_come self.new (Quiet ∷ []))) }
+        ensures ends { IfSome result (λ slice. EndsHere slice.instant self.new) }
         ensures none { IsNone result ↔ HasNoChunk (to_come self.old (Quiet ∷ [])) }
         ensures idle { IfNone result ((self.new.idle ≡ true) × (self.new.position ≡ self.old.position) × (self.new.cuts ≡ self.old.cuts) × ((items : List OneItem) → to_come self.new items ≡ to_come self.old items)) }
         ensures kept { (self.new.words ≡ self.old.words) × (self.new.finished ≡ self.old.finished) × (self.new.piece ≡ self.old.piece) × (self.new.latest ≡ self.old.latest) × (self.new.pieces ≡ self.old.pieces) × (length self.new.levels ≡ length self.old.levels) }
@@ -181,6 +182,7 @@ impl<'w> Runner<'w> {
     fn cut_at(&mut self, instant: &Micros) -> Option<u64>
         ensures some { IfSome result (λ stop. IsOneCut self.old self.new (record { span = record { start = self.old.position; stop = stop }; instant = instant.now })) }
         ensures none { IfNone result (((items : List OneItem) → to_come self.new items ≡ to_come self.old items) × (self.new.position ≡ self.old.position) × (self.new.cuts ≡ self.old.cuts) × BeginsApart instant.now (to_come self.new (Quiet ∷ []))) }
+        ensures ends { IfNone result (EndsHere instant.now self.new) }
         ensures idle { self.new.idle ≡ self.old.idle }
         ensures turns { self.new.turns ≤ self.old.turns + length self.old.levels }
         ensures kept { KeepsOffers self.old self.new }

@@ -3,10 +3,10 @@ use Rattle.std.proofs.Common.{◌≡◌, ◌≢◌, ℕ, ◌+◌, Bool, true, fa
 use Rattle.tox_time.specs.Steps.{◌>>=◌}
 use Rattle.tox_time.specs.declared.arrivals.ArrivalFault.{ArrivalFault}
 use Rattle.tox_time.specs.Arrivals.{push_fault, eof_fault}
-use Rattle.tox_proxy.specs.declared.fault.DryFault.{DryFault}
-use Rattle.tox_proxy.specs.declared.fault.DryFault.TheVariants.{OutOfMemory, BadLine, TooLong, ReadFault, WriteFault, Arrival}
-use Rattle.tox_proxy.specs.ArrivalsText.{Arrived, arrivals_of, lines_of, nothing, unless_refused, with_end, with_line, with_lines, with_piece, with_read}
-use Rattle.tox_proxy.specs.Line.{Line, arrival, end, line_of}
+use Rattle.tox_text.specs.declared.fault.DryFault.{DryFault}
+use Rattle.tox_text.specs.declared.fault.DryFault.TheVariants.{OutOfMemory, BadLine, TooLong, ReadFault, WriteFault, Arrival}
+use Rattle.tox_text.specs.ArrivalsText.{Arrived, arrivals_of, lines_of, nothing, unless_refused, with_end, with_line, with_lines, with_piece, with_read}
+use Rattle.tox_text.specs.Line.{Line, arrival, end, line_of}
 use Rattle.tox_proxy.specs.Reading.{HasCause, IsRead}
 
 -- a fault, where there is one, is of a line

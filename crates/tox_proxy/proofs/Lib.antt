@@ -1,17 +1,2 @@
-mod Digits
-mod LineTurns
-mod ArrivedLemmas
-mod Writes
-mod HexParts
 mod ReadLemmas
-mod LineParts
-mod Runs
-mod PieceLemmas
-mod OpenRuns
-mod PrintTurns
-mod PiecesOf
 mod Causes
-mod PlanLines
-mod Listed
-mod ShortParts
-mod PickParts

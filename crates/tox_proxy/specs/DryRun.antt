@@ -6,12 +6,12 @@ use Rattle.tox_time.specs.Table.{table, ending}
 use Rattle.tox_defs.specs.Chain.{Toxics}
 use Rattle.tox_defs.specs.Flow.{chain_flow}
 use Rattle.tox_network.specs.Runs.{OfEveryRest}
-use Rattle.tox_proxy.specs.declared.fault.DryFault.{DryFault}
-use Rattle.tox_proxy.specs.declared.fault.DryFault.TheVariants.{OutOfMemory, BadLine, TooLong, ReadFault, WriteFault, Arrival}
-use Rattle.tox_proxy.specs.ArrivalsText.{Arrived, arrivals_of}
+use Rattle.tox_text.specs.declared.fault.DryFault.{DryFault}
+use Rattle.tox_text.specs.declared.fault.DryFault.TheVariants.{OutOfMemory, BadLine, TooLong, ReadFault, WriteFault, Arrival}
+use Rattle.tox_text.specs.ArrivalsText.{Arrived, arrivals_of}
 use Rattle.tox_proxy.specs.Reading.{IsRead}
-use Rattle.tox_proxy.specs.ResultText.{result_text}
-use Rattle.tox_proxy.specs.Writing.{AppendsFront}
+use Rattle.tox_text.specs.ResultText.{result_text}
+use Rattle.tox_text.specs.Writing.{AppendsFront}
 
 -- the result of what arrived, by the flow of a chain
 abbrev pub flow_text : Toxics → List ℕ → Arrived → List ℕ

@@ -7,10 +7,10 @@ use Rattle.tox_time.specs.StreamName.{stream_named}
 use Rattle.tox_config.specs.Populate.{is_named}
 use Rattle.tox_config.specs.Proxy.{Proxy}
 use Rattle.tox_script.specs.Rule.{Rules}
-use Rattle.tox_proxy.specs.PickText.{pick_text}
-use Rattle.tox_proxy.specs.PrintingPick.{Leaves}
+use Rattle.tox_text.specs.PickText.{pick_text}
+use Rattle.tox_text.specs.PrintingPick.{Leaves}
 use Rattle.tox_proxy.specs.Setup.{HasSetupCause, IsSetUp}
-use Rattle.tox_proxy.specs.declared.pick.PrintPickFault.{PrintPickFault}
+use Rattle.tox_text.specs.declared.pick_text.PrintPickFault.{PrintPickFault}
 use Rattle.tox_proxy.specs.declared.pick_request.PickRequest.{PickRequest}
 use Rattle.tox_proxy.specs.declared.pick_request.PickFault.{PickFault}
 use Rattle.tox_proxy.specs.declared.pick_request.PickFault.TheVariants.{BadStream, Setup, UnknownProxy, Print}

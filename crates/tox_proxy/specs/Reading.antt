@@ -1,18 +1,17 @@
 -- What is read of an input, and what a fault says of it.
 use Rattle.std.specs.Prelude.{◌≡◌, ℕ, ◌<◌, ◌≤◌, Bool, true, List, length, Option, Err}
 use Rattle.std.specs.Io.KnownBytes.{prepend_known, IsAtEnd}
-use Rattle.tox_proxy.specs.declared.fault.DryFault.{DryFault}
-use Rattle.tox_proxy.specs.declared.fault.DryFault.TheVariants.{OutOfMemory, BadLine, TooLong, ReadFault, WriteFault, Arrival}
+use Rattle.tox_text.specs.declared.fault.DryFault.{DryFault}
+use Rattle.tox_text.specs.declared.fault.DryFault.TheVariants.{OutOfMemory, BadLine, TooLong, ReadFault, WriteFault, Arrival}
 use Rattle.tox_proxy.specs.declared.reading.InputFault.{InputFault}
 use Rattle.tox_proxy.specs.declared.reading.InputFault.TheVariants as input
-use Rattle.tox_proxy.specs.declared.reading.TheConstants.{MOST_INPUT}
-use Rattle.tox_proxy.specs.ArrivalsText.{arrivals_of}
+use Rattle.tox_text.specs.ArrivalsText.{arrivals_of}
 
 -- a text was read: the reader gave it, and is at its end
 pub record IsRead (before after : Option (List ℕ)) (text : List ℕ) : Type 0 where
   pub given : before ≡ prepend_known text after
   pub ended : IsAtEnd after
-  pub short : length text ≤ MOST_INPUT
+  pub short : length text ≤ 16777216
 
 -- the reader gave at most so many bytes
 pub record TakesAtMost (most : ℕ) (before after : Option (List ℕ)) : Type 0 where
@@ -24,7 +23,7 @@ pub record TakesAtMost (most : ℕ) (before after : Option (List ℕ)) : Type 0 
 pub record IsTooLong (before after : Option (List ℕ)) : Type 0 where
   pub taken : List ℕ
   pub given : before ≡ prepend_known taken after
-  pub long : MOST_INPUT < length taken
+  pub long : 16777216 < length taken
 
 -- why an input was not read whole
 abbrev pub HasInputCause : Option (List ℕ) → Option (List ℕ) → Bool → InputFault → Type 0

@@ -9,20 +9,19 @@ use Rattle.tox_script.specs.Script.{script_of}
 use Rattle.tox_script.specs.declared.fault.ScriptFault.{ScriptFault}
 use Rattle.tox_script.specs.declared.fault.ScriptFault.TheVariants as script
 use Rattle.tox_proxy.specs.Files.{Names}
-use Rattle.tox_proxy.specs.declared.reading.TheConstants.{MOST_INPUT}
 use Rattle.tox_proxy.specs.declared.setup.SetupFault.{SetupFault}
 use Rattle.tox_proxy.specs.declared.setup.SetupFault.TheVariants.{ConfigFile, Config, ScriptFile, Script}
 
 -- a file was read that defines these proxies
 pub record Populates (proxies : List Proxy) : Type 0 where
   pub bytes : List ℕ
-  pub short : length bytes ≤ MOST_INPUT
+  pub short : length bytes ≤ 16777216
   pub populated : populate bytes ≡ Ok proxies
 
 -- a file was read that is this script
 pub record Scripts (rules : Rules) : Type 0 where
   pub bytes : List ℕ
-  pub short : length bytes ≤ MOST_INPUT
+  pub short : length bytes ≤ 16777216
   pub scripted : script_of bytes ≡ Ok rules
 
 -- both were read
@@ -38,13 +37,13 @@ pub record HasPopulated : Type 0 where
 -- a file was read whose first fault as a populate file is this one
 pub record RefusesConfig (fault : ConfigFault) : Type 0 where
   pub bytes : List ℕ
-  pub short : length bytes ≤ MOST_INPUT
+  pub short : length bytes ≤ 16777216
   pub refused : populate bytes ≡ Err fault
 
 -- a file was read whose first fault as a script is this one
 pub record RefusesScript (fault : ScriptFault) : Type 0 where
   pub bytes : List ℕ
-  pub short : length bytes ≤ MOST_INPUT
+  pub short : length bytes ≤ 16777216
   pub refused : script_of bytes ≡ Err fault
 
 -- why the file of a name defines no proxies

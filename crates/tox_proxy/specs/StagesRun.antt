@@ -3,7 +3,7 @@ use Rattle.std.specs.Prelude.{◌≡◌, ℕ, Bool, List, Option}
 use Rattle.tox_defs.specs.Chain.{Toxics}
 use Rattle.tox_proxy.specs.declared.fault.StagesFault.{StagesFault}
 use Rattle.tox_proxy.specs.declared.fault.StagesFault.TheVariants.{Dry, Stages}
-use Rattle.tox_proxy.specs.ArrivalsText.{Arrived}
+use Rattle.tox_text.specs.ArrivalsText.{Arrived}
 use Rattle.tox_proxy.specs.Reading.{HasCause}
 use Rattle.tox_proxy.specs.DryRun.{Spells, Leaves}
 

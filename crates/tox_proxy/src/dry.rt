@@ -6,27 +6,22 @@ ghost use Rattle.tox_time.specs.Neighbours.{AreNeighbours};
 ghost use Rattle.tox_time.specs.Table.{slices_table};
 ghost use Rattle.tox_proxy.specs.DryRun.{Leaves, Spells, WritesEveryRest, WritesResult};
 ghost use Rattle.tox_proxy.specs.Reading.{HasCause, TakesAtMost};
-ghost use Rattle.tox_proxy.specs.ResultText.{result_text};
-ghost use Rattle.tox_proxy.specs.Writing.{AppendsFront, Prints};
-ghost use Rattle.tox_proxy.specs.declared.fault.DryFault.TheVariants.{WriteFault};
-ghost use Rattle.tox_proxy.specs.declared.reading.TheConstants.{MOST_INPUT};
+ghost use Rattle.tox_text.specs.ResultText.{result_text};
+ghost use Rattle.tox_text.specs.Writing.{Prints, Writes};
+ghost use Rattle.tox_text.specs.declared.fault.DryFault.TheVariants.{WriteFault};
 
-use crate::arrived::ArrivedText;
-use crate::buffer::Buffer;
-use crate::fault::DryFault;
-use crate::lines::print_ending;
-use crate::printing::print_slices;
 use crate::reading::read_input;
 use std::alloc::Global;
 use tox_defs::Chain;
 use tox_plan::deliver;
+use tox_text::{ArrivedText, Buffer, DryFault, print_ending, print_slices};
 use tox_time::{EndFault, Outcome, Sink, Source};
 use tox_words::Words;
 
 /// Reads an arrivals text to its end, and writes what a chain makes of it as a result text: what every run of the
 /// chain's stage network that has come to rest delivered, in whatever order its stages stepped.
 ///
-/// At most one byte more than [`MOST_INPUT`](crate::MOST_INPUT) is read. The first fault of the text is
+/// At most one byte more than [`MAX_INPUT`](crate::MAX_INPUT) is read. The first fault of the text is
 /// answered with its line, from 1; nothing is written after a fault, but for
 /// [`WriteFault`](DryFault::WriteFault): then a front of the result is.
 pub fn dry_run<R: Source, W: Sink>(
@@ -43,16 +38,13 @@ pub fn dry_run<R: Source, W: Sink>(
     ensures cause { IfErr result (HasCause (R.remaining reader.old) (R.remaining reader.new) (R.failed reader.new) (W.failed writer.new)) }
     ensures working { result ≢ Err WriteFault → W.failed writer.new ≡ false }
     ensures left { IfErr result (Leaves chain.now words.now (R.remaining reader.old) (R.remaining reader.new) (W.written writer.old) (W.written writer.new)) }
-    ensures most { TakesAtMost (MOST_INPUT + 1) (R.remaining reader.old) (R.remaining reader.new) }
+    ensures most { TakesAtMost (16_777_216 + 1) (R.remaining reader.old) (R.remaining reader.new) }
 {
     let arrived = read_arrivals(alloc, reader)?;
     let Ok(outcome) = deliver(alloc, chain, words, arrived.arrivals()) else {
         return Err(DryFault::OutOfMemory);
     };
-    let Ok(mut buffer) = Buffer::new(alloc) else {
-        return Err(DryFault::OutOfMemory);
-    };
-    if write_result(&mut buffer, writer, &arrived, &outcome).is_err() {
+    if write_result(&mut Buffer::new(), writer, &arrived, &outcome).is_err() {
         return Err(DryFault::WriteFault);
     }
     Ok(())
@@ -66,7 +58,7 @@ pub(crate) fn read_arrivals<R: Source>(
     requires { R.failed reader.old ≡ false }
     ensures ok { IfOk result (Spells (R.remaining reader.old) (R.remaining reader.new)) }
     ensures cause { IfErr result (HasCause (R.remaining reader.old) (R.remaining reader.new) (R.failed reader.new) false) }
-    ensures most { TakesAtMost (MOST_INPUT + 1) (R.remaining reader.old) (R.remaining reader.new) }
+    ensures most { TakesAtMost (16_777_216 + 1) (R.remaining reader.old) (R.remaining reader.new) }
 {
     let text = read_input(alloc, reader)?;
     ArrivedText::read(alloc, &text)
@@ -82,10 +74,8 @@ pub(crate) fn write_result<W: Sink>(
     requires working { W.failed writer.old ≡ false }
     requires empty { buffer.old ≡ [] }
     requires neighbours { AreNeighbours (arrival_list arrived.now.items) 0 outcome.now.slices }
-    ensures ok { OnOk result (W.written writer.new ≡ append_known (W.written writer.old) (result_text arrived.now (slices_table outcome.now.slices) outcome.now.ending)) }
-    ensures working { OnOk result (W.failed writer.new ≡ false) }
-    ensures front { OnErr result (AppendsFront (W.written writer.old) (W.written writer.new) (result_text arrived.now (slices_table outcome.now.slices) outcome.now.ending)) }
-    ensures fault { OnErr result (W.failed writer.new ≡ true) }
+    ensures { Writes result (W.written writer.old) (W.written writer.new) (W.failed writer.new)
+        (result_text arrived.now (slices_table outcome.now.slices) outcome.now.ending) }
 {
     print_result(buffer, writer, arrived, outcome)?;
     buffer.flush(writer)

@@ -3,7 +3,7 @@ ghost use Rattle.std.specs.Prelude.{◌≡◌, ◌≤◌, false, vec_len, IfOk, 
 ghost use Rattle.tox_proxy.specs.Files.{HasFileCause, Names};
 ghost use Rattle.tox_proxy.specs.Reading.{IsRead};
 
-use crate::reading::{InputFault, MOST_INPUT, read_input};
+use crate::reading::{InputFault, MAX_INPUT, read_input};
 use std::alloc::Global;
 use std::fs;
 use std::rt::Files;
@@ -18,18 +18,18 @@ pub enum FileFault<'a> {
     /// The file of this name couldn't be opened, or a read of it failed.
     #[error("P1 FileFault {0}")]
     Unreadable(&'a str),
-    /// The file of this name has more than [`MOST_INPUT`] bytes.
+    /// The file of this name has more than [`MAX_INPUT`] bytes.
     #[error("P2 FileTooLong {0}")]
     TooLong(&'a str),
 }
 
-/// The bytes of a file, of which at most one more than [`MOST_INPUT`] are read.
+/// The bytes of a file, of which at most one more than [`MAX_INPUT`] are read.
 pub fn read_file<'a, F: Files>(
     rt: &F,
     alloc: Global,
     name: &'a str,
 ) -> Result<Vec<u8>, FileFault<'a>>
-    ensures short { IfOk result (λ bytes. vec_len bytes ≤ MOST_INPUT) }
+    ensures short { IfOk result (λ bytes. vec_len bytes ≤ 16_777_216) }
     ensures named { IfErr result (Names name.now) }
 {
     let Ok(file) = fs::open(rt, name) else {

@@ -2,11 +2,11 @@
 ghost use Rattle.std.specs.Prelude.{◌≡◌, ◌≢◌, ◌≤◌, false, None, Err, OnOk, IfErr};
 ghost use Rattle.tox_time.specs.StreamName.{stream_named};
 
-use crate::pick::{PrintPickFault, print_pick};
 use crate::setup::{SetupFault, find_proxy, read_setup};
 use std::alloc::Global;
 use std::rt::Files;
 use thiserror::Error;
+use tox_text::{PrintPickFault, print_pick};
 use tox_time::{Sink, Stream};
 
 /// A question: what does this connection of a proxy meet on a stream, by these files and this seed?

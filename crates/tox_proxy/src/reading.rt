@@ -6,7 +6,7 @@ use std::alloc::{AllocError, Global};
 use tox_time::Source;
 
 /// The most bytes of an input.
-pub const MOST_INPUT: usize = 16_777_216;
+pub const MAX_INPUT: usize = 16_777_216;
 
 /// How many bytes are asked for at once.
 const BLOCK: usize = 65_536;
@@ -15,18 +15,18 @@ const BLOCK: usize = 65_536;
 #[derive(Clone, Copy, Debug, PartialEq, Eq)]
 pub(crate) enum InputFault {
     OutOfMemory,
-    /// It has more than [`MOST_INPUT`] bytes.
+    /// It has more than [`MAX_INPUT`] bytes.
     TooLong,
     /// A read failed.
     ReadFault,
 }
 
-/// All the bytes that a reader has still to give. At most one more than [`MOST_INPUT`] are taken.
+/// All the bytes that a reader has still to give. At most one more than [`MAX_INPUT`] are taken.
 pub(crate) fn read_input<R: Source>(alloc: Global, reader: &mut R) -> Result<Vec<u8>, InputFault>
     requires { R.failed reader.old ≡ false }
     ensures ok { IfOk result (λ text. IsRead (R.remaining reader.old) (R.remaining reader.new) text.items) }
     ensures fault { IfErr result (HasInputCause (R.remaining reader.old) (R.remaining reader.new) (R.failed reader.new)) }
-    ensures most { TakesAtMost (MOST_INPUT + 1) (R.remaining reader.old) (R.remaining reader.new) }
+    ensures most { TakesAtMost (16_777_216 + 1) (R.remaining reader.old) (R.remaining reader.new) }
 {
     let Ok(mut block) = zeros(alloc, BLOCK) else {
         return Err(InputFault::OutOfMemory);
@@ -50,11 +50,11 @@ fn read_by_blocks<R: Source>(
     requires room { 0 < length block.old }
     ensures ok { IfOk result (λ text. IsRead (R.remaining reader.old) (R.remaining reader.new) text.items) }
     ensures fault { IfErr result (HasInputCause (R.remaining reader.old) (R.remaining reader.new) (R.failed reader.new)) }
-    ensures most { TakesAtMost (MOST_INPUT + 1) (R.remaining reader.old) (R.remaining reader.new) }
+    ensures most { TakesAtMost (16_777_216 + 1) (R.remaining reader.old) (R.remaining reader.new) }
 {
     let mut text = Vec::new(alloc);
-    while text.len() <= MOST_INPUT {
-        let wanted = block.len().min(MOST_INPUT + 1 - text.len());
+    while text.len() <= MAX_INPUT {
+        let wanted = block.len().min(MAX_INPUT + 1 - text.len());
         let part = &mut block[..wanted];
         let Ok(count) = reader.read(part) else {
             return Err(InputFault::ReadFault);

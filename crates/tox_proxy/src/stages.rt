@@ -3,18 +3,17 @@ ghost use Rattle.std.specs.Prelude.{◌≡◌, ◌≢◌, ◌+◌, ◌≤◌, fa
 ghost use Rattle.tox_proxy.specs.DryRun.{WritesEveryRest, WritesResult};
 ghost use Rattle.tox_proxy.specs.Reading.{TakesAtMost};
 ghost use Rattle.tox_proxy.specs.StagesRun.{HasStagesCause, StagesLeave};
-ghost use Rattle.tox_proxy.specs.declared.fault.DryFault.TheVariants.{WriteFault};
+ghost use Rattle.tox_text.specs.declared.fault.DryFault.TheVariants.{WriteFault};
 ghost use Rattle.tox_proxy.specs.declared.fault.StagesFault.TheVariants.{Dry};
-ghost use Rattle.tox_proxy.specs.declared.reading.TheConstants.{MOST_INPUT};
 
-use crate::buffer::Buffer;
 use crate::dry::{read_arrivals, write_result};
-use crate::fault::{DryFault, StagesFault};
+use crate::fault::StagesFault;
 use std::alloc::Global;
 use std::sync::Wait;
 use std::thread::Threads;
 use tox_defs::Chain;
 use tox_stages::run_stages;
+use tox_text::{Buffer, DryFault};
 use tox_time::{Gate, Sink, Source};
 use tox_words::Words;
 
@@ -41,7 +40,7 @@ pub fn stages_run<T: Threads + Wait + Sync, R: Source, W: Sink, G: Gate>(
     ensures cause { IfErr result (HasStagesCause (R.remaining reader.old) (R.remaining reader.new) (R.failed reader.new) (W.failed writer.new)) }
     ensures working { result ≢ Err (Dry WriteFault) → W.failed writer.new ≡ false }
     ensures left { IfErr result (StagesLeave chain.now words.now (R.remaining reader.old) (R.remaining reader.new) (W.written writer.old) (W.written writer.new)) }
-    ensures most { TakesAtMost (MOST_INPUT + 1) (R.remaining reader.old) (R.remaining reader.new) }
+    ensures most { TakesAtMost (16_777_216 + 1) (R.remaining reader.old) (R.remaining reader.new) }
 {
     let arrived = match read_arrivals(alloc, reader) {
         Ok(arrived) => arrived,
@@ -51,10 +50,7 @@ pub fn stages_run<T: Threads + Wait + Sync, R: Source, W: Sink, G: Gate>(
         Ok(outcome) => outcome,
         Err(fault) => return Err(StagesFault::Stages(fault)),
     };
-    let Ok(mut buffer) = Buffer::new(alloc) else {
-        return Err(StagesFault::Dry(DryFault::OutOfMemory));
-    };
-    if write_result(&mut buffer, writer, &arrived, &outcome).is_err() {
+    if write_result(&mut Buffer::new(), writer, &arrived, &outcome).is_err() {
         return Err(StagesFault::Dry(DryFault::WriteFault));
     }
     Ok(())

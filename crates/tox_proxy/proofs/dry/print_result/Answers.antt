@@ -2,9 +2,9 @@
 use Rattle.std.proofs.Common.{◌++◌, ap}
 use Rattle.std.proofs.lemmas.Result.{err_from_is_err_and}
 use Rattle.tox_time.specs.Table.{slices_table}
-use Rattle.tox_proxy.specs.ResultText.{ending_line, lines_text}
-use Rattle.tox_proxy.proofs.PiecesOf.{AreNeighbours-pieces, delivered-pieces}
-use Rattle.tox_proxy.proofs.Writes.{Prints-as, Prints-failed, Prints-then}
+use Rattle.tox_text.specs.ResultText.{ending_line, lines_text}
+use Rattle.tox_text.proofs.PiecesOf.{AreNeighbours-pieces, delivered-pieces}
+use Rattle.tox_text.proofs.Writes.{Prints-as, Prints-failed, Prints-then}
 use Rattle.tox_proxy.proofs.dry.print_result.Goals as goal
 
 pub print_slices-requires-clause-neighbours : goal.print_slices-requires-clause-neighbours

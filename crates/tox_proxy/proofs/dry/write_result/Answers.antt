@@ -1,7 +1,5 @@
-use Rattle.std.proofs.lemmas.Result.{on_err_weaker}
-use Rattle.tox_proxy.proofs.Writes.{AppendsFront-flushed}
+use Rattle.tox_text.proofs.Writes.{Writes-flushed}
 use Rattle.tox_proxy.proofs.dry.write_result.Goals as goal
 
-pub returns-clause-front : goal.returns-clause-front
-returns-clause-front g c =
-    on_err_weaker c.flush.result (λ front. AppendsFront-flushed _ _ _ _ _ (rw c.requires.empty at c.in_ok-print_result.ensures.0) front) c.flush.ensures.front
+pub returns : goal.returns
+returns g c = Writes-flushed c.flush.result _ _ _ _ _ _ (rw c.requires.empty at c.in_ok-print_result.ensures.0) c.flush.ensures.writes

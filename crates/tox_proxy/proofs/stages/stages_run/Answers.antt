@@ -4,7 +4,7 @@ use Rattle.std.specs.Io.KnownBytes.{append_known}
 use Rattle.tox_time.specs.Arrivals.{arrival_list}
 use Rattle.tox_time.specs.Table.{slices_table}
 use Rattle.tox_plan.proofs.EveryRun.{outcome_of_every_rest}
-use Rattle.tox_proxy.specs.ResultText.{result_text}
+use Rattle.tox_text.specs.ResultText.{result_text}
 use Rattle.tox_proxy.proofs.stages.stages_run.Goals as goal
 
 pub returns-clause-every_run : goal.returns-clause-every_run

@@ -5,7 +5,7 @@ use Rattle.std.proofs.lemmas.Result.{err_from_is_err_and}
 use Rattle.tox_time.specs.StreamName.{stream_named}
 use Rattle.tox_config.specs.Populate.{is_named}
 use Rattle.tox_config.specs.Proxy.{proxy_view}
-use Rattle.tox_proxy.specs.PickText.{pick_text}
+use Rattle.tox_text.specs.PickText.{pick_text}
 use Rattle.tox_proxy.specs.Picking.{Answers}
 use Rattle.tox_proxy.specs.Setup.{IsSetUp}
 use Rattle.tox_proxy.proofs.pick_request.PickRequest.answer.Goals as goal

@@ -1,0 +1,14 @@
+pub mod ArrivedLemmas
+pub mod Digits
+pub mod HexParts
+pub mod LineParts
+pub mod LineTurns
+pub mod Listed
+pub mod OpenRuns
+pub mod PickParts
+pub mod PieceLemmas
+pub mod PiecesOf
+pub mod PrintTurns
+pub mod Runs
+pub mod ShortParts
+pub mod Writes

@@ -1,0 +1,95 @@
+-- The elements of a list, printed one after the other.
+use Rattle.std.proofs.Common.{◌≡◌, ℕ, ◌+◌, ◌<◌, ◌≤◌, Bool, true, List, [], ◌∷◌, ◌++◌, length, take, drop, get_or, flat_map, map, Option, Result, Err, refl, ap, sym, ◌∙◌, append_assoc, append-nil, zero-add, subst, arith}
+use denote.Bor.{Bor}
+use Rattle.std.specs.List.{enumerate_from, zip}
+use Rattle.std.proofs.lemmas.Grind.{flat_map-append}
+use Rattle.std.proofs.lemmas.List.{get_or-map, length-map, take_all, take_more, take-append-drop, drop_more}
+use Rattle.std.proofs.lemmas.List.FromFn.{get_or-enumerate_from, length-enumerate_from}
+use Rattle.std.proofs.lemmas.Slice.Zip.{get_or-zip, length-zip}
+use Rattle.tox_time.specs.declared.ends.EndFault.{EndFault}
+use Rattle.tox_text.specs.Writing.{AppendsFront, Passes, Prints}
+use Rattle.tox_text.proofs.Writes.{AppendsFront-more, AppendsFront-then, Passes-then}
+
+-- an element stands at an index
+pub record IsAt {X : Type 0} (xs : List X) (i : ℕ) (x : X) : Type 0 where
+  pub below : i < length xs
+  pub default : X
+  pub is : x ≡ get_or xs i default
+
+-- an element that was read stands at its index
+pub IsAt-read : {X : Type 0} (xs : List X) (i : ℕ) (default : X) → i < length xs → IsAt xs i (get_or xs i default)
+IsAt-read xs i default below = record { below = below; default = default; is = refl }
+
+-- the first elements and one more
+flat_map-more : {X : Type 0} (f : X → List ℕ) (xs : List X) (i : ℕ) (x : X) → IsAt xs i x
+    → flat_map f (take i xs) ++ f x ≡ flat_map f (take (i + 1) xs)
+flat_map-more f xs i x here =
+    sym (
+    ap (flat_map f) (take_more xs i here.default here.below)
+    ∙ flat_map-append f (take i xs) (get_or xs i here.default ∷ [])
+    ∙ ap (λ ys. flat_map f (take i xs) ++ ys) (append-nil (f (get_or xs i here.default)))
+    ∙ ap (λ y. flat_map f (take i xs) ++ f y) (sym here.is))
+
+-- and the others
+flat_map-parts : {X : Type 0} (f : X → List ℕ) (xs : List X) (i : ℕ) (x : X) → IsAt xs i x
+    → flat_map f (take i xs) ++ (f x ++ flat_map f (drop (i + 1) xs)) ≡ flat_map f xs
+flat_map-parts f xs i x here =
+    ap (λ y. flat_map f (take i xs) ++ (f y ++ flat_map f (drop (i + 1) xs))) here.is
+    ∙ ap (λ ys. flat_map f (take i xs) ++ flat_map f ys) (sym (drop_more xs i here.default here.below))
+    ∙ sym (flat_map-append f (take i xs) (drop i xs))
+    ∙ ap (flat_map f) (take-append-drop i xs)
+
+-- the first elements passed, and one more
+pub Passes-more : {X : Type 0} (f : X → List ℕ) (xs : List X) (i : ℕ) (x : X) (first old new : Option (List ℕ)) (waited y z : List ℕ) → IsAt xs i x
+    → Passes first waited old y (flat_map f (take i xs)) → Passes old y new z (f x) → Passes first waited new z (flat_map f (take (i + 1) xs))
+Passes-more f xs i x first old new waited y z here before passed =
+    subst (Passes first waited new z) (flat_map-more f xs i x here) (Passes-then first old new waited y z (flat_map f (take i xs)) (f x) before passed)
+
+-- the first elements passed, and the next broke off
+pub Prints-stopped : {X : Type 0} (f : X → List ℕ) (xs : List X) (i : ℕ) (x : X) (first old new : Option (List ℕ)) (waited y z : List ℕ) (failed : Bool)
+    (result : Result (Unit {0}) EndFault) (fault : EndFault) → IsAt xs i x → result ≡ Err fault
+    → Passes first waited old y (flat_map f (take i xs)) → AppendsFront old new (y ++ f x) × (failed ≡ true) → Prints result first waited new z failed (flat_map f xs)
+Prints-stopped f xs i x first old new waited y z failed result fault here is before front =
+    let longer : AppendsFront old new (y ++ (f x ++ flat_map f (drop (i + 1) xs))) =
+    subst (AppendsFront old new) (append_assoc y (f x) (flat_map f (drop (i + 1) xs))) (AppendsFront-more old new (y ++ f x) (flat_map f (drop (i + 1) xs)) front.0) in
+    let whole : AppendsFront first new (waited ++ flat_map f xs) =
+    subst (λ text. AppendsFront first new (waited ++ text)) (flat_map-parts f xs i x here)
+    (AppendsFront-then first old new waited y (flat_map f (take i xs)) (f x ++ flat_map f (drop (i + 1) xs)) before longer) in
+    subst (λ r. Prints r first waited new z failed (flat_map f xs)) (sym is) (whole, front.1)
+
+-- all elements passed
+pub Passes-all : {X : Type 0} (f : X → List ℕ) (xs : List X) (i : ℕ) (first new : Option (List ℕ)) (waited z : List ℕ) → length xs ≤ i
+    → Passes first waited new z (flat_map f (take i xs)) → Passes first waited new z (flat_map f xs)
+Passes-all f xs i first new waited z past passed = subst (λ ys. Passes first waited new z (flat_map f ys)) (take_all i xs past) passed
+
+-- elements of two lists stand beside one another at their index
+IsAt-zip : {X Y : Type 0} (xs : List X) (ys : List Y) (i : ℕ) (x : X) (y : Y) → i < length xs → i < length ys → IsAt (zip xs ys) i (get_or xs i x, get_or ys i y)
+IsAt-zip xs ys i x y below_xs below_ys =
+    record { below = omega (arith, length-zip xs ys); default = (x, y); is = sym (get_or-zip xs ys i (x, y) below_xs below_ys) }
+
+-- a key and the value beside it
+pub IsAt-pair : (keys : List (Bor (List ℕ))) (values : List ℕ) (i : ℕ) (key : Bor (List ℕ)) (value : ℕ) → i < length keys → i < length values
+    → IsAt (zip (map (λ k. k.now) keys) values) i ((get_or keys i key).now, get_or values i value)
+IsAt-pair keys values i key value below_keys below_values =
+    let below : i < length (map (λ k. k.now) keys) = omega (arith, length-map keys (λ k. k.now), below_keys) in
+    let same = get_or-map (λ k. k.now) keys i key key.now below_keys in
+    subst (λ k. IsAt (zip (map (λ k. k.now) keys) values) i (k, get_or values i value)) same (IsAt-zip (map (λ k. k.now) keys) values i key.now value below below_values)
+
+-- an element stands beside its index
+IsAt-enumerate : {X : Type 0} (xs : List X) (i : ℕ) (x : X) → IsAt xs i x → IsAt (enumerate_from 0 xs) i (i, x)
+IsAt-enumerate {X} xs i x here = record {
+  below = omega (arith, length-enumerate_from 0 xs, here.below);
+  default = (0, here.default);
+  is =
+      ap (λ y. (i, y)) here.is
+      ∙ sym (get_or-enumerate_from 0 xs i (0, here.default) here.below ∙ ap (λ (n : ℕ). (n, get_or xs i here.default)) (zero-add i));
+}
+
+-- an element, and the text of the one beside it, stand at their index
+pub IsAt-placed : {X N : Type 0} (text : N → List ℕ) (xs : List X) (names : List N) (i : ℕ) (x : X) (name : N) → length names ≡ length xs → i < length xs → name ≡ get_or names i name
+    → IsAt (enumerate_from 0 (zip xs (map text names))) i (i, (get_or xs i x, text name))
+IsAt-placed text xs names i x name one_each below is =
+    let named : i < length (map text names) = omega (arith, length-map names text, one_each, below) in
+    let same = get_or-map text names i name (text name) (omega (arith, one_each, below)) ∙ ap text (sym is) in
+    let beside = subst (λ t. IsAt (zip xs (map text names)) i (get_or xs i x, t)) same (IsAt-zip xs (map text names) i x (text name) below named) in
+    IsAt-enumerate (zip xs (map text names)) i (get_or xs i x, text name) beside

@@ -1,0 +1,28 @@
+-- Lines of the pick text, in the parts in which they are printed.
+use Rattle.std.proofs.Common.{◌≡◌, ℕ, List, ◌++◌, codes, decimal, append_assoc}
+use Rattle.tox_config.specs.Proxy.{Proxy}
+use Rattle.tox_defs.specs.Applied.{is_applied}
+use Rattle.tox_defs.specs.Printed.{printed_short}
+use Rattle.tox_defs.specs.declared.chain.Entry.{Entry}
+use Rattle.tox_text.specs.PickText.{applied_word, enabled_word, proxy_line, toxic_line}
+
+line_of_proxy : (proxy : Proxy)
+    → (codes "proxy " ++ (proxy.name ++ codes " listen ")) ++ ((proxy.listen ++ codes " upstream ") ++ ((proxy.upstream ++ codes " ") ++ (enabled_word proxy.enabled ++ codes "\n")))
+    ≡ proxy_line proxy
+line_of_proxy proxy = simp append_assoc
+
+-- what the calls answered are these parts
+pub proxy_line-parts : (proxy : Proxy) (name listen upstream word : List ℕ) → name ≡ proxy.name → listen ≡ proxy.listen → upstream ≡ proxy.upstream → word ≡ enabled_word proxy.enabled
+    → (codes "proxy " ++ (name ++ codes " listen ")) ++ ((listen ++ codes " upstream ") ++ ((upstream ++ codes " ") ++ (word ++ codes "\n")))
+    ≡ proxy_line proxy
+proxy_line-parts proxy name listen upstream word named listening connecting enabled = rw (named, listening, connecting, enabled) (line_of_proxy proxy)
+
+line_of_toxic : (words : List ℕ) (place : ℕ) (entry : Entry) (name : List ℕ)
+    → (decimal place ++ codes " ") ++ ((applied_word (is_applied entry place words) ++ codes " ") ++ (printed_short entry.toxic entry.toxicity ++ (codes " " ++ (name ++ codes "\n"))))
+    ≡ toxic_line words place entry name
+line_of_toxic words place entry name = simp append_assoc
+
+pub toxic_line-parts : (words : List ℕ) (place : ℕ) (entry : Entry) (name word text : List ℕ) → word ≡ applied_word (is_applied entry place words) → text ≡ name
+    → (decimal place ++ codes " ") ++ ((word ++ codes " ") ++ (printed_short entry.toxic entry.toxicity ++ (codes " " ++ (text ++ codes "\n"))))
+    ≡ toxic_line words place entry name
+toxic_line-parts words place entry name word text applied named = rw (applied, named) (line_of_toxic words place entry name)

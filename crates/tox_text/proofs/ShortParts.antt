@@ -1,0 +1,64 @@
+-- Printed short forms, in the parts in which they are printed.
+use Rattle.std.proofs.Common.{◌≡◌, ℕ, List, [], ◌∷◌, ◌++◌, codes, decimal, flat_map, map, append_assoc, append-nil, refl, ap, ◌∙◌}
+use Rattle.std.specs.List.{join_with_byte, zip}
+use Rattle.tox_defs.specs.Kind.{attributes_of, name_of}
+use Rattle.tox_defs.specs.Printed.{printed_pair, printed_pairs, printed_short, three_of, type_of, values_of}
+use Rattle.tox_defs.specs.declared.toxic.Toxic.{Toxic}
+use Rattle.tox_defs.specs.declared.toxic.Toxic.TheVariants.{Latency, Bandwidth, SlowClose, Timeout, ResetPeer, Slicer, LimitData}
+use Rattle.tox_text.specs.ShortForm.{pair_before_comma}
+
+pub pair-parts : (key : List ℕ) (value : ℕ) → (key ++ codes "=") ++ (decimal value ++ codes ",") ≡ pair_before_comma (key, value)
+pair-parts key value = simp append_assoc
+
+-- the type, the pairs of the attributes, and that of the toxicity
+abbrev pub short_parts : List ℕ → List (List ℕ) → List ℕ → ℕ → List ℕ
+short_parts name keys values toxicity =
+    (name ++ codes ":") ++ (flat_map pair_before_comma (zip keys values) ++ (codes "toxicity=" ++ (decimal toxicity ++ [])))
+
+-- parts with a comma behind each, before a last one
+joined_last : (parts : List (List ℕ)) (last : List ℕ) → flat_map (λ part. part ++ codes ",") parts ++ last ≡ join_with_byte 44 (parts ++ last ∷ [])
+joined_last [] last = refl
+joined_last (part ∷ []) last = simp (append_assoc, append-nil)
+joined_last (part ∷ next ∷ parts) last =
+    append_assoc (part ++ codes ",") (flat_map (λ p. p ++ codes ",") (next ∷ parts)) last
+    ∙ append_assoc part (codes ",") (flat_map (λ p. p ++ codes ",") (next ∷ parts) ++ last)
+    ∙ ap (λ rest. part ++ 44 ∷ rest) (joined_last (next ∷ parts) last)
+
+-- the attributes' pairs of a toxic
+abbrev pairs_of : Toxic → List (List ℕ)
+pairs_of toxic = map printed_pair (zip (attributes_of (type_of toxic)) (values_of toxic))
+
+-- three values are enough
+spelled : (toxic : Toxic) → flat_map pair_before_comma (zip (attributes_of (type_of toxic)) (three_of (values_of toxic))) ≡ flat_map (λ part. part ++ codes ",") (pairs_of toxic)
+spelled (Latency latency jitter) = refl
+spelled (Bandwidth rate) = refl
+spelled (SlowClose delay) = refl
+spelled (Timeout timeout) = refl
+spelled (ResetPeer timeout) = refl
+spelled (Slicer average_size size_variation delay) = refl
+spelled (LimitData bytes) = refl
+
+-- the toxicity's pair comes last
+ended : (toxic : Toxic) (toxicity : ℕ) → pairs_of toxic ++ printed_pair (codes "toxicity", toxicity) ∷ [] ≡ printed_pairs toxic toxicity
+ended (Latency latency jitter) toxicity = refl
+ended (Bandwidth rate) toxicity = refl
+ended (SlowClose delay) toxicity = refl
+ended (Timeout timeout) toxicity = refl
+ended (ResetPeer timeout) toxicity = refl
+ended (Slicer average_size size_variation delay) toxicity = refl
+ended (LimitData bytes) toxicity = refl
+
+parts_of_toxic : (toxic : Toxic) (toxicity : ℕ)
+    → short_parts (name_of (type_of toxic)) (attributes_of (type_of toxic)) (three_of (values_of toxic)) toxicity ≡ printed_short toxic toxicity
+parts_of_toxic toxic toxicity =
+    ap (λ text. (name_of (type_of toxic) ++ codes ":") ++ text) (
+    ap (λ text. text ++ (codes "toxicity=" ++ (decimal toxicity ++ []))) (spelled toxic)
+    ∙ ap (λ digits. flat_map (λ part. part ++ codes ",") (pairs_of toxic) ++ (codes "toxicity=" ++ digits)) (append-nil (decimal toxicity))
+    ∙ joined_last (pairs_of toxic) (printed_pair (codes "toxicity", toxicity))
+    ∙ ap (join_with_byte 44) (ended toxic toxicity))
+
+-- what the calls answered are these parts
+pub printed_short-parts : (name : List ℕ) (keys : List (List ℕ)) (values : List ℕ) (number : ℕ) (toxic : Toxic) (toxicity : ℕ)
+    → name ≡ name_of (type_of toxic) → keys ≡ attributes_of (type_of toxic) → values ≡ three_of (values_of toxic) → number ≡ toxicity
+    → short_parts name keys values number ≡ printed_short toxic toxicity
+printed_short-parts name keys values number toxic toxicity named keyed valued numbered = rw (named, keyed, valued, numbered) (parts_of_toxic toxic toxicity)

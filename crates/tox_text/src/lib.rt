@@ -1,0 +1,20 @@
+//! Texts: what an arrivals text says, and result, plan and pick texts on their way to a writer.
+#![tactic(auto)]
+
+mod arrivals_line;
+mod arrivals_text;
+mod buffer;
+mod fault;
+mod pick_text;
+mod plan_text;
+mod result_line;
+mod result_text;
+mod short_form;
+
+pub use arrivals_text::ArrivedText;
+pub use buffer::Buffer;
+pub use fault::{DryFault, WriteFault};
+pub use pick_text::{PrintPickFault, print_pick};
+pub use plan_text::print_plan;
+pub use result_line::print_ending;
+pub use result_text::print_slices;

@@ -1,0 +1,161 @@
+//! What a numbered connection meets.
+ghost use Rattle.std.specs.Prelude.{◌≡◌, ◌≢◌, ◌≤◌, ◌++◌, [], false, true, length, map, string_bytes, OnOk, OnErr, IfErr, Err};
+ghost use Rattle.std.specs.Io.KnownBytes.{append_known};
+ghost use Rattle.tox_config.specs.Proxy.{proxy_view};
+ghost use Rattle.tox_text.specs.PickText.{applied_word, enabled_word, pick_text, proxy_line, toxic_line, toxics_text};
+ghost use Rattle.tox_text.specs.PrintingPick.{Leaves};
+ghost use Rattle.tox_text.specs.Writing.{Prints, Writes};
+
+use crate::buffer::Buffer;
+use crate::short_form::print_short;
+use std::alloc::Global;
+use thiserror::Error;
+use tox_config::ProxyDef;
+use tox_defs::Entry;
+use tox_script::Script;
+use tox_time::{EndFault, Sink, Stream};
+use tox_words::Words;
+
+/// Why what a connection meets was not printed.
+#[derive(Clone, Copy, Debug, PartialEq, Eq, Error)]
+pub enum PrintPickFault {
+    #[error("W0 OutOfMemory")]
+    OutOfMemory,
+    /// A write failed, or took nothing.
+    #[error("L4 WriteFault")]
+    WriteFault,
+}
+
+/// Writes what a connection of a proxy meets on a stream, as a pick text: a line for the proxy, and one for each toxic
+/// of the script's chain, which is applied or skipped under the words of the seed.
+///
+/// Connections count from 1 to 1,000,000. Nothing is written after [`PrintPickFault::OutOfMemory`], and a front of the text
+/// after [`PrintPickFault::WriteFault`].
+pub fn print_pick<W: Sink>(
+    alloc: Global,
+    writer: &mut W,
+    proxy: &ProxyDef,
+    script: &Script,
+    conn: u64,
+    stream: Stream,
+    seed: u64,
+) -> Result<(), PrintPickFault>
+    requires working { W.failed writer.old ≡ false }
+    requires first { 1 ≤ conn }
+    requires last { conn ≤ 1_000_000 }
+    ensures ok { OnOk result (W.written writer.new ≡ append_known (W.written writer.old) (pick_text (proxy_view proxy.now) script.now conn stream seed)) }
+    ensures working { result ≢ Err PrintPickFault.WriteFault → W.failed writer.new ≡ false }
+    ensures left { IfErr result (Leaves (W.written writer.old) (W.written writer.new) (W.failed writer.new) (pick_text (proxy_view proxy.now) script.now conn stream seed)) }
+{
+    let Ok(words) = Words::from_seed(alloc, seed, conn, stream) else {
+        return Err(PrintPickFault::OutOfMemory);
+    };
+    let name = proxy.name.as_str();
+    let entries = script.chain(name, conn, stream).entries();
+    let names = script.names(name, conn, stream);
+    if write_pick(&mut Buffer::new(), writer, proxy, &words, entries, names).is_err() {
+        return Err(PrintPickFault::WriteFault);
+    }
+    Ok(())
+}
+
+/// Writes the lines of a proxy and of named toxics. After an `Err` a front of them is written.
+fn write_pick<W: Sink>(
+    buffer: &mut Buffer,
+    writer: &mut W,
+    proxy: &ProxyDef,
+    words: &Words,
+    entries: &[Entry],
+    names: &[String],
+) -> Result<(), EndFault>
+    requires working { W.failed writer.old ≡ false }
+    requires empty { buffer.old ≡ [] }
+    requires one_each { length names.now ≡ length entries.now }
+    ensures { Writes result (W.written writer.old) (W.written writer.new) (W.failed writer.new)
+        (proxy_line (proxy_view proxy.now) ++ toxics_text words.now entries.now (map string_bytes names.now)) }
+{
+    print_lines(buffer, writer, proxy, words, entries, names)?;
+    buffer.flush(writer)
+}
+
+fn print_lines<W: Sink>(
+    buffer: &mut Buffer,
+    writer: &mut W,
+    proxy: &ProxyDef,
+    words: &Words,
+    entries: &[Entry],
+    names: &[String],
+) -> Result<(), EndFault>
+    requires working { W.failed writer.old ≡ false }
+    requires one_each { length names.now ≡ length entries.now }
+    ensures { Prints result (W.written writer.old) buffer.old (W.written writer.new) buffer.new (W.failed writer.new) (proxy_line (proxy_view proxy.now) ++ toxics_text words.now entries.now (map string_bytes names.now)) }
+{
+    print_proxy(buffer, writer, proxy)?;
+    print_toxics(buffer, writer, words, entries, names)
+}
+
+/// Prints the line of a proxy.
+fn print_proxy<W: Sink>(
+    buffer: &mut Buffer,
+    writer: &mut W,
+    proxy: &ProxyDef,
+) -> Result<(), EndFault>
+    requires { W.failed writer.old ≡ false }
+    ensures { Prints result (W.written writer.old) buffer.old (W.written writer.new) buffer.new (W.failed writer.new) (proxy_line (proxy_view proxy.now)) }
+{
+    buffer.put_all(writer, &[b"proxy ", proxy.name.as_bytes(), b" listen "])?;
+    buffer.put_all(writer, &[proxy.listen.as_bytes(), b" upstream "])?;
+    buffer.put_all(writer, &[proxy.upstream.as_bytes(), b" "])?;
+    buffer.put_all(writer, &[enabled_word(proxy.enabled), b"\n"])
+}
+
+fn enabled_word(enabled: bool) -> &'static [u8]
+    ensures { result.now ≡ enabled_word enabled }
+{
+    if enabled { b"enabled" } else { b"disabled" }
+}
+
+/// Prints the lines of named toxics.
+fn print_toxics<W: Sink>(
+    buffer: &mut Buffer,
+    writer: &mut W,
+    words: &Words,
+    entries: &[Entry],
+    names: &[String],
+) -> Result<(), EndFault>
+    requires working { W.failed writer.old ≡ false }
+    requires one_each { length names.now ≡ length entries.now }
+    ensures { Prints result (W.written writer.old) buffer.old (W.written writer.new) buffer.new (W.failed writer.new) (toxics_text words.now entries.now (map string_bytes names.now)) }
+{
+    for (place, entry) in entries.iter().enumerate() {
+        print_toxic(buffer, writer, words, place, entry, &names[place])?;
+    }
+    Ok(())
+}
+
+/// Prints the line of a named toxic at a place of its chain.
+fn print_toxic<W: Sink>(
+    buffer: &mut Buffer,
+    writer: &mut W,
+    words: &Words,
+    place: usize,
+    entry: &Entry,
+    name: &str,
+) -> Result<(), EndFault>
+    requires { W.failed writer.old ≡ false }
+    ensures { Prints result (W.written writer.old) buffer.old (W.written writer.new) buffer.new (W.failed writer.new) (toxic_line words.now place entry.now name.now) }
+{
+    buffer.put_number(writer, place as u64, b" ")?;
+    buffer.put_all(
+        writer,
+        &[applied_word(entry.is_applied(place, words)), b" "],
+    )?;
+    print_short(buffer, writer, entry)?;
+    buffer.put_all(writer, &[b" ", name.as_bytes(), b"\n"])
+}
+
+fn applied_word(applied: bool) -> &'static [u8]
+    ensures { result.now ≡ applied_word applied }
+{
+    if applied { b"applied" } else { b"skipped" }
+}

@@ -1,0 +1,56 @@
+//! Toxics as short forms.
+ghost use Rattle.std.specs.Prelude.{◌≡◌, ◌≤◌, false, flat_map, length, map};
+ghost use Rattle.std.specs.List.{zip};
+ghost use Rattle.tox_defs.specs.Printed.{printed_short};
+ghost use Rattle.tox_text.specs.ShortForm.{pair_before_comma};
+ghost use Rattle.tox_text.specs.Writing.{Prints};
+
+use crate::buffer::Buffer;
+use tox_defs::Entry;
+use tox_time::{EndFault, Sink};
+
+/// Prints the short form of a toxic with its toxicity.
+pub(crate) fn print_short<W: Sink>(
+    buffer: &mut Buffer,
+    writer: &mut W,
+    entry: &Entry,
+) -> Result<(), EndFault>
+    requires { W.failed writer.old ≡ false }
+    ensures { Prints result (W.written writer.old) buffer.old (W.written writer.new) buffer.new (W.failed writer.new) (printed_short entry.now.toxic entry.now.toxicity) }
+{
+    let kind = entry.toxic.kind();
+    buffer.put_all(writer, &[kind.name().as_bytes(), b":"])?;
+    print_attributes(buffer, writer, kind.attributes(), &entry.toxic.values())?;
+    buffer.put(writer, b"toxicity=")?;
+    buffer.put_number(writer, u64::from(entry.toxicity), b"")
+}
+
+/// Prints each key with its value and a comma.
+fn print_attributes<W: Sink>(
+    buffer: &mut Buffer,
+    writer: &mut W,
+    keys: &[&str],
+    values: &[u64],
+) -> Result<(), EndFault>
+    requires working { W.failed writer.old ≡ false }
+    requires enough { length keys.now ≤ length values.now }
+    ensures { Prints result (W.written writer.old) buffer.old (W.written writer.new) buffer.new (W.failed writer.new) (flat_map pair_before_comma (zip (map (λ key. key.now) keys.now) values.now)) }
+{
+    for (place, key) in keys.iter().enumerate() {
+        print_pair(buffer, writer, key, values[place])?;
+    }
+    Ok(())
+}
+
+fn print_pair<W: Sink>(
+    buffer: &mut Buffer,
+    writer: &mut W,
+    key: &str,
+    value: u64,
+) -> Result<(), EndFault>
+    requires { W.failed writer.old ≡ false }
+    ensures { Prints result (W.written writer.old) buffer.old (W.written writer.new) buffer.new (W.failed writer.new) (pair_before_comma (key.now, value)) }
+{
+    buffer.put_all(writer, &[key.as_bytes(), b"="])?;
+    buffer.put_number(writer, value, b",")
+}
