@@ -3,7 +3,7 @@ use Rattle.std.proofs.Common.{◌≡◌, ◌≤◌, ap, sym, subst, ◌∙◌}
 use Rattle.tox_link.specs.Core.{CoreView, KeepsCore}
 use Rattle.tox_link.specs.CoreInside.{core_view}
 use Rattle.tox_link.proofs.CoreLemmas.{IsCore-later}
-use Rattle.tox_link.proofs.ActLemmas.{answered-after}
+use Rattle.tox_link.proofs.ActLemmas.{keeps-after}
 use Rattle.tox_link.proofs.link_core.LinkCore.on_clock.Goals as goal
 
 pub invariant_of-self : goal.invariant_of-self
@@ -17,4 +17,4 @@ pub returns-clause-kept : goal.returns-clause-kept
 returns-clause-kept c =
     let core : CoreView = core_view c.self.inside in
     subst (λ old. KeepsCore old c.answer.new.self) c.self.view_is
-    (answered-after core c.look.new.self c.answer.new.self c.args.now c.look.ensures.looked c.answer.result c.look.ensures.known c.answer.ensures).kept
+    (keeps-after core c.look.new.self c.answer.new.self c.args.now c.look.ensures.looked c.look.ensures.known c.answer.ensures.kept)
