@@ -48,10 +48,22 @@ pub nested-longer : (start : ℕ) (levels : List Level) (old new : Slice) → ol
 nested-longer start [] old new longer nested = omega (arith, nested, longer)
 nested-longer start (level ∷ levels) old new longer nested = (nested.0, nested-longer level.stop levels old new longer nested.1)
 
+-- what the source gives where nothing is left of its piece
+pub to_come_from-read : (words : List ℕ) (start : ℕ) (source : Slice) (items : List Item) → source.span.stop ≡ start → to_come_from words start [] source items ≡ items
+to_come_from-read words start source items read = ap (λ rest. rest ++ items) (rest_of-read start source.span.stop source.instant (omega (arith, read)))
+
 -- drained levels stand at the end of the source's piece
 pub drained-at : (start : ℕ) (levels : List Level) (source : Slice) → AreDrained start levels source → source.span.stop ≡ start
 drained-at start [] source drained = drained
 drained-at start (level ∷ levels) source drained = drained-at level.stop levels source drained.2 ∙ drained.0
+
+-- drained levels give nothing where nothing more arrives
+pub drained-silent : (words : List ℕ) (start : ℕ) (levels : List Level) (source : Slice) → AreDrained start levels source → to_come_from words start levels source [] ≡ []
+drained-silent words start [] source drained = to_come_from-read words start source [] drained
+drained-silent words start (level ∷ levels) source drained =
+    ap (λ items. level_gives words start level items) (drained-silent words level.stop levels source drained.2)
+    ∙ level_gives-running words start level [] drained.1
+    ∙ ap (λ rest. flow_from (op_reaction level.op words) level.state (rest ++ [])) (rest_of-read start level.stop level.instant (omega (arith, drained.0)))
 
 -- the next piece of the source is the next item of what comes to drained levels
 pub drained-offered : (words : List ℕ) (start : ℕ) (levels : List Level) (old new : Slice) (items : List Item) → AreDrained start levels old → new.span.start ≡ old.span.stop → new.span.start < new.span.stop
@@ -61,10 +73,6 @@ drained-offered words start [] old new items drained after some =
     ∙ ap (λ rest. rest ++ as_chunk new ∷ items) (sym (rest_of-read start old.span.stop old.instant (omega (arith, drained))))
 drained-offered words start (level ∷ levels) old new items drained after some =
     ap (λ items. level_gives words start level items) (drained-offered words level.stop levels old new items drained.2 after some)
-
--- what the source gives where nothing is left of its piece
-pub to_come_from-read : (words : List ℕ) (start : ℕ) (source : Slice) (items : List Item) → source.span.stop ≡ start → to_come_from words start [] source items ≡ items
-to_come_from-read words start source items read = ap (λ rest. rest ++ items) (rest_of-read start source.span.stop source.instant (omega (arith, read)))
 
 -- the operations of levels behind others
 pub ops_of-append : (xs ys : List Level) → ops_of (xs ++ ys) ≡ ops_of ys ++ ops_of xs

@@ -1,5 +1,5 @@
 -- A runner before and after each of its calls.
-use Rattle.std.proofs.Common.{◌≡◌, ℕ, ◌<◌, ◌≤◌, ◌+◌, ◌*◌, ◌^◌, Bool, true, false, List, [], ◌∷◌, ◌++◌, map, length, length-append, append_assoc, Option, Some, None, refl, ap, ◌∙◌, sym, subst, arith, ◌⊎◌, inl, inr}
+use Rattle.std.proofs.Common.{◌≡◌, ◌≢◌, ℕ, ◌<◌, ◌≤◌, ◌+◌, ◌*◌, ◌^◌, Bool, true, false, List, [], ◌∷◌, ◌++◌, map, length, length-append, append_assoc, Option, Some, None, refl, ap, ◌∙◌, sym, subst, arith, ◌⊎◌, inl, inr}
 use Rattle.std.proofs.Math.Nat.{mul-le-mul_right}
 use Rattle.std.proofs.Math.Seq.{take-append_seam}
 use Rattle.std.specs.List.{refill}
@@ -21,7 +21,7 @@ use Rattle.tox_compile.specs.Meaning.{op_reactions}
 use Rattle.tox_plan.specs.Levels.{levels_at_start, to_come_from, AreNested, AreDrained, IsNext, OnlyEnds, HaveEnded, AreOpenUnless}
 use Rattle.tox_plan.specs.Running.{Running, IsRunning, IsFound, to_come, found_chunk, reader_at, round_due, HasNoChunk, next_piece, no_piece}
 use Rattle.tox_plan.specs.Cuts.{IsCut, IsOneCut, KeepsOffers, BeginsApart, Reach}
-use Rattle.tox_plan.proofs.LevelLemmas.{nested-below, nested-longer, drained-at, drained-offered}
+use Rattle.tox_plan.proofs.LevelLemmas.{nested-below, nested-longer, drained-at, drained-silent, drained-offered}
 use Rattle.tox_plan.proofs.Endings.{drained-final}
 use Rattle.tox_plan.proofs.Starts.{nested-at_start, means-at_start, length-levels_at_start}
 
@@ -450,15 +450,20 @@ module _ (ops : List Op) (words : List ℕ) (known : Option Ending) where
       → to_come first_runner items ≡ flow_through (op_reactions ops words) items
   means-first fit knows items stream = means_by known refl fit knows items stream
 
--- the ending is known exactly where the source's end was told, or some level's ending is known
+-- the ending is known exactly where the source has ended, or something is to come though nothing more arrives
 pub ended_exactly : (runner : Running) → IsRunning runner → runner.idle ≡ true
-    → (IsSome runner.ending → (runner.idle ≡ true) × ((runner.finished ≡ true) ⊎ HaveEnded runner.levels)) × ((runner.idle ≡ true) × ((runner.finished ≡ true) ⊎ HaveEnded runner.levels) → IsSome runner.ending)
-ended_exactly runner invariant idle = (λ some. (idle, invariant.cause some), λ ended. from runner.ending refl ended.1)
+    → (IsSome runner.ending → (runner.idle ≡ true) × ((runner.finished ≡ true) ⊎ (to_come runner [] ≢ []))) × ((runner.idle ≡ true) × ((runner.finished ≡ true) ⊎ (to_come runner [] ≢ [])) → IsSome runner.ending)
+ended_exactly runner invariant idle = (λ some. (idle, inr (ends runner.ending refl some)), λ ended. from runner.ending refl ended.1)
   where
-    from : (ending : Option Ending) → runner.ending ≡ ending → (runner.finished ≡ true) ⊎ HaveEnded runner.levels → IsSome runner.ending
+    ends : (ending : Option Ending) → runner.ending ≡ ending → IsSome ending → to_come runner [] ≢ []
+    ends (Some ending) is some silent = let both : final_of ending ∷ [] ≡ [] = sym (to_come-ended runner ending [] is) ∙ silent in absurd (cc)
+    ends None is some silent = absurd (cc)
+    from : (ending : Option Ending) → runner.ending ≡ ending → (runner.finished ≡ true) ⊎ (to_come runner [] ≢ []) → IsSome runner.ending
     from (Some ending) is cause = rw is refl
     from None is (inl told) = invariant.told told
-    from None is (inr ended) = absurd (drained-unended runner.position runner.levels runner.piece (idle-drained runner invariant idle is) ended)
+    from None is (inr comes) =
+        absurd (comes (to_come-unfound runner [] is (idle-unfound runner invariant idle)
+            ∙ drained-silent runner.words runner.position runner.levels runner.piece (idle-drained runner invariant idle is)))
 
 -- a slice stays what it is where nothing more is given
 pub IsCut-same : (old middle new : Running) (slice : Slice) → IsCut old middle slice → ((items : List Item) → to_come new items ≡ to_come middle items) → new.cuts ≡ middle.cuts → IsCut old new slice

@@ -46,6 +46,8 @@ pub record LendsNext (old new : Slices) (lent : Lent) : Type 0 where
 
 -- nothing of the piece is left, and the runner is idle
 pub record LendsNone (old new : Slices) : Type 0 where
+  pub stands : new.runner.position ≡ old.runner.position
+  pub cuts : new.runner.cuts ≡ old.runner.cuts
   pub none : HasNoChunk (to_come old.runner (Quiet ∷ []))
   pub idle : new.runner.idle ≡ true
   pub same : (items : List Item) → to_come new.runner items ≡ to_come old.runner items

@@ -62,12 +62,12 @@ fn take_item(runner: &mut Runner, slices: &mut SliceList, item: &Item) -> Result
 /// What a plan delivers of these arrivals.
 fn deliver_plan(
     alloc: Global,
-    plan: &Plan,
+    plan: Plan,
     words: &Words,
     arrivals: &Arrivals,
 ) -> Result<Outcome, AllocError>
     ensures stream { IfOk result (λ _. IsStream (arrival_list arrivals.now)) }
-    ensures flow { IfOk result (IsOutcomeOf (means plan.now words.now (arrival_list arrivals.now))) }
+    ensures flow { IfOk result (IsOutcomeOf (means plan words.now (arrival_list arrivals.now))) }
     ensures neighbours { IfOk result (λ outcome. AreNeighbours (arrival_list arrivals.now) 0 outcome.slices) }
 {
     let mut runner = Runner::new(plan, words);
@@ -75,7 +75,7 @@ fn deliver_plan(
     for item in arrivals.items() {
         take_item(&mut runner, &mut slices, item)?;
     }
-    let ending = runner.quiet();
+    let ending = runner.ending().unwrap_or_else(|| runner.quiet());
     Ok(Outcome { slices, ending })
 }
 
@@ -93,6 +93,5 @@ pub fn deliver(
     ensures neighbours { IfOk result (λ outcome. AreNeighbours (arrival_list arrivals.now) 0 outcome.slices) }
     ensures every_run { IfOk result (λ outcome. OfEveryRest chain.now words.now (arrival_list arrivals.now) (λ moves network. IsOutcomeOf network.delivered outcome)) }
 {
-    let plan = compile(chain, words);
-    deliver_plan(alloc, &plan, words, arrivals)
+    deliver_plan(alloc, compile(chain, words), words, arrivals)
 }

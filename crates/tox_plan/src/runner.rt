@@ -1,4 +1,4 @@
-ghost use Rattle.std.specs.Prelude.{◌≡◌, ℕ, ◌+◌, ◌*◌, ◌^◌, ◌<◌, ◌≤◌, ◌↔◌, ◌⊎◌, List, [], ◌∷◌, ◌++◌, length, true, false, None, Some, IsSome, IsNone, IfSome, IfNone, MatchOption, OnOk, OnErr};
+ghost use Rattle.std.specs.Prelude.{◌≡◌, ◌≢◌, ℕ, ◌+◌, ◌*◌, ◌^◌, ◌<◌, ◌≤◌, ◌↔◌, ◌⊎◌, List, [], ◌∷◌, ◌++◌, length, true, false, None, Some, IsSome, IsNone, IfSome, IfNone, MatchOption, OnOk, OnErr};
 ghost use Rattle.tox_time.specs.declared.item.Item.{Item as OneItem};
 ghost use Rattle.tox_time.specs.declared.item.Item.TheVariants.{Closed, Quiet};
 ghost use Rattle.tox_time.specs.declared.slice.Slice.{Slice as OneSlice};
@@ -6,7 +6,7 @@ ghost use Rattle.tox_time.specs.Stream.{IsStream, IsStreamFrom};
 ghost use Rattle.tox_time.specs.Table.{final_of, table};
 ghost use Rattle.tox_defs.specs.Look.{as_chunk};
 ghost use Rattle.tox_compile.specs.Meaning.{Ops, IsPlan, means, deadline_of};
-ghost use Rattle.tox_plan.specs.Levels.{HaveEnded, ops_of};
+ghost use Rattle.tox_plan.specs.Levels.{levels_at_start, ops_of};
 ghost use Rattle.tox_plan.specs.Running.{to_come, HasNoChunk, known_ending, next_piece, no_piece, offer_answer};
 ghost use Rattle.tox_plan.specs.Cuts.{IsCut, IsOneCut, KeepsOffers, BeginsApart};
 ghost use Rattle.tox_plan.specs.Given.{HasGiven, GoesOn, IsLasting, IsWhole, AreAfter};
@@ -53,12 +53,13 @@ impl<'w> Model for Runner<'w> {
 
 impl<'w> Runner<'w> {
     /// A runner of the plan that was offered nothing yet.
-    pub fn new(plan: &Plan, words: &'w Words) -> Runner<'w>
-        ensures to_come { (items : List OneItem) → IsStream items → to_come result items ≡ means plan.now words.now items }
+    pub fn new(plan: Plan, words: &'w Words) -> Runner<'w>
+        ensures to_come { (items : List OneItem) → IsStream items → to_come result items ≡ means plan words.now items }
         ensures start { (result.idle ≡ true) × (result.finished ≡ false) × (result.position ≡ 0) × (result.piece ≡ no_piece) × (result.latest ≡ 0) × (result.words ≡ words.now) }
-        ensures counters { (result.turns ≡ 0) × (result.cuts ≡ 0) × (result.pieces ≡ 0) × (length result.levels ≡ length plan.now.ops) }
-        ensures ops { ops_of result.levels ≡ plan.now.ops }
-        ensures given { HasGiven plan.now [] [] result }
+        ensures counters { (result.turns ≡ 0) × (result.cuts ≡ 0) × (result.pieces ≡ 0) × (length result.levels ≡ length plan.ops) }
+        ensures levels { result.levels ≡ levels_at_start plan.ops }
+        ensures ops { ops_of result.levels ≡ plan.ops }
+        ensures given { HasGiven plan [] [] result }
     {
         let mut levels = ArrayVec::new();
         push_levels(&mut levels, plan.ops());
@@ -101,6 +102,7 @@ impl<'w> Runner<'w> {
         requires { self.old.idle ≡ true }
         ensures answer { result ≡ offer_answer self.old len instant }
         ensures offered { OnOk result ((self.new.idle ≡ false) × (self.new.position ≡ self.old.position) × (self.new.piece ≡ next_piece self.old len instant) × (self.new.latest ≡ instant)) }
+        ensures unread { OnOk result (self.new.position ≡ self.new.piece.span.start) }
         ensures to_come { OnOk result ((items : List OneItem) → to_come self.new items ≡ to_come self.old (as_chunk (next_piece self.old len instant) ∷ items)) }
         ensures counters { OnOk result ((self.new.turns ≡ self.old.turns) × (self.new.cuts ≡ self.old.cuts) × (self.new.pieces ≡ self.old.pieces + 1)) }
         ensures kept { OnOk result ((self.new.words ≡ self.old.words) × (self.new.finished ≡ self.old.finished) × (self.new.ending ≡ self.old.ending) × (self.new.levels ≡ self.old.levels)) }
@@ -275,11 +277,11 @@ impl<'w> Runner<'w> {
         *last
     }
 
-    /// The link's ending, known after `finish` or `quiet`, or once an operation has given its final: nothing
-    /// else is then to come.
+    /// The link's ending. It is known once the runner is idle and the source has ended, or an operation has given its
+    /// final: even where nothing more arrives, that final is still to come. Nothing else is then to come.
     pub fn ending(&self) -> Option<Ending>
         ensures value { result ≡ known_ending self.now }
-        ensures known { IsSome result ↔ ((self.now.idle ≡ true) × ((self.now.finished ≡ true) ⊎ HaveEnded self.now.levels)) }
+        ensures known { IsSome result ↔ ((self.now.idle ≡ true) × ((self.now.finished ≡ true) ⊎ (to_come self.now [] ≢ []))) }
         ensures only { IfSome result (λ ending. (items : List OneItem) → to_come self.now items ≡ final_of ending ∷ []) }
     {
         if self.idle { self.ending } else { None }

@@ -21,7 +21,7 @@ fn slice(start: u64, stop: u64, micros: u64) -> Slice {
 fn a_limit_ends_the_link(rt: HostRuntime) -> Result<(), Fail> {
     let words = Words::from_list(rt.alloc(), &[0])?;
     let plan = compile(&chain_of(&rt, &["limit_data:bytes=1"]), &words);
-    let mut runner = Runner::new(&plan, &words);
+    let mut runner = Runner::new(plan, &words);
     assert!(rt; runner.is_idle());
     assert_eq!(rt; runner.offer(1, at(5)), Ok(()));
     assert_eq!(rt; runner.next_cut(), Some(slice(0, 1, 5)));
@@ -39,7 +39,7 @@ fn a_limit_ends_the_link(rt: HostRuntime) -> Result<(), Fail> {
 fn a_runner_goes_on_until_its_source_ends(rt: HostRuntime) -> Result<(), Fail> {
     let words = Words::from_list(rt.alloc(), &[0])?;
     let plan = compile(&chain_of(&rt, &["latency:latency=1"]), &words);
-    let mut runner = Runner::new(&plan, &words);
+    let mut runner = Runner::new(plan, &words);
     assert!(rt; runner.is_idle());
     assert_eq!(rt; runner.offer(2, at(5)), Ok(()));
     assert_eq!(rt; runner.next_cut(), Some(slice(0, 2, 1005)));
@@ -62,7 +62,7 @@ fn neighbours_of_one_instant_are_one_slice(rt: HostRuntime) -> Result<(), Fail> 
     let words = Words::from_list(rt.alloc(), &[0, 1, 2])?;
     let slicer = "slicer:average_size=2,size_variation=1";
     let plan = compile(&chain_of(&rt, &[slicer]), &words);
-    let mut runner = Runner::new(&plan, &words);
+    let mut runner = Runner::new(plan, &words);
     assert!(rt; runner.is_idle());
     assert_eq!(rt; runner.offer(5, Micros::ZERO), Ok(()));
     assert_eq!(rt; runner.next_cut(), Some(slice(0, 5, 0)));

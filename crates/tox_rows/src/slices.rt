@@ -43,7 +43,7 @@ fn a_slicer_lends_slices_of_a_piece(rt: HostRuntime) -> Result<(), Fail> {
     let words = Words::from_list(rt.alloc(), &[0, 1, 2])?;
     let slicer = "slicer:average_size=2,size_variation=1,delay=10";
     let plan = compile(&chain_of(&rt, &[slicer]), &words);
-    let mut runner = Runner::new(&plan, &words);
+    let mut runner = Runner::new(plan, &words);
     assert!(rt; runner.is_idle());
     assert_eq!(rt; runner.offer(5, Micros::ZERO), Ok(()));
     let piece = Piece {

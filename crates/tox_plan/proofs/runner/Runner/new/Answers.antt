@@ -9,30 +9,33 @@ use Rattle.tox_plan.proofs.RunnerLemmas.{IsRunning-first, means-first}
 use Rattle.tox_plan.proofs.runner.Runner.new.Goals as goal
 
 -- the levels are those of the plan
-levels_are : (c : goal.After-is_some) → c.push_levels.new.levels.items ≡ levels_at_start c.args.plan.now.ops
+levels_are : (c : goal.After-is_some) → c.push_levels.new.levels.items ≡ levels_at_start c.args.plan.ops
 levels_are c = rw (c.push_levels.ensures.items, c.new-levels.ensures, c.ops.ensures.value) refl
 
 -- and are those that were asked for a known ending
-asked : (c : goal.After-is_some) → c.deref.result.now ≡ levels_at_start c.args.plan.now.ops
+asked : (c : goal.After-is_some) → c.deref.result.now ≡ levels_at_start c.args.plan.ops
 asked c = c.deref.ensures.0 ∙ levels_are c
 
-knows : (c : goal.After-is_some) → MatchOption c.known_ending-ending.result (AreDrained 0 (levels_at_start c.args.plan.now.ops) no_piece) (OnlyEnds c.args.words.now 0 (levels_at_start c.args.plan.now.ops) no_piece)
+knows : (c : goal.After-is_some) → MatchOption c.known_ending-ending.result (AreDrained 0 (levels_at_start c.args.plan.ops) no_piece) (OnlyEnds c.args.words.now 0 (levels_at_start c.args.plan.ops) no_piece)
 knows c =
     subst (λ levels. AreNested 0 levels no_piece → AreRead 0 levels no_piece → MatchOption c.known_ending-ending.result (AreDrained 0 levels no_piece) (OnlyEnds c.args.words.now 0 levels no_piece))
     (asked c) (c.known_ending-ending.ensures.known c.args.words.now 0 no_piece)
-    (nested-at_start c.args.plan.now.ops c.ops.ensures.plan.operations) (read-at_start c.args.plan.now.ops)
+    (nested-at_start c.args.plan.ops c.ops.ensures.plan.operations) (read-at_start c.args.plan.ops)
 
 pub invariant_of-result-3 : goal.invariant_of-result-3
 invariant_of-result-3 c =
     rw (c.is_some.ensures, levels_are c)
-    (IsRunning-first c.args.plan.now.ops c.args.words.now c.known_ending-ending.result c.ops.ensures.plan.operations c.ops.ensures.plan.most (knows c) (λ some. subst HaveEnded (asked c) (c.known_ending-ending.ensures.kept some)))
+    (IsRunning-first c.args.plan.ops c.args.words.now c.known_ending-ending.result c.ops.ensures.plan.operations c.ops.ensures.plan.most (knows c) (λ some. subst HaveEnded (asked c) (c.known_ending-ending.ensures.kept some)))
 
 pub returns-clause-to_come : goal.returns-clause-to_come
 returns-clause-to_come c =
-    λ items stream. rw (levels_are c) (means-first c.args.plan.now.ops c.args.words.now c.known_ending-ending.result c.ops.ensures.plan.operations (knows c) items stream)
+    λ items stream. rw (levels_are c) (means-first c.args.plan.ops c.args.words.now c.known_ending-ending.result c.ops.ensures.plan.operations (knows c) items stream)
+
+pub returns-clause-levels : goal.returns-clause-levels
+returns-clause-levels c = levels_are c
 
 pub returns-clause-ops : goal.returns-clause-ops
-returns-clause-ops c = ap ops_of (levels_are c) ∙ ops_of-at_start c.args.plan.now.ops
+returns-clause-ops c = ap ops_of (levels_are c) ∙ ops_of-at_start c.args.plan.ops
 
 pub returns-clause-given : goal.returns-clause-given
-returns-clause-given c = given-new c.args.plan.now _ (returns-clause-to_come c)
+returns-clause-given c = given-new c.args.plan _ (returns-clause-to_come c)

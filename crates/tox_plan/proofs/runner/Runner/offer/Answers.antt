@@ -4,7 +4,8 @@ use Rattle.tox_plan.specs.RunnerInside.{running}
 use Rattle.tox_defs.specs.Look.{as_chunk}
 use Rattle.tox_plan.specs.Running.{next_piece}
 use Rattle.tox_plan.proofs.Givens.{given-offer}
-use Rattle.tox_plan.proofs.RunnerLemmas.{IsRunning-after_offer, to_come-after_offer, none_of}
+use Rattle.tox_plan.proofs.RunnerLemmas.{IsRunning-after_offer, to_come-after_offer, idle-drained, none_of}
+use Rattle.tox_plan.proofs.LevelLemmas.{drained-at}
 use Rattle.tox_plan.proofs.runner.Runner.offer.Goals as goal
 
 pub invariant_of-self : goal.invariant_of-self
@@ -22,3 +23,8 @@ returns-clause-to_come c =
 
 pub returns-clause-given : goal.returns-clause-given
 returns-clause-given c = given-offer c.args.self.now _ (as_chunk (next_piece c.args.self.now c.args.len c.args.instant)) (ap (λ runner. runner.words) c.self.view_is) (returns-clause-to_come c)
+
+pub returns-clause-unread : goal.returns-clause-unread
+returns-clause-unread c =
+    sym (drained-at _ c.self.inside.levels.items c.self.inside.piece
+    (idle-drained (running c.self.inside) c.self.invariant (ap (λ runner. runner.idle) c.self.view_is ∙ c.requires) (none_of c.self.inside.ending (sym c.if-is_some.ensures))))
