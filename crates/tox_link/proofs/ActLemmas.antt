@@ -98,8 +98,11 @@ keeps-after core middle new now looked known kept = record {
   ops = kept.ops ∙ looked.ops;
   ended = kept.ended ∙ looked.ended;
   bytes = kept.bytes ∙ looked.bytes;
-  waiting = (looked.waiting.0 ++ kept.waiting.0, looked.waiting.1 ∙ ap (λ rest. looked.waiting.0 ++ rest) kept.waiting.1
-      ∙ sym (append_assoc looked.waiting.0 kept.waiting.0 new.waiting));
+  waiting = (
+    looked.waiting.0 ++ kept.waiting.0,
+    looked.waiting.1 ∙ ap (λ rest. looked.waiting.0 ++ rest) kept.waiting.1
+        ∙ sym (append_assoc looked.waiting.0 kept.waiting.0 new.waiting),
+  );
   count = omega (arith, looked.count, kept.count);
   ending = λ last is. kept.ending last (known last is);
 }

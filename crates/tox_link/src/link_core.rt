@@ -62,7 +62,7 @@ impl<'w> LinkCore<'w> {
         let waiting = VecDeque::with_capacity(alloc, MAX_PIECES)?;
         let deadline = plan.deadline();
         Ok(LinkCore {
-            runner: Runner::new(&plan, words),
+            runner: Runner::new(plan, words),
             waiting,
             found: None,
             end: None,
