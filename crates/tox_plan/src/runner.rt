@@ -89,7 +89,8 @@ impl<'w> Runner<'w> {
 
     /// Whether nothing was offered yet, or nothing of the offered piece is left.
     pub fn is_idle(&self) -> bool
-        ensures { result ≡ self.now.idle }
+        ensures value { result ≡ self.now.idle }
+        ensures drained { self.now.idle ≡ true → HasNoChunk (to_come self.now (Quiet ∷ [])) }
     {
         self.idle
     }

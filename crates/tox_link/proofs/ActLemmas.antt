@@ -1,0 +1,108 @@
+-- What a link core answers, by what is left.
+use Rattle.std.proofs.Common.{◌≡◌, ℕ, zero, suc, ◌+◌, ◌<◌, ◌≤◌, Bool, true, false, List, [], ◌∷◌, ◌++◌, length, append_assoc, replicate, Option, Some, None, refl, ap, ◌∙◌, sym, subst, arith, if◌then◌else◌}
+use Rattle.std.specs.Prelude.{IsSome, IfSome, nat_le, slice_get}
+use Rattle.std.proofs.lemmas.Bool.{leb-true, leb-false}
+use Rattle.tox_time.specs.declared.slice.Slice.{Slice}
+use Rattle.tox_time.specs.declared.item.Item.{Item}
+use Rattle.tox_time.specs.declared.item.Item.TheVariants.{Chunk, Closed, Reset, Quiet}
+use Rattle.tox_time.specs.declared.ending.Ending.{Ending}
+use Rattle.tox_time.specs.declared.ending.Ending.TheVariants.{StillOpen, Closed as ClosedAt, Reset as ResetAt}
+use Rattle.tox_time.specs.Stream.{IsStreamFrom, span_len}
+use Rattle.tox_time.specs.Table.{SameResult, final_of, table, ending}
+use Rattle.tox_compile.specs.Meaning.{deadline_of}
+use Rattle.tox_plan.specs.Levels.{ops_of}
+use Rattle.tox_plan.specs.Running.{Running, HasNoChunk, to_come, found_chunk, known_ending}
+use Rattle.tox_plan.proofs.RunnerLemmas.{final-no_chunk}
+use Rattle.tox_link.specs.declared.act.Act.{Act}
+use Rattle.tox_link.specs.declared.act.Act.TheVariants.{Write, WaitUntil, WaitForInput, End}
+use Rattle.tox_link.specs.declared.waiting.WaitingPiece.{WaitingPiece}
+use Rattle.tox_link.specs.Core.{CoreView, TakesSlice, LeavesOutput, KeepsCore, Looked, IsEmptied, Settled, remaining_output, arrivals_from, end_or, next_instant, core_ending, ending_behind, core_deadline, core_position, start_of, kept_count}
+use Rattle.tox_link.specs.CoreKept.{IsCore, IsFoundSlice}
+use Rattle.tox_link.specs.Acts.{After, Answered, IsSliceAct, idle_act, end_act, wait_act}
+use Rattle.tox_link.proofs.Looks.{same-refl, same-of, same-both}
+
+no_chunk-table : (items : List Item) → HasNoChunk items → table items ≡ []
+no_chunk-table [] none = refl
+no_chunk-table (Chunk span t ∷ items) none = absurd none
+no_chunk-table (Closed t ∷ items) none = no_chunk-table items none
+no_chunk-table (Reset t ∷ items) none = no_chunk-table items none
+no_chunk-table (Quiet ∷ items) none = no_chunk-table items none
+
+-- the remaining output of a core that keeps nothing
+pub output-emptied : (core : CoreView) → IsEmptied core → core.end ≡ None → (items : List Item) → remaining_output core items ≡ to_come core.runner items
+output-emptied core emptied none items =
+    ap (λ found. found_chunk found ++ to_come core.runner (arrivals_from core.runner.piece.span.stop core.waiting (end_or core.end items))) emptied.found
+    ∙ ap (λ waiting. to_come core.runner (arrivals_from core.runner.piece.span.stop waiting (end_or core.end items))) emptied.waiting
+    ∙ ap (λ end. to_come core.runner (end_or end items)) none
+
+-- brings no slice by itself
+pub emptied-instant : (core : CoreView) → IsEmptied core → core.end ≡ None → next_instant (remaining_output core (Quiet ∷ [])) ≡ None
+emptied-instant core emptied none =
+    ap next_instant (output-emptied core emptied none (Quiet ∷ [])) ∙ ap (λ ts. slice_get ts 0) (no_chunk-table (to_come core.runner (Quiet ∷ [])) emptied.drained.none)
+
+-- while a piece waits no ending is known
+pub waits-unknown : (core : CoreView) (last : Ending) → 0 < length core.waiting → core_ending core ≡ Some last → ⊥
+waits-unknown core last waits known = by core.waiting waits known
+  where
+    by : (waiting : List WaitingPiece) → 0 < length waiting → ending_behind waiting (known_ending core.runner) ≡ Some last → ⊥
+    by [] waits known = absurd (omega (arith, waits))
+    by (piece ∷ pieces) waits known = absurd (cc)
+
+-- nor where the runner knows none
+pub unknown-runner : (core : CoreView) → known_ending core.runner ≡ None → core_ending core ≡ None
+unknown-runner core unknown = by core.waiting
+  where
+    by : (waiting : List WaitingPiece) → ending_behind waiting (known_ending core.runner) ≡ None
+    by [] = unknown
+    by (piece ∷ pieces) = refl
+
+-- an emptied core past its deadline
+module _ (core : CoreView) (last : Ending) where
+  abbrev pub after_quiet : CoreView
+  after_quiet = record core { runner = record core.runner { ending = Some last; finished = true } }
+
+  module _ (emptied : IsEmptied core) (none : core.end ≡ None) (unknown : core_ending core ≡ None) where
+    pub quiet-ending : core_ending after_quiet ≡ Some last
+    quiet-ending =
+        ap (λ waiting. core_ending (record after_quiet { waiting = waiting })) emptied.waiting
+        ∙ ap (λ idle. if idle then Some last else None) emptied.drained.idle
+
+    quiet-emptied : IsEmptied after_quiet
+    quiet-emptied = record { found = emptied.found; waiting = emptied.waiting; drained = record { idle = emptied.drained.idle; none = final-no_chunk last } }
+
+    pub settled-quiet : (now d : ℕ) → core_deadline core ≡ Some d → d ≤ now
+        → ((e position since : ℕ) (items : List Item) → deadline_of (ops_of core.runner.levels) ≡ Some e → e ≤ since → IsStreamFrom position since items → to_come core.runner items ≡ final_of last ∷ [])
+        → Settled core after_quiet now
+    settled-quiet now d is passed same = record {
+      leaves = record {
+        output = λ position since items later stream. same-of _ _ (output-emptied after_quiet quiet-emptied none items
+            ∙ sym (same d position since items is (omega (arith, passed, later)) stream) ∙ sym (output-emptied core emptied none items));
+        position = refl;
+      };
+      emptied = quiet-emptied;
+      words = refl;
+      ops = refl;
+      ended = refl;
+      bytes = refl;
+      latest = refl;
+      known = λ other known. absurd (let both : Some other ≡ None = sym known ∙ unknown in cc);
+      told = λ ended. subst IsSome (sym quiet-ending) refl;
+      overdue = λ e due late. subst IsSome (sym quiet-ending) refl;
+    }
+
+-- an answer after a look keeps what both keep
+pub keeps-after : (core middle new : CoreView) (now : ℕ) → Looked (record core { latest = now }) middle → ((last : Ending) → core_ending core ≡ Some last → core_ending middle ≡ Some last)
+    → KeepsCore middle new → KeepsCore core new
+keeps-after core middle new now looked known kept = record {
+  words = kept.words ∙ looked.words;
+  ops = kept.ops ∙ looked.ops;
+  ended = kept.ended ∙ looked.ended;
+  bytes = kept.bytes ∙ looked.bytes;
+  waiting = (
+    looked.waiting.0 ++ kept.waiting.0,
+    looked.waiting.1 ∙ ap (λ rest. looked.waiting.0 ++ rest) kept.waiting.1
+        ∙ sym (append_assoc looked.waiting.0 kept.waiting.0 new.waiting),
+  );
+  count = omega (arith, looked.count, kept.count);
+  ending = λ last is. kept.ending last (known last is);
+}

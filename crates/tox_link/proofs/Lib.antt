@@ -1,0 +1,4 @@
+pub mod WaitingLemmas
+pub mod CoreLemmas
+pub mod Looks
+pub mod ActLemmas

@@ -1,0 +1,57 @@
+-- The first waiting piece is with the runner, or was refused since the runner is over.
+use Rattle.std.proofs.Common.{◌≡◌, ◌∷◌, List, Ok, Err, Bool, true, None, ap, sym, subst, ◌∙◌, arith, refl}
+use Rattle.tox_plan.specs.Running.{Running, offer_answer}
+use Rattle.tox_link.specs.declared.waiting.WaitingPiece.{WaitingPiece}
+use Rattle.tox_link.specs.Core.{CoreView, Looked}
+use Rattle.tox_link.specs.CoreInside.{core_view}
+use Rattle.tox_link.proofs.Looks.{Cuts, Offers, cuts_of, after_cut, after_offer, after_refusal, looked-both, looked-offer, looked-cut, looked-refusal, IsCore-after_refusal}
+use Rattle.tox_link.proofs.link_core.LinkCore.look_at_next.Goals as goal
+
+-- what the refused offer was answered
+refused : (c : goal.In_default-offer) → offer_answer c.self.inside.runner c.in-Some.piece.len c.in-Some.piece.instant ≡ Err c.in_default-offer.field-0
+refused c = sym c.in_default-offer.ensures.answer
+
+pub invariant_of-self-in_default-offer : goal.invariant_of-self-in_default-offer
+invariant_of-self-in_default-offer c =
+    rw c.in_default-offer.ensures.err (record {
+      core = IsCore-after_refusal (core_view c.self.inside) c.in-Some.piece c.pop_front.new.self.items c.in_default-offer.field-0 c.self.invariant.core c.in-Some.ensures.items (refused c);
+      room = omega (arith, c.self.invariant.room, c.pop_front.ensures.capacity);
+      deadline = c.self.invariant.deadline;
+    })
+
+pub returns-in_default-offer-clause-looked : goal.returns-in_default-offer-clause-looked
+returns-in_default-offer-clause-looked c =
+    rw c.in_default-offer.ensures.err
+    (subst (λ old. Looked old (after_refusal (core_view c.self.inside) c.in-Some.piece c.pop_front.new.self.items c.in_default-offer.field-0)) c.self.view_is
+    (looked-refusal (core_view c.self.inside) c.in-Some.piece c.pop_front.new.self.items c.in_default-offer.field-0 c.self.invariant.core c.in-Some.ensures.items (refused c)))
+
+-- the runner took the piece
+offers : (c : goal.After-self-1) → Offers (core_view c.self.inside) c.offer.new.self c.in-Some.piece c.pop_front.new.self.items
+offers c = record {
+  waiting = c.in-Some.ensures.items;
+  unfound = ap (λ core. core.found) c.self.view_is ∙ c.requires.found;
+  idle = ap (λ core. core.runner.idle) c.self.view_is ∙ c.requires.drained.idle;
+  busy = c.in-Ok.ensures.offered.0;
+  position = c.in-Ok.ensures.offered.1;
+  offered = c.in-Ok.ensures.offered.2;
+  latest = c.in-Ok.ensures.offered.3;
+  gives = c.in-Ok.ensures.to_come;
+  words = c.in-Ok.ensures.kept.0;
+  finished = c.in-Ok.ensures.kept.1;
+  levels = c.in-Ok.ensures.kept.3;
+}
+
+-- and was asked for its next cut
+cuts : (c : goal.After-self-1) → Cuts c.offer.new.self c.next_cut-self-inside.new.self c.next_cut-self-inside.result
+cuts c =
+    let told = c.next_cut-self-inside.ensures in
+    cuts_of c.offer.new.self c.next_cut-self-inside.new.self c.next_cut-self-inside.result told.some told.place told.apart told.none told.idle told.kept told.ops
+
+pub returns-clause-looked : goal.returns-clause-looked
+returns-clause-looked c =
+    let old : CoreView = core_view c.self.inside in
+    let middle : CoreView = after_offer old c.offer.new.self c.in-Some.piece c.pop_front.new.self.items in
+    let new : CoreView = after_cut middle c.next_cut-self-inside.new.self c.next_cut-self-inside.result in
+    subst (λ old. Looked old new) c.self.view_is
+    (looked-both old middle new (looked-offer old c.offer.new.self c.in-Some.piece c.pop_front.new.self.items (offers c))
+    (looked-cut middle c.next_cut-self-inside.new.self c.next_cut-self-inside.result (cuts c) (offers c).unfound (offers c).busy))

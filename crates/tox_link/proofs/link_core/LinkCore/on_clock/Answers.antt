@@ -1,0 +1,20 @@
+-- A look at a later instant, and then an answer.
+use Rattle.std.proofs.Common.{◌≡◌, ◌≤◌, ap, sym, subst, ◌∙◌}
+use Rattle.tox_link.specs.Core.{CoreView, KeepsCore}
+use Rattle.tox_link.specs.CoreInside.{core_view}
+use Rattle.tox_link.proofs.CoreLemmas.{IsCore-later}
+use Rattle.tox_link.proofs.ActLemmas.{keeps-after}
+use Rattle.tox_link.proofs.link_core.LinkCore.on_clock.Goals as goal
+
+pub invariant_of-self : goal.invariant_of-self
+invariant_of-self c = record {
+  core = IsCore-later (core_view c.self.inside) c.args.now c.self.invariant.core (subst (λ core. core.latest ≤ c.args.now) (sym c.self.view_is) c.requires);
+  room = c.self.invariant.room;
+  deadline = c.self.invariant.deadline;
+}
+
+pub returns-clause-kept : goal.returns-clause-kept
+returns-clause-kept c =
+    let core : CoreView = core_view c.self.inside in
+    subst (λ old. KeepsCore old c.answer.new.self) c.self.view_is
+    (keeps-after core c.look.new.self c.answer.new.self c.args.now c.look.ensures.looked c.look.ensures.known c.answer.ensures.kept)

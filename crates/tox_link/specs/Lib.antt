@@ -1,0 +1,4 @@
+pub mod Acts
+pub mod Core
+pub mod CoreKept
+pub mod CoreInside

@@ -1,0 +1,274 @@
+//! The core of a live link: told what arrives and what time it is, it says what to do.
+ghost use Rattle.std.specs.Prelude.{◌≡◌, ℕ, ◌+◌, ◌<◌, ◌≤◌, ◌↔◌, ◌||◌, List, [], ◌∷◌, ◌++◌, length, true, false, None, Some, IsTrue, IsSome, IfSome, MatchOption, IfOk, OnOk, OnErr, is_some};
+ghost use Rattle.tox_time.specs.declared.item.Item.{Item as OneItem};
+ghost use Rattle.tox_time.specs.declared.item.Item.TheVariants.{Chunk, Closed, Quiet};
+ghost use Rattle.tox_time.specs.Arrivals.{piece_fault};
+ghost use Rattle.tox_time.specs.Stream.{IsStream};
+ghost use Rattle.tox_time.specs.Table.{final_of};
+ghost use Rattle.tox_compile.specs.Meaning.{means};
+ghost use Rattle.tox_plan.specs.Levels.{ops_of};
+ghost use Rattle.tox_plan.specs.Running.{answer_of, no_piece};
+ghost use Rattle.tox_link.specs.Core.{remaining_output, core_ending, core_position, core_deadline, kept_count, next_instant, KeepsCore, Looked, IsDrained, IsEmptied, Settled, HandsOnEnd};
+ghost use Rattle.tox_link.specs.Acts.{idle_act, IsSliceAct, After, Answered};
+
+use crate::act::Act;
+use crate::waiting::WaitingPiece;
+use std::alloc::{AllocError, Global};
+use std::collections::VecDeque;
+use std::marker::Model;
+use tox_compile::Plan;
+use tox_plan::Runner;
+use tox_time::{ArrivalFault, Ending, MOST_BYTES, Micros, Slice};
+use tox_words::Words;
+
+/// The most pieces that a core keeps.
+const MAX_PIECES: usize = 1024;
+
+/// One direction of one live link, without clock, socket or thread.
+///
+/// It keeps the lengths and instants of at most 1024 pieces. A piece is kept until an
+/// [`on_clock`](LinkCore::on_clock) finds no slice left in it. The instants handed in never fall.
+#[derive(Drop)]
+pub struct LinkCore<'w> {
+    runner: Runner<'w>,
+    waiting: VecDeque<WaitingPiece>,
+    found: Option<Slice>,
+    end: Option<Micros>,
+    ended: bool,
+    bytes: u64,
+    latest: Micros,
+    deadline: Option<Micros>,
+}
+
+impl<'w> Model for LinkCore<'w> {
+    ghost use Rattle.tox_link.specs.Core.{CoreView};
+
+    ghost Value = { CoreView };
+
+    ghost use Rattle.tox_link.specs.CoreInside.{core_view, IsKept};
+
+    ghost view = { core_view };
+
+    ghost invariant = { IsKept };
+}
+
+impl<'w> LinkCore<'w> {
+    /// A core of the plan. Nothing has arrived yet, and its last instant is 0.
+    pub fn new(alloc: Global, plan: Plan, words: &'w Words) -> Result<LinkCore<'w>, AllocError>
+        ensures meaning { IfOk result (λ core. (items : List OneItem) → IsStream items → remaining_output core items ≡ means plan words.now items) }
+        ensures start { IfOk result (λ core. (core.waiting ≡ []) × (core.runner.idle ≡ true) × (core.ended ≡ false) × (core.bytes ≡ 0) × (core.latest ≡ 0) × (core_position core ≡ 0)) }
+        ensures plan { IfOk result (λ core. (ops_of core.runner.levels ≡ plan.ops) × (core.runner.words ≡ words.now)) }
+    {
+        let waiting = VecDeque::with_capacity(alloc, MAX_PIECES)?;
+        let deadline = plan.deadline();
+        Ok(LinkCore {
+            runner: Runner::new(plan, words),
+            waiting,
+            found: None,
+            end: None,
+            ended: false,
+            bytes: 0,
+            latest: Micros::ZERO,
+            deadline,
+        })
+    }
+
+    /// Whether fewer than 1024 pieces are kept.
+    pub fn has_room(&self) -> bool
+        ensures { IsTrue result ↔ (kept_count self.now < 1024) }
+    {
+        self.waiting.len() + usize::from(!self.runner.is_idle()) < MAX_PIECES
+    }
+
+    /// The last instant handed in, 0 at first.
+    pub fn latest(&self) -> Micros
+        ensures { result ≡ self.now.latest }
+    {
+        self.latest
+    }
+
+    /// The link's ending, once it is known and no piece is kept. Nothing else is then to come.
+    pub fn ending(&self) -> Option<Ending>
+        ensures value { result ≡ core_ending self.now }
+        ensures only { IfSome result (λ last. (items : List OneItem) → remaining_output self.now items ≡ final_of last ∷ []) }
+    {
+        if self.waiting.is_empty() {
+            self.runner.ending()
+        } else {
+            None
+        }
+    }
+
+    /// A piece of `len` bytes arrived at `instant`.
+    ///
+    /// Refuses, in this order, an empty piece, more than 2^40 bytes in all, and a piece after the
+    /// source's end or once the ending is known. A refusal changes nothing.
+    pub fn on_piece(&mut self, len: u64, instant: Micros) -> Result<(), ArrivalFault>
+        requires room { kept_count self.old < 1024 }
+        requires later { self.old.latest ≤ instant }
+        ensures answer { result ≡ answer_of (piece_fault self.old.bytes self.old.latest (self.old.ended || is_some (core_ending self.old)) len instant) }
+        ensures taken { OnOk result (self.new ≡ record self.old { waiting = self.old.waiting ++ record { len = len; instant = instant } ∷ []; bytes = self.old.bytes + len; latest = instant }) }
+        ensures output { OnOk result ((items : List OneItem) → remaining_output self.new items ≡ remaining_output self.old (Chunk (record { start = self.old.bytes; stop = self.old.bytes + len }) instant ∷ items)) }
+        ensures err { OnErr result (self.new ≡ self.old) }
+    {
+        if len == 0 {
+            return Err(ArrivalFault::EmptyPiece);
+        }
+        if len > MOST_BYTES - self.bytes {
+            return Err(ArrivalFault::TooManyBytes);
+        }
+        if self.ended || self.ending().is_some() {
+            return Err(ArrivalFault::AfterEnd);
+        }
+        self.waiting
+            .push_back_reserved(WaitingPiece { len, instant });
+        self.bytes += len;
+        self.latest = instant;
+        Ok(())
+    }
+
+    /// The source ended at `end`.
+    pub fn on_end(&mut self, end: Micros)
+        requires first { self.old.ended ≡ false }
+        requires later { self.old.latest ≤ end }
+        ensures output { (items : List OneItem) → remaining_output self.new items ≡ remaining_output self.old (Closed end ∷ []) }
+        ensures ended { (self.new.ended ≡ true) × (self.new.latest ≡ end) }
+        ensures kept { (KeepsCore (record self.old { ended = true }) self.new) × (self.new.waiting ≡ self.old.waiting) × (core_position self.new ≡ core_position self.old) }
+        ensures at_once { kept_count self.old ≡ 0 → IsSome (core_ending self.new) }
+    {
+        self.ended = true;
+        self.latest = end;
+        if self.waiting.is_empty() && self.runner.is_idle() {
+            self.runner.finish(end);
+        } else {
+            self.end = Some(end);
+        }
+    }
+
+    /// What to do at `now`. Drops the pieces that bring no further slice.
+    pub fn on_clock(&mut self, now: Micros) -> Act
+        requires { self.old.latest ≤ now }
+        ensures slice { (t : ℕ) → next_instant (remaining_output self.old (Quiet ∷ [])) ≡ Some t → IsSliceAct t now result }
+        ensures idle { next_instant (remaining_output self.old (Quiet ∷ [])) ≡ None
+            → result ≡ idle_act self.old.ended now (core_deadline self.old) (core_ending self.new) }
+        ensures ended { next_instant (remaining_output self.old (Quiet ∷ [])) ≡ None → self.old.ended ≡ true → IsSome (core_ending self.new) }
+        ensures dropped { next_instant (remaining_output self.old (Quiet ∷ [])) ≡ None → kept_count self.new ≡ 0 }
+        ensures deadline { (d : ℕ) → next_instant (remaining_output self.old (Quiet ∷ [])) ≡ None → core_deadline self.old ≡ Some d → d ≤ now
+            → IsSome (core_ending self.new) }
+        ensures output { After self.old now result self.new }
+        ensures kept { KeepsCore self.old self.new }
+        ensures latest { self.new.latest ≡ now }
+    {
+        self.latest = now;
+        self.look();
+        self.answer(now)
+    }
+
+    /// What to do at `now`, after a look for the next slice.
+    fn answer(&mut self, now: Micros) -> Act
+        requires emptied { self.old.found ≡ None → IsEmptied self.old }
+        requires latest { self.old.latest ≡ now }
+        ensures { Answered self.old self.new now result }
+    {
+        let Some(slice) = self.found else {
+            return self.act_without_slice(now);
+        };
+        if slice.instant > now {
+            return Act::WaitUntil(slice.instant);
+        }
+        self.found = None;
+        Act::Write(slice)
+    }
+
+    /// Finds the next slice, unless it is found already.
+    fn look(&mut self)
+        ensures looked { Looked self.old self.new }
+        ensures emptied { self.new.found ≡ None → IsEmptied self.new }
+        ensures known { (last : _) → core_ending self.old ≡ Some last → core_ending self.new ≡ Some last }
+    {
+        if self.found.is_some() {
+            return;
+        }
+        self.look_at_first();
+        while self.found.is_none() {
+            if !self.look_at_next() {
+                return;
+            }
+        }
+    }
+
+    /// Looks for a slice in the piece that is with the runner, if there is one.
+    fn look_at_first(&mut self)
+        requires { self.old.found ≡ None }
+        ensures looked { Looked self.old self.new }
+        ensures drained { self.new.found ≡ None → IsDrained self.new }
+        ensures known { (last : _) → core_ending self.old ≡ Some last → core_ending self.new ≡ Some last }
+    {
+        if self.runner.is_idle() {
+            return;
+        }
+        self.found = self.runner.next_cut();
+    }
+
+    /// Looks for a slice in the next waiting piece. False where no piece waits.
+    fn look_at_next(&mut self) -> bool
+        requires found { self.old.found ≡ None }
+        requires drained { IsDrained self.old }
+        ensures looked { Looked self.old self.new }
+        ensures more { IsTrue result → length self.new.waiting < length self.old.waiting }
+        ensures none { result ≡ false → (self.new ≡ self.old) × (self.old.waiting ≡ []) }
+        ensures drained { self.new.found ≡ None → IsDrained self.new }
+    {
+        let Some(piece) = self.waiting.pop_front() else {
+            return false;
+        };
+        let Ok(()) = self.runner.offer(piece.len, piece.instant) else {
+            return true;
+        };
+        self.found = self.runner.next_cut();
+        true
+    }
+
+    /// What to do at `now` where no slice is left.
+    fn act_without_slice(&mut self, now: Micros) -> Act
+        requires emptied { IsEmptied self.old }
+        requires latest { self.old.latest ≡ now }
+        ensures act { result ≡ idle_act self.old.ended now (core_deadline self.old) (core_ending self.new) }
+        ensures settled { Settled self.old self.new now }
+        ensures none { next_instant (remaining_output self.old (Quiet ∷ [])) ≡ None }
+    {
+        self.hand_on_end();
+        match self.ending_at(now) {
+            Some(ending) => Act::ending(&ending, now, self.ended),
+            None => Act::until(self.deadline),
+        }
+    }
+
+    /// Hands the source's end on to the runner, if it is kept.
+    fn hand_on_end(&mut self)
+        requires { IsEmptied self.old }
+        ensures settled { HandsOnEnd self.old self.new }
+    {
+        if let Some(end) = self.end {
+            self.end = None;
+            self.runner.finish(end);
+        }
+    }
+
+    /// The ending, where it is known or the deadline has passed.
+    fn ending_at(&mut self, now: Micros) -> Option<Ending>
+        requires emptied { IsEmptied self.old }
+        requires end { self.old.end ≡ None }
+        ensures value { result ≡ core_ending self.new }
+        ensures settled { Settled self.old self.new now }
+    {
+        if let Some(ending) = self.runner.ending() {
+            return Some(ending);
+        }
+        let deadline = self.deadline?;
+        if now < deadline {
+            return None;
+        }
+        Some(self.runner.quiet())
+    }
+}
