@@ -1,10 +1,10 @@
 -- What an operation of a plan gives, in the words of the toxics.
-use Rattle.std.specs.Prelude.{◌≡◌, ℕ, zero, suc, ◌+◌, ◌*◌, ◌<◌, Bool, true, false, List}
+use Rattle.std.specs.Prelude.{◌≡◌, ℕ, zero, suc, ◌+◌, ◌*◌, ◌<◌, Bool, true, false}
 use Rattle.tox_time.specs.declared.ending.Ending.{Ending}
 use Rattle.tox_time.specs.declared.ending.Ending.TheVariants.{StillOpen, Closed, Reset}
 use Rattle.tox_time.specs.Time.{IsInstant, micros_of}
 use Rattle.tox_time.specs.Table.{final_of}
-use Rattle.tox_words.specs.Draw.{draw}
+use Rattle.tox_words.specs.Draw.{Draws}
 use Rattle.tox_defs.specs.declared.toxic.Toxic.{Toxic}
 use Rattle.tox_defs.specs.declared.toxic.Toxic.TheVariants.{Latency, Bandwidth, SlowClose, Timeout, ResetPeer, Slicer, LimitData}
 use Rattle.tox_defs.specs.declared.op.Op.{Op}
@@ -14,18 +14,18 @@ use Rattle.tox_defs.specs.Givings.{delayed, paced, sliced, closed_later, muted, 
 use Rattle.tox_defs.specs.Flow.{varied, timeout_ending}
 
 -- what an operation gives
-abbrev pub op_giving : Op → List ℕ → Giving
-op_giving (Delay fixed latency jitter lane) words = delayed (λ chunk. 1000 * (fixed + varied latency jitter (draw words lane (1 + chunk))))
-op_giving (Pace rate) words = paced rate
-op_giving (Slow millis) words = closed_later (1000 * millis)
-op_giving (Mute end) words = muted (final_of end)
-op_giving (Cutoff instant) words = cut_off instant
-op_giving (Slicing average variation micros lane) words = sliced (λ piece. varied average variation (draw words lane (1 + piece))) micros
-op_giving (Limit bytes) words = limited bytes
+abbrev pub op_giving : Op → Draws → Giving
+op_giving (Delay fixed latency jitter lane) draws = delayed (λ chunk. 1000 * (fixed + varied latency jitter (draws lane (1 + chunk))))
+op_giving (Pace rate) draws = paced rate
+op_giving (Slow millis) draws = closed_later (1000 * millis)
+op_giving (Mute end) draws = muted (final_of end)
+op_giving (Cutoff instant) draws = cut_off instant
+op_giving (Slicing average variation micros lane) draws = sliced (λ piece. varied average variation (draws lane (1 + piece))) micros
+op_giving (Limit bytes) draws = limited bytes
 
 -- the reaction of an operation
-abbrev pub op_reaction : Op → List ℕ → Reaction
-op_reaction op words = counted (op_giving op words)
+abbrev pub op_reaction : Op → Draws → Reaction
+op_reaction op draws = counted (op_giving op draws)
 
 -- the operation of a latency, whose fixed part has all that isn't drawn
 abbrev pub delay_of : ℕ → ℕ → ℕ → Op

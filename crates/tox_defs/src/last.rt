@@ -1,5 +1,6 @@
-ghost use Rattle.std.specs.Prelude.{◌≡◌, ℕ, List, [], ◌∷◌};
+ghost use Rattle.std.specs.Prelude.{◌≡◌, [], ◌∷◌};
 ghost use Rattle.tox_time.specs.Table.{final_of};
+ghost use Rattle.tox_words.specs.Draw.{Draws};
 ghost use Rattle.tox_defs.specs.Op.{op_giving};
 ghost use Rattle.tox_defs.specs.declared.state.State.{State as StateOf};
 ghost use Rattle.tox_defs.specs.Givings.{in_order as item_in_order, closed_later as later_close, cut_off as cut_off_giving};
@@ -11,7 +12,7 @@ use tox_time::{Ending, Micros};
 impl Op {
     /// The ending that the operation gives for one that comes to it.
     pub fn last(&self, state: &State, ending: &Ending) -> Ending
-        ensures { (words : List ℕ) → op_giving self.now words state.now (final_of ending.now) ≡ final_of result ∷ [] }
+        ensures { (draws : Draws) → op_giving self.now draws state.now (final_of ending.now) ≡ final_of result ∷ [] }
     {
         match self {
             Op::Delay { .. } | Op::Pace { .. } | Op::Slicing { .. } => {
