@@ -10,7 +10,7 @@ use Rattle.tox_words.specs.Draw.{Draws}
 use Rattle.tox_defs.specs.declared.op.Op.{Op}
 use Rattle.tox_defs.specs.declared.op.Op.TheVariants.{Delay, Pace, Slow, Mute, Cutoff, Slicing, Limit}
 use Rattle.tox_defs.specs.declared.state.State.{State}
-use Rattle.tox_defs.specs.Givings.{cut_off, is_before}
+use Rattle.tox_defs.specs.toxics.ResetPeer.{cutoff_gives, is_before}
 use Rattle.tox_defs.specs.Op.{op_giving}
 
 pub ending-final_of : (end : Ending) → ending (final_of end ∷ []) ≡ end
@@ -19,7 +19,7 @@ ending-final_of (ClosedAt t) = refl
 ending-final_of (ResetAt t) = refl
 
 cut_off-final : (instant : ℕ) (state : State) (item : Item) (before : Bool) → is_before instant item ≡ before → final_of (ending (item ∷ [])) ≡ item
-    → cut_off instant state item ≡ final_of (ending (cut_off instant state item)) ∷ []
+    → cutoff_gives instant state item ≡ final_of (ending (cutoff_gives instant state item)) ∷ []
 cut_off-final instant state item true e same = rw e (ap (λ final. final ∷ []) (sym same))
 cut_off-final instant state item false e same = rw e refl
 

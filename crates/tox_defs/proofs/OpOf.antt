@@ -9,17 +9,18 @@ use Rattle.tox_defs.specs.declared.toxic.Toxic.TheVariants.{Latency, Bandwidth, 
 use Rattle.tox_defs.specs.declared.toxic.ToxicFault.TheVariants.{OutOfRange, Variation}
 use Rattle.tox_defs.specs.Toxic.{IsInRange, is_within}
 use Rattle.tox_defs.specs.Reaction.{counted}
-use Rattle.tox_defs.specs.Givings.{delayed}
-use Rattle.tox_defs.specs.Flow.{toxic_reaction, varied}
+use Rattle.tox_defs.specs.toxics.Latency.{delay_gives}
+use Rattle.tox_defs.specs.Flow.{toxic_reaction}
+use Rattle.tox_defs.specs.Varied.{varied}
 use Rattle.tox_defs.specs.Op.{op_reaction, op_of, IsOp}
 
 pub op_reaction-op_of : (place : ℕ) (toxic : Toxic) (draws : Draws) → op_reaction (op_of place toxic) draws ≡ toxic_reaction toxic (draws place)
 op_reaction-op_of place (Latency latency zero) draws =
     let waits : (chunk : ℕ) → 1000 * (latency + varied 0 0 (draws 0 (1 + chunk))) ≡ 1000 * varied latency 0 (draws place (1 + chunk)) = λ chunk. omega arith in
-    ap (λ wait. counted (delayed wait)) (fun_ext waits)
+    ap (λ wait. counted (delay_gives wait)) (fun_ext waits)
 op_reaction-op_of place (Latency latency (suc jitter)) draws =
     let waits : (chunk : ℕ) → 1000 * (0 + varied latency (suc jitter) (draws place (1 + chunk))) ≡ 1000 * varied latency (suc jitter) (draws place (1 + chunk)) = λ chunk. omega arith in
-    ap (λ wait. counted (delayed wait)) (fun_ext waits)
+    ap (λ wait. counted (delay_gives wait)) (fun_ext waits)
 op_reaction-op_of place (Bandwidth rate) draws = refl
 op_reaction-op_of place (SlowClose delay) draws = refl
 op_reaction-op_of place (Timeout timeout) draws = refl

@@ -10,6 +10,7 @@ use Rattle.tox_time.specs.Table.{final_of}
 use Rattle.tox_defs.specs.declared.state.State.{State}
 use Rattle.tox_defs.specs.declared.look.Look.{Look}
 use Rattle.tox_defs.specs.declared.look.Look.TheVariants.{Piece, LastPiece, Ended}
+use Rattle.tox_defs.specs.Pieces.{first_span}
 use Rattle.tox_defs.specs.Reaction.{Reaction, flow_from, state_from, with_piece, with_chunk, with_ending}
 
 -- a slice as a chunk
@@ -40,10 +41,6 @@ Finds reaction state rest items (LastPiece piece ending) =
     (with_ending (with_chunk (with_piece state piece)) ending) items
 Finds reaction state rest items (Ended ending) =
     Continues reaction state (as_chunk rest ∷ items) (final_of ending ∷ []) (with_ending (with_chunk state) ending) items
-
--- the first bytes of a span, so many or what there is
-abbrev pub first_span : ℕ → Span → Span
-first_span bytes span = record { start = span.start; stop = span.start + min bytes (span_len span) }
 
 -- what a cutoff at an instant finds
 abbrev pub cutoff_look : ℕ → Slice → Look

@@ -3,7 +3,9 @@ ghost use Rattle.tox_time.specs.Table.{final_of};
 ghost use Rattle.tox_words.specs.Draw.{Draws};
 ghost use Rattle.tox_defs.specs.Op.{op_giving};
 ghost use Rattle.tox_defs.specs.declared.state.State.{State as StateOf};
-ghost use Rattle.tox_defs.specs.Givings.{in_order as item_in_order, closed_later as later_close, cut_off as cut_off_giving};
+ghost use Rattle.tox_defs.specs.Ordered.{in_order as item_in_order};
+ghost use Rattle.tox_defs.specs.toxics.SlowClose.{slow_gives as later_close};
+ghost use Rattle.tox_defs.specs.toxics.ResetPeer.{cutoff_gives as cut_off_giving};
 
 use crate::op::Op;
 use crate::state::State;

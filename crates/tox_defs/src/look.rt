@@ -1,9 +1,10 @@
 ghost use Rattle.std.specs.Prelude.{◌≡◌, ◌+◌, ◌-◌, ◌<◌, ◌≤◌, ◌^◌, List, [], ◌∷◌, false};
 ghost use Rattle.tox_time.specs.declared.item.Item.{Item as OneItem};
 ghost use Rattle.tox_words.specs.Draw.{draw};
-ghost use Rattle.tox_defs.specs.Flow.{varied};
+ghost use Rattle.tox_defs.specs.Varied.{varied};
 ghost use Rattle.tox_defs.specs.Op.{IsOp, op_reaction, is_mute};
-ghost use Rattle.tox_defs.specs.Look.{IsFrontOf, Finds, first_span, cutoff_look, limit_look};
+ghost use Rattle.tox_defs.specs.Look.{IsFrontOf, Finds, cutoff_look, limit_look};
+ghost use Rattle.tox_defs.specs.Pieces.{first_span};
 
 use crate::op::Op;
 use crate::state::State;
