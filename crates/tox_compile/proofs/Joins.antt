@@ -12,9 +12,10 @@ use Rattle.tox_words.specs.Draw.{Draws}
 use Rattle.tox_defs.specs.declared.op.Op.{Op}
 use Rattle.tox_defs.specs.declared.op.Op.TheVariants.{Delay, Slow, Mute, Cutoff, Limit}
 use Rattle.tox_defs.specs.Reaction.{counted, flow}
-use Rattle.tox_defs.specs.Givings.{delayed}
-use Rattle.tox_defs.specs.Flow.{varied}
-use Rattle.tox_defs.specs.Op.{op_giving, op_reaction, IsOp, IsNormal, EndsInTime}
+use Rattle.tox_defs.specs.toxics.Latency.{delay_gives}
+use Rattle.tox_defs.specs.Varied.{varied}
+use Rattle.tox_defs.specs.Op.{op_giving, op_reaction, IsOp, EndsInTime}
+use Rattle.tox_defs.specs.toxics.Latency.{IsNormal}
 use Rattle.tox_defs.proofs.OpStreams.{IsStream-final, IsStream-op_flow}
 use Rattle.tox_defs.proofs.StreamKeepers.{flow_from-muted}
 use Rattle.tox_compile.specs.Normal.{joined, after_mute}
@@ -35,10 +36,10 @@ IsJoint draws first second None = Unit {0}
 IsJoint draws first second (Some joint) = DoesAs draws first second joint
 
 -- without jitter a delay is the same for all chunks
-pub giving-fixed : (fixed latency jitter lane : ℕ) (draws : Draws) → IsNormal latency jitter → jitter ≡ 0 → op_giving (Delay fixed latency jitter lane) draws ≡ delayed (λ _. 1000 * fixed)
+pub giving-fixed : (fixed latency jitter lane : ℕ) (draws : Draws) → IsNormal latency jitter → jitter ≡ 0 → op_giving (Delay fixed latency jitter lane) draws ≡ delay_gives (λ _. 1000 * fixed)
 giving-fixed fixed latency zero lane draws normal none =
     let waits : (chunk : ℕ) → 1000 * (fixed + varied latency 0 (draws lane (1 + chunk))) ≡ 1000 * fixed = λ chunk. omega (arith, normal) in
-    ap delayed (fun_ext waits)
+    ap delay_gives (fun_ext waits)
 giving-fixed fixed latency (suc jitter) lane draws normal none = absurd (omega arith)
 
 joint_second : (draws : Draws) (fixed latency jitter lane more latency' jitter' lane' : ℕ) → IsNormal latency jitter → IsNormal latency' jitter' → jitter' ≡ 0

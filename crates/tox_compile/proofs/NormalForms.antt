@@ -12,7 +12,8 @@ use Rattle.tox_defs.specs.declared.op.Op.TheVariants.{Delay, Pace, Slow, Mute, C
 use Rattle.tox_defs.specs.Chain.{Toxics, IsChain}
 use Rattle.tox_defs.specs.Reaction.{counted, flow, flow_through}
 use Rattle.tox_defs.specs.Flow.{chain_flow}
-use Rattle.tox_defs.specs.Op.{op_reaction, IsOp, IsNormal}
+use Rattle.tox_defs.specs.Op.{op_reaction, IsOp}
+use Rattle.tox_defs.specs.toxics.Latency.{IsNormal}
 use Rattle.tox_defs.proofs.OpStreams.{IsStream-op_flow}
 use Rattle.tox_defs.proofs.StreamKeepers.{flow_from-muted}
 use Rattle.tox_compile.specs.Compiled.{ops_of}

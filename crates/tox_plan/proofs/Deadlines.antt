@@ -14,7 +14,7 @@ use Rattle.tox_defs.specs.declared.op.Op.TheVariants.{Delay, Pace, Slow, Mute, C
 use Rattle.tox_defs.specs.declared.level.Level.{Level}
 use Rattle.tox_defs.specs.declared.state.State.{State}
 use Rattle.tox_defs.specs.Reaction.{flow_from}
-use Rattle.tox_defs.specs.Givings.{is_before, cut_off}
+use Rattle.tox_defs.specs.toxics.ResetPeer.{is_before, cutoff_gives}
 use Rattle.tox_defs.specs.Op.{op_reaction, is_mute}
 use Rattle.tox_defs.specs.Level.{level_gives}
 use Rattle.tox_defs.proofs.FlowLemmas.{Continues-counted, flow_from-done}
@@ -156,7 +156,7 @@ late-before d Quiet items late = refl
 cutoff-flow : (d : ℕ) (words : List ℕ) (state : State) (items : List Item) → state.done ≡ false → IsLater d items → flow_from (op_reaction (Cutoff d) (draw words)) state items ≡ Reset d ∷ []
 cutoff-flow d words state [] running later = absurd (let none : false ≡ true = later.final in cc)
 cutoff-flow d words state (item ∷ items) running later =
-    (Continues-counted (cut_off d) state item items (Reset d ∷ []) running (ap (λ early. (if early then item else Reset d) ∷ []) (late-before d item items later.late))).gives
+    (Continues-counted (cutoff_gives d) state item items (Reset d ∷ []) running (ap (λ early. (if early then item else Reset d) ∷ []) (late-before d item items later.late))).gives
     ∙ ap (λ more. Reset d ∷ more) (flow_from-done (op_reaction (Cutoff d) (draw words)) _ items refl)
 
 -- drained levels, one of which stops everything from an instant on, give the same for all later lists

@@ -17,8 +17,11 @@ use Rattle.tox_defs.specs.declared.op.Op.{Op}
 use Rattle.tox_defs.specs.declared.op.Op.TheVariants.{Delay, Pace, Slow, Mute, Cutoff, Slicing, Limit}
 use Rattle.tox_defs.specs.declared.state.State.{State}
 use Rattle.tox_defs.specs.Reaction.{flow_from, state_after}
-use Rattle.tox_defs.specs.Givings.{in_order, first_bytes, leave, is_before, pieces_of}
-use Rattle.tox_defs.specs.Flow.{varied}
+use Rattle.tox_defs.specs.Ordered.{in_order}
+use Rattle.tox_defs.specs.toxics.LimitData.{first_bytes}
+use Rattle.tox_defs.specs.Pieces.{leave, pieces_of}
+use Rattle.tox_defs.specs.toxics.ResetPeer.{is_before}
+use Rattle.tox_defs.specs.Varied.{varied}
 use Rattle.tox_defs.specs.Op.{op_giving, op_reaction, is_mute}
 use Rattle.tox_defs.proofs.FlowLemmas.{react-running, flow_from-done}
 use Rattle.tox_plan.proofs.Endings.{giving-final}
