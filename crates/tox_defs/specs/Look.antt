@@ -42,17 +42,6 @@ Finds reaction state rest items (LastPiece piece ending) =
 Finds reaction state rest items (Ended ending) =
     Continues reaction state (as_chunk rest ∷ items) (final_of ending ∷ []) (with_ending (with_chunk state) ending) items
 
--- what a cutoff at an instant finds
-abbrev pub cutoff_look : ℕ → Slice → Look
-cutoff_look instant rest = if nat_lt rest.instant instant then Piece rest else Ended (ResetAt instant)
-
--- what a limit with room for so many bytes finds
-abbrev pub limit_look : ℕ → Slice → Look
-limit_look room rest =
-    if nat_lt (span_len rest.span) room then Piece rest
-    else (if room == 0 then Ended (ClosedAt rest.instant)
-    else LastPiece (record { span = first_span room rest.span; instant = rest.instant }) (ClosedAt rest.instant))
-
 -- the piece begins where the rest does, isn't empty and lies in the rest
 pub record IsFront (rest piece : Slice) : Type 0 where
   pub begins : piece.span.start ≡ rest.span.start
