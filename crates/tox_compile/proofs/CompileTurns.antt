@@ -6,7 +6,8 @@ use Rattle.tox_defs.specs.declared.chain.Entry.{Entry}
 use Rattle.tox_defs.specs.declared.op.Op.{Op}
 use Rattle.tox_defs.specs.declared.toxic.Toxic.{Toxic}
 use Rattle.tox_defs.specs.declared.toxic.Toxic.TheVariants.{Latency, Bandwidth, SlowClose, Timeout, ResetPeer, Slicer, LimitData}
-use Rattle.tox_defs.specs.Toxic.{IsInRange, is_within, is_within_hour}
+use Rattle.tox_defs.specs.Toxic.{IsInRange, is_within}
+use Rattle.tox_defs.specs.Ranges.{is_within_hour}
 use Rattle.tox_defs.specs.Chain.{IsEntry}
 use Rattle.tox_defs.specs.Applied.{is_applied}
 use Rattle.tox_defs.specs.Op.{op_of}

@@ -4,7 +4,7 @@ use Rattle.std.specs.Prelude.{All}
 use Rattle.std.proofs.lemmas.List.{drop_all}
 use Rattle.std.proofs.lemmas.List.Elements.{All-nil, All-cons, All-head, All-tail}
 use Rattle.tox_time.specs.declared.item.Item.{Item}
-use Rattle.tox_words.specs.Draw.{draw}
+use Rattle.tox_words.specs.Draw.{Draws, draw}
 use Rattle.tox_defs.specs.declared.op.Op.{Op}
 use Rattle.tox_defs.specs.declared.chain.Entry.{Entry}
 use Rattle.tox_defs.specs.Toxic.{IsInRange}
@@ -18,15 +18,15 @@ use Rattle.tox_defs.proofs.ChainStreams.{in_range-applied}
 use Rattle.tox_compile.specs.Compiled.{op_of_placed, ops_of}
 use Rattle.tox_compile.specs.Meaning.{op_reactions, means}
 
-reactions-placed : (words : List ℕ) (toxics : List Placed) → op_reactions (map op_of_placed toxics) words ≡ map (λ placed. toxic_reaction placed.toxic (draw words placed.place)) toxics
-reactions-placed words [] = refl
-reactions-placed words (placed ∷ toxics) =
-    ap (λ reaction. reaction ∷ op_reactions (map op_of_placed toxics) words) (op_reaction-op_of placed.place placed.toxic words)
-    ∙ ap (λ reactions. toxic_reaction placed.toxic (draw words placed.place) ∷ reactions) (reactions-placed words toxics)
+reactions-placed : (draws : Draws) (toxics : List Placed) → op_reactions (map op_of_placed toxics) draws ≡ map (λ placed. toxic_reaction placed.toxic (draws placed.place)) toxics
+reactions-placed draws [] = refl
+reactions-placed draws (placed ∷ toxics) =
+    ap (λ reaction. reaction ∷ op_reactions (map op_of_placed toxics) draws) (op_reaction-op_of placed.place placed.toxic draws)
+    ∙ ap (λ reactions. toxic_reaction placed.toxic (draws placed.place) ∷ reactions) (reactions-placed draws toxics)
 
 -- for every list of items
 pub means-ops_of : (chain : Toxics) (words : List ℕ) (items : List Item) → means (record { ops = ops_of chain words }) words items ≡ chain_flow chain words items
-means-ops_of chain words items = ap (λ reactions. flow_through reactions items) (reactions-placed words (applied chain words))
+means-ops_of chain words items = ap (λ reactions. flow_through reactions items) (reactions-placed (draw words) (applied chain words))
 
 operations-placed : (toxics : List Placed) → All (λ placed. IsInRange placed.toxic) toxics → All IsOp (map op_of_placed toxics)
 operations-placed [] fit = All-nil IsOp

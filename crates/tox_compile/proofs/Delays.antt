@@ -6,11 +6,11 @@ use Rattle.tox_time.specs.declared.item.Item.TheVariants.{Chunk, Closed, Reset, 
 use Rattle.tox_time.specs.Time.{plus}
 use Rattle.tox_time.specs.Stream.{span_len, IsStreamFrom}
 use Rattle.tox_defs.specs.Reaction.{counted, flow_from}
-use Rattle.tox_defs.specs.Givings.{delayed}
+use Rattle.tox_defs.specs.toxics.Latency.{delay_gives}
 use Rattle.tox_defs.proofs.OpenStates.{open_state}
 
 -- a delay whose second part is always the same
-pub delays_join_second : (first : ℕ → ℕ) (second : ℕ) (both : ℕ → ℕ) → ((i : ℕ) → both i ≡ first i + second) → (items : List Item) (c p1 n1 b1 p2 n2 b2 n b position since : ℕ) → p1 ≤ p2 → p2 ≤ HORIZON → plus p1 second ≤ max p2 (plus 0 second) → IsStreamFrom position since items → flow_from (counted (delayed (λ _. second))) (open_state p2 c n2 b2) (flow_from (counted (delayed first)) (open_state p1 c n1 b1) items) ≡ flow_from (counted (delayed both)) (open_state p2 c n b) items
+pub delays_join_second : (first : ℕ → ℕ) (second : ℕ) (both : ℕ → ℕ) → ((i : ℕ) → both i ≡ first i + second) → (items : List Item) (c p1 n1 b1 p2 n2 b2 n b position since : ℕ) → p1 ≤ p2 → p2 ≤ HORIZON → plus p1 second ≤ max p2 (plus 0 second) → IsStreamFrom position since items → flow_from (counted (delay_gives (λ _. second))) (open_state p2 c n2 b2) (flow_from (counted (delay_gives first)) (open_state p1 c n1 b1) items) ≡ flow_from (counted (delay_gives both)) (open_state p2 c n b) items
 delays_join_second first second both sum [] c p1 n1 b1 p2 n2 b2 n b position since order fits kept stream = refl
 delays_join_second first second both sum (Chunk span t ∷ items) c p1 n1 b1 p2 n2 b2 n b position since order fits kept stream =
     let wait : both c ≡ first c + second = sum c in
@@ -24,7 +24,7 @@ delays_join_second first second both sum (Reset t ∷ items) c p1 n1 b1 p2 n2 b2
 delays_join_second first second both sum (Quiet ∷ items) c p1 n1 b1 p2 n2 b2 n b position since order fits kept stream = rw stream refl
 
 -- a delay whose first part is always the same
-pub delays_join_first : (first : ℕ) (second both : ℕ → ℕ) → ((i : ℕ) → both i ≡ first + second i) → (items : List Item) (c p1 n1 b1 p2 n2 b2 n b position since : ℕ) → p1 ≤ p2 → p2 ≤ HORIZON → p1 ≤ plus since first → IsStreamFrom position since items → flow_from (counted (delayed second)) (open_state p2 c n2 b2) (flow_from (counted (delayed (λ _. first))) (open_state p1 c n1 b1) items) ≡ flow_from (counted (delayed both)) (open_state p2 c n b) items
+pub delays_join_first : (first : ℕ) (second both : ℕ → ℕ) → ((i : ℕ) → both i ≡ first + second i) → (items : List Item) (c p1 n1 b1 p2 n2 b2 n b position since : ℕ) → p1 ≤ p2 → p2 ≤ HORIZON → p1 ≤ plus since first → IsStreamFrom position since items → flow_from (counted (delay_gives second)) (open_state p2 c n2 b2) (flow_from (counted (delay_gives (λ _. first))) (open_state p1 c n1 b1) items) ≡ flow_from (counted (delay_gives both)) (open_state p2 c n b) items
 delays_join_first first second both sum [] c p1 n1 b1 p2 n2 b2 n b position since order fits kept stream = refl
 delays_join_first first second both sum (Chunk span t ∷ items) c p1 n1 b1 p2 n2 b2 n b position since order fits kept stream =
     let wait : both c ≡ first + second c = sum c in
@@ -38,7 +38,7 @@ delays_join_first first second both sum (Reset t ∷ items) c p1 n1 b1 p2 n2 b2 
 delays_join_first first second both sum (Quiet ∷ items) c p1 n1 b1 p2 n2 b2 n b position since order fits kept stream = rw stream refl
 
 -- a delay of nothing
-pub delay_vanishes : (wait : ℕ → ℕ) → ((i : ℕ) → wait i ≡ 0) → (items : List Item) (p c n b position since : ℕ) → p ≤ since → IsStreamFrom position since items → flow_from (counted (delayed wait)) (open_state p c n b) items ≡ items
+pub delay_vanishes : (wait : ℕ → ℕ) → ((i : ℕ) → wait i ≡ 0) → (items : List Item) (p c n b position since : ℕ) → p ≤ since → IsStreamFrom position since items → flow_from (counted (delay_gives wait)) (open_state p c n b) items ≡ items
 delay_vanishes wait none [] p c n b position since before stream = refl
 delay_vanishes wait none (Chunk span t ∷ items) p c n b position since before stream =
     let same : max p (plus t (wait c)) ≡ t = omega (arith, none c, before, stream.2, stream.3) in

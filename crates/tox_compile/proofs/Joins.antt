@@ -8,13 +8,14 @@ use Rattle.tox_time.specs.declared.ending.Ending.{Ending}
 use Rattle.tox_time.specs.declared.ending.Ending.TheVariants.{StillOpen, Closed as ClosedAt, Reset as ResetAt}
 use Rattle.tox_time.specs.Stream.{IsStream}
 use Rattle.tox_time.specs.Table.{final_of}
-use Rattle.tox_words.specs.Draw.{draw}
+use Rattle.tox_words.specs.Draw.{Draws}
 use Rattle.tox_defs.specs.declared.op.Op.{Op}
 use Rattle.tox_defs.specs.declared.op.Op.TheVariants.{Delay, Slow, Mute, Cutoff, Limit}
 use Rattle.tox_defs.specs.Reaction.{counted, flow}
-use Rattle.tox_defs.specs.Givings.{delayed}
-use Rattle.tox_defs.specs.Flow.{varied}
-use Rattle.tox_defs.specs.Op.{op_giving, op_reaction, IsOp, IsNormal, EndsInTime}
+use Rattle.tox_defs.specs.toxics.Latency.{delay_gives}
+use Rattle.tox_defs.specs.Varied.{varied}
+use Rattle.tox_defs.specs.Op.{op_giving, op_reaction, IsOp, EndsInTime}
+use Rattle.tox_defs.specs.toxics.Latency.{IsNormal}
 use Rattle.tox_defs.proofs.OpStreams.{IsStream-final, IsStream-op_flow}
 use Rattle.tox_defs.proofs.StreamKeepers.{flow_from-muted}
 use Rattle.tox_compile.specs.Normal.{joined, after_mute}
@@ -25,49 +26,49 @@ use Rattle.tox_compile.proofs.Cutoffs.{cutoffs_join}
 use Rattle.tox_compile.proofs.Mutes.{flow-after_mute}
 
 -- an operation that does as two do, one after the other
-pub record DoesAs (words : List ℕ) (first second joint : Op) : Type 0 where
+pub record DoesAs (draws : Draws) (first second joint : Op) : Type 0 where
   pub is_op : IsOp joint
-  pub same : (items : List Item) → IsStream items → flow (op_reaction joint words) items ≡ flow (op_reaction second words) (flow (op_reaction first words) items)
+  pub same : (items : List Item) → IsStream items → flow (op_reaction joint draws) items ≡ flow (op_reaction second draws) (flow (op_reaction first draws) items)
 
 -- where there is one for two, it does as they do
-abbrev pub IsJoint : List ℕ → Op → Op → Option Op → Type 0
-IsJoint words first second None = Unit {0}
-IsJoint words first second (Some joint) = DoesAs words first second joint
+abbrev pub IsJoint : Draws → Op → Op → Option Op → Type 0
+IsJoint draws first second None = Unit {0}
+IsJoint draws first second (Some joint) = DoesAs draws first second joint
 
 -- without jitter a delay is the same for all chunks
-pub giving-fixed : (fixed latency jitter lane : ℕ) (words : List ℕ) → IsNormal latency jitter → jitter ≡ 0 → op_giving (Delay fixed latency jitter lane) words ≡ delayed (λ _. 1000 * fixed)
-giving-fixed fixed latency zero lane words normal none =
-    let waits : (chunk : ℕ) → 1000 * (fixed + varied latency 0 (draw words lane (1 + chunk))) ≡ 1000 * fixed = λ chunk. omega (arith, normal) in
-    ap delayed (fun_ext waits)
-giving-fixed fixed latency (suc jitter) lane words normal none = absurd (omega arith)
+pub giving-fixed : (fixed latency jitter lane : ℕ) (draws : Draws) → IsNormal latency jitter → jitter ≡ 0 → op_giving (Delay fixed latency jitter lane) draws ≡ delay_gives (λ _. 1000 * fixed)
+giving-fixed fixed latency zero lane draws normal none =
+    let waits : (chunk : ℕ) → 1000 * (fixed + varied latency 0 (draws lane (1 + chunk))) ≡ 1000 * fixed = λ chunk. omega (arith, normal) in
+    ap delay_gives (fun_ext waits)
+giving-fixed fixed latency (suc jitter) lane draws normal none = absurd (omega arith)
 
-joint_second : (words : List ℕ) (fixed latency jitter lane more latency' jitter' lane' : ℕ) → IsNormal latency jitter → IsNormal latency' jitter' → jitter' ≡ 0
-    → DoesAs words (Delay fixed latency jitter lane) (Delay more latency' jitter' lane') (Delay (fixed + more) latency jitter lane)
-joint_second words fixed latency jitter lane more latency' jitter' lane' normal normal' none = record {
+joint_second : (draws : Draws) (fixed latency jitter lane more latency' jitter' lane' : ℕ) → IsNormal latency jitter → IsNormal latency' jitter' → jitter' ≡ 0
+    → DoesAs draws (Delay fixed latency jitter lane) (Delay more latency' jitter' lane') (Delay (fixed + more) latency jitter lane)
+joint_second draws fixed latency jitter lane more latency' jitter' lane' normal normal' none = record {
   is_op = normal;
   same = λ items stream.
-      let first : List Item = flow (op_reaction (Delay fixed latency jitter lane) words) items in
-      let whole = delays_join_second (λ chunk. 1000 * (fixed + varied latency jitter (draw words lane (1 + chunk)))) (1000 * more) (λ chunk. 1000 * (fixed + more + varied latency jitter (draw words lane (1 + chunk)))) (λ i. omega arith) items 0 0 0 0 0 0 0 0 0 0 0 (omega arith) (omega arith) (omega arith) stream in
-      sym (ap (λ giving. flow (counted giving) first) (giving-fixed more latency' jitter' lane' words normal' none) ∙ whole);
+      let first : List Item = flow (op_reaction (Delay fixed latency jitter lane) draws) items in
+      let whole = delays_join_second (λ chunk. 1000 * (fixed + varied latency jitter (draws lane (1 + chunk)))) (1000 * more) (λ chunk. 1000 * (fixed + more + varied latency jitter (draws lane (1 + chunk)))) (λ i. omega arith) items 0 0 0 0 0 0 0 0 0 0 0 (omega arith) (omega arith) (omega arith) stream in
+      sym (ap (λ giving. flow (counted giving) first) (giving-fixed more latency' jitter' lane' draws normal' none) ∙ whole);
 }
 
-joint_first : (words : List ℕ) (fixed latency jitter lane more latency' jitter' lane' : ℕ) → IsNormal latency jitter → IsNormal latency' jitter' → jitter ≡ 0
-    → DoesAs words (Delay fixed latency jitter lane) (Delay more latency' jitter' lane') (Delay (fixed + more) latency' jitter' lane')
-joint_first words fixed latency jitter lane more latency' jitter' lane' normal normal' none = record {
+joint_first : (draws : Draws) (fixed latency jitter lane more latency' jitter' lane' : ℕ) → IsNormal latency jitter → IsNormal latency' jitter' → jitter ≡ 0
+    → DoesAs draws (Delay fixed latency jitter lane) (Delay more latency' jitter' lane') (Delay (fixed + more) latency' jitter' lane')
+joint_first draws fixed latency jitter lane more latency' jitter' lane' normal normal' none = record {
   is_op = normal';
   same = λ items stream.
-      let second : List Item → List Item = λ xs. flow (op_reaction (Delay more latency' jitter' lane') words) xs in
-      let whole = delays_join_first (1000 * fixed) (λ chunk. 1000 * (more + varied latency' jitter' (draw words lane' (1 + chunk)))) (λ chunk. 1000 * (fixed + more + varied latency' jitter' (draw words lane' (1 + chunk)))) (λ i. omega arith) items 0 0 0 0 0 0 0 0 0 0 0 (omega arith) (omega arith) (omega arith) stream in
-      sym (ap (λ giving. second (flow (counted giving) items)) (giving-fixed fixed latency jitter lane words normal none) ∙ whole);
+      let second : List Item → List Item = λ xs. flow (op_reaction (Delay more latency' jitter' lane') draws) xs in
+      let whole = delays_join_first (1000 * fixed) (λ chunk. 1000 * (more + varied latency' jitter' (draws lane' (1 + chunk)))) (λ chunk. 1000 * (fixed + more + varied latency' jitter' (draws lane' (1 + chunk)))) (λ i. omega arith) items 0 0 0 0 0 0 0 0 0 0 0 (omega arith) (omega arith) (omega arith) stream in
+      sym (ap (λ giving. second (flow (counted giving) items)) (giving-fixed fixed latency jitter lane draws normal none) ∙ whole);
 }
 
 -- two delays, by whether the second has jitter, and whether the first has
-joint_delays : (words : List ℕ) (fixed latency jitter lane more latency' jitter' lane' : ℕ) (none' none : Bool) → (jitter' == 0) ≡ none' → (jitter == 0) ≡ none → IsNormal latency jitter → IsNormal latency' jitter'
-    → IsJoint words (Delay fixed latency jitter lane) (Delay more latency' jitter' lane')
+joint_delays : (draws : Draws) (fixed latency jitter lane more latency' jitter' lane' : ℕ) (none' none : Bool) → (jitter' == 0) ≡ none' → (jitter == 0) ≡ none → IsNormal latency jitter → IsNormal latency' jitter'
+    → IsJoint draws (Delay fixed latency jitter lane) (Delay more latency' jitter' lane')
     (if none' then Some (Delay (fixed + more) latency jitter lane) else if none then Some (Delay (fixed + more) latency' jitter' lane') else None)
-joint_delays words fixed latency jitter lane more latency' jitter' lane' true none e' e normal normal' = joint_second words fixed latency jitter lane more latency' jitter' lane' normal normal' (eqb-true jitter' 0 e')
-joint_delays words fixed latency jitter lane more latency' jitter' lane' false true e' e normal normal' = joint_first words fixed latency jitter lane more latency' jitter' lane' normal normal' (eqb-true jitter 0 e)
-joint_delays words fixed latency jitter lane more latency' jitter' lane' false false e' e normal normal' = tt
+joint_delays draws fixed latency jitter lane more latency' jitter' lane' true none e' e normal normal' = joint_second draws fixed latency jitter lane more latency' jitter' lane' normal normal' (eqb-true jitter' 0 e')
+joint_delays draws fixed latency jitter lane more latency' jitter' lane' false true e' e normal normal' = joint_first draws fixed latency jitter lane more latency' jitter' lane' normal normal' (eqb-true jitter 0 e)
+joint_delays draws fixed latency jitter lane more latency' jitter' lane' false false e' e normal normal' = tt
 
 final-in_time : (end : Ending) → IsStream (final_of end ∷ []) → EndsInTime end
 final-in_time StillOpen stream = tt
@@ -78,23 +79,23 @@ final-in_time (ResetAt t) stream = stream.1
 after_mute-in_time : (op : Op) (end : Ending) → IsOp op → EndsInTime end → EndsInTime (after_mute op end)
 after_mute-in_time op end fits in_time =
     final-in_time (after_mute op end)
-    (subst IsStream (flow-after_mute op [] end) (IsStream-op_flow op [] (final_of end ∷ []) fits (IsStream-final end in_time)))
+    (subst IsStream (flow-after_mute op (λ _ _. 0) end) (IsStream-op_flow op (λ _ _. 0) (final_of end ∷ []) fits (IsStream-final end in_time)))
 
-joint_mute : (words : List ℕ) (end : Ending) (op : Op) → EndsInTime end → IsOp op → DoesAs words (Mute end) op (Mute (after_mute op end))
-joint_mute words end op in_time fits = record {
+joint_mute : (draws : Draws) (end : Ending) (op : Op) → EndsInTime end → IsOp op → DoesAs draws (Mute end) op (Mute (after_mute op end))
+joint_mute draws end op in_time fits = record {
   is_op = after_mute-in_time op end fits in_time;
   same = λ items stream.
       flow_from-muted (final_of (after_mute op end)) items 0 0 0 0 0 0 stream
-      ∙ sym (flow-after_mute op words end)
-      ∙ sym (ap (λ given. flow (op_reaction op words) given) (flow_from-muted (final_of end) items 0 0 0 0 0 0 stream));
+      ∙ sym (flow-after_mute op draws end)
+      ∙ sym (ap (λ given. flow (op_reaction op draws) given) (flow_from-muted (final_of end) items 0 0 0 0 0 0 stream));
 }
 
-pub is_joint : (words : List ℕ) (first second : Op) → IsOp first → IsOp second → IsJoint words first second (joined first second)
-is_joint words (Delay fixed latency jitter lane) (Delay more latency' jitter' lane') fits fits' = joint_delays words fixed latency jitter lane more latency' jitter' lane' (jitter' == 0) (jitter == 0) refl refl fits fits'
-is_joint words (Slow millis) (Slow more) fits fits' =
+pub is_joint : (draws : Draws) (first second : Op) → IsOp first → IsOp second → IsJoint draws first second (joined first second)
+is_joint draws (Delay fixed latency jitter lane) (Delay more latency' jitter' lane') fits fits' = joint_delays draws fixed latency jitter lane more latency' jitter' lane' (jitter' == 0) (jitter == 0) refl refl fits fits'
+is_joint draws (Slow millis) (Slow more) fits fits' =
     record { is_op = tt; same = λ items stream. sym (slows_join (1000 * millis) (1000 * more) (1000 * (millis + more)) (omega arith) items 0 0 0 0 0 0 0 0 0 0 0 0 0 0 stream) }
-is_joint words (Limit bytes) (Limit other) fits fits' = record { is_op = tt; same = λ items stream. sym (limits_join bytes other items 0 0 0 0 0 0 0 0 0 0 0 0 stream) }
-is_joint words (Cutoff instant) (Cutoff other) fits fits' =
+is_joint draws (Limit bytes) (Limit other) fits fits' = record { is_op = tt; same = λ items stream. sym (limits_join bytes other items 0 0 0 0 0 0 0 0 0 0 0 0 stream) }
+is_joint draws (Cutoff instant) (Cutoff other) fits fits' =
     record { is_op = omega (arith, fits, fits'); same = λ items stream. sym (cutoffs_join instant other items 0 0 0 0 0 0 0 0 0 0 0 0 0 0 stream) }
-is_joint words (Mute end) op fits fits' = joint_mute words end op fits fits'
-is_joint words first second fits fits' = tt
+is_joint draws (Mute end) op fits fits' = joint_mute draws end op fits fits'
+is_joint draws first second fits fits' = tt

@@ -1,7 +1,8 @@
 -- Mutes: what follows one changes its ending alone.
-use Rattle.std.proofs.Common.{◌≡◌, ℕ, List, [], ◌∷◌, refl, ap, sym, ◌∙◌}
+use Rattle.std.proofs.Common.{◌≡◌, [], ◌∷◌, refl, ap, sym, ◌∙◌}
 use Rattle.tox_time.specs.declared.ending.Ending.{Ending}
 use Rattle.tox_time.specs.Table.{ending, final_of}
+use Rattle.tox_words.specs.Draw.{Draws}
 use Rattle.tox_defs.specs.declared.op.Op.{Op}
 use Rattle.tox_defs.specs.Reaction.{first_state, flow}
 use Rattle.tox_defs.specs.Op.{op_giving, op_reaction}
@@ -10,9 +11,9 @@ use Rattle.tox_defs.proofs.FlowLemmas.{flow_from-last}
 use Rattle.tox_compile.specs.Normal.{after_mute}
 
 -- what an operation gives for the ending of a mute
-pub flow-after_mute : (op : Op) (words : List ℕ) (end : Ending) → flow (op_reaction op words) (final_of end ∷ []) ≡ final_of (after_mute op end) ∷ []
-flow-after_mute op words end = flow_from-last (op_reaction op words) first_state (final_of end) [] refl ∙ gives-final op words first_state end
+pub flow-after_mute : (op : Op) (draws : Draws) (end : Ending) → flow (op_reaction op draws) (final_of end ∷ []) ≡ final_of (after_mute op end) ∷ []
+flow-after_mute op draws end = flow_from-last (op_reaction op draws) first_state (final_of end) [] refl ∙ gives-final op draws first_state end
 
 -- which is the only ending of the final that it gives
-pub is-after_mute : (op : Op) (before after : Ending) → op_giving op [] first_state (final_of before) ≡ final_of after ∷ [] → after ≡ after_mute op before
+pub is-after_mute : (op : Op) (before after : Ending) → op_giving op (λ _ _. 0) first_state (final_of before) ≡ final_of after ∷ [] → after ≡ after_mute op before
 is-after_mute op before after gives = sym (ap ending gives ∙ ending-final_of after)

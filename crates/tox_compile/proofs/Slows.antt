@@ -5,12 +5,12 @@ use Rattle.tox_time.specs.declared.item.Item.TheVariants.{Chunk, Closed, Reset, 
 use Rattle.tox_time.specs.Time.{plus}
 use Rattle.tox_time.specs.Stream.{span_len, IsStreamFrom}
 use Rattle.tox_defs.specs.Reaction.{counted, flow_from}
-use Rattle.tox_defs.specs.Givings.{closed_later}
+use Rattle.tox_defs.specs.toxics.SlowClose.{slow_gives}
 use Rattle.tox_defs.proofs.OpenStates.{open_state}
 
 -- closes that come later, one after the other
 pub slows_join : (first second both : ℕ) → both ≡ first + second → (items : List Item) (p1 c1 n1 b1 p2 c2 n2 b2 p c n b position since : ℕ) → IsStreamFrom position since items
-    → flow_from (counted (closed_later second)) (open_state p2 c2 n2 b2) (flow_from (counted (closed_later first)) (open_state p1 c1 n1 b1) items) ≡ flow_from (counted (closed_later both)) (open_state p c n b) items
+    → flow_from (counted (slow_gives second)) (open_state p2 c2 n2 b2) (flow_from (counted (slow_gives first)) (open_state p1 c1 n1 b1) items) ≡ flow_from (counted (slow_gives both)) (open_state p c n b) items
 slows_join first second both sum [] p1 c1 n1 b1 p2 c2 n2 b2 p c n b position since stream = refl
 slows_join first second both sum (Chunk span t ∷ items) p1 c1 n1 b1 p2 c2 n2 b2 p c n b position since stream =
     ap (λ others. Chunk span t ∷ others)
@@ -21,7 +21,7 @@ slows_join first second both sum (Reset t ∷ items) p1 c1 n1 b1 p2 c2 n2 b2 p c
 slows_join first second both sum (Quiet ∷ items) p1 c1 n1 b1 p2 c2 n2 b2 p c n b position since stream = rw stream refl
 
 -- a close that comes no later
-pub slow_vanishes : (items : List Item) (p c n b position since : ℕ) → IsStreamFrom position since items → flow_from (counted (closed_later 0)) (open_state p c n b) items ≡ items
+pub slow_vanishes : (items : List Item) (p c n b position since : ℕ) → IsStreamFrom position since items → flow_from (counted (slow_gives 0)) (open_state p c n b) items ≡ items
 slow_vanishes [] p c n b position since stream = refl
 slow_vanishes (Chunk span t ∷ items) p c n b position since stream =
     ap (λ others. Chunk span t ∷ others) (slow_vanishes items t (c + 1) (n + 1) (b + (span_len span + 0)) span.stop t stream.4)

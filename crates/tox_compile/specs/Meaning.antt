@@ -1,6 +1,7 @@
 -- What a plan does to a stream, and from when on arrivals change nothing.
 use Rattle.std.specs.Prelude.{ℕ, ◌≤◌, min, All, List, [], ◌∷◌, length, map, Option, Some, None}
 use Rattle.tox_time.specs.declared.item.Item.{Item}
+use Rattle.tox_words.specs.Draw.{Draws, draw}
 use Rattle.tox_defs.specs.declared.op.Op.{Op}
 use Rattle.tox_defs.specs.declared.op.Op.TheVariants.{Mute, Cutoff}
 use Rattle.tox_defs.specs.declared.chain.TheConstants.{MOST_TOXICS}
@@ -17,12 +18,12 @@ pub record IsPlan (plan : Ops) : Type 0 where
   pub operations : All IsOp plan.ops
 
 -- the reactions of operations, in order
-abbrev pub op_reactions : List Op → List ℕ → List Reaction
-op_reactions ops words = map (λ op. op_reaction op words) ops
+abbrev pub op_reactions : List Op → Draws → List Reaction
+op_reactions ops draws = map (λ op. op_reaction op draws) ops
 
 -- the meaning of a plan: what its operations give for a list, one after the other
 abbrev pub means : Ops → List ℕ → List Item → List Item
-means plan words items = flow_through (op_reactions plan.ops words) items
+means plan words items = flow_through (op_reactions plan.ops (draw words)) items
 
 -- the earlier of an instant and one that may be
 abbrev pub earlier : ℕ → Option ℕ → Option ℕ

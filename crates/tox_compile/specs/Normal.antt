@@ -17,7 +17,7 @@ vanishes op = false
 
 -- what an operation makes of the ending of a mute before it: the ending of what it gives for that alone, whatever the words
 abbrev pub after_mute : Op → Ending → Ending
-after_mute op end = ending (op_giving op [] first_state (final_of end))
+after_mute op end = ending (op_giving op (λ _ _. 0) first_state (final_of end))
 
 -- the one operation that stands for two neighbours, where a rule joins them
 abbrev pub joined : Op → Op → Option Op

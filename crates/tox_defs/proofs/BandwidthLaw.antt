@@ -10,8 +10,9 @@ use Rattle.tox_time.specs.Time.{plus}
 use Rattle.tox_time.specs.Stream.{span_len, arrived, latest_from, is_final, IsStreamFrom}
 use Rattle.tox_time.specs.Table.{table}
 use Rattle.tox_defs.specs.Reaction.{chunk_count, counted, flow_from}
-use Rattle.tox_defs.specs.Givings.{paced, cut, leave}
-use Rattle.tox_defs.specs.Laws.{first_instant}
+use Rattle.tox_defs.specs.toxics.Bandwidth.{pace_gives}
+use Rattle.tox_defs.specs.Pieces.{cut, leave}
+use Rattle.tox_defs.specs.toxics.Bandwidth.{first_instant}
 use Rattle.tox_time.proofs.StreamLemmas.{table-append}
 use Rattle.tox_defs.proofs.OpenStates.{has_final-leave, open_state}
 use Rattle.tox_defs.proofs.FlowLemmas.{flow_from-last}
@@ -92,21 +93,21 @@ leave_latest rate first size number start (suc left) (suc fuel) since t n positi
 AreDue-nil : (rate first n : ℕ) (ts : List ℕ) → ts ≡ [] → AreDue rate first n ts
 AreDue-nil rate first n ts none = rw none tt
 
-table-last : (rate previous chunks pieces passed : ℕ) (item : Item) (items : List Item) → items ≡ [] → table (item ∷ []) ≡ [] → is_final item ≡ true → table (flow_from (counted (paced rate)) (open_state previous chunks pieces passed) (item ∷ items)) ≡ []
+table-last : (rate previous chunks pieces passed : ℕ) (item : Item) (items : List Item) → items ≡ [] → table (item ∷ []) ≡ [] → is_final item ≡ true → table (flow_from (counted (pace_gives rate)) (open_state previous chunks pieces passed) (item ∷ items)) ≡ []
 table-last rate previous chunks pieces passed (Chunk span t) items none bare final = absurd (cc)
-table-last rate previous chunks pieces passed (Closed t) items none bare final = ap table (flow_from-last (counted (paced rate)) (open_state previous chunks pieces passed) (Closed t) items none)
-table-last rate previous chunks pieces passed (Reset t) items none bare final = ap table (flow_from-last (counted (paced rate)) (open_state previous chunks pieces passed) (Reset t) items none)
-table-last rate previous chunks pieces passed Quiet items none bare final = ap table (flow_from-last (counted (paced rate)) (open_state previous chunks pieces passed) Quiet items none)
+table-last rate previous chunks pieces passed (Closed t) items none bare final = ap table (flow_from-last (counted (pace_gives rate)) (open_state previous chunks pieces passed) (Closed t) items none)
+table-last rate previous chunks pieces passed (Reset t) items none bare final = ap table (flow_from-last (counted (pace_gives rate)) (open_state previous chunks pieces passed) (Reset t) items none)
+table-last rate previous chunks pieces passed Quiet items none bare final = ap table (flow_from-last (counted (pace_gives rate)) (open_state previous chunks pieces passed) Quiet items none)
 
 -- every byte of a bandwidth's flow leaves when it is due, or later
-pub AreDue-flow : (rate first : ℕ) (items : List Item) (previous chunks pieces passed position since n : ℕ) → 0 < rate → due rate first n ≤ max previous since → IsStreamFrom position since items → AreDue rate first n (table (flow_from (counted (paced rate)) (open_state previous chunks pieces passed) items))
+pub AreDue-flow : (rate first : ℕ) (items : List Item) (previous chunks pieces passed position since n : ℕ) → 0 < rate → due rate first n ≤ max previous since → IsStreamFrom position since items → AreDue rate first n (table (flow_from (counted (pace_gives rate)) (open_state previous chunks pieces passed) items))
 AreDue-flow rate first [] previous chunks pieces passed position since n positive before stream = tt
 AreDue-flow rate first (Chunk span t ∷ items) previous chunks pieces passed position since n positive before stream =
     let size : 0 < 100 * rate = omega arith in
     let ready : due rate first n ≤ max previous t = omega (arith, before, stream.2) in
     let given : List Item = leave (λ len. div_ceil (1000 * len) rate) previous t (cut (λ _. 100 * rate) 0 span.start (span_len span) (span_len span)) in
     rw (has_final-leave (λ len. div_ceil (1000 * len) rate) previous t (cut (λ _. 100 * rate) 0 span.start (span_len span) (span_len span)))
-    (rw (table-append given (flow_from (counted (paced rate)) (open_state (latest_from previous given) (chunks + 1) (pieces + chunk_count given) (passed + arrived given)) items))
+    (rw (table-append given (flow_from (counted (pace_gives rate)) (open_state (latest_from previous given) (chunks + 1) (pieces + chunk_count given) (passed + arrived given)) items))
     (leave_due rate first (100 * rate) 0 span.start (span_len span) (span_len span) previous t n _ positive size (omega arith) ready
     (AreDue-flow rate first items (latest_from previous given) (chunks + 1) (pieces + chunk_count given) (passed + arrived given) span.stop t (n + span_len span) positive
     (leave_latest rate first (100 * rate) 0 span.start (span_len span) (span_len span) previous t n positive size (omega arith) ready) stream.4)))
@@ -134,7 +135,7 @@ IsStreamFrom-first (Reset t ∷ items) position stream = stream
 IsStreamFrom-first (Quiet ∷ items) position stream = stream
 
 -- the manual's law of bandwidth
-pub bandwidth_law : (rate : ℕ) (items : List Item) (n : ℕ) → 0 < rate → IsStreamFrom 0 0 items → n < length (table (flow_from (counted (paced rate)) (open_state 0 0 0 0) items)) → due rate (first_instant items) (n + 1) ≤ slice_index (table (flow_from (counted (paced rate)) (open_state 0 0 0 0) items)) n
+pub bandwidth_law : (rate : ℕ) (items : List Item) (n : ℕ) → 0 < rate → IsStreamFrom 0 0 items → n < length (table (flow_from (counted (pace_gives rate)) (open_state 0 0 0 0) items)) → due rate (first_instant items) (n + 1) ≤ slice_index (table (flow_from (counted (pace_gives rate)) (open_state 0 0 0 0) items)) n
 bandwidth_law rate items n positive stream within =
     let zero_due = due-zero rate (first_instant items) positive in
     let same : 0 + n + 1 ≡ n + 1 = omega arith in

@@ -11,8 +11,9 @@ use Rattle.tox_time.specs.Time.{plus}
 use Rattle.tox_time.specs.Stream.{span_len}
 use Rattle.tox_defs.specs.declared.state.State.{State}
 use Rattle.tox_defs.specs.Reaction.{Giving, counted, state_after, with_piece, with_chunk, flow_from, state_from}
-use Rattle.tox_defs.specs.Givings.{cut, pieces_of, leave}
-use Rattle.tox_defs.specs.Look.{as_chunk, rest_of, Continues, after_piece_of, first_span}
+use Rattle.tox_defs.specs.Pieces.{cut, pieces_of, leave}
+use Rattle.tox_defs.specs.Look.{as_chunk, rest_of, Continues, after_piece_of}
+use Rattle.tox_defs.specs.Pieces.{first_span}
 use Rattle.tox_defs.proofs.FlowLemmas.{state_same, Continues-counted}
 
 -- room for more pieces than there are bytes changes nothing

@@ -9,7 +9,7 @@ use Rattle.tox_time.specs.Time.{plus, IsInstant}
 use Rattle.tox_time.specs.Stream.{has_final, latest_from, is_final, IsStreamFrom}
 use Rattle.tox_defs.specs.Reaction.{Giving, counted, flow_from, state_after}
 use Rattle.tox_defs.specs.declared.state.State.{State}
-use Rattle.tox_defs.specs.Givings.{cut, leave}
+use Rattle.tox_defs.specs.Pieces.{cut, leave}
 use Rattle.tox_defs.proofs.OpenStates.{open_state}
 use Rattle.tox_defs.proofs.FlowLemmas.{flow_from-done, flow_from-last}
 

@@ -7,6 +7,7 @@ use Rattle.tox_time.specs.declared.slice.Slice.{Slice}
 use Rattle.tox_time.specs.declared.item.Item.{Item}
 use Rattle.tox_time.specs.declared.ending.Ending.{Ending}
 use Rattle.tox_time.specs.Table.{final_of}
+use Rattle.tox_words.specs.Draw.{Draws}
 use Rattle.tox_defs.specs.declared.state.State.{State}
 use Rattle.tox_defs.specs.declared.level.Level.{Level}
 use Rattle.tox_defs.specs.declared.look.Look.TheVariants.{Piece, LastPiece, Ended}
@@ -24,30 +25,30 @@ rest_of-read start stop instant read = rw (le-ltb start stop read)
 pub rest_of-unread : (start stop instant : ℕ) → start < stop → rest_of start stop instant ≡ as_chunk (record { span = record { start = start; stop = stop }; instant = instant }) ∷ []
 rest_of-unread start stop instant unread = rw (lt-ltb start stop unread)
 
-pub level_gives-running : (words : List ℕ) (start : ℕ) (level : Level) (items : List Item) → level.ending ≡ None
-    → level_gives words start level items ≡ flow_from (op_reaction level.op words) level.state (rest_of start level.stop level.instant ++ items)
-level_gives-running words start level items running = ap (λ ending. ending_or ending (flow_from (op_reaction level.op words) level.state (rest_of start level.stop level.instant ++ items))) running
+pub level_gives-running : (draws : Draws) (start : ℕ) (level : Level) (items : List Item) → level.ending ≡ None
+    → level_gives draws start level items ≡ flow_from (op_reaction level.op draws) level.state (rest_of start level.stop level.instant ++ items)
+level_gives-running draws start level items running = ap (λ ending. ending_or ending (flow_from (op_reaction level.op draws) level.state (rest_of start level.stop level.instant ++ items))) running
 
-pub level_gives-ended : (words : List ℕ) (start : ℕ) (level : Level) (ending : Ending) (items : List Item) → level.ending ≡ Some ending
-    → level_gives words start level items ≡ final_of ending ∷ []
-level_gives-ended words start level ending items ended = ap (λ ending. ending_or ending (flow_from (op_reaction level.op words) level.state (rest_of start level.stop level.instant ++ items))) ended
+pub level_gives-ended : (draws : Draws) (start : ℕ) (level : Level) (ending : Ending) (items : List Item) → level.ending ≡ Some ending
+    → level_gives draws start level items ≡ final_of ending ∷ []
+level_gives-ended draws start level ending items ended = ap (λ ending. ending_or ending (flow_from (op_reaction level.op draws) level.state (rest_of start level.stop level.instant ++ items))) ended
 
-pub level_leaves-running : (words : List ℕ) (start : ℕ) (level : Level) → level.ending ≡ None
-    → level_leaves words start level ≡ state_from (op_reaction level.op words) level.state (rest_of start level.stop level.instant)
-level_leaves-running words start level running = ap (λ ending. ended_or ending level.state (state_from (op_reaction level.op words) level.state (rest_of start level.stop level.instant))) running
+pub level_leaves-running : (draws : Draws) (start : ℕ) (level : Level) → level.ending ≡ None
+    → level_leaves draws start level ≡ state_from (op_reaction level.op draws) level.state (rest_of start level.stop level.instant)
+level_leaves-running draws start level running = ap (λ ending. ended_or ending level.state (state_from (op_reaction level.op draws) level.state (rest_of start level.stop level.instant))) running
 
 -- the unread bytes of a level's present chunk
 abbrev pub rest_at : ℕ → Level → Slice
 rest_at start level = record { span = record { start = start; stop = level.stop }; instant = level.instant }
 
-module _ (words : List ℕ) (start : ℕ) (level : Level) (running : level.ending ≡ None) (some : start < level.stop) where
-  gives_now : (items : List Item) → level_gives words start level items ≡ flow_from (op_reaction level.op words) level.state (as_chunk (rest_at start level) ∷ items)
-  gives_now items = level_gives-running words start level items running
-      ∙ ap (λ rest. flow_from (op_reaction level.op words) level.state (rest ++ items)) (rest_of-unread start level.stop level.instant some)
+module _ (draws : Draws) (start : ℕ) (level : Level) (running : level.ending ≡ None) (some : start < level.stop) where
+  gives_now : (items : List Item) → level_gives draws start level items ≡ flow_from (op_reaction level.op draws) level.state (as_chunk (rest_at start level) ∷ items)
+  gives_now items = level_gives-running draws start level items running
+      ∙ ap (λ rest. flow_from (op_reaction level.op draws) level.state (rest ++ items)) (rest_of-unread start level.stop level.instant some)
 
-  leaves_now : level_leaves words start level ≡ state_from (op_reaction level.op words) level.state (as_chunk (rest_at start level) ∷ [])
-  leaves_now = level_leaves-running words start level running
-      ∙ ap (λ rest. state_from (op_reaction level.op words) level.state rest) (rest_of-unread start level.stop level.instant some)
+  leaves_now : level_leaves draws start level ≡ state_from (op_reaction level.op draws) level.state (as_chunk (rest_at start level) ∷ [])
+  leaves_now = level_leaves-running draws start level running
+      ∙ ap (λ rest. state_from (op_reaction level.op draws) level.state rest) (rest_of-unread start level.stop level.instant some)
 
 -- what a piece counts
 counted_piece : (ends : Bool) (state : State) (piece : Slice) (start : ℕ) → state.chunks ≤ start → start < piece.span.stop → (if ends then with_chunk (with_piece state piece) else with_piece state piece).chunks ≤ piece.span.stop
@@ -67,10 +68,10 @@ same_done true state piece = refl
 same_done false state piece = refl
 
 -- a level whose look found a piece
-pub level_at_piece : (words : List ℕ) (start : ℕ) (level : Level) (piece : Slice) → level.ending ≡ None → start < level.stop → IsSound start level
-    → ((items : List Item) → Finds (op_reaction level.op words) level.state (rest_at start level) items (Piece piece)) → IsFront (rest_at start level) piece
-    → IsNextPiece words start level (record { op = level.op; state = after_piece_of level.stop level.state piece; stop = level.stop; instant = level.instant; ending = level.ending }) piece
-level_at_piece words start level piece running some sound finds front =
+pub level_at_piece : (draws : Draws) (start : ℕ) (level : Level) (piece : Slice) → level.ending ≡ None → start < level.stop → IsSound start level
+    → ((items : List Item) → Finds (op_reaction level.op draws) level.state (rest_at start level) items (Piece piece)) → IsFront (rest_at start level) piece
+    → IsNextPiece draws start level (record { op = level.op; state = after_piece_of level.stop level.state piece; stop = level.stop; instant = level.instant; ending = level.ending }) piece
+level_at_piece draws start level piece running some sound finds front =
     let ends : Bool = piece.span.stop == level.stop in
     let past : start < piece.span.stop = omega (arith, front.begins, front.some) in
     let later : Level = record { op = level.op; state = after_piece_of level.stop level.state piece; stop = level.stop; instant = level.instant; ending = level.ending } in
@@ -90,18 +91,18 @@ level_at_piece words start level piece running some sound finds front =
         running = λ none. same_done ends level.state piece ∙ sound.running none;
         operation = sound.operation;
       };
-      gives = λ items. gives_now words start level running some items ∙ (finds items).gives
-          ∙ ap (λ given. as_chunk piece ∷ given) (sym (level_gives-running words piece.span.stop later items running));
-      leaves = leaves_now words start level running some ∙ (finds []).leaves
-          ∙ ap (λ rest. state_from (op_reaction level.op words) (after_piece_of level.stop level.state piece) rest) (append-nil (rest_of piece.span.stop level.stop level.instant))
-          ∙ sym (level_leaves-running words piece.span.stop later running);
+      gives = λ items. gives_now draws start level running some items ∙ (finds items).gives
+          ∙ ap (λ given. as_chunk piece ∷ given) (sym (level_gives-running draws piece.span.stop later items running));
+      leaves = leaves_now draws start level running some ∙ (finds []).leaves
+          ∙ ap (λ rest. state_from (op_reaction level.op draws) (after_piece_of level.stop level.state piece) rest) (append-nil (rest_of piece.span.stop level.stop level.instant))
+          ∙ sym (level_leaves-running draws piece.span.stop later running);
     }
 
 -- a level whose look found its last piece
-pub level_at_last_piece : (words : List ℕ) (start : ℕ) (level : Level) (piece : Slice) (ending : Ending) → level.ending ≡ None → start < level.stop → IsSound start level
-    → ((items : List Item) → Finds (op_reaction level.op words) level.state (rest_at start level) items (LastPiece piece ending)) → IsFront (rest_at start level) piece
-    → IsNextPiece words start level (record { op = level.op; state = with_ending (with_chunk (with_piece level.state piece)) ending; stop = level.stop; instant = level.instant; ending = Some ending }) piece
-level_at_last_piece words start level piece ending running some sound finds front =
+pub level_at_last_piece : (draws : Draws) (start : ℕ) (level : Level) (piece : Slice) (ending : Ending) → level.ending ≡ None → start < level.stop → IsSound start level
+    → ((items : List Item) → Finds (op_reaction level.op draws) level.state (rest_at start level) items (LastPiece piece ending)) → IsFront (rest_at start level) piece
+    → IsNextPiece draws start level (record { op = level.op; state = with_ending (with_chunk (with_piece level.state piece)) ending; stop = level.stop; instant = level.instant; ending = Some ending }) piece
+level_at_last_piece draws start level piece ending running some sound finds front =
     let past : start < piece.span.stop = omega (arith, front.begins, front.some) in
     let done : State = with_ending (with_chunk (with_piece level.state piece)) ending in
     record {
@@ -120,16 +121,16 @@ level_at_last_piece words start level piece ending running some sound finds fron
         running = λ none. absurd (cc);
         operation = sound.operation;
       };
-      gives = λ items. gives_now words start level running some items ∙ (finds items).gives
-          ∙ ap (λ later. as_chunk piece ∷ final_of ending ∷ later) (flow_from-done (op_reaction level.op words) done items refl);
-      leaves = leaves_now words start level running some ∙ (finds []).leaves;
+      gives = λ items. gives_now draws start level running some items ∙ (finds items).gives
+          ∙ ap (λ later. as_chunk piece ∷ final_of ending ∷ later) (flow_from-done (op_reaction level.op draws) done items refl);
+      leaves = leaves_now draws start level running some ∙ (finds []).leaves;
     }
 
 -- a level whose look found its ending
-pub level_at_end : (words : List ℕ) (start : ℕ) (level : Level) (ending : Ending) → level.ending ≡ None → start < level.stop
-    → ((items : List Item) → Finds (op_reaction level.op words) level.state (rest_at start level) items (Ended ending))
-    → IsAtEnd words start level (record { op = level.op; state = with_ending (with_chunk level.state) ending; stop = level.stop; instant = level.instant; ending = Some ending }) ending
-level_at_end words start level ending running some finds =
+pub level_at_end : (draws : Draws) (start : ℕ) (level : Level) (ending : Ending) → level.ending ≡ None → start < level.stop
+    → ((items : List Item) → Finds (op_reaction level.op draws) level.state (rest_at start level) items (Ended ending))
+    → IsAtEnd draws start level (record { op = level.op; state = with_ending (with_chunk level.state) ending; stop = level.stop; instant = level.instant; ending = Some ending }) ending
+level_at_end draws start level ending running some finds =
     let done : State = with_ending (with_chunk level.state) ending in
     record {
       op = refl;
@@ -137,7 +138,7 @@ level_at_end words start level ending running some finds =
       instant = refl;
       ended = refl;
       done = refl;
-      gives = λ items. gives_now words start level running some items ∙ (finds items).gives
-          ∙ ap (λ later. final_of ending ∷ later) (flow_from-done (op_reaction level.op words) done items refl);
-      leaves = leaves_now words start level running some ∙ (finds []).leaves;
+      gives = λ items. gives_now draws start level running some items ∙ (finds items).gives
+          ∙ ap (λ later. final_of ending ∷ later) (flow_from-done (op_reaction level.op draws) done items refl);
+      leaves = leaves_now draws start level running some ∙ (finds []).leaves;
     }

@@ -7,7 +7,7 @@ use Rattle.tox_time.specs.Stream.{span_len, arrived, IsStreamFrom}
 use Rattle.tox_time.specs.Table.{table}
 use Rattle.tox_defs.specs.declared.state.State.{State}
 use Rattle.tox_defs.specs.Reaction.{state_after, counted, flow_from}
-use Rattle.tox_defs.specs.Givings.{limited, first_bytes}
+use Rattle.tox_defs.specs.toxics.LimitData.{limit_gives, first_bytes}
 use Rattle.tox_defs.proofs.FlowLemmas.{flow_from-done}
 use Rattle.std.proofs.lemmas.List.{length-replicate, append-nil}
 use Rattle.std.proofs.lemmas.Bool.{ltb-true, ltb-false}
@@ -21,7 +21,7 @@ table-first_bytes (suc n) span t =
     rw width (simp (length-append, length-replicate) (omega arith))
 
 abbrev limited_table : ℕ → State → List Item → List ℕ
-limited_table bytes state items = table (flow_from (counted (limited bytes)) state items)
+limited_table bytes state items = table (flow_from (counted (limit_gives bytes)) state items)
 
 limited_chunk : (bytes : ℕ) (span : Span) (t : ℕ) (items : List Item) (previous chunks pieces passed : ℕ) (b : Bool) → nat_lt (span_len span) (bytes - passed) ≡ b → (passed + (span_len span + 0) ≤ bytes → length (limited_table bytes (open_state t (chunks + 1) (pieces + 1) (passed + (span_len span + 0))) items) ≡ min (bytes - (passed + (span_len span + 0))) (arrived items)) → passed ≤ bytes → length (limited_table bytes (open_state previous chunks pieces passed) (Chunk span t ∷ items)) ≡ min (bytes - passed) (span_len span + arrived items)
 limited_chunk bytes span t items previous chunks pieces passed true e others within =
@@ -29,7 +29,7 @@ limited_chunk bytes span t items previous chunks pieces passed true e others wit
     rw e (simp (length-append, length-replicate) (rw (others (omega arith)) (omega arith)))
 limited_chunk bytes span t items previous chunks pieces passed false e others within =
     let more : bytes - passed ≤ span_len span = ltb-false (span_len span) (bytes - passed) e in
-    rw e (rw (flow_from-done (counted (limited bytes)) (state_after (open_state previous chunks pieces passed) (Chunk span t) (first_bytes (bytes - passed) span t ++ (Closed t ∷ []))) items (has_final-first_bytes (bytes - passed) span t)) (rw (append-nil (first_bytes (bytes - passed) span t ++ (Closed t ∷ []))) (rw (table-first_bytes (bytes - passed) span t) (omega arith))))
+    rw e (rw (flow_from-done (counted (limit_gives bytes)) (state_after (open_state previous chunks pieces passed) (Chunk span t) (first_bytes (bytes - passed) span t ++ (Closed t ∷ []))) items (has_final-first_bytes (bytes - passed) span t)) (rw (append-nil (first_bytes (bytes - passed) span t ++ (Closed t ∷ []))) (rw (table-first_bytes (bytes - passed) span t) (omega arith))))
 
 -- a limit lets its number of bytes through, or all there are
 pub length-limited_table : (bytes : ℕ) (items : List Item) (previous chunks pieces passed position since : ℕ) → passed ≤ bytes → IsStreamFrom position since items → length (limited_table bytes (open_state previous chunks pieces passed) items) ≡ min (bytes - passed) (arrived items)

@@ -1,31 +1,32 @@
 -- The operation of a toxic reacts as the toxic does, and is one that a plan may have.
-use Rattle.std.proofs.Common.{◌≡◌, ℕ, zero, suc, ◌+◌, ◌*◌, ◌<◌, Bool, true, false, Some, None, List, refl, ap, arith, if◌then◌else◌}
+use Rattle.std.proofs.Common.{◌≡◌, ℕ, zero, suc, ◌+◌, ◌*◌, ◌<◌, Bool, true, false, Some, None, refl, ap, arith, if◌then◌else◌}
 use Rattle.std.specs.Prelude.{nat_le}
 use Rattle.std.proofs.lemmas.Bool.{and_parts, leb-true, leb-false}
 use mathlib.Core.Path.{fun_ext}
-use Rattle.tox_words.specs.Draw.{draw}
+use Rattle.tox_words.specs.Draw.{Draws}
 use Rattle.tox_defs.specs.declared.toxic.Toxic.{Toxic}
 use Rattle.tox_defs.specs.declared.toxic.Toxic.TheVariants.{Latency, Bandwidth, SlowClose, Timeout, ResetPeer, Slicer, LimitData}
 use Rattle.tox_defs.specs.declared.toxic.ToxicFault.TheVariants.{OutOfRange, Variation}
 use Rattle.tox_defs.specs.Toxic.{IsInRange, is_within}
 use Rattle.tox_defs.specs.Reaction.{counted}
-use Rattle.tox_defs.specs.Givings.{delayed}
-use Rattle.tox_defs.specs.Flow.{toxic_reaction, varied}
+use Rattle.tox_defs.specs.toxics.Latency.{delay_gives}
+use Rattle.tox_defs.specs.Flow.{toxic_reaction}
+use Rattle.tox_defs.specs.Varied.{varied}
 use Rattle.tox_defs.specs.Op.{op_reaction, op_of, IsOp}
 
-pub op_reaction-op_of : (place : ℕ) (toxic : Toxic) (words : List ℕ) → op_reaction (op_of place toxic) words ≡ toxic_reaction toxic (draw words place)
-op_reaction-op_of place (Latency latency zero) words =
-    let waits : (chunk : ℕ) → 1000 * (latency + varied 0 0 (draw words 0 (1 + chunk))) ≡ 1000 * varied latency 0 (draw words place (1 + chunk)) = λ chunk. omega arith in
-    ap (λ wait. counted (delayed wait)) (fun_ext waits)
-op_reaction-op_of place (Latency latency (suc jitter)) words =
-    let waits : (chunk : ℕ) → 1000 * (0 + varied latency (suc jitter) (draw words place (1 + chunk))) ≡ 1000 * varied latency (suc jitter) (draw words place (1 + chunk)) = λ chunk. omega arith in
-    ap (λ wait. counted (delayed wait)) (fun_ext waits)
-op_reaction-op_of place (Bandwidth rate) words = refl
-op_reaction-op_of place (SlowClose delay) words = refl
-op_reaction-op_of place (Timeout timeout) words = refl
-op_reaction-op_of place (ResetPeer timeout) words = refl
-op_reaction-op_of place (Slicer average_size size_variation delay) words = refl
-op_reaction-op_of place (LimitData bytes) words = refl
+pub op_reaction-op_of : (place : ℕ) (toxic : Toxic) (draws : Draws) → op_reaction (op_of place toxic) draws ≡ toxic_reaction toxic (draws place)
+op_reaction-op_of place (Latency latency zero) draws =
+    let waits : (chunk : ℕ) → 1000 * (latency + varied 0 0 (draws 0 (1 + chunk))) ≡ 1000 * varied latency 0 (draws place (1 + chunk)) = λ chunk. omega arith in
+    ap (λ wait. counted (delay_gives wait)) (fun_ext waits)
+op_reaction-op_of place (Latency latency (suc jitter)) draws =
+    let waits : (chunk : ℕ) → 1000 * (0 + varied latency (suc jitter) (draws place (1 + chunk))) ≡ 1000 * varied latency (suc jitter) (draws place (1 + chunk)) = λ chunk. omega arith in
+    ap (λ wait. counted (delay_gives wait)) (fun_ext waits)
+op_reaction-op_of place (Bandwidth rate) draws = refl
+op_reaction-op_of place (SlowClose delay) draws = refl
+op_reaction-op_of place (Timeout timeout) draws = refl
+op_reaction-op_of place (ResetPeer timeout) draws = refl
+op_reaction-op_of place (Slicer average_size size_variation delay) draws = refl
+op_reaction-op_of place (LimitData bytes) draws = refl
 
 -- what it says of the two tests that there is no fault
 pub both_tests : (within varied_much : Bool) → (if within then (if varied_much then Some Variation else None) else Some OutOfRange) ≡ None → (within ≡ true) × (varied_much ≡ false)

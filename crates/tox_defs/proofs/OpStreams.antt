@@ -1,16 +1,21 @@
 -- Operations give streams for streams.
-use Rattle.std.proofs.Common.{ℕ, ◌+◌, ◌*◌, List, [], ◌∷◌, refl, arith}
+use Rattle.std.proofs.Common.{◌+◌, ◌*◌, List, [], ◌∷◌, refl, arith}
 use Rattle.tox_time.specs.declared.item.Item.{Item}
 use Rattle.tox_time.specs.declared.ending.Ending.{Ending}
 use Rattle.tox_time.specs.declared.ending.Ending.TheVariants.{StillOpen, Closed, Reset}
 use Rattle.tox_time.specs.Stream.{IsStream}
 use Rattle.tox_time.specs.Table.{final_of}
-use Rattle.tox_words.specs.Draw.{draw}
+use Rattle.tox_words.specs.Draw.{Draws}
 use Rattle.tox_defs.specs.declared.op.Op.{Op}
 use Rattle.tox_defs.specs.declared.op.Op.TheVariants.{Delay, Pace, Slow, Mute, Cutoff, Slicing, Limit}
 use Rattle.tox_defs.specs.Reaction.{flow}
-use Rattle.tox_defs.specs.Givings.{delayed, paced, sliced, closed_later, cut_off, limited}
-use Rattle.tox_defs.specs.Flow.{varied}
+use Rattle.tox_defs.specs.toxics.Latency.{delay_gives}
+use Rattle.tox_defs.specs.toxics.Bandwidth.{pace_gives}
+use Rattle.tox_defs.specs.toxics.Slicer.{slicing_gives}
+use Rattle.tox_defs.specs.toxics.SlowClose.{slow_gives}
+use Rattle.tox_defs.specs.toxics.ResetPeer.{cutoff_gives}
+use Rattle.tox_defs.specs.toxics.LimitData.{limit_gives}
+use Rattle.tox_defs.specs.Varied.{varied}
 use Rattle.tox_defs.specs.Op.{op_reaction, IsOp, EndsInTime}
 use Rattle.tox_defs.proofs.Drawn.{varied-positive}
 use Rattle.tox_defs.proofs.KeepingStreams.{IsStreamFrom-flow}
@@ -21,14 +26,14 @@ IsStream-final StillOpen fits = refl
 IsStream-final (Closed t) fits = (omega arith, fits, refl)
 IsStream-final (Reset t) fits = (omega arith, fits, refl)
 
-pub IsStream-op_flow : (op : Op) (words : List ℕ) (items : List Item) → IsOp op → IsStream items → IsStream (flow (op_reaction op words) items)
-IsStream-op_flow (Delay fixed latency jitter lane) words items fits stream =
-    IsStreamFrom-flow Whatever (delayed (λ chunk. 1000 * (fixed + varied latency jitter (draw words lane (1 + chunk))))) (delayed_keeps (λ chunk. 1000 * (fixed + varied latency jitter (draw words lane (1 + chunk))))) items 0 0 0 0 0 0 (omega arith) tt stream
-IsStream-op_flow (Pace rate) words items fits stream = IsStreamFrom-flow Whatever (paced rate) (paced_keeps rate fits) items 0 0 0 0 0 0 (omega arith) tt stream
-IsStream-op_flow (Slow millis) words items fits stream = IsStreamFrom-flow NotAfter (closed_later (1000 * millis)) (closed_later_keeps (1000 * millis)) items 0 0 0 0 0 0 (omega arith) (omega arith) stream
-IsStream-op_flow (Mute ending) words items fits stream = rw (flow_from-muted (final_of ending) items 0 0 0 0 0 0 stream) (IsStream-final ending fits)
-IsStream-op_flow (Cutoff instant) words items fits stream =
-    IsStreamFrom-flow (NotAfterEither instant) (cut_off instant) (cut_off_keeps instant fits) items 0 0 0 0 0 0 (omega arith) (omega arith, omega arith) stream
-IsStream-op_flow (Slicing average variation micros lane) words items fits stream =
-    IsStreamFrom-flow Whatever (sliced (λ piece. varied average variation (draw words lane (1 + piece))) micros) (sliced_keeps (λ piece. varied average variation (draw words lane (1 + piece))) micros (λ piece. varied-positive average variation (draw words lane (1 + piece)) fits)) items 0 0 0 0 0 0 (omega arith) tt stream
-IsStream-op_flow (Limit bytes) words items fits stream = IsStreamFrom-flow NotAfter (limited bytes) (limited_keeps bytes) items 0 0 0 0 0 0 (omega arith) (omega arith) stream
+pub IsStream-op_flow : (op : Op) (draws : Draws) (items : List Item) → IsOp op → IsStream items → IsStream (flow (op_reaction op draws) items)
+IsStream-op_flow (Delay fixed latency jitter lane) draws items fits stream =
+    IsStreamFrom-flow Whatever (delay_gives (λ chunk. 1000 * (fixed + varied latency jitter (draws lane (1 + chunk))))) (delayed_keeps (λ chunk. 1000 * (fixed + varied latency jitter (draws lane (1 + chunk))))) items 0 0 0 0 0 0 (omega arith) tt stream
+IsStream-op_flow (Pace rate) draws items fits stream = IsStreamFrom-flow Whatever (pace_gives rate) (paced_keeps rate fits) items 0 0 0 0 0 0 (omega arith) tt stream
+IsStream-op_flow (Slow millis) draws items fits stream = IsStreamFrom-flow NotAfter (slow_gives (1000 * millis)) (closed_later_keeps (1000 * millis)) items 0 0 0 0 0 0 (omega arith) (omega arith) stream
+IsStream-op_flow (Mute ending) draws items fits stream = rw (flow_from-muted (final_of ending) items 0 0 0 0 0 0 stream) (IsStream-final ending fits)
+IsStream-op_flow (Cutoff instant) draws items fits stream =
+    IsStreamFrom-flow (NotAfterEither instant) (cutoff_gives instant) (cut_off_keeps instant fits) items 0 0 0 0 0 0 (omega arith) (omega arith, omega arith) stream
+IsStream-op_flow (Slicing average variation micros lane) draws items fits stream =
+    IsStreamFrom-flow Whatever (slicing_gives (λ piece. varied average variation (draws lane (1 + piece))) micros) (sliced_keeps (λ piece. varied average variation (draws lane (1 + piece))) micros (λ piece. varied-positive average variation (draws lane (1 + piece)) fits)) items 0 0 0 0 0 0 (omega arith) tt stream
+IsStream-op_flow (Limit bytes) draws items fits stream = IsStreamFrom-flow NotAfter (limit_gives bytes) (limited_keeps bytes) items 0 0 0 0 0 0 (omega arith) (omega arith) stream

@@ -5,7 +5,8 @@ use Rattle.tox_time.specs.declared.item.Item.TheVariants.{Closed}
 use Rattle.tox_time.specs.Time.{plus}
 use Rattle.tox_time.specs.Stream.{span_len, has_final}
 use Rattle.tox_defs.specs.declared.state.State.{State}
-use Rattle.tox_defs.specs.Givings.{first_bytes, leave}
+use Rattle.tox_defs.specs.toxics.LimitData.{first_bytes}
+use Rattle.tox_defs.specs.Pieces.{leave}
 
 -- a state that has given no final
 abbrev pub open_state : ℕ → ℕ → ℕ → ℕ → State

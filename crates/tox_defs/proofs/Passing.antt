@@ -16,8 +16,13 @@ use Rattle.tox_defs.specs.declared.state.State.{State}
 use Rattle.tox_defs.specs.declared.toxic.Toxic.{Toxic}
 use Rattle.tox_defs.specs.declared.toxic.Toxic.TheVariants.{Latency, Bandwidth, SlowClose, Timeout, ResetPeer, Slicer, LimitData}
 use Rattle.tox_defs.specs.Reaction.{Giving, react, counted, flow_from}
-use Rattle.tox_defs.specs.Givings.{cut, leave, first_bytes, is_before, limited, muted}
-use Rattle.tox_defs.specs.Flow.{toxic_giving, timeout_ending, varied}
+use Rattle.tox_defs.specs.Pieces.{cut, leave}
+use Rattle.tox_defs.specs.toxics.LimitData.{first_bytes, limit_gives}
+use Rattle.tox_defs.specs.toxics.ResetPeer.{is_before}
+use Rattle.tox_defs.specs.toxics.Timeout.{mute_gives}
+use Rattle.tox_defs.specs.Flow.{toxic_giving}
+use Rattle.tox_defs.specs.toxics.Timeout.{timeout_ending}
+use Rattle.tox_defs.specs.Varied.{varied}
 use Rattle.tox_defs.specs.Laws.{toxic_flow}
 
 -- what is given for an item has no more bytes than the item
@@ -51,13 +56,13 @@ limited_by false bytes state span t is =
     let room : bytes - state.passed ≤ span_len span = ltb-false (span_len span) (bytes - state.passed) is in
     omega (arith, arrived-first_bytes (bytes - state.passed) span t, room)
 
-muted-passes : (ending : Ending) → PassesAtMost (muted (final_of ending))
+muted-passes : (ending : Ending) → PassesAtMost (mute_gives (final_of ending))
 muted-passes ending state (Chunk span t) = omega arith
 muted-passes ending state (Closed t) = omega (arith, arrived-final ending)
 muted-passes ending state (Reset t) = omega (arith, arrived-final ending)
 muted-passes ending state Quiet = omega (arith, arrived-final ending)
 
-limited-passes : (bytes : ℕ) → PassesAtMost (limited bytes)
+limited-passes : (bytes : ℕ) → PassesAtMost (limit_gives bytes)
 limited-passes bytes state (Chunk span t) = limited_by (nat_lt (span_len span) (bytes - state.passed)) bytes state span t refl
 limited-passes bytes state (Closed t) = omega arith
 limited-passes bytes state (Reset t) = omega arith

@@ -7,7 +7,7 @@ use Rattle.tox_time.specs.Stream.{span_len, IsStreamFrom}
 use Rattle.tox_time.specs.Table.{table}
 use Rattle.tox_defs.specs.declared.state.State.{State}
 use Rattle.tox_defs.specs.Reaction.{counted, flow_from}
-use Rattle.tox_defs.specs.Givings.{cut_off, is_before}
+use Rattle.tox_defs.specs.toxics.ResetPeer.{cutoff_gives, is_before}
 use Rattle.tox_defs.proofs.FlowLemmas.{flow_from-done}
 use Rattle.std.proofs.lemmas.List.Elements.{All-append, All-replicate, All-nil}
 use Rattle.std.proofs.lemmas.Bool.{ltb-true}
@@ -15,14 +15,14 @@ use Rattle.std.specs.Prelude.{All, nat_lt}
 use Rattle.tox_defs.proofs.OpenStates.{open_state}
 
 abbrev cut_table : ℕ → State → List Item → List ℕ
-cut_table instant state items = table (flow_from (counted (cut_off instant)) state items)
+cut_table instant state items = table (flow_from (counted (cutoff_gives instant)) state items)
 
 -- a chunk, by whether it is before the cutoff
 cut_off_chunk : (instant : ℕ) (span : Span) (t : ℕ) (items : List Item) (previous chunks pieces passed : ℕ) (b : Bool) → nat_lt t instant ≡ b → All (λ at. at < instant) (cut_table instant (open_state t (chunks + 1) (pieces + 1) (passed + (span_len span + 0))) items) → All (λ at. at < instant) (cut_table instant (open_state previous chunks pieces passed) (Chunk span t ∷ items))
 cut_off_chunk instant span t items previous chunks pieces passed true e others =
     rw e (All-append (λ at. at < instant) _ _ (All-replicate (λ at. at < instant) (span_len span) t (ltb-true t instant e)) others)
 cut_off_chunk instant span t items previous chunks pieces passed false e others =
-    rw e (rw (flow_from-done (counted (cut_off instant)) (record { previous = instant; chunks = chunks + 1; pieces = pieces + 0; passed = passed + 0; done = true }) items refl) (All-nil (λ at. at < instant)))
+    rw e (rw (flow_from-done (counted (cutoff_gives instant)) (record { previous = instant; chunks = chunks + 1; pieces = pieces + 0; passed = passed + 0; done = true }) items refl) (All-nil (λ at. at < instant)))
 
 cut_final : (instant : ℕ) (final : Item) (previous chunks pieces passed : ℕ) (b : Bool) → is_before instant final ≡ b → table (final ∷ []) ≡ [] → All (λ at. at < instant) (cut_table instant (open_state previous chunks pieces passed) (final ∷ []))
 cut_final instant final previous chunks pieces passed true e bare = rw e (rw bare (All-nil (λ at. at < instant)))

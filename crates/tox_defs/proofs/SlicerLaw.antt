@@ -4,8 +4,9 @@ use Rattle.tox_time.specs.declared.item.Item.{Item}
 use Rattle.tox_time.specs.declared.item.Item.TheVariants.{Chunk, Closed, Reset, Quiet}
 use Rattle.tox_time.specs.Stream.{span_len, IsStreamFrom}
 use Rattle.tox_defs.specs.Reaction.{counted, flow_from}
-use Rattle.tox_defs.specs.Givings.{cut, leave, sliced}
-use Rattle.tox_defs.specs.Laws.{IsSized, StopsAt}
+use Rattle.tox_defs.specs.Pieces.{cut, leave}
+use Rattle.tox_defs.specs.toxics.Slicer.{slicing_gives}
+use Rattle.tox_defs.specs.toxics.Slicer.{IsSized, StopsAt}
 use Rattle.tox_defs.proofs.FlowLemmas.{flow_from-last}
 use Rattle.std.proofs.lemmas.List.Elements.{All-append, All-nil, All-cons, All-same}
 use Rattle.std.proofs.lemmas.Bool.{ltb-true, ltb-false}
@@ -39,18 +40,18 @@ abbrev StopsAmong : List Item → List Item → Type 0
 StopsAmong arrivals items = (stop : ℕ) → StopsAt stop items → StopsAt stop arrivals
 
 -- every piece of a slicer is sized
-pub All-sliced : (arrivals : List Item) (least most : ℕ) (size : ℕ → ℕ) (micros : ℕ) → ((n : ℕ) → (least ≤ size n) × (size n ≤ most)) → (items : List Item) (previous chunks pieces passed position since : ℕ) → StopsAmong arrivals items → IsStreamFrom position since items → All (IsSized arrivals least most) (flow_from (counted (sliced size micros)) (open_state previous chunks pieces passed) items)
+pub All-sliced : (arrivals : List Item) (least most : ℕ) (size : ℕ → ℕ) (micros : ℕ) → ((n : ℕ) → (least ≤ size n) × (size n ≤ most)) → (items : List Item) (previous chunks pieces passed position since : ℕ) → StopsAmong arrivals items → IsStreamFrom position since items → All (IsSized arrivals least most) (flow_from (counted (slicing_gives size micros)) (open_state previous chunks pieces passed) items)
 All-sliced arrivals least most size micros sizes [] previous chunks pieces passed position since among stream = All-nil (IsSized arrivals least most)
 All-sliced arrivals least most size micros sizes (Chunk span t ∷ items) previous chunks pieces passed position since among stream =
     let whole : span.start + (span.stop - span.start) ≡ span.stop = omega (arith, stream.0, stream.1) in
-    let given : List Item = sliced size micros (open_state previous chunks pieces passed) (Chunk span t) in
+    let given : List Item = slicing_gives size micros (open_state previous chunks pieces passed) (Chunk span t) in
     rw (has_final-leave (λ _. micros) previous t (cut size pieces span.start (span_len span) (span_len span)))
     (All-append (IsSized arrivals least most) _ _
     (leave_sized arrivals least most size (λ _. micros) sizes pieces span.start (span_len span) (span_len span) previous t (rw whole (among span.stop (inl refl))))
     (All-sliced arrivals least most size micros sizes items _ _ _ _ span.stop t (λ stop here. among stop (inr here)) stream.4))
 All-sliced arrivals least most size micros sizes (Closed t ∷ items) previous chunks pieces passed position since among stream =
-    All-same (IsSized arrivals least most) _ _ (flow_from-last (counted (sliced size micros)) (open_state previous chunks pieces passed) (Closed t) items stream.2) (All-cons (IsSized arrivals least most) _ [] tt (All-nil (IsSized arrivals least most)))
+    All-same (IsSized arrivals least most) _ _ (flow_from-last (counted (slicing_gives size micros)) (open_state previous chunks pieces passed) (Closed t) items stream.2) (All-cons (IsSized arrivals least most) _ [] tt (All-nil (IsSized arrivals least most)))
 All-sliced arrivals least most size micros sizes (Reset t ∷ items) previous chunks pieces passed position since among stream =
-    All-same (IsSized arrivals least most) _ _ (flow_from-last (counted (sliced size micros)) (open_state previous chunks pieces passed) (Reset t) items stream.2) (All-cons (IsSized arrivals least most) _ [] tt (All-nil (IsSized arrivals least most)))
+    All-same (IsSized arrivals least most) _ _ (flow_from-last (counted (slicing_gives size micros)) (open_state previous chunks pieces passed) (Reset t) items stream.2) (All-cons (IsSized arrivals least most) _ [] tt (All-nil (IsSized arrivals least most)))
 All-sliced arrivals least most size micros sizes (Quiet ∷ items) previous chunks pieces passed position since among stream =
-    All-same (IsSized arrivals least most) _ _ (flow_from-last (counted (sliced size micros)) (open_state previous chunks pieces passed) Quiet items stream) (All-cons (IsSized arrivals least most) _ [] tt (All-nil (IsSized arrivals least most)))
+    All-same (IsSized arrivals least most) _ _ (flow_from-last (counted (slicing_gives size micros)) (open_state previous chunks pieces passed) Quiet items stream) (All-cons (IsSized arrivals least most) _ [] tt (All-nil (IsSized arrivals least most)))

@@ -4,6 +4,7 @@ use Rattle.tox_time.specs.declared.item.Item.{Item}
 use Rattle.tox_time.specs.declared.ending.Ending.{Ending}
 use Rattle.tox_time.specs.declared.ending.Ending.TheVariants.{StillOpen, Closed, Reset}
 use Rattle.tox_time.specs.Table.{final_of}
+use Rattle.tox_words.specs.Draw.{Draws, draw}
 use Rattle.tox_defs.specs.declared.state.State.{State}
 use Rattle.tox_defs.specs.declared.level.Level.{Level}
 use Rattle.tox_defs.specs.declared.place.Place.{Place}
@@ -29,24 +30,24 @@ state_after-final state (Reset u) (Reset t) = state_same _ _ _ _ _ _ _ _ (omega 
 
 -- a stage with nothing left to emit
 read_stage : (words : List ℕ) (start : ℕ) (level : Level) (place : Place) → level.ending ≡ None → start ≡ level.stop
-    → ◌≡◌ {A = Staged} (record { op = level.op; words = words; state = level_leaves words start level; pending = level_gives words start level []; place = place }) (record { op = level.op; words = words; state = level.state; pending = []; place = place })
+    → ◌≡◌ {A = Staged} (record { op = level.op; words = words; state = level_leaves (draw words) start level; pending = level_gives (draw words) start level []; place = place }) (record { op = level.op; words = words; state = level.state; pending = []; place = place })
 read_stage words start level place running read =
     let nothing = rest_of-read start level.stop level.instant (omega (arith, read)) in
     let make : State → List Item → Staged = λ state pending. record { op = level.op; words = words; state = state; pending = pending; place = place } in
-    ap (λ state. make state (level_gives words start level [])) (level_leaves-running words start level running ∙ ap (λ rest. state_from (op_reaction level.op words) level.state rest) nothing)
-    ∙ ap (make level.state) (level_gives-running words start level [] running ∙ ap (λ rest. flow_from (op_reaction level.op words) level.state (rest ++ [])) nothing)
+    ap (λ state. make state (level_gives (draw words) start level [])) (level_leaves-running (draw words) start level running ∙ ap (λ rest. state_from (op_reaction level.op (draw words)) level.state rest) nothing)
+    ∙ ap (make level.state) (level_gives-running (draw words) start level [] running ∙ ap (λ rest. flow_from (op_reaction level.op (draw words)) level.state (rest ++ [])) nothing)
 
 -- a running stage that takes a final has what its operation gives for it to emit
 pub took_final : (words : List ℕ) (start : ℕ) (level : Level) (place : Place) (self : Staged) (item : Item) (ending last : Ending) → level.ending ≡ None → start ≡ level.stop → level.state.done ≡ false
-    → ◌≡◌ {A = Staged} (record { op = level.op; words = words; state = level_leaves words start level; pending = level_gives words start level []; place = place }) self
-    → item ≡ final_of ending → ((words : List ℕ) → op_giving level.op words level.state (final_of ending) ≡ final_of last ∷ [])
+    → ◌≡◌ {A = Staged} (record { op = level.op; words = words; state = level_leaves (draw words) start level; pending = level_gives (draw words) start level []; place = place }) self
+    → item ≡ final_of ending → ((draws : Draws) → op_giving level.op draws level.state (final_of ending) ≡ final_of last ∷ [])
     → ◌≡◌ {A = Staged} (record { op = level.op; words = words; state = with_ending level.state last; pending = final_of last ∷ []; place = place_after place item }) (taken self item)
 took_final words start level place self item ending last running read undone view is gives =
     let make : State → List Item → Staged = λ state pending. record { op = level.op; words = words; state = state; pending = pending; place = place_after place item } in
-    let reacts : react (op_reaction level.op words) level.state item ≡ record { state = with_ending level.state last; given = final_of last ∷ [] }
-    = react-running (op_reaction level.op words) level.state item undone
-    ∙ ap (λ item. op_reaction level.op words level.state item) is
-    ∙ ap (λ given. record { state = state_after level.state (final_of ending) given; given = given }) (gives words)
+    let reacts : react (op_reaction level.op (draw words)) level.state item ≡ record { state = with_ending level.state last; given = final_of last ∷ [] }
+    = react-running (op_reaction level.op (draw words)) level.state item undone
+    ∙ ap (λ item. op_reaction level.op (draw words) level.state item) is
+    ∙ ap (λ given. record { state = state_after level.state (final_of ending) given; given = given }) (gives (draw words))
     ∙ ap (λ state. record { state = state; given = final_of last ∷ [] }) (state_after-final level.state ending last) in
     ap (λ answer. make answer.state answer.given) (sym reacts)
     ∙ ap (λ stage. taken stage item) (sym (read_stage words start level place running read) ∙ view)

@@ -8,7 +8,8 @@ use Rattle.tox_time.specs.Table.{final_of}
 use Rattle.tox_defs.specs.declared.toxic.Toxic.{Toxic}
 use Rattle.tox_defs.specs.declared.toxic.Toxic.TheVariants.{Latency, Bandwidth, SlowClose, Timeout, ResetPeer, Slicer, LimitData}
 use Rattle.tox_defs.specs.Toxic.{IsInRange}
-use Rattle.tox_defs.specs.Flow.{timeout_ending, varied}
+use Rattle.tox_defs.specs.toxics.Timeout.{timeout_ending}
+use Rattle.tox_defs.specs.Varied.{varied}
 use Rattle.tox_defs.specs.Laws.{HasLaw}
 use Rattle.tox_defs.proofs.Drawn.{varied-within}
 use Rattle.tox_defs.proofs.OpOf.{rate-positive, variation-below}

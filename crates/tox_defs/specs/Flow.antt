@@ -1,8 +1,6 @@
 -- What toxics and chains do to a list of items.
-use Rattle.std.specs.Prelude.{ℕ, zero, suc, ◌+◌, ◌-◌, ◌*◌, ◌%◌, List, [], ◌∷◌, map, if◌then◌else◌}
+use Rattle.std.specs.Prelude.{ℕ, ◌+◌, ◌*◌, List, [], ◌∷◌, map, if◌then◌else◌}
 use Rattle.tox_time.specs.declared.item.Item.{Item}
-use Rattle.tox_time.specs.declared.ending.Ending.{Ending}
-use Rattle.tox_time.specs.declared.ending.Ending.TheVariants.{StillOpen, Closed}
 use Rattle.tox_time.specs.Time.{micros_of}
 use Rattle.tox_time.specs.Table.{final_of}
 use Rattle.tox_words.specs.Draw.{draw}
@@ -12,26 +10,23 @@ use Rattle.tox_defs.specs.declared.chain.Entry.{Entry}
 use Rattle.tox_defs.specs.Applied.{is_applied}
 use Rattle.tox_defs.specs.Chain.{Toxics}
 use Rattle.tox_defs.specs.Reaction.{Giving, Reaction, counted, flow_through}
-use Rattle.tox_defs.specs.Givings.{delayed, paced, sliced, closed_later, muted, cut_off, limited}
-
--- a number varied by a drawn word, up or down and not below 0
-abbrev pub varied : ℕ → ℕ → ℕ → ℕ
-varied middle variation word = (middle + word % (2 * variation + 1)) - variation
-
--- how a timeout of so many milliseconds ends a link
-abbrev pub timeout_ending : ℕ → Ending
-timeout_ending zero = StillOpen
-timeout_ending (suc millis) = Closed (micros_of (suc millis))
+use Rattle.tox_defs.specs.toxics.Latency.{latency_gives}
+use Rattle.tox_defs.specs.toxics.Bandwidth.{pace_gives}
+use Rattle.tox_defs.specs.toxics.SlowClose.{slow_gives}
+use Rattle.tox_defs.specs.toxics.Timeout.{mute_gives, timeout_ending}
+use Rattle.tox_defs.specs.toxics.ResetPeer.{cutoff_gives}
+use Rattle.tox_defs.specs.toxics.Slicer.{slicer_gives}
+use Rattle.tox_defs.specs.toxics.LimitData.{limit_gives}
 
 -- what a toxic gives, by the words of its lane
 abbrev pub toxic_giving : Toxic → (ℕ → ℕ) → Giving
-toxic_giving (Latency latency jitter) words = delayed (λ chunk. 1000 * varied latency jitter (words (1 + chunk)))
-toxic_giving (Bandwidth rate) words = paced rate
-toxic_giving (SlowClose delay) words = closed_later (1000 * delay)
-toxic_giving (Timeout timeout) words = muted (final_of (timeout_ending timeout))
-toxic_giving (ResetPeer timeout) words = cut_off (micros_of timeout)
-toxic_giving (Slicer average_size size_variation delay) words = sliced (λ piece. varied average_size size_variation (words (1 + piece))) delay
-toxic_giving (LimitData bytes) words = limited bytes
+toxic_giving (Latency latency jitter) words = latency_gives latency jitter words
+toxic_giving (Bandwidth rate) words = pace_gives rate
+toxic_giving (SlowClose delay) words = slow_gives (1000 * delay)
+toxic_giving (Timeout timeout) words = mute_gives (final_of (timeout_ending timeout))
+toxic_giving (ResetPeer timeout) words = cutoff_gives (micros_of timeout)
+toxic_giving (Slicer average_size size_variation delay) words = slicer_gives average_size size_variation delay words
+toxic_giving (LimitData bytes) words = limit_gives bytes
 
 -- the reaction of a toxic, by the words of its lane
 abbrev pub toxic_reaction : Toxic → (ℕ → ℕ) → Reaction

@@ -4,6 +4,7 @@ use Rattle.tox_time.specs.declared.item.Item.{Item}
 use Rattle.tox_time.specs.declared.slice.Slice.{Slice}
 use Rattle.tox_time.specs.declared.ending.Ending.{Ending}
 use Rattle.tox_time.specs.Table.{final_of}
+use Rattle.tox_words.specs.Draw.{Draws}
 use Rattle.tox_defs.specs.declared.state.State.{State}
 use Rattle.tox_defs.specs.declared.op.Op.{Op}
 use Rattle.tox_defs.specs.declared.level.Level.{Level}
@@ -28,14 +29,14 @@ ended_or None ended state = state
 ended_or (Some ending) ended state = ended
 
 -- what a level gives, if these items come after its present chunk, of which the bytes from `start` on are unread
-abbrev pub level_gives : List ℕ → ℕ → Level → List Item → List Item
-level_gives words start level items =
-    ending_or level.ending (flow_from (op_reaction level.op words) level.state (rest_of start level.stop level.instant ++ items))
+abbrev pub level_gives : Draws → ℕ → Level → List Item → List Item
+level_gives draws start level items =
+    ending_or level.ending (flow_from (op_reaction level.op draws) level.state (rest_of start level.stop level.instant ++ items))
 
 -- the state that its present chunk will leave
-abbrev pub level_leaves : List ℕ → ℕ → Level → State
-level_leaves words start level =
-    ended_or level.ending level.state (state_from (op_reaction level.op words) level.state (rest_of start level.stop level.instant))
+abbrev pub level_leaves : Draws → ℕ → Level → State
+level_leaves draws start level =
+    ended_or level.ending level.state (state_from (op_reaction level.op draws) level.state (rest_of start level.stop level.instant))
 
 -- a level whose reader stands at `start`: each chunk, piece and byte of its state was read
 pub record IsSound (start : ℕ) (level : Level) : Type 0 where
@@ -48,7 +49,7 @@ pub record IsSound (start : ℕ) (level : Level) : Type 0 where
   pub operation : IsOp level.op
 
 -- the piece is the next of what the level gives
-pub record IsNextPiece (words : List ℕ) (start : ℕ) (old new : Level) (piece : Slice) : Type 0 where
+pub record IsNextPiece (draws : Draws) (start : ℕ) (old new : Level) (piece : Slice) : Type 0 where
   pub begins : piece.span.start ≡ start
   pub some : start < piece.span.stop
   pub within : piece.span.stop ≤ old.stop
@@ -56,20 +57,20 @@ pub record IsNextPiece (words : List ℕ) (start : ℕ) (old new : Level) (piece
   pub stop : new.stop ≡ old.stop
   pub instant : new.instant ≡ old.instant
   pub sound : IsSound piece.span.stop new
-  pub gives : (items : List Item) → level_gives words start old items ≡ as_chunk piece ∷ level_gives words piece.span.stop new items
-  pub leaves : level_leaves words start old ≡ level_leaves words piece.span.stop new
+  pub gives : (items : List Item) → level_gives draws start old items ≡ as_chunk piece ∷ level_gives draws piece.span.stop new items
+  pub leaves : level_leaves draws start old ≡ level_leaves draws piece.span.stop new
 
 -- the level gives its ending and nothing else
-pub record IsAtEnd (words : List ℕ) (start : ℕ) (old new : Level) (ending : Ending) : Type 0 where
+pub record IsAtEnd (draws : Draws) (start : ℕ) (old new : Level) (ending : Ending) : Type 0 where
   pub op : new.op ≡ old.op
   pub stop : new.stop ≡ old.stop
   pub instant : new.instant ≡ old.instant
   pub ended : new.ending ≡ Some ending
   pub done : new.state.done ≡ true
-  pub gives : (items : List Item) → level_gives words start old items ≡ final_of ending ∷ []
-  pub leaves : level_leaves words start old ≡ new.state
+  pub gives : (items : List Item) → level_gives draws start old items ≡ final_of ending ∷ []
+  pub leaves : level_leaves draws start old ≡ new.state
 
 -- what an advance brought
-abbrev pub MatchAdvanced : List ℕ → ℕ → Level → Level → Advanced → Type 0
-MatchAdvanced words start old new (Piece piece) = IsNextPiece words start old new piece
-MatchAdvanced words start old new (End ending) = IsAtEnd words start old new ending
+abbrev pub MatchAdvanced : Draws → ℕ → Level → Level → Advanced → Type 0
+MatchAdvanced draws start old new (Piece piece) = IsNextPiece draws start old new piece
+MatchAdvanced draws start old new (End ending) = IsAtEnd draws start old new ending

@@ -1,9 +1,13 @@
+pub mod Ranges
+pub mod toxics
 pub mod Toxic
 pub mod Chain
 pub mod ChainInside
 pub mod Applied
 pub mod Reaction
-pub mod Givings
+pub mod Ordered
+pub mod Varied
+pub mod Pieces
 pub mod Flow
 pub mod Op
 pub mod Look

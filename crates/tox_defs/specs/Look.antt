@@ -10,6 +10,7 @@ use Rattle.tox_time.specs.Table.{final_of}
 use Rattle.tox_defs.specs.declared.state.State.{State}
 use Rattle.tox_defs.specs.declared.look.Look.{Look}
 use Rattle.tox_defs.specs.declared.look.Look.TheVariants.{Piece, LastPiece, Ended}
+use Rattle.tox_defs.specs.Pieces.{first_span}
 use Rattle.tox_defs.specs.Reaction.{Reaction, flow_from, state_from, with_piece, with_chunk, with_ending}
 
 -- a slice as a chunk
@@ -40,21 +41,6 @@ Finds reaction state rest items (LastPiece piece ending) =
     (with_ending (with_chunk (with_piece state piece)) ending) items
 Finds reaction state rest items (Ended ending) =
     Continues reaction state (as_chunk rest ∷ items) (final_of ending ∷ []) (with_ending (with_chunk state) ending) items
-
--- the first bytes of a span, so many or what there is
-abbrev pub first_span : ℕ → Span → Span
-first_span bytes span = record { start = span.start; stop = span.start + min bytes (span_len span) }
-
--- what a cutoff at an instant finds
-abbrev pub cutoff_look : ℕ → Slice → Look
-cutoff_look instant rest = if nat_lt rest.instant instant then Piece rest else Ended (ResetAt instant)
-
--- what a limit with room for so many bytes finds
-abbrev pub limit_look : ℕ → Slice → Look
-limit_look room rest =
-    if nat_lt (span_len rest.span) room then Piece rest
-    else (if room == 0 then Ended (ClosedAt rest.instant)
-    else LastPiece (record { span = first_span room rest.span; instant = rest.instant }) (ClosedAt rest.instant))
 
 -- the piece begins where the rest does, isn't empty and lies in the rest
 pub record IsFront (rest piece : Slice) : Type 0 where

@@ -1,36 +1,36 @@
 -- What an operation of a plan gives, in the words of the toxics.
-use Rattle.std.specs.Prelude.{◌≡◌, ℕ, zero, suc, ◌+◌, ◌*◌, ◌<◌, Bool, true, false, List}
+use Rattle.std.specs.Prelude.{◌≡◌, ℕ, zero, suc, ◌+◌, ◌*◌, ◌<◌, Bool, true, false}
 use Rattle.tox_time.specs.declared.ending.Ending.{Ending}
 use Rattle.tox_time.specs.declared.ending.Ending.TheVariants.{StillOpen, Closed, Reset}
 use Rattle.tox_time.specs.Time.{IsInstant, micros_of}
 use Rattle.tox_time.specs.Table.{final_of}
-use Rattle.tox_words.specs.Draw.{draw}
+use Rattle.tox_words.specs.Draw.{Draws}
 use Rattle.tox_defs.specs.declared.toxic.Toxic.{Toxic}
 use Rattle.tox_defs.specs.declared.toxic.Toxic.TheVariants.{Latency, Bandwidth, SlowClose, Timeout, ResetPeer, Slicer, LimitData}
 use Rattle.tox_defs.specs.declared.op.Op.{Op}
 use Rattle.tox_defs.specs.declared.op.Op.TheVariants.{Delay, Pace, Slow, Mute, Cutoff, Slicing, Limit}
 use Rattle.tox_defs.specs.Reaction.{Giving, Reaction, counted}
-use Rattle.tox_defs.specs.Givings.{delayed, paced, sliced, closed_later, muted, cut_off, limited}
-use Rattle.tox_defs.specs.Flow.{varied, timeout_ending}
+use Rattle.tox_defs.specs.toxics.Latency.{IsNormal, delay_of, delay_op_gives}
+use Rattle.tox_defs.specs.toxics.Bandwidth.{pace_gives}
+use Rattle.tox_defs.specs.toxics.SlowClose.{slow_gives}
+use Rattle.tox_defs.specs.toxics.Timeout.{mute_gives, timeout_ending}
+use Rattle.tox_defs.specs.toxics.ResetPeer.{cutoff_gives}
+use Rattle.tox_defs.specs.toxics.Slicer.{slicer_gives}
+use Rattle.tox_defs.specs.toxics.LimitData.{limit_gives}
 
 -- what an operation gives
-abbrev pub op_giving : Op → List ℕ → Giving
-op_giving (Delay fixed latency jitter lane) words = delayed (λ chunk. 1000 * (fixed + varied latency jitter (draw words lane (1 + chunk))))
-op_giving (Pace rate) words = paced rate
-op_giving (Slow millis) words = closed_later (1000 * millis)
-op_giving (Mute end) words = muted (final_of end)
-op_giving (Cutoff instant) words = cut_off instant
-op_giving (Slicing average variation micros lane) words = sliced (λ piece. varied average variation (draw words lane (1 + piece))) micros
-op_giving (Limit bytes) words = limited bytes
+abbrev pub op_giving : Op → Draws → Giving
+op_giving (Delay fixed latency jitter lane) draws = delay_op_gives fixed latency jitter (draws lane)
+op_giving (Pace rate) draws = pace_gives rate
+op_giving (Slow millis) draws = slow_gives (1000 * millis)
+op_giving (Mute end) draws = mute_gives (final_of end)
+op_giving (Cutoff instant) draws = cutoff_gives instant
+op_giving (Slicing average variation micros lane) draws = slicer_gives average variation micros (draws lane)
+op_giving (Limit bytes) draws = limit_gives bytes
 
 -- the reaction of an operation
-abbrev pub op_reaction : Op → List ℕ → Reaction
-op_reaction op words = counted (op_giving op words)
-
--- the operation of a latency, whose fixed part has all that isn't drawn
-abbrev pub delay_of : ℕ → ℕ → ℕ → Op
-delay_of place latency zero = Delay latency 0 0 0
-delay_of place latency (suc jitter) = Delay 0 latency (suc jitter) place
+abbrev pub op_reaction : Op → Draws → Reaction
+op_reaction op draws = counted (op_giving op draws)
 
 -- the operation of a toxic at a place
 abbrev pub op_of : ℕ → Toxic → Op
@@ -41,11 +41,6 @@ op_of place (Timeout timeout) = Mute (timeout_ending timeout)
 op_of place (ResetPeer timeout) = Cutoff (micros_of timeout)
 op_of place (Slicer average_size size_variation delay) = Slicing average_size size_variation delay place
 op_of place (LimitData bytes) = Limit bytes
-
--- a delay without jitter has all in its fixed part
-abbrev pub IsNormal : ℕ → ℕ → Type 0
-IsNormal latency zero = latency ≡ 0
-IsNormal latency (suc jitter) = Unit {0}
 
 -- an ending whose instant is one
 abbrev pub EndsInTime : Ending → Type 0

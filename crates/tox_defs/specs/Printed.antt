@@ -28,10 +28,6 @@ values_of (ResetPeer timeout) = timeout ∷ []
 values_of (Slicer average_size size_variation delay) = average_size ∷ size_variation ∷ delay ∷ []
 values_of (LimitData bytes) = bytes ∷ []
 
--- the first three values, with a 0 for each that isn't there
-abbrev pub three_of : List ℕ → List ℕ
-three_of values = take 3 (values ++ 0 ∷ 0 ∷ 0 ∷ [])
-
 -- a key, `=` and a value
 abbrev pub printed_pair : List ℕ × ℕ → List ℕ
 printed_pair pair = pair.0 ++ codes "=" ++ decimal pair.1

@@ -1,10 +1,11 @@
 -- A stage as a value: a toxic's operation with its state after the whole reaction, and what is still to emit of that.
 use Rattle.std.specs.Prelude.{◌≡◌, ℕ, List, [], ◌∷◌, Option, None, Some}
 use Rattle.tox_time.specs.declared.item.Item.{Item}
+use Rattle.tox_words.specs.Draw.{draw}
 use Rattle.tox_defs.specs.declared.op.Op.{Op}
 use Rattle.tox_defs.specs.declared.state.State.{State}
 use Rattle.tox_defs.specs.declared.place.Place.{Place}
-use Rattle.tox_defs.specs.Reaction.{first_state, react}
+use Rattle.tox_defs.specs.Reaction.{Reaction, first_state, react}
 use Rattle.tox_defs.specs.Op.{op_reaction}
 use Rattle.tox_defs.specs.Place.{first_place, place_after}
 
@@ -20,13 +21,17 @@ pub record Staged : Type 0 where
 abbrev pub first_stage : Op → List ℕ → Staged
 first_stage op words = record { op = op; words = words; state = first_state; pending = []; place = first_place }
 
+-- how a stage reacts to an item
+abbrev pub reaction_of : Staged → Reaction
+reaction_of stage = op_reaction stage.op (draw stage.words)
+
 -- the stage that took an item: it has the state after the reaction, and the whole reaction to emit
 abbrev pub taken : Staged → Item → Staged
 taken stage item = record {
   op = stage.op;
   words = stage.words;
-  state = (react (op_reaction stage.op stage.words) stage.state item).state;
-  pending = (react (op_reaction stage.op stage.words) stage.state item).given;
+  state = (react (reaction_of stage) stage.state item).state;
+  pending = (react (reaction_of stage) stage.state item).given;
   place = place_after stage.place item;
 }
 

@@ -1,5 +1,6 @@
 -- What a contract sees of a `Stage`, and what its fields keep.
 use Rattle.std.specs.Prelude.{◌≡◌, ℕ, ◌^◌, ◌<◌, ◌≤◌, None, false, []}
+use Rattle.tox_words.specs.Draw.{draw}
 use Rattle.tox_defs.specs.declared.stage.Stage.TheInside.{Inside}
 use Rattle.tox_defs.specs.declared.state.State.{State}
 use Rattle.tox_defs.specs.Op.{IsOp, is_mute}
@@ -10,8 +11,8 @@ abbrev pub staged : Inside → Staged
 staged stage = record {
   op = stage.level.op;
   words = stage.words.now;
-  state = level_leaves stage.words.now stage.start stage.level;
-  pending = level_gives stage.words.now stage.start stage.level [];
+  state = level_leaves (draw stage.words.now) stage.start stage.level;
+  pending = level_gives (draw stage.words.now) stage.start stage.level [];
   place = stage.place;
 }
 

@@ -1,12 +1,18 @@
-ghost use Rattle.std.specs.Prelude.{◌≡◌, IfOk, map};
+//! The types of toxics: their names, the names of their attributes, and the toxics that they make.
+ghost use Rattle.std.specs.Prelude.{◌≡◌, ◌≤◌, IfOk, length, map};
 ghost use Rattle.std.specs.List.{list_any};
 ghost use Rattle.std.specs.Str.{bytes_eq};
 ghost use Rattle.tox_defs.specs.Kind.{attributes_of, checked, kind_of, name_of, toxic_of};
-ghost use Rattle.tox_defs.specs.KindInside.{narrowed, saturated};
-ghost use Rattle.tox_defs.specs.Printed.{three_of, type_of, values_of};
+ghost use Rattle.tox_defs.specs.KindInside.{saturated};
+ghost use Rattle.tox_defs.specs.Printed.{type_of, values_of};
 ghost use Rattle.tox_defs.specs.Toxic.{IsInRange};
 
 use crate::toxic::{Toxic, ToxicFault};
+use crate::toxics::{bandwidth, latency, limit_data, reset_peer, slicer, slow_close, timeout};
+use arrayvec::ArrayVec;
+
+/// The most attributes of a toxic.
+pub const MAX_ATTRIBUTES: usize = 4;
 
 /// The type of a toxic.
 #[derive(Clone, Copy, Debug, PartialEq, Eq)]
@@ -54,18 +60,19 @@ impl Kind {
         }
     }
 
-    /// The names of the attributes of the type's toxics, 1 to 3 of them, in their order.
+    /// The names of the attributes of the type's toxics, 1 to [`MAX_ATTRIBUTES`] of them, in their order.
     pub fn attributes(self) -> &'static [&'static str]
-        ensures { map (λ name. name.now) result.now ≡ attributes_of self }
+        ensures names { map (λ name. name.now) result.now ≡ attributes_of self }
+        ensures few { length result.now ≤ 4 }
     {
         match self {
-            Kind::Latency => &["latency", "jitter"],
-            Kind::Bandwidth => &["rate"],
-            Kind::SlowClose => &["delay"],
-            Kind::Timeout => &["timeout"],
-            Kind::ResetPeer => &["timeout"],
-            Kind::Slicer => &["average_size", "size_variation", "delay"],
-            Kind::LimitData => &["bytes"],
+            Kind::Latency => latency::attributes(),
+            Kind::Bandwidth => bandwidth::attributes(),
+            Kind::SlowClose => slow_close::attributes(),
+            Kind::Timeout => timeout::attributes(),
+            Kind::ResetPeer => reset_peer::attributes(),
+            Kind::Slicer => slicer::attributes(),
+            Kind::LimitData => limit_data::attributes(),
         }
     }
 
@@ -76,12 +83,12 @@ impl Kind {
         self.attributes().iter().any(|attribute| *attribute == name)
     }
 
-    /// The toxic of the type with these values of its attributes, in their order; those past the
-    /// last attribute are passed over.
+    /// The toxic of the type with these values of its attributes, in their order. Values that are
+    /// absent are 0, and those past the last attribute are ignored.
     ///
     /// Refused as by [`Toxic::check`], also where a value is too large for the attribute's type.
-    pub fn toxic(self, values: [u64; 3]) -> Result<Toxic, ToxicFault>
-        ensures value { result ≡ checked (toxic_of self values) }
+    pub fn toxic(self, values: &[u64]) -> Result<Toxic, ToxicFault>
+        ensures value { result ≡ checked (toxic_of self values.now) }
         ensures in_range { IfOk result IsInRange }
     {
         let toxic = self.saturated_toxic(values);
@@ -90,33 +97,17 @@ impl Kind {
     }
 
     /// The toxic with the greatest value of an attribute's type in place of a larger one.
-    fn saturated_toxic(self, values: [u64; 3]) -> Toxic
-        ensures { result ≡ saturated (toxic_of self values) }
+    fn saturated_toxic(self, values: &[u64]) -> Toxic
+        ensures { result ≡ saturated (toxic_of self values.now) }
     {
-        let [first, second, third] = values;
         match self {
-            Kind::Latency => Toxic::Latency {
-                latency: saturated(first),
-                jitter: saturated(second),
-            },
-            Kind::Bandwidth => Toxic::Bandwidth {
-                rate: saturated(first),
-            },
-            Kind::SlowClose => Toxic::SlowClose {
-                delay: saturated(first),
-            },
-            Kind::Timeout => Toxic::Timeout {
-                timeout: saturated(first),
-            },
-            Kind::ResetPeer => Toxic::ResetPeer {
-                timeout: saturated(first),
-            },
-            Kind::Slicer => Toxic::Slicer {
-                average_size: saturated(first),
-                size_variation: saturated(second),
-                delay: third,
-            },
-            Kind::LimitData => Toxic::LimitData { bytes: first },
+            Kind::Latency => latency::from_values(values),
+            Kind::Bandwidth => bandwidth::from_values(values),
+            Kind::SlowClose => slow_close::from_values(values),
+            Kind::Timeout => timeout::from_values(values),
+            Kind::ResetPeer => reset_peer::from_values(values),
+            Kind::Slicer => slicer::from_values(values),
+            Kind::LimitData => limit_data::from_values(values),
         }
     }
 }
@@ -137,28 +128,33 @@ impl Toxic {
         }
     }
 
-    /// The values of the attributes, in the order of [`Kind::attributes`], and 0 past the last one.
-    pub fn values(&self) -> [u64; 3]
-        ensures { result ≡ three_of (values_of self.now) }
+    /// The values of the attributes, in the order of [`Kind::attributes`].
+    pub fn values(&self) -> ArrayVec<u64, MAX_ATTRIBUTES>
+        ensures values { result.items ≡ values_of self.now }
+        ensures all { length result.items ≡ length (attributes_of (type_of self.now)) }
     {
         match *self {
-            Toxic::Latency { latency, jitter } => [u64::from(latency), u64::from(jitter), 0],
-            Toxic::Bandwidth { rate } => [u64::from(rate), 0, 0],
-            Toxic::SlowClose { delay } => [u64::from(delay), 0, 0],
-            Toxic::Timeout { timeout } | Toxic::ResetPeer { timeout } => [u64::from(timeout), 0, 0],
+            Toxic::Latency { latency, jitter } => listed(&[u64::from(latency), u64::from(jitter)]),
+            Toxic::Bandwidth { rate } => listed(&[u64::from(rate)]),
+            Toxic::SlowClose { delay } => listed(&[u64::from(delay)]),
+            Toxic::Timeout { timeout } => listed(&[u64::from(timeout)]),
+            Toxic::ResetPeer { timeout } => listed(&[u64::from(timeout)]),
             Toxic::Slicer {
                 average_size,
                 size_variation,
                 delay,
-            } => [u64::from(average_size), u64::from(size_variation), delay],
-            Toxic::LimitData { bytes } => [bytes, 0, 0],
+            } => listed(&[u64::from(average_size), u64::from(size_variation), delay]),
+            Toxic::LimitData { bytes } => listed(&[bytes]),
         }
     }
 }
 
-/// The value, or the greatest that fits where it is larger.
-fn saturated(value: u64) -> u32
-    ensures { result ≡ narrowed value }
+/// A list of these values.
+fn listed(values: &[u64]) -> ArrayVec<u64, MAX_ATTRIBUTES>
+    requires { length values.now ≤ 4 }
+    ensures { result.items ≡ values.now }
 {
-    value.min(u32::MAX as u64) as u32
+    let mut list = ArrayVec::new();
+    let _ = list.try_extend_from_slice(values);
+    list
 }

@@ -1,4 +1,5 @@
 ghost use Rattle.std.specs.Prelude.{◌≡◌, ◌<◌, None, false};
+ghost use Rattle.tox_words.specs.Draw.{draw};
 ghost use Rattle.tox_defs.specs.Op.{is_mute};
 ghost use Rattle.tox_defs.specs.Level.{IsSound, MatchAdvanced, first_level};
 
@@ -47,7 +48,7 @@ impl Level {
         requires heard { is_mute self.old.op ≡ false }
         requires open { self.old.ending ≡ None }
         requires sound { IsSound start self.old }
-        ensures { MatchAdvanced words.now start self.old self.new result }
+        ensures { MatchAdvanced (draw words.now) start self.old self.new result }
     {
         let rest = Slice {
             span: Span {

@@ -3,18 +3,22 @@
 
 mod chain;
 mod kind;
-mod last;
 mod level;
 mod look;
 mod op;
+mod ordered;
+mod pieces;
 mod place;
+mod ranges;
 mod short;
 mod stage;
 mod state;
 mod toxic;
+mod toxics;
+mod varied;
 
 pub use chain::{Chain, Entry, MOST_TOXICS, TooManyToxics};
-pub use kind::Kind;
+pub use kind::{Kind, MAX_ATTRIBUTES};
 pub use level::{Advanced, Level};
 pub use op::Op;
 pub use place::Place;

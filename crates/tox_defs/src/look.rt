@@ -1,13 +1,14 @@
-ghost use Rattle.std.specs.Prelude.{◌≡◌, ◌+◌, ◌-◌, ◌<◌, ◌≤◌, ◌^◌, List, [], ◌∷◌, false};
+//! A look of an operation at the rest of a chunk.
+ghost use Rattle.std.specs.Prelude.{◌≡◌, ◌+◌, ◌<◌, ◌^◌, List, false};
 ghost use Rattle.tox_time.specs.declared.item.Item.{Item as OneItem};
 ghost use Rattle.tox_words.specs.Draw.{draw};
-ghost use Rattle.tox_defs.specs.Flow.{varied};
-ghost use Rattle.tox_defs.specs.Op.{IsOp, op_reaction, is_mute};
-ghost use Rattle.tox_defs.specs.Look.{IsFrontOf, Finds, first_span, cutoff_look, limit_look};
+ghost use Rattle.tox_defs.specs.Op.{IsOp, is_mute, op_reaction};
+ghost use Rattle.tox_defs.specs.Look.{Finds, IsFrontOf};
 
 use crate::op::Op;
 use crate::state::State;
-use tox_time::{Ending, Micros, Slice, Span};
+use crate::toxics::{bandwidth, latency, limit_data, reset_peer, slicer, slow_close};
+use tox_time::{Ending, Slice};
 use tox_words::Words;
 
 /// What one look at the rest of a chunk finds.
@@ -21,33 +22,6 @@ pub(crate) enum Look {
     Ended(Ending),
 }
 
-/// A number varied, up or down and not below 0, by the word that a lane draws at this turn.
-fn drawn(words: &Words, lane: usize, turn: u64, middle: u32, variation: u32) -> u64
-    requires { turn + 1 < 2 ^ 64 }
-    ensures value { result ≡ varied middle variation (draw words.now lane (1 + turn)) }
-    ensures least { middle - variation ≤ result }
-    ensures most { result ≤ middle + variation }
-{
-    let middle = u64::from(middle);
-    let variation = u64::from(variation);
-    if variation == 0 {
-        return middle;
-    }
-    let word = u64::from(words.draw(lane, 1 + turn));
-    (middle + word % (2 * variation + 1)).saturating_sub(variation)
-}
-
-/// The first bytes of a rest, so many or what there is.
-fn front(rest: &Slice, bytes: u64) -> Span
-    requires { rest.now.span.start < rest.now.span.stop }
-    ensures { result ≡ first_span bytes rest.now.span }
-{
-    Span {
-        start: rest.span.start,
-        stop: rest.span.start + bytes.min(rest.span.stop - rest.span.start),
-    }
-}
-
 impl Op {
     /// Looks at the rest of a chunk for the next piece that the operation gives. A call of its own would cost each
     /// look a quarter, so it is always inlined, as is [`Level::advance`](crate::Level::advance).
@@ -59,7 +33,7 @@ impl Op {
         requires some { rest.now.span.start < rest.now.span.stop }
         requires chunks { state.now.chunks + 1 < 2 ^ 64 }
         requires pieces { state.now.pieces + 1 < 2 ^ 64 }
-        ensures finds { (items : List OneItem) → Finds (op_reaction self.now words.now) state.now rest.now items result }
+        ensures finds { (items : List OneItem) → Finds (op_reaction self.now (draw words.now)) state.now rest.now items result }
         ensures front { IsFrontOf rest.now result }
     {
         match *self {
@@ -68,61 +42,18 @@ impl Op {
                 latency,
                 jitter,
                 lane,
-            } => {
-                let wait = u64::from(fixed) + drawn(words, lane, state.chunks, latency, jitter);
-                Look::Piece(Slice {
-                    span: rest.span,
-                    instant: state.previous.later(rest.instant.after(1000 * wait)),
-                })
-            }
-            Op::Pace { rate } => {
-                let span = front(rest, 100 * u64::from(rate));
-                let wait = (1000 * (span.stop - span.start)).div_ceil(u64::from(rate));
-                Look::Piece(Slice {
-                    span,
-                    instant: state.previous.later(rest.instant).after(wait),
-                })
-            }
+            } => latency::look(fixed, latency, jitter, lane, state, rest, words),
+            Op::Pace { rate } => bandwidth::look(rate, state, rest),
+            Op::Slow { .. } => slow_close::look(rest),
+            Op::Mute { .. } => unreachable!(),
+            Op::Cutoff { instant } => reset_peer::look(instant, rest),
             Op::Slicing {
                 average,
                 variation,
                 micros,
                 lane,
-            } => Look::Piece(Slice {
-                span: front(rest, drawn(words, lane, state.pieces, average, variation)),
-                instant: state.previous.later(rest.instant).after(micros),
-            }),
-            Op::Slow { .. } => Look::Piece(*rest),
-            Op::Cutoff { instant } => cut_off_at(instant, rest),
-            Op::Limit { bytes } => limited_to(bytes.saturating_sub(state.passed), rest),
-            Op::Mute { .. } => unreachable!(),
+            } => slicer::look(average, variation, micros, lane, state, rest, words),
+            Op::Limit { bytes } => limit_data::look(bytes, state, rest),
         }
     }
-}
-
-/// What a cutoff at this instant finds.
-fn cut_off_at(instant: Micros, rest: &Slice) -> Look
-    ensures { result ≡ cutoff_look instant rest.now }
-{
-    if rest.instant < instant {
-        Look::Piece(*rest)
-    } else {
-        Look::Ended(Ending::Reset(instant))
-    }
-}
-
-/// What a limit with room for so many bytes finds.
-fn limited_to(room: u64, rest: &Slice) -> Look
-    requires { rest.now.span.start < rest.now.span.stop }
-    ensures { result ≡ limit_look room rest.now }
-{
-    let ending = Ending::Closed(rest.instant);
-    if rest.span.stop - rest.span.start < room {
-        return Look::Piece(*rest);
-    }
-    if room == 0 {
-        return Look::Ended(ending);
-    }
-    let span = front(rest, room);
-    Look::LastPiece(Slice { span, ..*rest }, ending)
 }

@@ -1,7 +1,13 @@
-ghost use Rattle.std.specs.Prelude.{◌≡◌, ◌<◌};
-ghost use Rattle.tox_defs.specs.Op.{op_of, is_mute};
+//! Operations: what one stage of a chain does, and what a plan is made of.
+ghost use Rattle.std.specs.Prelude.{◌≡◌, [], ◌∷◌};
+ghost use Rattle.tox_time.specs.Table.{final_of};
+ghost use Rattle.tox_words.specs.Draw.{Draws};
+ghost use Rattle.tox_defs.specs.Op.{is_mute, op_giving, op_of};
 
+use crate::ordered::in_order;
+use crate::state::State;
 use crate::toxic::Toxic;
+use crate::toxics::{bandwidth, latency, limit_data, reset_peer, slicer, slow_close, timeout};
 use tox_time::{Ending, Micros};
 
 /// What one stage does: a toxic whose place is known. Plans are lists of these.
@@ -62,44 +68,36 @@ impl Op {
         ensures { result ≡ op_of place toxic.now }
     {
         match *toxic {
-            Toxic::Latency { latency, jitter: 0 } => Op::Delay {
-                fixed: latency,
-                latency: 0,
-                jitter: 0,
-                lane: 0,
-            },
-            Toxic::Latency { latency, jitter } => Op::Delay {
-                fixed: 0,
-                latency,
-                jitter,
-                lane: place,
-            },
-            Toxic::Bandwidth { rate } => Op::Pace { rate },
-            Toxic::SlowClose { delay } => Op::Slow { millis: delay },
-            Toxic::Timeout { timeout: 0 } => Op::Mute {
-                ending: Ending::StillOpen,
-            },
-            Toxic::Timeout { timeout } => Op::Mute {
-                ending: Ending::Closed(Micros::from_millis(u64::from(timeout))),
-            },
-            Toxic::ResetPeer { timeout } => Op::Cutoff {
-                instant: Micros::from_millis(u64::from(timeout)),
-            },
+            Toxic::Latency { latency, jitter } => latency::op(latency, jitter, place),
+            Toxic::Bandwidth { rate } => bandwidth::op(rate),
+            Toxic::SlowClose { delay } => slow_close::op(delay),
+            Toxic::Timeout { timeout } => timeout::op(timeout),
+            Toxic::ResetPeer { timeout } => reset_peer::op(timeout),
             Toxic::Slicer {
                 average_size,
                 size_variation,
                 delay,
-            } => Op::Slicing {
-                average: average_size,
-                variation: size_variation,
-                micros: delay,
-                lane: place,
-            },
-            Toxic::LimitData { bytes } => Op::Limit { bytes },
+            } => slicer::op(average_size, size_variation, delay, place),
+            Toxic::LimitData { bytes } => limit_data::op(bytes),
         }
     }
 
-    /// Whether the operation lets nothing through.
+    /// The ending that the operation gives for one that comes to it.
+    pub fn last(&self, state: &State, ending: &Ending) -> Ending
+        ensures { (draws : Draws) → op_giving self.now draws state.now (final_of ending.now) ≡ final_of result ∷ [] }
+    {
+        match self {
+            Op::Delay { .. } => in_order(state.previous, ending),
+            Op::Pace { .. } => in_order(state.previous, ending),
+            Op::Slow { millis } => slow_close::map_ending(*millis, ending),
+            Op::Mute { ending } => *ending,
+            Op::Cutoff { instant } => reset_peer::map_ending(*instant, ending),
+            Op::Slicing { .. } => in_order(state.previous, ending),
+            Op::Limit { .. } => *ending,
+        }
+    }
+
+    /// Whether the operation drops all data.
     pub(crate) fn is_mute(&self) -> bool
         ensures { result ≡ is_mute self.now }
     {

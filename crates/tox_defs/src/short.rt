@@ -1,5 +1,5 @@
 //! Short forms: a toxic and its toxicity in one word, as `latency:latency=100,toxicity=500`.
-ghost use Rattle.std.specs.Prelude.{◌≡◌, ℕ, ◌≤◌, [], IfOk, slice_index};
+ghost use Rattle.std.specs.Prelude.{◌≡◌, ℕ, ◌≤◌, [], IfOk};
 ghost use Rattle.tox_defs.specs.Pairs.{pairs_of};
 ghost use Rattle.tox_defs.specs.Printed.{printed_short};
 ghost use Rattle.tox_defs.specs.Short.{short_of, values_in, with_name, with_pairs};
@@ -8,8 +8,9 @@ ghost use Rattle.tox_defs.specs.declared.toxic.Toxic.{Toxic};
 
 mod pairs;
 
-use crate::kind::Kind;
+use crate::kind::{Kind, MAX_ATTRIBUTES};
 use crate::toxic::{Toxic, ToxicFault};
+use arrayvec::ArrayVec;
 use pairs::{are_known, are_pairs, has_double_key, is_word, value_at};
 use thiserror::Error;
 
@@ -70,7 +71,7 @@ fn read_name(name: &str) -> Result<(Toxic, u16), ShortFault>
         return Err(ShortFault::BadForm);
     }
     let kind = Kind::of_name(name).ok_or(ToxicFault::UnknownType)?;
-    let toxic = kind.toxic([0; 3])?;
+    let toxic = kind.toxic(&[])?;
     Ok((toxic, WHOLE_TOXICITY as u16))
 }
 
@@ -101,17 +102,17 @@ fn with_pairs(kind: Kind, pairs: &str) -> Result<(Toxic, u16), ShortFault>
     if !are_known(kind, pairs) {
         return Err(ShortFault::Toxic(ToxicFault::UnknownAttribute));
     }
-    let values = [0, 1, 2].map(|place| attribute_at(kind, pairs, place));
-    let toxic = kind.toxic(values)?;
+    let toxic = kind.toxic(&values_in(kind, pairs))?;
     Ok((toxic, toxicity as u16))
 }
 
-/// The value of the type's attribute at a place; 0 where it is absent, and past the last one.
-fn attribute_at(kind: Kind, pairs: &str, place: usize) -> u64
-    ensures { result ≡ slice_index (values_in kind (pairs_of pairs.now)) place }
+/// The values of the type's attributes, in order, where an absent one is 0.
+fn values_in(kind: Kind, pairs: &str) -> ArrayVec<u64, MAX_ATTRIBUTES>
+    ensures { result.items ≡ values_in kind (pairs_of pairs.now) }
 {
-    match kind.attributes().get(place) {
-        Some(key) => value_at(pairs, key).unwrap_or(0),
-        None => 0,
+    let mut values = ArrayVec::new();
+    for key in kind.attributes() {
+        values.push(value_at(pairs, key).unwrap_or(0));
     }
+    values
 }

@@ -50,7 +50,7 @@ impl<'w> Stage<'w> {
         ensures law { HasLaw toxic }
         ensures streams { KeepsStreams toxic }
         ensures takes { (items : List OneItem) → IsStream items → arrived items ≤ 2 ^ 40 → AllFit result.place items }
-        ensures reacts { op_reaction (op_of lane toxic) words.now ≡ toxic_reaction toxic (draw words.now lane) }
+        ensures reacts { op_reaction (op_of lane toxic) (draw words.now) ≡ toxic_reaction toxic (draw words.now lane) }
     {
         Stage {
             level: Level::new(&Op::of(&toxic, lane)),

@@ -1,8 +1,9 @@
+//! A toxic with its attributes, and why there is none.
 ghost use Rattle.std.specs.Prelude.{◌≡◌, ◌↔◌, None, Some, IsOk, IfErr};
-ghost use Rattle.tox_defs.specs.Toxic.{toxic_fault};
+ghost use Rattle.tox_defs.specs.Toxic.{is_varied_too_much, is_within, toxic_fault};
 
+use crate::toxics::{bandwidth, latency, limit_data, reset_peer, slicer, slow_close, timeout};
 use thiserror::Error;
-use tox_time::MOST_BYTES;
 
 /// A fault that a link can meet, with the attributes of Toxiproxy's toxic of the same name.
 ///
@@ -63,43 +64,49 @@ pub enum ToxicFault {
     ToxicityNotThousandths,
 }
 
-/// The longest latency, jitter, delay of a close, and timeout, in milliseconds: an hour.
-const HOUR: u32 = 3_600_000;
-
-/// The highest rate in KB/s, and the largest average size in bytes.
-const MILLION: u32 = 1_000_000;
-
-/// The longest delay between two pieces, in microseconds: an hour.
-const HOUR_IN_MICROS: u64 = 3_600_000_000;
-
 impl Toxic {
     /// Whether the attributes are in their ranges: first `OutOfRange`, then `Variation`.
     pub fn check(&self) -> Result<(), ToxicFault>
         ensures ok { IsOk result ↔ (toxic_fault self.now ≡ None) }
         ensures fault { IfErr result (λ e. toxic_fault self.now ≡ Some e) }
     {
-        let is_within = match *self {
-            Toxic::Latency { latency, jitter } => latency <= HOUR && jitter <= HOUR,
-            Toxic::Bandwidth { rate } => 1 <= rate && rate <= MILLION,
-            Toxic::SlowClose { delay } => delay <= HOUR,
-            Toxic::Timeout { timeout } | Toxic::ResetPeer { timeout } => timeout <= HOUR,
+        if !self.is_within() {
+            return Err(ToxicFault::OutOfRange);
+        }
+        if self.is_varied_too_much() {
+            return Err(ToxicFault::Variation);
+        }
+        Ok(())
+    }
+
+    fn is_within(&self) -> bool
+        ensures { result ≡ is_within self.now }
+    {
+        match *self {
+            Toxic::Latency { latency, jitter } => latency::is_within(latency, jitter),
+            Toxic::Bandwidth { rate } => bandwidth::is_within(rate),
+            Toxic::SlowClose { delay } => slow_close::is_within(delay),
+            Toxic::Timeout { timeout } => timeout::is_within(timeout),
+            Toxic::ResetPeer { timeout } => reset_peer::is_within(timeout),
             Toxic::Slicer {
                 average_size,
                 delay,
                 ..
-            } => 1 <= average_size && average_size <= MILLION && delay <= HOUR_IN_MICROS,
-            Toxic::LimitData { bytes } => bytes <= MOST_BYTES,
-        };
-        if !is_within {
-            return Err(ToxicFault::OutOfRange);
+            } => slicer::is_within(average_size, delay),
+            Toxic::LimitData { bytes } => limit_data::is_within(bytes),
         }
+    }
+
+    fn is_varied_too_much(&self) -> bool
+        ensures { result ≡ is_varied_too_much self.now }
+    {
         match *self {
             Toxic::Slicer {
                 average_size,
                 size_variation,
                 ..
-            } if average_size <= size_variation => Err(ToxicFault::Variation),
-            _ => Ok(()),
+            } => slicer::is_varied_too_much(average_size, size_variation),
+            _ => false,
         }
     }
 }

@@ -123,7 +123,7 @@ length-applied_from place (entry ∷ entries) words =
 states_of_toxics : (toxics : List Placed) (words : List ℕ) → map stage_of (map (placed_stage words) toxics) ≡ map first_stage (map (λ placed. toxic_reaction placed.toxic (draw words placed.place)) toxics)
 states_of_toxics [] words = refl
 states_of_toxics (placed ∷ toxics) words =
-    ap (λ reaction. first_stage reaction ∷ map stage_of (map (placed_stage words) toxics)) (op_reaction-op_of placed.place placed.toxic words)
+    ap (λ reaction. first_stage reaction ∷ map stage_of (map (placed_stage words) toxics)) (op_reaction-op_of placed.place placed.toxic (draw words))
     ∙ ap (λ stages. first_stage (toxic_reaction placed.toxic (draw words placed.place)) ∷ stages) (states_of_toxics toxics words)
 
 places_of_toxics : (toxics : List Placed) (words : List ℕ) (k : ℕ) (stage : Staged) → slice_get (map (placed_stage words) toxics) k ≡ Some stage → stage.place ≡ first_place

@@ -4,9 +4,9 @@ use Rattle.tox_time.specs.declared.item.Item.{Item}
 use Rattle.tox_time.specs.Stream.{IsStream, is_final}
 use Rattle.tox_defs.specs.Chain.{Toxics}
 use Rattle.tox_defs.specs.Flow.{Placed, reactions_of}
-use Rattle.tox_defs.specs.Op.{op_of, op_reaction}
+use Rattle.tox_defs.specs.Op.{op_of}
 use Rattle.tox_defs.specs.Place.{AllFit}
-use Rattle.tox_defs.specs.Stage.{Staged, first_stage}
+use Rattle.tox_defs.specs.Stage.{Staged, first_stage, reaction_of}
 use Rattle.tox_network.specs.declared.moves.Move.{Move}
 use Rattle.tox_network.specs.NetworkState.{NetworkState, StageState, start, queue}
 use Rattle.tox_network.specs.Moves.{after}
@@ -24,7 +24,7 @@ pub record Running : Type 0 where
 
 -- a stage without its place in the stream
 abbrev pub stage_of : Staged → StageState
-stage_of stage = record { reaction = op_reaction stage.op stage.words; state = stage.state; unsent = stage.pending }
+stage_of stage = record { reaction = reaction_of stage; state = stage.state; unsent = stage.pending }
 
 -- the stage of an applied toxic that was given nothing yet
 abbrev pub placed_stage : List ℕ → Placed → Staged

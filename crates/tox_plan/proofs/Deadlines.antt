@@ -8,12 +8,13 @@ use Rattle.tox_time.specs.declared.item.Item.{Item}
 use Rattle.tox_time.specs.declared.item.Item.TheVariants.{Chunk, Closed, Reset, Quiet}
 use Rattle.tox_time.specs.declared.ending.Ending.{Ending}
 use Rattle.tox_time.specs.Stream.{has_final, IsStreamFrom}
+use Rattle.tox_words.specs.Draw.{draw}
 use Rattle.tox_defs.specs.declared.op.Op.{Op}
 use Rattle.tox_defs.specs.declared.op.Op.TheVariants.{Delay, Pace, Slow, Mute, Cutoff, Slicing, Limit}
 use Rattle.tox_defs.specs.declared.level.Level.{Level}
 use Rattle.tox_defs.specs.declared.state.State.{State}
 use Rattle.tox_defs.specs.Reaction.{flow_from}
-use Rattle.tox_defs.specs.Givings.{is_before, cut_off}
+use Rattle.tox_defs.specs.toxics.ResetPeer.{is_before, cutoff_gives}
 use Rattle.tox_defs.specs.Op.{op_reaction, is_mute}
 use Rattle.tox_defs.specs.Level.{level_gives}
 use Rattle.tox_defs.proofs.FlowLemmas.{Continues-counted, flow_from-done}
@@ -123,10 +124,10 @@ stop-snoc d (first ∷ ops) op (inr stop) = elim (stop-snoc d ops op stop) [ inl
 
 -- a level that has nothing left gives what its operation gives
 gives-drained : (words : List ℕ) (start : ℕ) (level : Level) (items : List Item) → level.stop ≡ start → level.ending ≡ None
-    → level_gives words start level items ≡ flow_from (op_reaction level.op words) level.state items
+    → level_gives (draw words) start level items ≡ flow_from (op_reaction level.op (draw words)) level.state items
 gives-drained words start level items read running =
-    level_gives-running words start level items running
-    ∙ ap (λ rest. flow_from (op_reaction level.op words) level.state (rest ++ items)) (rest_of-read start level.stop level.instant (omega (arith, read)))
+    level_gives-running (draw words) start level items running
+    ∙ ap (λ rest. flow_from (op_reaction level.op (draw words)) level.state (rest ++ items)) (rest_of-read start level.stop level.instant (omega (arith, read)))
 
 -- a late list that has a final stays one through drained levels that cut nothing off
 pub record IsLater (d : ℕ) (items : List Item) : Type 0 where
@@ -152,11 +153,11 @@ late-before d (Closed t) items late = le-ltb t d late.0
 late-before d (Reset t) items late = le-ltb t d late.0
 late-before d Quiet items late = refl
 
-cutoff-flow : (d : ℕ) (words : List ℕ) (state : State) (items : List Item) → state.done ≡ false → IsLater d items → flow_from (op_reaction (Cutoff d) words) state items ≡ Reset d ∷ []
+cutoff-flow : (d : ℕ) (words : List ℕ) (state : State) (items : List Item) → state.done ≡ false → IsLater d items → flow_from (op_reaction (Cutoff d) (draw words)) state items ≡ Reset d ∷ []
 cutoff-flow d words state [] running later = absurd (let none : false ≡ true = later.final in cc)
 cutoff-flow d words state (item ∷ items) running later =
-    (Continues-counted (cut_off d) state item items (Reset d ∷ []) running (ap (λ early. (if early then item else Reset d) ∷ []) (late-before d item items later.late))).gives
-    ∙ ap (λ more. Reset d ∷ more) (flow_from-done (op_reaction (Cutoff d) words) _ items refl)
+    (Continues-counted (cutoff_gives d) state item items (Reset d ∷ []) running (ap (λ early. (if early then item else Reset d) ∷ []) (late-before d item items later.late))).gives
+    ∙ ap (λ more. Reset d ∷ more) (flow_from-done (op_reaction (Cutoff d) (draw words)) _ items refl)
 
 -- drained levels, one of which stops everything from an instant on, give the same for all later lists
 stop-level : (d : ℕ) (op : Op) → is_mute op ≡ false → IsStop d op → op ≡ Cutoff d
@@ -174,7 +175,7 @@ same-later : (d : ℕ) (words : List ℕ) (start : ℕ) (levels : List Level) (s
 same-later d words start [] source xs ys fits nested drained from stop later_xs later_ys = absurd stop
 same-later d words start (level ∷ levels) source xs ys fits nested drained from stop later_xs later_ys =
     elim (stop-snoc d (ops_of levels) level.op stop) [
-      | inl above ↦ ap (λ items. level_gives words start level items) (same-later d words level.stop levels source xs ys fits nested.1 drained.2 split.0 above later_xs later_ys)
+      | inl above ↦ ap (λ items. level_gives (draw words) start level items) (same-later d words level.stop levels source xs ys fits nested.1 drained.2 split.0 above later_xs later_ys)
       | inr here ↦ cut here xs later_xs ∙ sym (cut here ys later_ys)
     ]
   where
@@ -184,7 +185,7 @@ same-later d words start (level ∷ levels) source xs ys fits nested drained fro
     cut : IsStop d level.op → (items : List Item) → IsLater d items → to_come_from words start (level ∷ levels) source items ≡ Reset d ∷ []
     cut here items later =
         gives-drained words start level _ drained.0 drained.1
-        ∙ ap (λ op. flow_from (op_reaction op words) level.state (to_come_from words level.stop levels source items)) (stop-level d level.op (nested.0.heard drained.1) here)
+        ∙ ap (λ op. flow_from (op_reaction op (draw words)) level.state (to_come_from words level.stop levels source items)) (stop-level d level.op (nested.0.heard drained.1) here)
         ∙ cutoff-flow d words level.state _ (nested.0.sound.running drained.1) (late-levels d words level.stop levels source items fits nested.1 drained.2 split.0 later)
 
 -- a stream's instants are not beyond the horizon, unless the source is quiet

@@ -17,8 +17,11 @@ use Rattle.tox_defs.specs.declared.op.Op.{Op}
 use Rattle.tox_defs.specs.declared.op.Op.TheVariants.{Delay, Pace, Slow, Mute, Cutoff, Slicing, Limit}
 use Rattle.tox_defs.specs.declared.state.State.{State}
 use Rattle.tox_defs.specs.Reaction.{flow_from, state_after}
-use Rattle.tox_defs.specs.Givings.{in_order, first_bytes, leave, is_before, pieces_of}
-use Rattle.tox_defs.specs.Flow.{varied}
+use Rattle.tox_defs.specs.Ordered.{in_order}
+use Rattle.tox_defs.specs.toxics.LimitData.{first_bytes}
+use Rattle.tox_defs.specs.Pieces.{leave, pieces_of}
+use Rattle.tox_defs.specs.toxics.ResetPeer.{is_before}
+use Rattle.tox_defs.specs.Varied.{varied}
 use Rattle.tox_defs.specs.Op.{op_giving, op_reaction, is_mute}
 use Rattle.tox_defs.proofs.FlowLemmas.{react-running, flow_from-done}
 use Rattle.tox_plan.proofs.Endings.{giving-final}
@@ -95,7 +98,7 @@ IsLateOp d (Cutoff instant) = d ≤ instant
 IsLateOp d op = Unit {0}
 
 -- what an operation gives for an item
-late-giving : (d : ℕ) (op : Op) (words : List ℕ) (state : State) (item : Item) → d ≤ HORIZON → is_mute op ≡ false → IsLateOp d op → AreLate d (item ∷ []) → AreLate d (op_giving op words state item)
+late-giving : (d : ℕ) (op : Op) (words : List ℕ) (state : State) (item : Item) → d ≤ HORIZON → is_mute op ≡ false → IsLateOp d op → AreLate d (item ∷ []) → AreLate d (op_giving op (draw words) state item)
 late-giving d (Delay fixed latency jitter lane) words state (Chunk span t) fits loud from late = (omega (arith, fits, late.0), tt)
 late-giving d (Delay fixed latency jitter lane) words state (Closed t) fits loud from late = late-in_order d state.previous (Closed t) late
 late-giving d (Delay fixed latency jitter lane) words state (Reset t) fits loud from late = late-in_order d state.previous (Reset t) late
@@ -123,17 +126,17 @@ late-giving d (Limit bytes) words state Quiet fits loud from late = tt
 
 module _ (d : ℕ) (op : Op) (words : List ℕ) (fits : d ≤ HORIZON) (loud : is_mute op ≡ false) (from : IsLateOp d op) where
   late-step : (state : State) (item : Item) (items : List Item) → AreLate d (item ∷ items) → (done : Bool) → state.done ≡ done
-      → AreLate d (flow_from (op_reaction op words) (state_after state item (op_giving op words state item)) items) → AreLate d (flow_from (op_reaction op words) state (item ∷ items))
-  late-step state item items late true is others = subst (λ given. AreLate d given) (sym (flow_from-done (op_reaction op words) state (item ∷ items) is)) tt
+      → AreLate d (flow_from (op_reaction op (draw words)) (state_after state item (op_giving op (draw words) state item)) items) → AreLate d (flow_from (op_reaction op (draw words)) state (item ∷ items))
+  late-step state item items late true is others = subst (λ given. AreLate d given) (sym (flow_from-done (op_reaction op (draw words)) state (item ∷ items) is)) tt
   late-step state item items late false is others =
-      subst (λ answer. AreLate d (answer.given ++ flow_from (op_reaction op words) answer.state items)) (sym (react-running (op_reaction op words) state item is))
-      (late-append d (op_giving op words state item) _ (late-giving d op words state item fits loud from (late-head d item items late)) others)
+      subst (λ answer. AreLate d (answer.given ++ flow_from (op_reaction op (draw words)) answer.state items)) (sym (react-running (op_reaction op (draw words)) state item is))
+      (late-append d (op_giving op (draw words) state item) _ (late-giving d op words state item fits loud from (late-head d item items late)) others)
 
   -- what an operation gives for a list
-  pub late-flow : (state : State) (items : List Item) → AreLate d items → AreLate d (flow_from (op_reaction op words) state items)
+  pub late-flow : (state : State) (items : List Item) → AreLate d items → AreLate d (flow_from (op_reaction op (draw words)) state items)
   late-flow state [] late = tt
   late-flow state (item ∷ items) late =
-      late-step state item items late state.done refl (late-flow (state_after state item (op_giving op words state item)) items (late-tail d item items late))
+      late-step state item items late state.done refl (late-flow (state_after state item (op_giving op (draw words) state item)) items (late-tail d item items late))
 
 has_final-early : (xs ys : List Item) → has_final xs ≡ true → has_final (xs ++ ys) ≡ true
 has_final-early [] ys final = absurd (cc)
@@ -148,30 +151,30 @@ has_final-ending (ClosedAt t) = refl
 has_final-ending (ResetAt t) = refl
 
 module _ (op : Op) (words : List ℕ) where
-  final-giving : (state : State) (item : Item) (items : List Item) → state.done ≡ false → has_final (op_giving op words state item) ≡ true
-      → has_final (flow_from (op_reaction op words) state (item ∷ items)) ≡ true
+  final-giving : (state : State) (item : Item) (items : List Item) → state.done ≡ false → has_final (op_giving op (draw words) state item) ≡ true
+      → has_final (flow_from (op_reaction op (draw words)) state (item ∷ items)) ≡ true
   final-giving state item items running final =
-      ap (λ answer. has_final (answer.given ++ flow_from (op_reaction op words) answer.state items)) (react-running (op_reaction op words) state item running)
-      ∙ has_final-early (op_giving op words state item) _ final
+      ap (λ answer. has_final (answer.given ++ flow_from (op_reaction op (draw words)) answer.state items)) (react-running (op_reaction op (draw words)) state item running)
+      ∙ has_final-early (op_giving op (draw words) state item) _ final
 
-  final-ending : (state : State) (ending : Ending) → has_final (op_giving op words state (final_of ending)) ≡ true
+  final-ending : (state : State) (ending : Ending) → has_final (op_giving op (draw words) state (final_of ending)) ≡ true
   final-ending state ending = ap has_final (giving-final op words state ending).1 ∙ has_final-ending (giving-final op words state ending).0
 
-  final-step : (state : State) (item : Item) (items : List Item) → state.done ≡ false → (ends : Bool) → has_final (op_giving op words state item) ≡ ends
-      → (ends ≡ false → has_final (flow_from (op_reaction op words) (state_after state item (op_giving op words state item)) items) ≡ true)
-      → has_final (flow_from (op_reaction op words) state (item ∷ items)) ≡ true
+  final-step : (state : State) (item : Item) (items : List Item) → state.done ≡ false → (ends : Bool) → has_final (op_giving op (draw words) state item) ≡ ends
+      → (ends ≡ false → has_final (flow_from (op_reaction op (draw words)) (state_after state item (op_giving op (draw words) state item)) items) ≡ true)
+      → has_final (flow_from (op_reaction op (draw words)) state (item ∷ items)) ≡ true
   final-step state item items running true is others = final-giving state item items running is
   final-step state item items running false is others =
-      ap (λ answer. has_final (answer.given ++ flow_from (op_reaction op words) answer.state items)) (react-running (op_reaction op words) state item running)
-      ∙ has_final-append (op_giving op words state item) _ is
+      ap (λ answer. has_final (answer.given ++ flow_from (op_reaction op (draw words)) answer.state items)) (react-running (op_reaction op (draw words)) state item running)
+      ∙ has_final-append (op_giving op (draw words) state item) _ is
       ∙ others refl
 
   -- a final brings a final
-  pub final-flow : (state : State) (items : List Item) → state.done ≡ false → has_final items ≡ true → has_final (flow_from (op_reaction op words) state items) ≡ true
+  pub final-flow : (state : State) (items : List Item) → state.done ≡ false → has_final items ≡ true → has_final (flow_from (op_reaction op (draw words)) state items) ≡ true
   final-flow state [] running final = absurd (cc)
   final-flow state (Closed t ∷ items) running final = final-giving state (Closed t) items running (final-ending state (ClosedAt t))
   final-flow state (Reset t ∷ items) running final = final-giving state (Reset t) items running (final-ending state (ResetAt t))
   final-flow state (Quiet ∷ items) running final = final-giving state Quiet items running (final-ending state StillOpen)
   final-flow state (Chunk span t ∷ items) running final =
-      let given : List Item = op_giving op words state (Chunk span t) in
+      let given : List Item = op_giving op (draw words) state (Chunk span t) in
       final-step state (Chunk span t) items running (has_final given) refl (λ none. final-flow (state_after state (Chunk span t) given) items none final)

@@ -5,6 +5,7 @@ use Rattle.tox_time.specs.declared.slice.Slice.{Slice}
 use Rattle.tox_time.specs.declared.item.Item.{Item}
 use Rattle.tox_time.specs.declared.ending.Ending.{Ending}
 use Rattle.tox_time.specs.Table.{final_of}
+use Rattle.tox_words.specs.Draw.{draw}
 use Rattle.tox_defs.specs.declared.level.Level.{Level}
 use Rattle.tox_defs.specs.Reaction.{flow_from}
 use Rattle.tox_defs.specs.Op.{op_giving, op_reaction}
@@ -21,20 +22,20 @@ rest_of-piece start piece begins some =
 
 -- a level that has nothing left gives what its operation gives for an ending
 pub level_gives-final : (words : List ℕ) (start : ℕ) (level : Level) (item : Item) (last : Ending) → level.stop ≡ start → level.ending ≡ None → level.state.done ≡ false
-    → op_giving level.op words level.state item ≡ final_of last ∷ [] → level_gives words start level (item ∷ []) ≡ final_of last ∷ []
+    → op_giving level.op (draw words) level.state item ≡ final_of last ∷ [] → level_gives (draw words) start level (item ∷ []) ≡ final_of last ∷ []
 level_gives-final words start level item last read running undone gives =
-    level_gives-running words start level (item ∷ []) running
-    ∙ ap (λ rest. flow_from (op_reaction level.op words) level.state (rest ++ item ∷ [])) (rest_of-read start level.stop level.instant (omega (arith, read)))
-    ∙ (Continues-counted (op_giving level.op words) level.state item [] (final_of last ∷ []) undone gives).gives
+    level_gives-running (draw words) start level (item ∷ []) running
+    ∙ ap (λ rest. flow_from (op_reaction level.op (draw words)) level.state (rest ++ item ∷ [])) (rest_of-read start level.stop level.instant (omega (arith, read)))
+    ∙ (Continues-counted (op_giving level.op (draw words)) level.state item [] (final_of last ∷ []) undone gives).gives
 
 -- a piece that comes from upstream is the next chunk of a level that has nothing left
 pub level_gives-filled : (words : List ℕ) (start : ℕ) (level : Level) (piece : Slice) (items : List Item) → level.ending ≡ None → level.stop ≡ start → piece.span.start ≡ level.stop → level.stop < piece.span.stop
-    → level_gives words start level (as_chunk piece ∷ items) ≡ level_gives words start (record level { stop = piece.span.stop; instant = piece.instant }) items
+    → level_gives (draw words) start level (as_chunk piece ∷ items) ≡ level_gives (draw words) start (record level { stop = piece.span.stop; instant = piece.instant }) items
 level_gives-filled words start level piece items running read begins some =
-    level_gives-running words start level (as_chunk piece ∷ items) running
-    ∙ ap (λ rest. flow_from (op_reaction level.op words) level.state (rest ++ as_chunk piece ∷ items)) (rest_of-read start level.stop level.instant (omega (arith, read)))
-    ∙ ap (λ rest. flow_from (op_reaction level.op words) level.state (rest ++ items)) (sym (rest_of-piece start piece (begins ∙ read) (omega (arith, read, some))))
-    ∙ sym (level_gives-running words start (record level { stop = piece.span.stop; instant = piece.instant }) items running)
+    level_gives-running (draw words) start level (as_chunk piece ∷ items) running
+    ∙ ap (λ rest. flow_from (op_reaction level.op (draw words)) level.state (rest ++ as_chunk piece ∷ items)) (rest_of-read start level.stop level.instant (omega (arith, read)))
+    ∙ ap (λ rest. flow_from (op_reaction level.op (draw words)) level.state (rest ++ items)) (sym (rest_of-piece start piece (begins ∙ read) (omega (arith, read, some))))
+    ∙ sym (level_gives-running (draw words) start (record level { stop = piece.span.stop; instant = piece.instant }) items running)
 
 -- the reader of nested levels stands in the source's piece, or at its end
 pub nested-below : (start : ℕ) (levels : List Level) (source : Slice) → AreNested start levels source → start ≤ source.span.stop
@@ -72,7 +73,7 @@ drained-offered words start [] old new items drained after some =
     ap (λ rest. rest ++ items) (rest_of-piece start new (after ∙ drained) (omega (arith, drained, after, some)))
     ∙ ap (λ rest. rest ++ as_chunk new ∷ items) (sym (rest_of-read start old.span.stop old.instant (omega (arith, drained))))
 drained-offered words start (level ∷ levels) old new items drained after some =
-    ap (λ items. level_gives words start level items) (drained-offered words level.stop levels old new items drained.2 after some)
+    ap (λ items. level_gives (draw words) start level items) (drained-offered words level.stop levels old new items drained.2 after some)
 
 -- the operations of levels behind others
 pub ops_of-append : (xs ys : List Level) → ops_of (xs ++ ys) ≡ ops_of ys ++ ops_of xs

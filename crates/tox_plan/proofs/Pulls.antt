@@ -5,6 +5,7 @@ use Rattle.tox_time.specs.declared.slice.Slice.{Slice}
 use Rattle.tox_time.specs.declared.item.Item.{Item}
 use Rattle.tox_time.specs.declared.ending.Ending.{Ending}
 use Rattle.tox_time.specs.Table.{final_of}
+use Rattle.tox_words.specs.Draw.{draw}
 use Rattle.tox_defs.specs.declared.level.Level.{Level}
 use Rattle.tox_defs.specs.Op.{op_giving, is_mute}
 use Rattle.tox_defs.specs.Look.{as_chunk}
@@ -16,14 +17,14 @@ use Rattle.tox_plan.proofs.LevelLemmas.{nested-below, level_gives-filled, level_
 
 -- the first level's next piece
 advanced-piece : (words : List ℕ) (start : ℕ) (levels upstream : List Level) (level new : Level) (source piece : Slice)
-    → ((items : List Item) → to_come_from words start levels source items ≡ level_gives words start level (to_come_from words level.stop upstream source items))
-    → AreNested level.stop upstream source → is_mute level.op ≡ false → IsNextPiece words start level new piece → IsNext words start levels (new ∷ upstream) source piece
+    → ((items : List Item) → to_come_from words start levels source items ≡ level_gives (draw words) start level (to_come_from words level.stop upstream source items))
+    → AreNested level.stop upstream source → is_mute level.op ≡ false → IsNextPiece (draw words) start level new piece → IsNext words start levels (new ∷ upstream) source piece
 advanced-piece words start levels upstream level new source piece same nested heard next = record {
   begins = next.begins;
   some = next.some;
   nested = (record { sound = next.sound; heard = λ none. ap is_mute next.op ∙ heard }, subst (λ stop. AreNested stop upstream source) (sym next.stop) nested);
   gives = λ items. same items ∙ next.gives (to_come_from words level.stop upstream source items)
-      ∙ ap (λ stop. as_chunk piece ∷ level_gives words piece.span.stop new (to_come_from words stop upstream source items)) (sym next.stop);
+      ∙ ap (λ stop. as_chunk piece ∷ level_gives (draw words) piece.span.stop new (to_come_from words stop upstream source items)) (sym next.stop);
 }
 
 -- a level that has a piece from upstream as its present chunk
@@ -32,24 +33,24 @@ filled level piece = record { op = level.op; state = level.state; stop = piece.s
 
 -- a pull that brings the first level a piece from upstream
 module _ (words : List ℕ) (start : ℕ) (old upstream : List Level) (level : Level) (source piece : Slice) (running : level.ending ≡ None) (read : level.stop ≡ start) (next : IsNext words start old upstream source piece) where
-  filled-gives : (items : List Item) → to_come_from words start (level ∷ old) source items ≡ level_gives words start (filled level piece) (to_come_from words piece.span.stop upstream source items)
+  filled-gives : (items : List Item) → to_come_from words start (level ∷ old) source items ≡ level_gives (draw words) start (filled level piece) (to_come_from words piece.span.stop upstream source items)
   filled-gives items =
-      ap (λ stop. level_gives words start level (to_come_from words stop old source items)) read
-      ∙ ap (λ items. level_gives words start level items) (next.gives items)
+      ap (λ stop. level_gives (draw words) start level (to_come_from words stop old source items)) read
+      ∙ ap (λ items. level_gives (draw words) start level items) (next.gives items)
       ∙ level_gives-filled words start level piece (to_come_from words piece.span.stop upstream source items) running read (next.begins ∙ sym read) (omega (arith, next.some, read))
 
-  pub filled-piece : (new : Level) (found : Slice) → is_mute level.op ≡ false → IsNextPiece words start (filled level piece) new found → IsNext words start (level ∷ old) (new ∷ upstream) source found
+  pub filled-piece : (new : Level) (found : Slice) → is_mute level.op ≡ false → IsNextPiece (draw words) start (filled level piece) new found → IsNext words start (level ∷ old) (new ∷ upstream) source found
   filled-piece new found heard advanced = advanced-piece words start (level ∷ old) upstream (filled level piece) new source found filled-gives next.nested heard advanced
 
-  pub filled-end : (new : Level) (ending : Ending) → IsAtEnd words start (filled level piece) new ending → OnlyEnds words start (level ∷ old) source ending
+  pub filled-end : (new : Level) (ending : Ending) → IsAtEnd (draw words) start (filled level piece) new ending → OnlyEnds words start (level ∷ old) source ending
   filled-end new ending at_end items = filled-gives items ∙ at_end.gives (to_come_from words piece.span.stop upstream source items)
 
 -- an ending that comes from upstream
 pub upstream-end : (words : List ℕ) (start : ℕ) (upstream : List Level) (level : Level) (source : Slice) (ending last : Ending) → level.ending ≡ None → level.stop ≡ start → IsSound start level
-    → OnlyEnds words start upstream source ending → ((words : List ℕ) → op_giving level.op words level.state (final_of ending) ≡ final_of last ∷ []) → OnlyEnds words start (level ∷ upstream) source last
+    → OnlyEnds words start upstream source ending → ((words : List ℕ) → op_giving level.op (draw words) level.state (final_of ending) ≡ final_of last ∷ []) → OnlyEnds words start (level ∷ upstream) source last
 upstream-end words start upstream level source ending last running read sound only gives items =
-    ap (λ stop. level_gives words start level (to_come_from words stop upstream source items)) read
-    ∙ ap (λ items. level_gives words start level items) (only items)
+    ap (λ stop. level_gives (draw words) start level (to_come_from words stop upstream source items)) read
+    ∙ ap (λ items. level_gives (draw words) start level items) (only items)
     ∙ level_gives-final words start level (final_of ending) last read running (sound.running running) (gives words)
 
 -- the ending that upstream levels know, and what a level makes of it
@@ -57,7 +58,7 @@ abbrev pub Knows : List Level → Option Ending → Type 0
 Knows levels known = (words : List ℕ) (start : ℕ) (source : Slice) → AreNested start levels source → AreRead start levels source → MatchOption known (AreDrained start levels source) (OnlyEnds words start levels source)
 
 pub knows-some : (level : Level) (upstream : List Level) (known : Option Ending) (ending last : Ending) → Knows upstream known → known ≡ Some ending → level.ending ≡ None
-    → ((words : List ℕ) → op_giving level.op words level.state (final_of ending) ≡ final_of last ∷ []) → Knows (level ∷ upstream) (Some last)
+    → ((words : List ℕ) → op_giving level.op (draw words) level.state (final_of ending) ≡ final_of last ∷ []) → Knows (level ∷ upstream) (Some last)
 knows-some level upstream known ending last knows is running gives words start source nested read =
     let only : OnlyEnds words start upstream source ending = rw is at (knows words start source (subst (λ stop. AreNested stop upstream source) read.0 nested.1) (subst (λ stop. AreRead stop upstream source) read.0 read.1)) in
     upstream-end words start upstream level source ending last running read.0 nested.0.sound only gives

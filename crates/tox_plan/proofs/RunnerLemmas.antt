@@ -11,6 +11,7 @@ use Rattle.tox_time.specs.declared.ending.Ending.{Ending}
 use Rattle.tox_time.specs.declared.ending.Ending.TheVariants.{StillOpen, Closed as ClosedEnding, Reset as ResetEnding}
 use Rattle.tox_time.specs.Stream.{IsStream}
 use Rattle.tox_time.specs.Table.{final_of}
+use Rattle.tox_words.specs.Draw.{draw}
 use Rattle.tox_defs.specs.declared.op.Op.{Op}
 use Rattle.tox_defs.specs.declared.level.Level.{Level}
 use Rattle.tox_defs.specs.Reaction.{flow_through}
@@ -440,14 +441,14 @@ module _ (ops : List Op) (words : List ℕ) (known : Option Ending) where
   }
 
   means_by : (ending : Option Ending) → known ≡ ending → All IsOp ops → MatchOption known (AreDrained 0 (levels_at_start ops) no_piece) (OnlyEnds words 0 (levels_at_start ops) no_piece) → (items : List Item) → IsStream items
-      → to_come first_runner items ≡ flow_through (op_reactions ops words) items
+      → to_come first_runner items ≡ flow_through (op_reactions ops (draw words)) items
   means_by None is fit knows items stream = to_come-unfound first_runner items is refl ∙ means-at_start ops words items fit stream
   means_by (Some ending) is fit knows items stream =
       let only : OnlyEnds words 0 (levels_at_start ops) no_piece ending = rw is at knows in
       to_come-ended first_runner ending items is ∙ sym (only items) ∙ means-at_start ops words items fit stream
 
   pub means-first : All IsOp ops → MatchOption known (AreDrained 0 (levels_at_start ops) no_piece) (OnlyEnds words 0 (levels_at_start ops) no_piece) → (items : List Item) → IsStream items
-      → to_come first_runner items ≡ flow_through (op_reactions ops words) items
+      → to_come first_runner items ≡ flow_through (op_reactions ops (draw words)) items
   means-first fit knows items stream = means_by known refl fit knows items stream
 
 -- the ending is known exactly where the source has ended, or something is to come though nothing more arrives

@@ -4,6 +4,7 @@ use Rattle.tox_time.specs.declared.slice.Slice.{Slice}
 use Rattle.tox_time.specs.declared.item.Item.{Item}
 use Rattle.tox_time.specs.declared.ending.Ending.{Ending}
 use Rattle.tox_time.specs.Table.{final_of}
+use Rattle.tox_words.specs.Draw.{draw}
 use Rattle.tox_defs.specs.declared.op.Op.{Op}
 use Rattle.tox_defs.specs.declared.op.Op.TheVariants.{Mute}
 use Rattle.tox_defs.specs.declared.level.Level.{Level}
@@ -37,7 +38,7 @@ ops_of (level ∷ levels) = ops_of levels ++ level.op ∷ []
 abbrev pub to_come_from : List ℕ → ℕ → List Level → Slice → List Item → List Item
 to_come_from words start [] source items = rest_of start source.span.stop source.instant ++ items
 to_come_from words start (level ∷ levels) source items =
-    level_gives words start level (to_come_from words level.stop levels source items)
+    level_gives (draw words) start level (to_come_from words level.stop levels source items)
 
 -- a level whose reader stands at `start`, and that lets something through unless its ending is known
 pub record IsLevel (start : ℕ) (level : Level) : Type 0 where
@@ -103,8 +104,8 @@ IsFrom start Nothing = Unit {0}
 
 -- what one level gave
 abbrev pub MatchGiven : List ℕ → ℕ → Level → Level → Pulled → Type 0
-MatchGiven words start old new (Piece piece) = IsNextPiece words start old new piece
-MatchGiven words start old new (End ending) = IsAtEnd words start old new ending
+MatchGiven words start old new (Piece piece) = IsNextPiece (draw words) start old new piece
+MatchGiven words start old new (End ending) = IsAtEnd (draw words) start old new ending
 MatchGiven words start old new Nothing = ⊥
 
 -- what a pull brought

@@ -4,3 +4,4 @@ pub mod Renamed
 pub mod Tables
 pub mod Texts
 pub mod ToxicTurns
+pub mod AttributeValues

@@ -23,15 +23,6 @@ whole_or_zero (Some d) = whole d
 abbrev pub value_in : Option Data → List ℕ → Option ℕ
 value_in attributes key = whole_or_zero (option_and_then (get key) attributes)
 
--- the value of an attribute, where there is one
-abbrev pub value_of_key : Option Data → Option (List ℕ) → Option ℕ
-value_of_key attributes None = Some 0
-value_of_key attributes (Some key) = value_in attributes key
-
--- the value of a type's attribute at a place; 0 past the last one
-abbrev pub value_at : Kind → Option Data → ℕ → Option ℕ
-value_at kind attributes place = value_of_key attributes (slice_get (attributes_of kind) place)
-
 -- the values of a list, where each is there
 abbrev pub all_some : {A : Type 0} → List (Option A) → Option (List A)
 all_some [] = Some []

@@ -2,11 +2,12 @@
 ghost use Rattle.std.specs.Prelude.{◌≡◌, option_map, IfOk};
 ghost use Rattle.toml.specs.View.{view};
 ghost use Rattle.tox_defs.specs.Toxic.{IsInRange};
-ghost use Rattle.tox_script.specs.Attributes.{are_known, toxic_with, value_at, value_in};
+ghost use Rattle.tox_script.specs.Attributes.{are_known, toxic_with, value_in, values_in};
 
 use crate::fields::{has_only, whole};
+use arrayvec::ArrayVec;
 use toml::Value;
-use tox_defs::{Kind, Toxic, ToxicFault};
+use tox_defs::{Kind, MAX_ATTRIBUTES, Toxic, ToxicFault};
 
 /// The toxic of a type with a table of attributes, where an absent one is 0.
 pub(crate) fn toxic_with(kind: Kind, attributes: Option<&Value>) -> Result<Toxic, ToxicFault>
@@ -16,10 +17,19 @@ pub(crate) fn toxic_with(kind: Kind, attributes: Option<&Value>) -> Result<Toxic
     if !are_known(kind, attributes) {
         return Err(ToxicFault::UnknownAttribute);
     }
-    let first = value_at(kind, attributes, 0).ok_or(ToxicFault::OutOfRange)?;
-    let second = value_at(kind, attributes, 1).ok_or(ToxicFault::OutOfRange)?;
-    let third = value_at(kind, attributes, 2).ok_or(ToxicFault::OutOfRange)?;
-    kind.toxic([first, second, third])
+    let values = values_in(kind, attributes).ok_or(ToxicFault::OutOfRange)?;
+    kind.toxic(&values)
+}
+
+/// The values of the type's attributes in order, where each is a whole number.
+fn values_in(kind: Kind, attributes: Option<&Value>) -> Option<ArrayVec<u64, MAX_ATTRIBUTES>>
+    ensures { option_map (λ values. values.items) result ≡ values_in kind (option_map (λ table. view table.now) attributes.entry) }
+{
+    let mut values = ArrayVec::new();
+    for key in kind.attributes() {
+        values.push(value_in(attributes, key)?);
+    }
+    Some(values)
 }
 
 /// Whether the type has each of the attributes.
@@ -29,16 +39,6 @@ fn are_known(kind: Kind, attributes: Option<&Value>) -> bool
     match attributes {
         Some(table) => has_only(table, kind.attributes()),
         None => true,
-    }
-}
-
-/// The value of the type's attribute at a place; 0 past the last one.
-fn value_at(kind: Kind, attributes: Option<&Value>, place: usize) -> Option<u64>
-    ensures { result ≡ value_at kind (option_map (λ table. view table.now) attributes.entry) place }
-{
-    match kind.attributes().get(place) {
-        Some(key) => value_in(attributes, key),
-        None => Some(0),
     }
 }
 

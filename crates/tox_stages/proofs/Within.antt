@@ -20,8 +20,13 @@ use Rattle.tox_defs.specs.declared.toxic.Toxic.{Toxic}
 use Rattle.tox_defs.specs.declared.toxic.Toxic.TheVariants.{Latency, Bandwidth, SlowClose, Timeout, ResetPeer, Slicer, LimitData}
 use Rattle.tox_defs.specs.Chain.{Toxics}
 use Rattle.tox_defs.specs.Reaction.{Giving, react, counted, flow_from, first_state, flow_through}
-use Rattle.tox_defs.specs.Givings.{cut, leave, first_bytes, is_before, muted, limited}
-use Rattle.tox_defs.specs.Flow.{Placed, toxic_giving, toxic_reaction, timeout_ending, varied, applied, chain_flow}
+use Rattle.tox_defs.specs.Pieces.{cut, leave}
+use Rattle.tox_defs.specs.toxics.LimitData.{first_bytes, limit_gives}
+use Rattle.tox_defs.specs.toxics.ResetPeer.{is_before}
+use Rattle.tox_defs.specs.toxics.Timeout.{mute_gives}
+use Rattle.tox_defs.specs.Flow.{Placed, toxic_giving, toxic_reaction, applied, chain_flow}
+use Rattle.tox_defs.specs.toxics.Timeout.{timeout_ending}
+use Rattle.tox_defs.specs.Varied.{varied}
 use Rattle.tox_defs.specs.Laws.{toxic_flow}
 use Rattle.tox_network.specs.Shown.{shown}
 
@@ -116,7 +121,7 @@ final_within items StillOpen = tt
 final_within items (ClosedAt t) = tt
 final_within items (ResetAt t) = tt
 
-muted_within : (ending : Ending) → GivesWithin (muted (final_of ending))
+muted_within : (ending : Ending) → GivesWithin (mute_gives (final_of ending))
 muted_within ending state (Chunk span t) items = tt
 muted_within ending state (Closed t) items = final_within (Closed t ∷ items) ending
 muted_within ending state (Reset t) items = final_within (Reset t ∷ items) ending
@@ -141,7 +146,7 @@ limited_by : (short : Bool) (bytes : ℕ) (state : State) (span : Span) (t : ℕ
 limited_by true bytes state span t items is = chunk_within span t t items
 limited_by false bytes state span t items is = first_bytes_within (bytes - state.passed) span t items (ltb-false (span_len span) (bytes - state.passed) is)
 
-limited_within : (bytes : ℕ) → GivesWithin (limited bytes)
+limited_within : (bytes : ℕ) → GivesWithin (limit_gives bytes)
 limited_within bytes state (Chunk span t) items = limited_by (nat_lt (span_len span) (bytes - state.passed)) bytes state span t items refl
 limited_within bytes state (Closed t) items = tt
 limited_within bytes state (Reset t) items = tt

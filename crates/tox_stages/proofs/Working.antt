@@ -7,8 +7,9 @@ use Rattle.tox_defs.specs.declared.place.Place.{Place}
 use Rattle.tox_defs.specs.declared.state.State.{State}
 use Rattle.tox_defs.specs.Place.{first_place, fits, place_after}
 use Rattle.tox_defs.specs.Reaction.{Answer, Reaction, first_state, react, flow, flow_from, state_from}
+use Rattle.tox_words.specs.Draw.{draw}
 use Rattle.tox_defs.specs.Op.{op_reaction}
-use Rattle.tox_defs.specs.Stage.{Staged, taken}
+use Rattle.tox_defs.specs.Stage.{Staged, reaction_of, taken}
 use Rattle.tox_defs.proofs.FlowLemmas.{flow_from-append, state_from-append}
 use Rattle.tox_stages.specs.Passing.{SendsFlow, BeginsStream}
 use Rattle.tox_stages.proofs.Places.{place_behind, place_behind-last, ended_behind, has_final-last, whole_stream, misfit}
@@ -33,24 +34,24 @@ pub record HasWorked (stage : Staged) (items given : List Item) (s : Staged) : T
   pub idle : s.pending ≡ []
   pub unended : s.place.ended ≡ false
   pub place : s.place ≡ place_behind first_place items
-  pub state : s.state ≡ state_from (op_reaction stage.op stage.words) first_state items
-  pub flowed : given ≡ flow_from (op_reaction stage.op stage.words) first_state items
+  pub state : s.state ≡ state_from (reaction_of stage) first_state items
+  pub flowed : given ≡ flow_from (reaction_of stage) first_state items
 
 -- what the stage makes of one item more
 reacts : (stage : Staged) (items given : List Item) (s : Staged) (item : Item) → HasWorked stage items given s
-    → react (op_reaction s.op s.words) s.state item ≡ react (op_reaction stage.op stage.words) (state_from (op_reaction stage.op stage.words) first_state items) item
+    → react (reaction_of s) s.state item ≡ react (reaction_of stage) (state_from (reaction_of stage) first_state items) item
 reacts stage items given s item h =
-    ap (λ op. react (op_reaction op s.words) s.state item) h.same_op
-    ∙ ap (λ words. react (op_reaction stage.op words) s.state item) h.same_words
-    ∙ ap (λ state. react (op_reaction stage.op stage.words) state item) h.state
+    ap (λ op. react (op_reaction op (draw s.words)) s.state item) h.same_op
+    ∙ ap (λ words. react (op_reaction stage.op (draw words)) s.state item) h.same_words
+    ∙ ap (λ state. react (reaction_of stage) state item) h.state
 
 pub flowed_more : (stage : Staged) (items given : List Item) (s : Staged) (item : Item) (more : List Item) → HasWorked stage items given s → more ≡ given ++ (taken s item).pending
-    → more ≡ flow_from (op_reaction stage.op stage.words) first_state (items ++ item ∷ [])
+    → more ≡ flow_from (reaction_of stage) first_state (items ++ item ∷ [])
 flowed_more stage items given s item more h is =
     is
     ∙ ap (λ front. front ++ (taken s item).pending) h.flowed
-    ∙ ap (λ (answer : Answer). flow_from (op_reaction stage.op stage.words) first_state items ++ answer.given) (reacts stage items given s item h)
-    ∙ sym (flow_from-last (op_reaction stage.op stage.words) first_state items item)
+    ∙ ap (λ (answer : Answer). flow_from (reaction_of stage) first_state items ++ answer.given) (reacts stage items given s item h)
+    ∙ sym (flow_from-last (reaction_of stage) first_state items item)
 
 -- items without an end have no final
 unended_items : (stage : Staged) (items given : List Item) (s : Staged) → HasWorked stage items given s → has_final items ≡ false
@@ -69,21 +70,21 @@ worked_on stage items given s item t all more h chunk is received is_sent =
       unended = ap (λ (place : Place). place.ended) place ∙ ended_behind first_place all refl ∙ ap has_final received ∙ has_final-last items item (unended_items stage items given s h) ∙ chunk;
       place = place;
       state = ap (λ (s : Staged). s.state) is ∙ ap (λ (answer : Answer). answer.state) (reacts stage items given s item h)
-          ∙ sym (state_from-last (op_reaction stage.op stage.words) first_state items item)
-          ∙ ap (state_from (op_reaction stage.op stage.words) first_state) (sym received);
-      flowed = flowed_more stage items given s item more h is_sent ∙ ap (flow_from (op_reaction stage.op stage.words) first_state) (sym received);
+          ∙ sym (state_from-last (reaction_of stage) first_state items item)
+          ∙ ap (state_from (reaction_of stage) first_state) (sym received);
+      flowed = flowed_more stage items given s item more h is_sent ∙ ap (flow_from (reaction_of stage) first_state) (sym received);
     }
 
 -- a final: where the items begin a stream, they are all of it
 pub worked_all : (stage : Staged) (items given : List Item) (s : Staged) (item : Item) (reaction : Reaction) (all more : List Item) → HasWorked stage items given s → is_final item ≡ true
-    → op_reaction stage.op stage.words ≡ reaction → all ≡ items ++ item ∷ [] → more ≡ given ++ (taken s item).pending → SendsFlow reaction all more
+    → reaction_of stage ≡ reaction → all ≡ items ++ item ∷ [] → more ≡ given ++ (taken s item).pending → SendsFlow reaction all more
 worked_all stage items given s item reaction all more h final is received is_sent =
     let ended : has_final all ≡ true = ap has_final received ∙ has_final-last items item (unended_items stage items given s h) ∙ final in
     record {
       whole = whole_stream all ended;
       flowed = λ begins.
           flowed_more stage items given s item more h is_sent
-          ∙ ap (flow (op_reaction stage.op stage.words)) (sym received)
+          ∙ ap (flow (reaction_of stage)) (sym received)
           ∙ ap (λ one. flow one all) is;
     }
 

@@ -2,7 +2,7 @@
 use Rattle.std.proofs.Common.{◌≡◌, ℕ, List, [], ◌∷◌, ◌++◌, codes, decimal, flat_map, map, append_assoc, append-nil, refl, ap, ◌∙◌}
 use Rattle.std.specs.List.{join_with_byte, zip}
 use Rattle.tox_defs.specs.Kind.{attributes_of, name_of}
-use Rattle.tox_defs.specs.Printed.{printed_pair, printed_pairs, printed_short, three_of, type_of, values_of}
+use Rattle.tox_defs.specs.Printed.{printed_pair, printed_pairs, printed_short, type_of, values_of}
 use Rattle.tox_defs.specs.declared.toxic.Toxic.{Toxic}
 use Rattle.tox_defs.specs.declared.toxic.Toxic.TheVariants.{Latency, Bandwidth, SlowClose, Timeout, ResetPeer, Slicer, LimitData}
 use Rattle.tox_text.specs.ShortForm.{pair_before_comma}
@@ -28,8 +28,8 @@ joined_last (part ∷ next ∷ parts) last =
 abbrev pairs_of : Toxic → List (List ℕ)
 pairs_of toxic = map printed_pair (zip (attributes_of (type_of toxic)) (values_of toxic))
 
--- three values are enough
-spelled : (toxic : Toxic) → flat_map pair_before_comma (zip (attributes_of (type_of toxic)) (three_of (values_of toxic))) ≡ flat_map (λ part. part ++ codes ",") (pairs_of toxic)
+-- each pair with a comma behind it
+spelled : (toxic : Toxic) → flat_map pair_before_comma (zip (attributes_of (type_of toxic)) (values_of toxic)) ≡ flat_map (λ part. part ++ codes ",") (pairs_of toxic)
 spelled (Latency latency jitter) = refl
 spelled (Bandwidth rate) = refl
 spelled (SlowClose delay) = refl
@@ -49,7 +49,7 @@ ended (Slicer average_size size_variation delay) toxicity = refl
 ended (LimitData bytes) toxicity = refl
 
 parts_of_toxic : (toxic : Toxic) (toxicity : ℕ)
-    → short_parts (name_of (type_of toxic)) (attributes_of (type_of toxic)) (three_of (values_of toxic)) toxicity ≡ printed_short toxic toxicity
+    → short_parts (name_of (type_of toxic)) (attributes_of (type_of toxic)) (values_of toxic) toxicity ≡ printed_short toxic toxicity
 parts_of_toxic toxic toxicity =
     ap (λ text. (name_of (type_of toxic) ++ codes ":") ++ text) (
     ap (λ text. text ++ (codes "toxicity=" ++ (decimal toxicity ++ []))) (spelled toxic)
@@ -59,6 +59,6 @@ parts_of_toxic toxic toxicity =
 
 -- what the calls answered are these parts
 pub printed_short-parts : (name : List ℕ) (keys : List (List ℕ)) (values : List ℕ) (number : ℕ) (toxic : Toxic) (toxicity : ℕ)
-    → name ≡ name_of (type_of toxic) → keys ≡ attributes_of (type_of toxic) → values ≡ three_of (values_of toxic) → number ≡ toxicity
+    → name ≡ name_of (type_of toxic) → keys ≡ attributes_of (type_of toxic) → values ≡ values_of toxic → number ≡ toxicity
     → short_parts name keys values number ≡ printed_short toxic toxicity
 printed_short-parts name keys values number toxic toxicity named keyed valued numbered = rw (named, keyed, valued, numbered) (parts_of_toxic toxic toxicity)

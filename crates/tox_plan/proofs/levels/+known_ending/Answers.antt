@@ -1,5 +1,6 @@
 -- A known ending that comes from upstream leaves the level as its operation's ending.
 use Rattle.std.proofs.Common.{rules, ◌≡◌, ◌∷◌, Some, None, sym, subst}
+use Rattle.tox_words.specs.Draw.{draw}
 use Rattle.tox_plan.proofs.Pulls.{Knows, knows-some, knows-none}
 use Rattle.tox_plan.proofs.levels.+known_ending.Goals as goal
 
@@ -7,7 +8,7 @@ pub returns-in-Some-known_ending-clause-known : goal.returns-in-Some-known_endin
 returns-in-Some-known_ending-clause-known t c =
     let is : c.args.levels.now ≡ c.in-Some.level.now ∷ c.in-Some.upstream.now = search rules in
     subst (λ levels. Knows levels (Some c.last.result)) (sym is)
-    (knows-some c.in-Some.level.now c.in-Some.upstream.now c.known_ending.result c.in-Some-known_ending.ending c.last.result c.known_ending.ensures.known c.in-Some-known_ending.is (search rules) c.last.ensures)
+    (knows-some c.in-Some.level.now c.in-Some.upstream.now c.known_ending.result c.in-Some-known_ending.ending c.last.result c.known_ending.ensures.known c.in-Some-known_ending.is (search rules) (λ words. c.last.ensures (draw words)))
 
 pub returns-in-None-clause-known : goal.returns-in-None-clause-known
 returns-in-None-clause-known t c =

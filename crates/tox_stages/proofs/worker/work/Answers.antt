@@ -3,8 +3,7 @@ use Rattle.std.proofs.Common.{◌≡◌, [], ◌++◌, true, false, ap, sym, ◌
 use Rattle.rtrb.specs.Ring.{sent}
 use Rattle.tox_time.specs.Stream.{is_final}
 use Rattle.tox_defs.specs.Place.{fits, place_after}
-use Rattle.tox_defs.specs.Op.{op_reaction}
-use Rattle.tox_defs.specs.Stage.{Staged, taken}
+use Rattle.tox_defs.specs.Stage.{Staged, reaction_of, taken}
 use Rattle.tox_stages.proofs.Places.{grows}
 use Rattle.tox_stages.proofs.Working.{worked_on, worked_all, misfits}
 use Rattle.tox_stages.proofs.worker.work.Goals as goal
@@ -16,7 +15,7 @@ returns-then-not-may_take-clause-flow g c =
 pub returns-then-is_last-clause-flow : goal.returns-then-is_last-clause-flow
 returns-then-is_last-clause-flow g c =
     worked_all c.new-stage.result _ _ c.loop-nth.stage c.pop_waiting-item.result _ _ _ c.loop-nth.invariant.worked (sym c.is_final-is_last.ensures ∙ c.if-is_last.true)
-    (ap (λ (stage : Staged). op_reaction stage.op stage.words) c.new-stage.ensures.first ∙ c.new-stage.ensures.reacts)
+    (ap reaction_of c.new-stage.ensures.first ∙ c.new-stage.ensures.reacts)
     c.pop_waiting-item.ensures.received
     (c.emit_all.ensures.sent ∙ ap (λ (stage : Staged). sent c.loop-nth.producer ++ stage.pending) c.take.ensures)
 

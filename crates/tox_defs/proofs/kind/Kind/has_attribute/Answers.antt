@@ -13,4 +13,4 @@ returns c =
     any_from_yields_List (λ attribute. test attribute.now) _ _ c.any.result c.any.ensures.ran
     (YieldsList-from_slice c.attributes.result.now (cc)) (λ x b q k. search (rules, tests))
     ∙ sym (list_any-map test (λ attribute. attribute.now) c.attributes.result.now)
-    ∙ ap (list_any test) c.attributes.ensures
+    ∙ ap (list_any test) c.attributes.ensures.names

@@ -1,14 +1,22 @@
--- A pace and a slicing find the first piece of the chunk that they cut.
-use Rattle.std.proofs.Common.{refl}
-use Rattle.tox_defs.proofs.CuttingOps.{pace_found, slicing_found}
+-- Each operation finds what the look of its toxic finds.
+use Rattle.std.proofs.Common.{◌*◌}
 use Rattle.tox_defs.proofs.op.Op.look.Goals as goal
 
+pub returns-in-Delay-clause-finds : goal.returns-in-Delay-clause-finds
+returns-in-Delay-clause-finds c = λ items. rw c.in-Delay.is (c.look.ensures.finds items)
+
 pub returns-in-Pace-clause-finds : goal.returns-in-Pace-clause-finds
-returns-in-Pace-clause-finds c =
-    λ items. pace_found c.args.self.now c.in-Pace.rate c.args.words.now c.args.state.now c.args.rest.now _ items c.in-Pace.is (rw c.in-Pace.is at c.requires.operation) c.requires.running c.requires.some
-    (rw (c.after-in-Pace.ensures.value, c.later-in-Pace.ensures.value, c.div_ceil-wait.ensures, c.from-in-Pace-2.ensures, c.front-span.ensures, c.from-in-Pace.ensures) refl)
+returns-in-Pace-clause-finds c = λ items. rw c.in-Pace.is (c.look-in-Pace.ensures.finds items)
+
+pub returns-in-Slow-clause-finds : goal.returns-in-Slow-clause-finds
+returns-in-Slow-clause-finds c =
+    λ items. rw c.in-Slow.is (c.look-in-Slow.ensures.finds (1000 * c.in-Slow.millis) c.args.state.now items c.requires.running)
+
+pub returns-in-Cutoff-clause-finds : goal.returns-in-Cutoff-clause-finds
+returns-in-Cutoff-clause-finds c = λ items. rw c.in-Cutoff.is (c.look-in-Cutoff.ensures.finds c.args.state.now items c.requires.running)
 
 pub returns-in-Slicing-clause-finds : goal.returns-in-Slicing-clause-finds
-returns-in-Slicing-clause-finds c =
-    λ items. slicing_found c.args.self.now c.in-Slicing.average c.in-Slicing.variation c.in-Slicing.micros c.in-Slicing.lane c.args.words.now c.args.state.now c.args.rest.now _ items c.in-Slicing.is (rw c.in-Slicing.is at c.requires.operation) c.requires.running c.requires.some
-    (rw (c.after-in-Slicing.ensures.value, c.later-in-Slicing.ensures.value, c.front.ensures, c.drawn-in-Slicing.ensures.value) refl)
+returns-in-Slicing-clause-finds c = λ items. rw c.in-Slicing.is (c.look-in-Slicing.ensures.finds items)
+
+pub returns-in-Limit-clause-finds : goal.returns-in-Limit-clause-finds
+returns-in-Limit-clause-finds c = λ items. rw c.in-Limit.is (c.look-in-Limit.ensures.finds items)

@@ -1,0 +1,54 @@
+-- latency: every chunk leaves later, by a fixed time plus or minus a drawn one.
+use Rattle.std.specs.Prelude.{◌≡◌, ℕ, zero, suc, ◌+◌, ◌*◌, ◌&&◌, max, Bool, List, [], ◌∷◌, codes, map, slice_index}
+use Rattle.tox_time.specs.declared.item.Item.{Item}
+use Rattle.tox_time.specs.declared.item.Item.TheVariants.{Chunk}
+use Rattle.tox_time.specs.Time.{plus}
+use Rattle.tox_time.specs.Table.{table}
+use Rattle.tox_defs.specs.declared.toxic.Toxic.{Toxic}
+use Rattle.tox_defs.specs.declared.toxic.Toxic.TheVariants.{Latency}
+use Rattle.tox_defs.specs.declared.op.Op.{Op}
+use Rattle.tox_defs.specs.declared.op.Op.TheVariants.{Delay}
+use Rattle.tox_defs.specs.Ordered.{in_order}
+use Rattle.tox_defs.specs.Ranges.{is_within_hour}
+use Rattle.tox_defs.specs.Reaction.{Giving}
+use Rattle.tox_defs.specs.Varied.{varied}
+
+-- the names of its attributes, both in milliseconds
+abbrev pub latency_attributes : List (List ℕ)
+latency_attributes = codes "latency" ∷ codes "jitter" ∷ []
+
+-- the latency with these values of its attributes
+abbrev pub latency_of : List ℕ → Toxic
+latency_of values = Latency (slice_index values 0) (slice_index values 1)
+
+-- the ranges of its attributes: each up to an hour
+abbrev pub is_latency_within : ℕ → ℕ → Bool
+is_latency_within latency jitter = is_within_hour latency && is_within_hour jitter
+
+-- each chunk leaves later by the wait of its number
+abbrev pub delay_gives : (ℕ → ℕ) → Giving
+delay_gives wait state (Chunk span t) = Chunk span (max state.previous (plus t (wait state.chunks))) ∷ []
+delay_gives wait state item = in_order state.previous item ∷ []
+
+-- what a latency gives, by the words of its lane: the wait of each chunk is drawn
+abbrev pub latency_gives : ℕ → ℕ → (ℕ → ℕ) → Giving
+latency_gives latency jitter words = delay_gives (λ chunk. 1000 * varied latency jitter (words (1 + chunk)))
+
+-- what its operation gives: a fixed part is added to the drawn one
+abbrev pub delay_op_gives : ℕ → ℕ → ℕ → (ℕ → ℕ) → Giving
+delay_op_gives fixed latency jitter words = delay_gives (λ chunk. 1000 * (fixed + varied latency jitter (words (1 + chunk))))
+
+-- its operation: without jitter the fixed part has all, and nothing is drawn
+abbrev pub delay_of : ℕ → ℕ → ℕ → Op
+delay_of place latency zero = Delay latency 0 0 0
+delay_of place latency (suc jitter) = Delay 0 latency (suc jitter) place
+
+-- a delay without jitter has all in its fixed part
+abbrev pub IsNormal : ℕ → ℕ → Type 0
+IsNormal latency zero = latency ≡ 0
+IsNormal latency (suc jitter) = Unit {0}
+
+-- the law: without jitter every byte leaves later by the latency
+abbrev pub LatencyLaw : ℕ → ℕ → List Item → List Item → Type 0
+LatencyLaw latency zero items given = table given ≡ map (λ t. plus t (1000 * latency)) (table items)
+LatencyLaw latency (suc jitter) items given = Unit {0}

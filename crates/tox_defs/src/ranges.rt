@@ -1,0 +1,23 @@
+//! Bounds and values of attributes.
+ghost use Rattle.std.specs.Prelude.{◌≡◌, slice_index};
+ghost use Rattle.tox_defs.specs.KindInside.{narrowed};
+
+/// An hour in milliseconds: the greatest latency, jitter, delay of a close, and timeout.
+pub(crate) const HOUR: u32 = 3_600_000;
+
+/// The greatest rate in KB/s, and the greatest average size in bytes.
+pub(crate) const MILLION: u32 = 1_000_000;
+
+/// The value at a place, and 0 past the last one.
+pub(crate) fn value(values: &[u64], place: usize) -> u64
+    ensures { result ≡ slice_index values.now place }
+{
+    values.get(place).copied().unwrap_or(0)
+}
+
+/// The value at a place, or the greatest that fits where it is larger.
+pub(crate) fn saturated(values: &[u64], place: usize) -> u32
+    ensures { result ≡ narrowed (slice_index values.now place) }
+{
+    value(values, place).min(u64::from(u32::MAX)) as u32
+}

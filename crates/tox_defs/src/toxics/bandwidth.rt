@@ -1,0 +1,62 @@
+//! bandwidth: limits a connection to `rate` KB/s, which is `rate` bytes in a millisecond.
+ghost use Rattle.std.specs.Prelude.{◌≡◌, ◌<◌, List, false, map};
+ghost use Rattle.tox_time.specs.declared.item.Item.{Item as OneItem};
+ghost use Rattle.tox_defs.specs.KindInside.{saturated};
+ghost use Rattle.tox_defs.specs.Look.{Finds, IsFrontOf};
+ghost use Rattle.tox_defs.specs.Reaction.{counted};
+ghost use Rattle.tox_defs.specs.toxics.Bandwidth.{bandwidth_attributes, bandwidth_of, is_bandwidth_within, pace_gives};
+
+use crate::look::Look;
+use crate::op::Op;
+use crate::pieces::front;
+use crate::ranges::{MILLION, saturated};
+use crate::state::State;
+use crate::toxic::Toxic;
+use tox_time::Slice;
+
+/// The name of the attribute.
+pub(crate) fn attributes() -> &'static [&'static str]
+    ensures { map (λ name. name.now) result.now ≡ bandwidth_attributes }
+{
+    &["rate"]
+}
+
+/// The bandwidth with this value of its attribute.
+pub(crate) fn from_values(values: &[u64]) -> Toxic
+    ensures { result ≡ saturated (bandwidth_of values.now) }
+{
+    Toxic::Bandwidth {
+        rate: saturated(values, 0),
+    }
+}
+
+/// Whether the attribute is 1 to 1,000,000.
+pub(crate) fn is_within(rate: u32) -> bool
+    ensures { result ≡ is_bandwidth_within rate }
+{
+    1 <= rate && rate <= MILLION
+}
+
+/// The operation.
+pub(crate) fn op(rate: u32) -> Op
+    ensures { result ≡ Op.Pace rate }
+{
+    Op::Pace { rate }
+}
+
+/// Finds a piece of 100 `rate` bytes, or what is left, which leaves once it could have passed.
+#[inline(always)]
+pub(crate) fn look(rate: u32, state: &State, rest: &Slice) -> Look
+    requires rate { 0 < rate }
+    requires running { state.now.done ≡ false }
+    requires some { rest.now.span.start < rest.now.span.stop }
+    ensures finds { (items : List OneItem) → Finds (counted (pace_gives rate)) state.now rest.now items result }
+    ensures front { IsFrontOf rest.now result }
+{
+    let span = front(rest, 100 * u64::from(rate));
+    let wait = (1000 * (span.stop - span.start)).div_ceil(u64::from(rate));
+    Look::Piece(Slice {
+        span,
+        instant: state.previous.later(rest.instant).after(wait),
+    })
+}

@@ -1,0 +1,86 @@
+//! latency: delays all data by `latency` plus or minus `jitter`, both in milliseconds.
+ghost use Rattle.std.specs.Prelude.{◌≡◌, ◌+◌, ◌<◌, ◌^◌, List, false, map};
+ghost use Rattle.tox_time.specs.declared.item.Item.{Item as OneItem};
+ghost use Rattle.tox_words.specs.Draw.{draw};
+ghost use Rattle.tox_defs.specs.KindInside.{saturated};
+ghost use Rattle.tox_defs.specs.Look.{Finds, IsFrontOf};
+ghost use Rattle.tox_defs.specs.Reaction.{counted};
+ghost use Rattle.tox_defs.specs.toxics.Latency.{delay_of, delay_op_gives, is_latency_within, latency_attributes, latency_of};
+
+use crate::look::Look;
+use crate::op::Op;
+use crate::ranges::{HOUR, saturated};
+use crate::state::State;
+use crate::toxic::Toxic;
+use crate::varied::varied;
+use tox_time::Slice;
+use tox_words::Words;
+
+/// The names of the attributes.
+pub(crate) fn attributes() -> &'static [&'static str]
+    ensures { map (λ name. name.now) result.now ≡ latency_attributes }
+{
+    &["latency", "jitter"]
+}
+
+/// The latency with these values of its attributes.
+pub(crate) fn from_values(values: &[u64]) -> Toxic
+    ensures { result ≡ saturated (latency_of values.now) }
+{
+    Toxic::Latency {
+        latency: saturated(values, 0),
+        jitter: saturated(values, 1),
+    }
+}
+
+/// Whether each attribute is 0 to 3,600,000.
+pub(crate) fn is_within(latency: u32, jitter: u32) -> bool
+    ensures { result ≡ is_latency_within latency jitter }
+{
+    latency <= HOUR && jitter <= HOUR
+}
+
+/// The operation at a place. Without jitter all stands in the fixed part, and nothing is drawn.
+pub(crate) fn op(latency: u32, jitter: u32, place: usize) -> Op
+    ensures { result ≡ delay_of place latency jitter }
+{
+    if jitter == 0 {
+        return Op::Delay {
+            fixed: latency,
+            latency: 0,
+            jitter: 0,
+            lane: 0,
+        };
+    }
+    Op::Delay {
+        fixed: 0,
+        latency,
+        jitter,
+        lane: place,
+    }
+}
+
+/// Finds the whole rest, later by the wait of the chunk.
+#[inline(always)]
+pub(crate) fn look(
+    fixed: u32,
+    latency: u32,
+    jitter: u32,
+    lane: usize,
+    state: &State,
+    rest: &Slice,
+    words: &Words,
+) -> Look
+    requires running { state.now.done ≡ false }
+    requires some { rest.now.span.start < rest.now.span.stop }
+    requires chunks { state.now.chunks + 1 < 2 ^ 64 }
+    ensures finds { (items : List OneItem)
+        → Finds (counted (delay_op_gives fixed latency jitter (draw words.now lane))) state.now rest.now items result }
+    ensures front { IsFrontOf rest.now result }
+{
+    let wait = u64::from(fixed) + varied(words, lane, state.chunks, latency, jitter);
+    Look::Piece(Slice {
+        span: rest.span,
+        instant: state.previous.later(rest.instant.after(1000 * wait)),
+    })
+}

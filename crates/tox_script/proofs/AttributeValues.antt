@@ -1,0 +1,44 @@
+-- The values of a list of attributes, where each is there.
+use Rattle.std.proofs.Common.{◌≡◌, ℕ, zero, suc, ◌<◌, ◌≤◌, List, [], ◌∷◌, Option, Some, None, Bor, length, map, get_or, take, option_map, refl, ap, sym, ◌∙◌, arith}
+use Rattle.std.proofs.lemmas.List.{get_or-map, length-map, take_all}
+use Rattle.toml.specs.Data.{Data}
+use Rattle.tox_defs.specs.declared.kind.Kind.{Kind}
+use Rattle.tox_defs.specs.Kind.{attributes_of}
+use Rattle.tox_script.specs.Attributes.{all_some, value_in, values_in}
+
+-- the values, where each is there
+all_some-Some : (values : List ℕ) → all_some (map Some values) ≡ Some values
+all_some-Some [] = refl
+all_some-Some (value ∷ values) = ap (option_map (λ others. value ∷ others)) (all_some-Some values)
+
+-- none, where one isn't there
+all_some-None : (xs : List (Option ℕ)) (k : ℕ) (d : Option ℕ) → k < length xs → get_or xs k d ≡ None → all_some xs ≡ None
+all_some-None [] k d here none = absurd (omega arith)
+all_some-None (None ∷ xs) k d here none = refl
+all_some-None (Some value ∷ xs) zero d here none = cc
+all_some-None (Some value ∷ xs) (suc k) d here none =
+    ap (option_map (λ others. value ∷ others)) (all_some-None xs k d (omega arith) none)
+
+-- the value of a key that the code holds by reference
+abbrev pub value_by : Option Data → Bor (List ℕ) → Option ℕ
+value_by table key = value_in table key.now
+
+map_now : (table : Option Data) (keys : List (Bor (List ℕ))) → map (value_in table) (map (λ (key : Bor (List ℕ)). key.now) keys) ≡ map (value_by table) keys
+map_now table [] = refl
+map_now table (key ∷ keys) = ap (λ values. value_in table key.now ∷ values) (map_now table keys)
+
+module _ (kind : Kind) (table : Option Data) (keys : List (Bor (List ℕ))) (names : map (λ (key : Bor (List ℕ)). key.now) keys ≡ attributes_of kind) where
+  values_in-keys : values_in kind table ≡ all_some (map (value_by table) keys)
+  values_in-keys = ap (λ names. all_some (map (value_in table) names)) (sym names) ∙ ap all_some (map_now table keys)
+
+  -- one attribute isn't there
+  pub values_in-none : (k : ℕ) (key : Bor (List ℕ)) → k < length keys → value_by table (get_or keys k key) ≡ None → values_in kind table ≡ None
+  values_in-none k key here none =
+      values_in-keys
+      ∙ all_some-None (map (value_by table) keys) k (value_by table key) (omega (arith, length-map keys (value_by table)))
+      (get_or-map (value_by table) keys k key (value_by table key) here ∙ none)
+
+  -- all are there
+  pub values_in-all : (k : ℕ) (values : List ℕ) → length keys ≤ k → map (value_by table) (take k keys) ≡ map Some values → values_in kind table ≡ Some values
+  values_in-all k values past so_far =
+      values_in-keys ∙ ap (λ some. all_some (map (value_by table) some)) (sym (take_all k keys past)) ∙ ap all_some so_far ∙ all_some-Some values
