@@ -1,16 +1,15 @@
 -- Delays: two add where one of them is the same for all chunks, and one of nothing does nothing.
 use Rattle.std.proofs.Common.{◌≡◌, ℕ, ◌+◌, ◌≤◌, max, List, [], ◌∷◌, refl, arith, ap}
-use Rattle.tox_time.specs.declared.micros.TheConstants.{HORIZON}
 use Rattle.tox_time.specs.declared.item.Item.{Item}
 use Rattle.tox_time.specs.declared.item.Item.TheVariants.{Chunk, Closed, Reset, Quiet}
-use Rattle.tox_time.specs.Time.{plus}
+use Rattle.tox_time.specs.Time.{horizon, plus}
 use Rattle.tox_time.specs.Stream.{span_len, IsStreamFrom}
 use Rattle.tox_defs.specs.Reaction.{counted, flow_from}
 use Rattle.tox_defs.specs.toxics.Latency.{delay_gives}
 use Rattle.tox_defs.proofs.OpenStates.{open_state}
 
 -- a delay whose second part is always the same
-pub delays_join_second : (first : ℕ → ℕ) (second : ℕ) (both : ℕ → ℕ) → ((i : ℕ) → both i ≡ first i + second) → (items : List Item) (c p1 n1 b1 p2 n2 b2 n b position since : ℕ) → p1 ≤ p2 → p2 ≤ HORIZON → plus p1 second ≤ max p2 (plus 0 second) → IsStreamFrom position since items → flow_from (counted (delay_gives (λ _. second))) (open_state p2 c n2 b2) (flow_from (counted (delay_gives first)) (open_state p1 c n1 b1) items) ≡ flow_from (counted (delay_gives both)) (open_state p2 c n b) items
+pub delays_join_second : (first : ℕ → ℕ) (second : ℕ) (both : ℕ → ℕ) → ((i : ℕ) → both i ≡ first i + second) → (items : List Item) (c p1 n1 b1 p2 n2 b2 n b position since : ℕ) → p1 ≤ p2 → p2 ≤ horizon → plus p1 second ≤ max p2 (plus 0 second) → IsStreamFrom position since items → flow_from (counted (delay_gives (λ _. second))) (open_state p2 c n2 b2) (flow_from (counted (delay_gives first)) (open_state p1 c n1 b1) items) ≡ flow_from (counted (delay_gives both)) (open_state p2 c n b) items
 delays_join_second first second both sum [] c p1 n1 b1 p2 n2 b2 n b position since order fits kept stream = refl
 delays_join_second first second both sum (Chunk span t ∷ items) c p1 n1 b1 p2 n2 b2 n b position since order fits kept stream =
     let wait : both c ≡ first c + second = sum c in
@@ -24,7 +23,7 @@ delays_join_second first second both sum (Reset t ∷ items) c p1 n1 b1 p2 n2 b2
 delays_join_second first second both sum (Quiet ∷ items) c p1 n1 b1 p2 n2 b2 n b position since order fits kept stream = rw stream refl
 
 -- a delay whose first part is always the same
-pub delays_join_first : (first : ℕ) (second both : ℕ → ℕ) → ((i : ℕ) → both i ≡ first + second i) → (items : List Item) (c p1 n1 b1 p2 n2 b2 n b position since : ℕ) → p1 ≤ p2 → p2 ≤ HORIZON → p1 ≤ plus since first → IsStreamFrom position since items → flow_from (counted (delay_gives second)) (open_state p2 c n2 b2) (flow_from (counted (delay_gives (λ _. first))) (open_state p1 c n1 b1) items) ≡ flow_from (counted (delay_gives both)) (open_state p2 c n b) items
+pub delays_join_first : (first : ℕ) (second both : ℕ → ℕ) → ((i : ℕ) → both i ≡ first + second i) → (items : List Item) (c p1 n1 b1 p2 n2 b2 n b position since : ℕ) → p1 ≤ p2 → p2 ≤ horizon → p1 ≤ plus since first → IsStreamFrom position since items → flow_from (counted (delay_gives second)) (open_state p2 c n2 b2) (flow_from (counted (delay_gives (λ _. first))) (open_state p1 c n1 b1) items) ≡ flow_from (counted (delay_gives both)) (open_state p2 c n b) items
 delays_join_first first second both sum [] c p1 n1 b1 p2 n2 b2 n b position since order fits kept stream = refl
 delays_join_first first second both sum (Chunk span t ∷ items) c p1 n1 b1 p2 n2 b2 n b position since order fits kept stream =
     let wait : both c ≡ first + second c = sum c in

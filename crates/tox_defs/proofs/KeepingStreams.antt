@@ -1,11 +1,10 @@
 -- A giving that keeps streams at each item gives a stream for a stream.
 use Rattle.std.proofs.Common.{◌≡◌, ℕ, zero, suc, ◌+◌, ◌-◌, ◌<◌, ◌≤◌, min, max, true, false, List, [], ◌∷◌, ◌++◌, refl, arith, sym, subst, inl, inr, ◌⊎◌}
 use Rattle.std.proofs.lemmas.List.{append-nil}
-use Rattle.tox_time.specs.declared.micros.TheConstants.{HORIZON}
 use Rattle.tox_time.specs.declared.span.Span.{Span}
 use Rattle.tox_time.specs.declared.item.Item.{Item}
 use Rattle.tox_time.specs.declared.item.Item.TheVariants.{Chunk, Closed, Reset, Quiet}
-use Rattle.tox_time.specs.Time.{plus, IsInstant}
+use Rattle.tox_time.specs.Time.{horizon, plus, IsInstant}
 use Rattle.tox_time.specs.Stream.{has_final, latest_from, is_final, IsStreamFrom}
 use Rattle.tox_defs.specs.Reaction.{Giving, counted, flow_from, state_after}
 use Rattle.tox_defs.specs.declared.state.State.{State}
@@ -43,7 +42,7 @@ IsStreamFrom-final (Reset t) items position since final follows none = (follows.
 IsStreamFrom-final Quiet items position since final follows none = none
 
 -- the pieces of a span, as chunks in order
-pub AreChunks-leave : (size wait : ℕ → ℕ) → ((n : ℕ) → 0 < size n) → (number start left fuel since t : ℕ) → left ≤ fuel → since ≤ HORIZON → t ≤ HORIZON → AreChunks start since (leave wait since t (cut size number start left fuel)) (start + left)
+pub AreChunks-leave : (size wait : ℕ → ℕ) → ((n : ℕ) → 0 < size n) → (number start left fuel since t : ℕ) → left ≤ fuel → since ≤ horizon → t ≤ horizon → AreChunks start since (leave wait since t (cut size number start left fuel)) (start + left)
 AreChunks-leave size wait some number start zero fuel since t enough late fits = omega arith
 AreChunks-leave size wait some number start (suc left) zero since t enough late fits = absurd (omega (arith, enough))
 AreChunks-leave size wait some number start (suc left) (suc fuel) since t enough late fits =
@@ -62,7 +61,7 @@ pub record GoesOn (R : ℕ → ℕ → Type 0) (given : List Item) (start previo
   pub in_row : AreChunks start previous given stop
   pub no_final : has_final given ≡ false
   pub related : R (latest_from previous given) t
-  pub instant : latest_from previous given ≤ HORIZON
+  pub instant : latest_from previous given ≤ horizon
 
 -- or ends it
 pub record EndsThere (given : List Item) (start previous : ℕ) : Type 0 where
@@ -71,12 +70,12 @@ pub record EndsThere (given : List Item) (start previous : ℕ) : Type 0 where
 
 -- a giving that keeps streams, where R stands between the last given instant and the last taken one
 pub record KeepsStreams (R : ℕ → ℕ → Type 0) (giving : Giving) : Type 0 where
-  pub at_chunk : (previous chunks pieces passed : ℕ) (span : Span) (t since : ℕ) → previous ≤ HORIZON → R previous since → span.start < span.stop → since ≤ t → t ≤ HORIZON → GoesOn R (giving (open_state previous chunks pieces passed) (Chunk span t)) span.start previous span.stop t ⊎ EndsThere (giving (open_state previous chunks pieces passed) (Chunk span t)) span.start previous
-  pub at_final : (previous chunks pieces passed : ℕ) (item : Item) (position since : ℕ) → previous ≤ HORIZON → R previous since → is_final item ≡ true → CanFollow position since item → IsStreamFrom position previous (giving (open_state previous chunks pieces passed) item)
+  pub at_chunk : (previous chunks pieces passed : ℕ) (span : Span) (t since : ℕ) → previous ≤ horizon → R previous since → span.start < span.stop → since ≤ t → t ≤ horizon → GoesOn R (giving (open_state previous chunks pieces passed) (Chunk span t)) span.start previous span.stop t ⊎ EndsThere (giving (open_state previous chunks pieces passed) (Chunk span t)) span.start previous
+  pub at_final : (previous chunks pieces passed : ℕ) (item : Item) (position since : ℕ) → previous ≤ horizon → R previous since → is_final item ≡ true → CanFollow position since item → IsStreamFrom position previous (giving (open_state previous chunks pieces passed) item)
 
 -- the flow at a chunk
 flow_at_chunk : (R : ℕ → ℕ → Type 0) (giving : Giving) (previous chunks pieces passed : ℕ) (span : Span) (t : ℕ) (items : List Item) → GoesOn R (giving (open_state previous chunks pieces passed) (Chunk span t)) span.start previous span.stop t ⊎ EndsThere (giving (open_state previous chunks pieces passed) (Chunk span t)) span.start previous
-    → ((previous' chunks' pieces' passed' : ℕ) → previous' ≤ HORIZON → R previous' t → IsStreamFrom span.stop previous' (flow_from (counted giving) (open_state previous' chunks' pieces' passed') items))
+    → ((previous' chunks' pieces' passed' : ℕ) → previous' ≤ horizon → R previous' t → IsStreamFrom span.stop previous' (flow_from (counted giving) (open_state previous' chunks' pieces' passed') items))
     → IsStreamFrom span.start previous (flow_from (counted giving) (open_state previous chunks pieces passed) (Chunk span t ∷ items))
 flow_at_chunk R giving previous chunks pieces passed span t items (inl on) others =
     rw on.no_final (IsStreamFrom-append (giving (open_state previous chunks pieces passed) (Chunk span t)) _ span.start previous span.stop on.in_row (others _ _ _ _ on.instant on.related))
@@ -90,7 +89,7 @@ flow_at_final giving previous chunks pieces passed position item items none stre
     subst (λ given. IsStreamFrom position previous given) (sym same) stream
 
 -- streams give streams
-pub IsStreamFrom-flow : (R : ℕ → ℕ → Type 0) (giving : Giving) → KeepsStreams R giving → (items : List Item) (previous chunks pieces passed position since : ℕ) → previous ≤ HORIZON → R previous since → IsStreamFrom position since items → IsStreamFrom position previous (flow_from (counted giving) (open_state previous chunks pieces passed) items)
+pub IsStreamFrom-flow : (R : ℕ → ℕ → Type 0) (giving : Giving) → KeepsStreams R giving → (items : List Item) (previous chunks pieces passed position since : ℕ) → previous ≤ horizon → R previous since → IsStreamFrom position since items → IsStreamFrom position previous (flow_from (counted giving) (open_state previous chunks pieces passed) items)
 IsStreamFrom-flow R giving keeps [] previous chunks pieces passed position since fits related stream = stream
 IsStreamFrom-flow R giving keeps (Chunk span t ∷ items) previous chunks pieces passed position since fits related stream =
     rw (← stream.0)

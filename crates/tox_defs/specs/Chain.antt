@@ -1,7 +1,7 @@
 -- Chains: toxics in order, each with its toxicity in thousandths.
 use Rattle.std.specs.Prelude.{◌≤◌, List, All, length}
 use Rattle.tox_defs.specs.declared.chain.Entry.{Entry}
-use Rattle.tox_defs.specs.declared.chain.TheConstants.{MOST_TOXICS}
+use Rattle.tox_defs.specs.declared.chain.TheConstants.{MAX_TOXICS}
 use Rattle.tox_defs.specs.Toxic.{IsInRange}
 
 -- what a chain is seen as: its entries in order
@@ -14,5 +14,5 @@ IsEntry entry = IsInRange entry.toxic × (entry.toxicity ≤ 1000)
 
 -- what every chain keeps
 pub record IsChain (chain : Toxics) : Type 0 where
-  pub most : length chain.entries ≤ MOST_TOXICS
+  pub most : length chain.entries ≤ MAX_TOXICS
   pub entries_fit : All IsEntry chain.entries

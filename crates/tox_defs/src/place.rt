@@ -1,7 +1,7 @@
 ghost use Rattle.std.specs.Prelude.{◌≡◌};
 ghost use Rattle.tox_defs.specs.Place.{fits, first_place, place_after};
 
-use tox_time::{Item, MOST_BYTES, Micros};
+use tox_time::{Item, MAX_BYTES, Micros};
 
 /// How far a stream has come: where its next chunk starts, its latest instant, and whether its final came.
 #[derive(Clone, Copy, Debug, PartialEq, Eq)]
@@ -36,7 +36,7 @@ impl Place {
                 self.latest <= *instant
                     && span.start == self.position
                     && span.start < span.stop
-                    && span.stop <= MOST_BYTES
+                    && span.stop <= MAX_BYTES
             }
             Item::Closed(instant) | Item::Reset(instant) => self.latest <= *instant,
             Item::Quiet => true,

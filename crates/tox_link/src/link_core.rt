@@ -18,7 +18,7 @@ use std::collections::VecDeque;
 use std::marker::Model;
 use tox_compile::Plan;
 use tox_plan::Runner;
-use tox_time::{ArrivalFault, Ending, MOST_BYTES, Micros, Slice};
+use tox_time::{ArrivalFault, Ending, MAX_BYTES, Micros, Slice};
 use tox_words::Words;
 
 /// The most pieces that a core keeps.
@@ -114,7 +114,7 @@ impl<'w> LinkCore<'w> {
         if len == 0 {
             return Err(ArrivalFault::EmptyPiece);
         }
-        if len > MOST_BYTES - self.bytes {
+        if len > MAX_BYTES - self.bytes {
             return Err(ArrivalFault::TooManyBytes);
         }
         if self.ended || self.ending().is_some() {

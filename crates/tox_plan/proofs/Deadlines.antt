@@ -2,7 +2,7 @@
 use Rattle.std.proofs.Common.{◌≡◌, ℕ, ◌<◌, ◌≤◌, min, if◌then◌else◌, Bool, true, false, List, [], ◌∷◌, ◌++◌, Option, Some, None, refl, ap, ◌∙◌, sym, subst, arith, ◌⊎◌, inl, inr}
 use Rattle.std.specs.Prelude.{nat_lt}
 use Rattle.std.proofs.lemmas.Bool.{le-ltb, ltb-true, ltb-false}
-use Rattle.tox_time.specs.declared.micros.TheConstants.{HORIZON}
+use Rattle.tox_time.specs.Time.{horizon}
 use Rattle.tox_time.specs.declared.slice.Slice.{Slice}
 use Rattle.tox_time.specs.declared.item.Item.{Item}
 use Rattle.tox_time.specs.declared.item.Item.TheVariants.{Chunk, Closed, Reset, Quiet}
@@ -134,7 +134,7 @@ pub record IsLater (d : ℕ) (items : List Item) : Type 0 where
   pub late : AreLate d items
   pub final : has_final items ≡ true
 
-late-levels : (d : ℕ) (words : List ℕ) (start : ℕ) (levels : List Level) (source : Slice) (items : List Item) → d ≤ HORIZON → AreNested start levels source → AreDrained start levels source
+late-levels : (d : ℕ) (words : List ℕ) (start : ℕ) (levels : List Level) (source : Slice) (items : List Item) → d ≤ horizon → AreNested start levels source → AreDrained start levels source
     → AreLateOps d (ops_of levels) → IsLater d items → IsLater d (to_come_from words start levels source items)
 late-levels d words start [] source items fits nested drained from later = subst (λ items. IsLater d items) (sym (to_come_from-read words start source items drained)) later
 late-levels d words start (level ∷ levels) source items fits nested drained from later =
@@ -169,7 +169,7 @@ stop-level d (Cutoff instant) loud stop = ap Cutoff stop
 stop-level d (Slicing average variation micros lane) loud stop = absurd stop
 stop-level d (Limit bytes) loud stop = absurd stop
 
-same-later : (d : ℕ) (words : List ℕ) (start : ℕ) (levels : List Level) (source : Slice) (xs ys : List Item) → d ≤ HORIZON → AreNested start levels source → AreDrained start levels source
+same-later : (d : ℕ) (words : List ℕ) (start : ℕ) (levels : List Level) (source : Slice) (xs ys : List Item) → d ≤ horizon → AreNested start levels source → AreDrained start levels source
     → AreLateOps d (ops_of levels) → HaveStop d (ops_of levels) → IsLater d xs → IsLater d ys
     → to_come_from words start levels source xs ≡ to_come_from words start levels source ys
 same-later d words start [] source xs ys fits nested drained from stop later_xs later_ys = absurd stop
@@ -189,7 +189,7 @@ same-later d words start (level ∷ levels) source xs ys fits nested drained fro
         ∙ cutoff-flow d words level.state _ (nested.0.sound.running drained.1) (late-levels d words level.stop levels source items fits nested.1 drained.2 split.0 later)
 
 -- a stream's instants are not beyond the horizon, unless the source is quiet
-begins-in-time : (d position since : ℕ) (items : List Item) → d ≤ since → IsStreamFrom position since items → (d ≤ HORIZON) ⊎ (items ≡ Quiet ∷ [])
+begins-in-time : (d position since : ℕ) (items : List Item) → d ≤ since → IsStreamFrom position since items → (d ≤ horizon) ⊎ (items ≡ Quiet ∷ [])
 begins-in-time d position since [] from stream = absurd stream
 begins-in-time d position since (Chunk span t ∷ items) from stream = inl (omega (arith, from, stream.2, stream.3))
 begins-in-time d position since (Closed t ∷ items) from stream = inl (omega (arith, from, stream.0, stream.1))
@@ -198,7 +198,7 @@ begins-in-time d position since (Quiet ∷ items) from stream = inr (ap (λ item
 
 -- what comes at or after the deadline to an idle runner changes nothing
 module _ (runner : Running) (invariant : IsRunning runner) (idle : runner.idle ≡ true) where
-  past-running : (d position since : ℕ) (items : List Item) → runner.ending ≡ None → d ≤ HORIZON → deadline_of (ops_of runner.levels) ≡ Some d → d ≤ since → IsStreamFrom position since items
+  past-running : (d position since : ℕ) (items : List Item) → runner.ending ≡ None → d ≤ horizon → deadline_of (ops_of runner.levels) ≡ Some d → d ≤ since → IsStreamFrom position since items
       → to_come runner items ≡ to_come runner (Quiet ∷ [])
   past-running d position since items running fits is from stream =
       let found = stop-deadline d (ops_of runner.levels) is in

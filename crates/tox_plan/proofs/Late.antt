@@ -2,13 +2,12 @@
 use Rattle.std.proofs.Common.{◌≡◌, ℕ, zero, suc, ◌+◌, ◌-◌, ◌*◌, ◌≤◌, max, if◌then◌else◌, Bool, true, false, List, [], ◌∷◌, ◌++◌, refl, ap, ◌∙◌, sym, subst, arith}
 use Rattle.std.specs.Prelude.{nat_lt}
 use Rattle.std.specs.Int.{div_ceil}
-use Rattle.tox_time.specs.declared.micros.TheConstants.{HORIZON}
 use Rattle.tox_time.specs.declared.span.Span.{Span}
 use Rattle.tox_time.specs.declared.item.Item.{Item}
 use Rattle.tox_time.specs.declared.item.Item.TheVariants.{Chunk, Closed, Reset, Quiet}
 use Rattle.tox_time.specs.declared.ending.Ending.{Ending}
 use Rattle.tox_time.specs.declared.ending.Ending.TheVariants.{StillOpen, Closed as ClosedAt, Reset as ResetAt}
-use Rattle.tox_time.specs.Time.{plus}
+use Rattle.tox_time.specs.Time.{horizon, plus}
 use Rattle.tox_time.specs.Stream.{span_len, has_final, IsStreamFrom}
 use Rattle.tox_time.specs.Table.{final_of}
 use Rattle.tox_time.proofs.StreamLemmas.{has_final-append}
@@ -75,7 +74,7 @@ late-in_order d since (Closed t) late = (omega (arith, late.0), tt)
 late-in_order d since (Reset t) late = (omega (arith, late.0), tt)
 late-in_order d since Quiet late = tt
 
-late-leave : (d : ℕ) (wait : ℕ → ℕ) (since t : ℕ) (spans : List Span) → d ≤ HORIZON → d ≤ t → AreLate d (leave wait since t spans)
+late-leave : (d : ℕ) (wait : ℕ → ℕ) (since t : ℕ) (spans : List Span) → d ≤ horizon → d ≤ t → AreLate d (leave wait since t spans)
 late-leave d wait since t [] fits late = tt
 late-leave d wait since t (span ∷ spans) fits late =
     (omega (arith, fits, late), late-leave d wait (plus (max since t) (wait (span_len span))) t spans fits late)
@@ -98,7 +97,7 @@ IsLateOp d (Cutoff instant) = d ≤ instant
 IsLateOp d op = Unit {0}
 
 -- what an operation gives for an item
-late-giving : (d : ℕ) (op : Op) (words : List ℕ) (state : State) (item : Item) → d ≤ HORIZON → is_mute op ≡ false → IsLateOp d op → AreLate d (item ∷ []) → AreLate d (op_giving op (draw words) state item)
+late-giving : (d : ℕ) (op : Op) (words : List ℕ) (state : State) (item : Item) → d ≤ horizon → is_mute op ≡ false → IsLateOp d op → AreLate d (item ∷ []) → AreLate d (op_giving op (draw words) state item)
 late-giving d (Delay fixed latency jitter lane) words state (Chunk span t) fits loud from late = (omega (arith, fits, late.0), tt)
 late-giving d (Delay fixed latency jitter lane) words state (Closed t) fits loud from late = late-in_order d state.previous (Closed t) late
 late-giving d (Delay fixed latency jitter lane) words state (Reset t) fits loud from late = late-in_order d state.previous (Reset t) late
@@ -124,7 +123,7 @@ late-giving d (Limit bytes) words state (Closed t) fits loud from late = late
 late-giving d (Limit bytes) words state (Reset t) fits loud from late = late
 late-giving d (Limit bytes) words state Quiet fits loud from late = tt
 
-module _ (d : ℕ) (op : Op) (words : List ℕ) (fits : d ≤ HORIZON) (loud : is_mute op ≡ false) (from : IsLateOp d op) where
+module _ (d : ℕ) (op : Op) (words : List ℕ) (fits : d ≤ horizon) (loud : is_mute op ≡ false) (from : IsLateOp d op) where
   late-step : (state : State) (item : Item) (items : List Item) → AreLate d (item ∷ items) → (done : Bool) → state.done ≡ done
       → AreLate d (flow_from (op_reaction op (draw words)) (state_after state item (op_giving op (draw words) state item)) items) → AreLate d (flow_from (op_reaction op (draw words)) state (item ∷ items))
   late-step state item items late true is others = subst (λ given. AreLate d given) (sym (flow_from-done (op_reaction op (draw words)) state (item ∷ items) is)) tt

@@ -3,14 +3,14 @@
 ghost use Rattle.std.specs.Prelude.{◌≡◌, ℕ, ◌+◌, ◌^◌, ◌<◌, ◌≤◌, List, [], ◌∷◌, ◌++◌, length, take, drop, All, None, false, IsSome, MatchOption};
 ghost use Rattle.tox_time.specs.Table.{final_of};
 ghost use Rattle.tox_time.specs.declared.slice.Slice.{Slice as OneSlice};
-ghost use Rattle.tox_defs.specs.declared.chain.TheConstants.{MOST_TOXICS};
+ghost use Rattle.tox_defs.specs.declared.chain.TheConstants.{MAX_TOXICS};
 ghost use Rattle.tox_defs.specs.declared.level.Level.{Level as OneLevel};
 ghost use Rattle.tox_defs.specs.Op.{is_mute};
 ghost use Rattle.tox_defs.specs.Level.{IsSound};
 ghost use Rattle.tox_plan.specs.Levels.{AreNested, AreDrained, AreRead, HaveEnded, AreOpenUnless, IsRead, BeginsUnread, IsFrom, MatchGiven, OnlyEnds, MatchPulled, levels_at_start, level_at_start, ending_at_start, ops_of, to_come_from};
 
 use arrayvec::ArrayVec;
-use tox_defs::{Advanced, Level, MOST_TOXICS, Op};
+use tox_defs::{Advanced, Level, MAX_TOXICS, Op};
 use tox_time::{Ending, Slice, Span};
 use tox_words::Words;
 
@@ -185,8 +185,8 @@ fn advance(level: &mut Level, start: u64, words: &Words, looks: &mut Looks) -> P
 }
 
 /// Adds the levels of these operations at their start, the last operation first.
-pub(crate) fn push_levels(levels: &mut ArrayVec<Level, MOST_TOXICS>, ops: &[Op])
-    requires { length levels.old.items + length ops.now ≤ MOST_TOXICS }
+pub(crate) fn push_levels(levels: &mut ArrayVec<Level, MAX_TOXICS>, ops: &[Op])
+    requires { length levels.old.items + length ops.now ≤ MAX_TOXICS }
     ensures items { levels.new.items ≡ levels.old.items ++ levels_at_start ops.now }
     ensures len { length levels.new.items ≡ length levels.old.items + length ops.now }
 {

@@ -15,8 +15,8 @@ use crate::levels::{self, Looks, Pulled, last_of, pull, push_levels};
 use arrayvec::ArrayVec;
 use std::marker::Model;
 use tox_compile::Plan;
-use tox_defs::{Level, MOST_TOXICS};
-use tox_time::{ArrivalFault, Ending, MOST_BYTES, Micros, Slice, Span};
+use tox_defs::{Level, MAX_TOXICS};
+use tox_time::{ArrivalFault, Ending, MAX_BYTES, Micros, Slice, Span};
 use tox_words::Words;
 
 /// A plan at work on one stream: it is offered pieces one at a time, and cuts them into slices.
@@ -24,7 +24,7 @@ use tox_words::Words;
 /// It keeps one end, one instant and a few numbers for each operation: no queue, and no list of items.
 #[derive(Drop)]
 pub struct Runner<'w> {
-    levels: ArrayVec<Level, MOST_TOXICS>,
+    levels: ArrayVec<Level, MAX_TOXICS>,
     words: &'w Words,
     position: u64,
     piece: Slice,
@@ -116,7 +116,7 @@ impl<'w> Runner<'w> {
             return Err(ArrivalFault::EmptyPiece);
         }
         let start = self.piece.span.stop;
-        if len > MOST_BYTES - start {
+        if len > MAX_BYTES - start {
             return Err(ArrivalFault::TooManyBytes);
         }
         if self.ending.is_some() {

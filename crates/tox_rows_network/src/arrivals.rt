@@ -1,6 +1,6 @@
 //! What arrivals accept and refuse.
 use std::test::Fail;
-use tox_time::{ArrivalFault, Arrivals, Item, MOST_BYTES, Micros, Span};
+use tox_time::{ArrivalFault, Arrivals, Item, MAX_BYTES, Micros, Span};
 
 fn at(micros: u64) -> Micros {
     Micros::ZERO.after(micros)
@@ -10,14 +10,14 @@ fn at(micros: u64) -> Micros {
 fn arrivals_are_listed(rt: HostRuntime) -> Result<(), Fail> {
     let mut arrivals = Arrivals::new(rt.alloc());
     arrivals.push(3, at(5))?;
-    arrivals.push(MOST_BYTES - 3, at(5))?;
+    arrivals.push(MAX_BYTES - 3, at(5))?;
     arrivals.eof(at(7))?;
     let listed = [
         Item::Chunk(Span { start: 0, stop: 3 }, at(5)),
         Item::Chunk(
             Span {
                 start: 3,
-                stop: MOST_BYTES,
+                stop: MAX_BYTES,
             },
             at(5),
         ),
@@ -30,7 +30,7 @@ fn arrivals_are_listed(rt: HostRuntime) -> Result<(), Fail> {
 #[test]
 fn arrivals_are_refused_in_order(rt: HostRuntime) -> Result<(), Fail> {
     let mut ended = Arrivals::new(rt.alloc());
-    ended.push(MOST_BYTES, at(5))?;
+    ended.push(MAX_BYTES, at(5))?;
     ended.eof(at(5))?;
     let cases = [
         (0, 4, ArrivalFault::TimeBack),

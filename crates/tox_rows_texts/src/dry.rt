@@ -6,7 +6,7 @@ use std::alloc::Global;
 use std::process::Abort;
 use std::test::Fail;
 use tox_defs::Chain;
-use tox_proxy::{DryFault, MOST_INPUT, dry_run};
+use tox_proxy::{DryFault, MAX_INPUT, dry_run};
 use tox_time::{EndFault, MemorySink, MemorySource, Source};
 use tox_words::Words;
 
@@ -321,6 +321,6 @@ fn an_endless_input_is_too_long(rt: HostRuntime) -> Result<(), Fail> {
     let mut writer = MemorySink::new(rt.alloc(), ROOM, ROOM, None)?;
     let answer = dry_run(rt.alloc(), &mut reader, &mut writer, &Chain::new(), &words);
     assert_eq!(rt; answer, Err(DryFault::TooLong));
-    assert_eq!(rt; reader.given, MOST_INPUT as u64 + 1);
+    assert_eq!(rt; reader.given, MAX_INPUT as u64 + 1);
     Ok(())
 }

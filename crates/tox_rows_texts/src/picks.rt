@@ -8,7 +8,7 @@ use std::test::Fail;
 use std::{env, fs, process};
 use tox_config::read_populate;
 use tox_proxy::{
-    FileFault, MOST_INPUT, PickRequest, PrintPickFault, find_proxy, print_pick, read_file,
+    FileFault, MAX_INPUT, PickRequest, PrintPickFault, find_proxy, print_pick, read_file,
 };
 use tox_script::read_script;
 use tox_time::{MemorySink, Stream};
@@ -208,10 +208,10 @@ fn a_file_has_a_longest_length(rt: HostRuntime) -> Result<(), Fail> {
     let id = process::id(rt.process());
     let name = path_of(&rt, id, "long")?;
     let file = File::create(&rt, name.as_str())?;
-    file.set_len(MOST_INPUT as u64)?;
+    file.set_len(MAX_INPUT as u64)?;
     let bytes = read_file(&rt, rt.alloc(), name.as_str()).ok();
-    assert_eq!(rt; bytes.map_or(0, |bytes| bytes.len()), MOST_INPUT);
-    file.set_len(MOST_INPUT as u64 + 1)?;
+    assert_eq!(rt; bytes.map_or(0, |bytes| bytes.len()), MAX_INPUT);
+    file.set_len(MAX_INPUT as u64 + 1)?;
     let fault = read_file(&rt, rt.alloc(), name.as_str()).err();
     assert_eq!(rt; fault, Some(FileFault::TooLong(name.as_str())));
     fs::remove_file(&rt, name.as_str())?;

@@ -2,7 +2,7 @@
 ghost use Rattle.std.specs.Prelude.{◌≡◌, ◌≢◌, ◌<◌, length, string_bytes, OnOk, IfOk, IfErr, Ok, Err};
 ghost use Rattle.toml.specs.View.{items_view, view};
 ghost use Rattle.tox_defs.specs.Chain.{IsEntry};
-ghost use Rattle.tox_defs.specs.declared.chain.TheConstants.{MOST_TOXICS as most_toxics};
+ghost use Rattle.tox_defs.specs.declared.chain.TheConstants.{MAX_TOXICS as most_toxics};
 ghost use Rattle.tox_script.specs.Chains.{has_name, no_chains, on, pushed, put_toxic};
 ghost use Rattle.tox_script.specs.Toxics.{read_chains, toxic_at};
 ghost use Rattle.tox_script.specs.Views.{toxic_view};

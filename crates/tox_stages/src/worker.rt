@@ -12,7 +12,7 @@ use std::snapshot::Snapshot;
 use std::sync::Wait;
 use std::thread::Promise;
 use tox_defs::{Stage, Toxic};
-use tox_time::{Gate, Item, MOST_BYTES};
+use tox_time::{Gate, Item, MAX_BYTES};
 use tox_words::Words;
 
 /// The two ends that a worker hands back.
@@ -70,7 +70,7 @@ pub(crate) fn work<R: Wait, G: Gate>(
     let mut stage = Stage::new(toxic, lane, words);
     let mut consumer = consumer;
     let mut producer = producer;
-    for nth in 0..=MOST_BYTES {
+    for nth in 0..=MAX_BYTES {
         let item = pop_waiting(rt, &mut consumer);
         gate.pass(stage_number, nth);
         if !stage.may_take(&item) {

@@ -10,7 +10,7 @@ use std::str;
 use tox_time::Micros;
 
 /// How many digits an instant may have.
-const MOST_DIGITS: usize = 16;
+const MAX_DIGITS: usize = 16;
 
 /// What happened at an instant.
 #[derive(Debug, Drop)]
@@ -76,7 +76,7 @@ fn place_of(text: &[u8], separator: u8) -> Option<usize>
 fn instant_of(text: &[u8]) -> Option<Micros>
     ensures { result ≡ instant_of text.now }
 {
-    if text.len() > MOST_DIGITS || !are_digits(text) {
+    if text.len() > MAX_DIGITS || !are_digits(text) {
         return None;
     }
     let Ok(digits) = str::from_utf8(text) else {

@@ -3,7 +3,7 @@ ghost use Rattle.tox_time.specs.Arrivals.{push_fault, eof_fault, next_chunk};
 
 use crate::item::Item;
 use crate::micros::Micros;
-use crate::span::{MOST_BYTES, Span};
+use crate::span::{MAX_BYTES, Span};
 use std::alloc::Global;
 use std::marker::Model;
 use thiserror::Error;
@@ -82,7 +82,7 @@ impl Arrivals {
         if len == 0 {
             return Err(ArrivalFault::EmptyPiece);
         }
-        if len > MOST_BYTES - self.bytes {
+        if len > MAX_BYTES - self.bytes {
             return Err(ArrivalFault::TooManyBytes);
         }
         if self.has_ended {

@@ -27,5 +27,5 @@ pub use micros::{HORIZON, Micros};
 pub use outcome::Outcome;
 pub use real::Real;
 pub use slice::{Slice, SliceList};
-pub use span::{MOST_BYTES, Span};
+pub use span::{MAX_BYTES, Span};
 pub use stream::Stream;

@@ -1,6 +1,6 @@
 ghost use Rattle.std.specs.Prelude.{◌≡◌, ℕ, ◌+◌, ◌*◌, ◌^◌, ◌≤◌, ◌↔◌, min, max, IsSome, IfSome};
 ghost use Rattle.tox_time.specs.declared.micros.TheConstants.{HORIZON};
-ghost use Rattle.tox_time.specs.Time.{plus, micros_of};
+ghost use Rattle.tox_time.specs.Time.{horizon, plus, micros_of};
 
 use std::marker::Model;
 
@@ -18,7 +18,7 @@ impl Model for Micros {
 
     ghost view = { λ m. m.micros };
 
-    ghost invariant = { λ m. m.micros ≤ HORIZON };
+    ghost invariant = { λ m. m.micros ≤ horizon };
 
     ghost inverse = { λ n. record { micros = n } };
 }
@@ -29,9 +29,9 @@ impl Micros {
 
     /// The instant of this number, or None above the horizon.
     pub fn new(micros: u64) -> Option<Micros>
-        ensures valid { IsSome result ↔ (micros ≤ HORIZON) }
+        ensures valid { IsSome result ↔ (micros ≤ horizon) }
         ensures value { IfSome result (λ t. t ≡ micros) }
-        ensures horizon { HORIZON ≡ 10 ^ 15 }
+        ensures constant { HORIZON ≡ horizon }
     {
         if micros <= HORIZON {
             Some(Micros { micros })
@@ -43,7 +43,7 @@ impl Micros {
     /// So many milliseconds, stopping at the horizon.
     pub fn from_millis(millis: u64) -> Micros
         ensures value { result ≡ micros_of millis }
-        ensures bound { result ≤ HORIZON }
+        ensures bound { result ≤ horizon }
     {
         Micros {
             micros: millis.saturating_mul(1000).min(HORIZON),
@@ -53,7 +53,7 @@ impl Micros {
     /// The sum, stopping at the horizon.
     pub fn plus(self, wait: Micros) -> Micros
         ensures value { result ≡ plus self wait }
-        ensures bound { result ≤ HORIZON }
+        ensures bound { result ≤ horizon }
     {
         Micros {
             micros: (self.micros + wait.micros).min(HORIZON),
@@ -63,7 +63,7 @@ impl Micros {
     /// The instant so many microseconds later, stopping at the horizon.
     pub fn after(self, micros: u64) -> Micros
         ensures value { result ≡ plus self micros }
-        ensures bound { result ≤ HORIZON }
+        ensures bound { result ≤ horizon }
     {
         Micros {
             micros: self.micros.saturating_add(micros).min(HORIZON),
@@ -73,7 +73,7 @@ impl Micros {
     /// The later of two instants.
     pub fn later(self, other: Micros) -> Micros
         ensures value { result ≡ max self other }
-        ensures bound { result ≤ HORIZON }
+        ensures bound { result ≤ horizon }
     {
         if self.micros < other.micros {
             other
@@ -85,7 +85,7 @@ impl Micros {
     /// The number of microseconds.
     pub fn get(self) -> u64
         ensures value { result ≡ self }
-        ensures bound { result ≤ HORIZON }
+        ensures bound { result ≤ horizon }
     {
         self.micros
     }

@@ -3,7 +3,7 @@ ghost use Rattle.tox_words.specs.Draw.{draw};
 ghost use Rattle.tox_words.specs.Seeded.{seeded_words};
 ghost use Rattle.tox_words.specs.Table.{IsWordTable, table_of};
 ghost use Rattle.tox_words.specs.WordsText.{table_of_text};
-ghost use Rattle.tox_words.specs.declared.words.TheConstants.{MOST_WORDS};
+ghost use Rattle.tox_words.specs.declared.words.TheConstants.{MAX_WORDS};
 ghost use Rattle.tox_words.specs.declared.fault.WordsFault.TheVariants.{OutOfMemory};
 
 use crate::fault::WordsFault;
@@ -14,12 +14,12 @@ use std::marker::Model;
 use tox_time::Stream;
 
 /// How many words a table may have.
-pub const MOST_WORDS: usize = 4096;
+pub const MAX_WORDS: usize = 4096;
 
 /// How many lanes take turns at a table.
 const LANES: usize = 16;
 
-/// A table of 1 to [`MOST_WORDS`] words of 32 bits.
+/// A table of 1 to [`MAX_WORDS`] words of 32 bits.
 #[derive(Debug, Drop)]
 pub struct Words {
     words: Vec<u32>,
@@ -49,7 +49,7 @@ impl Words {
         if words.is_empty() {
             return Err(WordsFault::NoWords);
         }
-        if words.len() > MOST_WORDS {
+        if words.len() > MAX_WORDS {
             return Err(WordsFault::TooMany);
         }
         let words = words.to_vec(alloc).map_err(|_| WordsFault::OutOfMemory)?;
@@ -74,7 +74,7 @@ impl Words {
             return Err(WordsFault::BadWord(place));
         }
         let count = count_parts(text);
-        if count > MOST_WORDS {
+        if count > MAX_WORDS {
             return Err(WordsFault::TooMany);
         }
         let words = words_of(alloc, text, count).map_err(|_| WordsFault::OutOfMemory)?;
@@ -100,7 +100,7 @@ impl Words {
         Ok(Words { words })
     }
 
-    /// How many words the table has, 1 to [`MOST_WORDS`].
+    /// How many words the table has, 1 to [`MAX_WORDS`].
     pub fn len(&self) -> usize
         ensures value { result ≡ length self.now }
         ensures table { IsWordTable self.now }
@@ -120,7 +120,7 @@ impl Words {
 /// Where the `j`-th word of a lane stands in a table of `len` words. What a link draws takes one division.
 fn place_of(lane: usize, j: u64, len: usize) -> usize
     requires some { 0 < len }
-    requires most { len ≤ MOST_WORDS }
+    requires most { len ≤ MAX_WORDS }
     ensures { result ≡ (lane + 16 * j) % len }
 {
     if lane < LANES && j < u64::MAX / LANES as u64 {

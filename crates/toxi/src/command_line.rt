@@ -1,6 +1,6 @@
 //! The command line, as `clap` reads it.
 use crate::help;
-use crate::stages::{Cap, DEFAULT_CAP, MOST_CAP};
+use crate::stages::{Cap, DEFAULT_CAP, MAX_CAP};
 use clap::builder::ValueParser;
 use clap::error::ErrorKind;
 use clap::{Arg, ArgAction, ArgMatches, Command, Error, value_parser};
@@ -9,7 +9,7 @@ use std::convert::AsStr;
 use tox_proxy::PickRequest;
 
 /// The most connections of a proxy, which are numbered from 1.
-const MOST_CONNECTIONS: u64 = 1_000_000;
+const MAX_CONNECTIONS: u64 = 1_000_000;
 
 /// The version, and the kit that proves and builds it.
 const VERSION: &str = "0.1.0 (rattle-kit-13b logic dac8208d650f15bf)";
@@ -72,7 +72,7 @@ fn pick_task<'a>(alloc: Global, given: &ArgMatches<'a>) -> Result<Task<'a>, Erro
 /// What `pick` is asked, where each of its options is there.
 fn pick_of<'a>(given: &ArgMatches<'a>) -> Option<PickRequest<'a>> {
     let conn = given.get_one::<u64>("conn")?;
-    if conn < 1 || MOST_CONNECTIONS < conn {
+    if conn < 1 || MAX_CONNECTIONS < conn {
         return None;
     }
     Some(PickRequest {
@@ -131,7 +131,7 @@ fn stages<'a>(alloc: Global) -> Result<Command<'a>, AllocError> {
         .long("cap")
         .value_name("N")
         .help("The room of each ring, in items: 1 to 1024 [default: 4]")
-        .value_parser(ValueParser::unsigned(1, MOST_CAP as u64));
+        .value_parser(ValueParser::unsigned(1, MAX_CAP as u64));
     Command::new(alloc, "stages")
         .about("Prints what `dry` prints, by a thread for each toxic")
         .after_help(help::STAGES)
@@ -147,7 +147,7 @@ fn pick<'a>(alloc: Global) -> Result<Command<'a>, AllocError> {
         "N",
         "The number of the connection, 1 to 1000000",
     )
-    .value_parser(ValueParser::unsigned(1, MOST_CONNECTIONS));
+    .value_parser(ValueParser::unsigned(1, MAX_CONNECTIONS));
     let seed = needed(
         alloc,
         "seed",

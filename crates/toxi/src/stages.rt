@@ -1,6 +1,6 @@
 //! `toxi stages`: as `toxi dry`, but by threads.
 ghost use Rattle.std.specs.Prelude.{◌≤◌};
-ghost use Rattle.toxi.specs.declared.stages.TheConstants.{MOST_CAP};
+ghost use Rattle.toxi.specs.declared.stages.TheConstants.{MAX_CAP};
 
 use crate::dry::{Fault, words_of};
 use std::io;
@@ -10,7 +10,7 @@ use tox_proxy::{read_chain, stages_run};
 use tox_time::{Gate, Real};
 
 /// The most items of a ring.
-pub const MOST_CAP: usize = 1024;
+pub const MAX_CAP: usize = 1024;
 
 /// The room of each ring without `--cap`.
 pub const DEFAULT_CAP: usize = 4;
@@ -20,14 +20,14 @@ pub const DEFAULT_CAP: usize = 4;
 pub struct Cap {
     items: usize,
     ghost some: { 1 ≤ items },
-    ghost most: { items ≤ MOST_CAP },
+    ghost most: { items ≤ MAX_CAP },
 }
 
 impl Cap {
     /// Room for `items`, or for as many of them as a ring may have.
     pub fn new(items: usize) -> Cap {
         Cap {
-            items: items.clamp(1, MOST_CAP),
+            items: items.clamp(1, MAX_CAP),
         }
     }
 }

@@ -12,7 +12,7 @@ use crate::pieces::front;
 use crate::ranges::value;
 use crate::state::State;
 use crate::toxic::Toxic;
-use tox_time::{Ending, MOST_BYTES, Slice};
+use tox_time::{Ending, MAX_BYTES, Slice};
 
 /// The name of the attribute.
 pub(crate) fn attributes() -> &'static [&'static str]
@@ -34,7 +34,7 @@ pub(crate) fn from_values(values: &[u64]) -> Toxic
 pub(crate) fn is_within(bytes: u64) -> bool
     ensures { result ≡ is_limit_data_within bytes }
 {
-    bytes <= MOST_BYTES
+    bytes <= MAX_BYTES
 }
 
 /// The operation.
