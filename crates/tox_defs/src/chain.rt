@@ -1,5 +1,4 @@
 ghost use Rattle.std.specs.Prelude.{◌≡◌, ℕ, ◌+◌, ◌<◌, ◌≤◌, ◌↔◌, List, [], ◌∷◌, ◌++◌, length, slice_get, Some, IsTrue, IsOk, OnOk, OnErr, IsSomeAnd};
-ghost use Rattle.tox_defs.specs.declared.chain.TheConstants.{MOST_TOXICS};
 ghost use Rattle.tox_defs.specs.Applied.{is_applied};
 
 use crate::toxic::Toxic;
@@ -9,7 +8,7 @@ use thiserror::Error;
 use tox_words::Words;
 
 /// The most toxics of a chain.
-pub const MOST_TOXICS: usize = 16;
+pub const MAX_TOXICS: usize = 16;
 
 /// A toxic of a chain.
 #[derive(Clone, Copy, Debug, PartialEq, Eq)]
@@ -52,10 +51,10 @@ impl Default for Entry {
 #[error("S9 TooManyToxics")]
 pub struct TooManyToxics;
 
-/// The toxics of one stream of a link, in order, each with its toxicity: at most [`MOST_TOXICS`].
+/// The toxics of one stream of a link, in order, each with its toxicity: at most [`MAX_TOXICS`].
 #[derive(Drop)]
 pub struct Chain {
-    entries: ArrayVec<Entry, MOST_TOXICS>,
+    entries: ArrayVec<Entry, MAX_TOXICS>,
 }
 
 impl Model for Chain {
@@ -72,7 +71,7 @@ impl Model for Chain {
 
 impl Chain {
     ghost use Rattle.tox_defs.specs.Toxic.{IsInRange};
-    ghost use Rattle.tox_defs.specs.Chain.{IsChain};
+    ghost use Rattle.tox_defs.specs.Chain.{IsChain, max_toxics};
     ghost use Rattle.tox_defs.specs.Flow.{chain_flow};
     ghost use Rattle.tox_defs.specs.Laws.{IsKeptBy};
     ghost use Rattle.tox_time.specs.declared.item.Item.{Item as OneItem};
@@ -91,7 +90,7 @@ impl Chain {
     pub fn push(&mut self, toxic: Toxic, toxicity: u16) -> Result<(), TooManyToxics>
         requires in_range { IsInRange toxic }
         requires thousandths { toxicity ≤ 1000 }
-        ensures room { IsOk result ↔ (length self.old.entries < MOST_TOXICS) }
+        ensures room { IsOk result ↔ (length self.old.entries < max_toxics) }
         ensures ok { OnOk result (self.new.entries ≡ self.old.entries ++ record { toxic = toxic; toxicity = toxicity } ∷ []) }
         ensures err { OnErr result (self.new ≡ self.old) }
     {
@@ -102,7 +101,7 @@ impl Chain {
         Ok(())
     }
 
-    /// How many toxics there are, 0 to [`MOST_TOXICS`].
+    /// How many toxics there are, 0 to [`MAX_TOXICS`].
     pub fn len(&self) -> usize
         ensures value { result ≡ length self.now.entries }
         ensures chain { IsChain self.now }

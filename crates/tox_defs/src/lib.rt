@@ -17,7 +17,7 @@ mod toxic;
 mod toxics;
 mod varied;
 
-pub use chain::{Chain, Entry, MOST_TOXICS, TooManyToxics};
+pub use chain::{Chain, Entry, MAX_TOXICS, TooManyToxics};
 pub use kind::{Kind, MAX_ATTRIBUTES};
 pub use level::{Advanced, Level};
 pub use op::Op;

@@ -15,7 +15,7 @@ use pairs::{are_known, are_pairs, has_double_key, is_word, value_at};
 use thiserror::Error;
 
 /// The greatest toxicity, in thousandths, and that of a toxic that tells none.
-const WHOLE_TOXICITY: u64 = 1000;
+const MAX_TOXICITY: u64 = 1000;
 
 /// Why a text is no short form of a toxic.
 #[derive(Clone, Copy, Debug, PartialEq, Eq, Error)]
@@ -72,7 +72,7 @@ fn read_name(name: &str) -> Result<(Toxic, u16), ShortFault>
     }
     let kind = Kind::of_name(name).ok_or(ToxicFault::UnknownType)?;
     let toxic = kind.toxic(&[])?;
-    Ok((toxic, WHOLE_TOXICITY as u16))
+    Ok((toxic, MAX_TOXICITY as u16))
 }
 
 /// The toxic of a type's name with these pairs.
@@ -95,8 +95,8 @@ fn with_pairs(kind: Kind, pairs: &str) -> Result<(Toxic, u16), ShortFault>
     if has_double_key(pairs) {
         return Err(ShortFault::DoubleKey);
     }
-    let toxicity = value_at(pairs, "toxicity").unwrap_or(WHOLE_TOXICITY);
-    if toxicity > WHOLE_TOXICITY {
+    let toxicity = value_at(pairs, "toxicity").unwrap_or(MAX_TOXICITY);
+    if toxicity > MAX_TOXICITY {
         return Err(ShortFault::Toxic(ToxicFault::ToxicityNotThousandths));
     }
     if !are_known(kind, pairs) {

@@ -6,7 +6,7 @@ pub enum WordsFault {
     /// There is not one word.
     #[error("W1 NoWords")]
     NoWords,
-    /// There are more than [`MOST_WORDS`](crate::MOST_WORDS) words.
+    /// There are more than [`MAX_WORDS`](crate::MAX_WORDS) words.
     #[error("W2 TooMany")]
     TooMany,
     /// The part at this place, from 0, is not a word.

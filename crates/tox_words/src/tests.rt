@@ -1,4 +1,4 @@
-use crate::{MOST_WORDS, Words, WordsFault};
+use crate::{MAX_WORDS, Words, WordsFault};
 use std::alloc::{AllocError, Global};
 use std::test::Fail;
 use tox_time::Stream;
@@ -13,10 +13,10 @@ fn repeated(alloc: Global, part: &str, count: usize) -> Result<String, AllocErro
 
 #[test]
 fn lists_have_bounds(rt: HostRuntime) {
-    let words = [7; MOST_WORDS + 1];
+    let words = [7; MAX_WORDS + 1];
     let cases = [
         (&words[..0], Some(WordsFault::NoWords)),
-        (&words[..MOST_WORDS], None),
+        (&words[..MAX_WORDS], None),
         (&words[..], Some(WordsFault::TooMany)),
     ];
     for (words, fault) in cases {
@@ -31,7 +31,7 @@ fn lists_have_bounds(rt: HostRuntime) {
 
 #[test]
 fn texts_are_read(rt: HostRuntime) -> Result<(), Fail> {
-    let most = repeated(rt.alloc(), "0,", MOST_WORDS)?;
+    let most = repeated(rt.alloc(), "0,", MAX_WORDS)?;
     let many = format!(in rt.alloc(); "{most}0")?;
     let bad = format!(in rt.alloc(); "{most}x")?;
     let cases = [
@@ -41,7 +41,7 @@ fn texts_are_read(rt: HostRuntime) -> Result<(), Fail> {
         ("4294967296", Some(WordsFault::BadWord(0))),
         ("00000000001", Some(WordsFault::BadWord(0))),
         (many.as_str(), Some(WordsFault::TooMany)),
-        (bad.as_str(), Some(WordsFault::BadWord(MOST_WORDS))),
+        (bad.as_str(), Some(WordsFault::BadWord(MAX_WORDS))),
     ];
     for (text, fault) in cases {
         assert_eq!(rt; Words::from_text(rt.alloc(), text).err(), fault, "{text}");

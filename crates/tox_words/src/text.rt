@@ -7,7 +7,7 @@ ghost use Rattle.tox_words.specs.WordsText.{bad_place, parts_of, word_of, words_
 use std::alloc::{AllocError, Global};
 
 /// How many digits a word may have.
-const MOST_DIGITS: usize = 10;
+const MAX_DIGITS: usize = 10;
 
 /// The place, from 0, of the first part that is no word.
 pub(crate) fn bad_place(text: &str) -> Option<usize>
@@ -35,7 +35,7 @@ pub(crate) fn words_of(alloc: Global, text: &str, count: usize) -> Result<Vec<u3
 fn word_of(part: &str) -> Option<u32>
     ensures { result ≡ word_of part.now }
 {
-    if part.len() > MOST_DIGITS || !are_digits(part) {
+    if part.len() > MAX_DIGITS || !are_digits(part) {
         return None;
     }
     part.parse().ok()

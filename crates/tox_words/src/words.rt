@@ -1,9 +1,9 @@
 ghost use Rattle.std.specs.Prelude.{◌≡◌, ◌≢◌, ◌<◌, ◌≤◌, ◌+◌, ◌*◌, ◌%◌, IfOk, IfErr, IsOk, IsOkUnless, length};
 ghost use Rattle.tox_words.specs.Draw.{draw};
 ghost use Rattle.tox_words.specs.Seeded.{seeded_words};
-ghost use Rattle.tox_words.specs.Table.{IsWordTable, table_of};
+ghost use Rattle.tox_words.specs.Table.{IsWordTable, max_words, table_of};
 ghost use Rattle.tox_words.specs.WordsText.{table_of_text};
-ghost use Rattle.tox_words.specs.declared.words.TheConstants.{MOST_WORDS};
+ghost use Rattle.tox_words.specs.declared.words.TheConstants.{MAX_CONNECTIONS};
 ghost use Rattle.tox_words.specs.declared.fault.WordsFault.TheVariants.{OutOfMemory};
 
 use crate::fault::WordsFault;
@@ -14,12 +14,15 @@ use std::marker::Model;
 use tox_time::Stream;
 
 /// How many words a table may have.
-pub const MOST_WORDS: usize = 4096;
+pub const MAX_WORDS: usize = 4096;
+
+/// The most connections of a proxy, which number from 1.
+pub const MAX_CONNECTIONS: u64 = 1_000_000;
 
 /// How many lanes take turns at a table.
 const LANES: usize = 16;
 
-/// A table of 1 to [`MOST_WORDS`] words of 32 bits.
+/// A table of 1 to [`MAX_WORDS`] words of 32 bits.
 #[derive(Debug, Drop)]
 pub struct Words {
     words: Vec<u32>,
@@ -49,7 +52,7 @@ impl Words {
         if words.is_empty() {
             return Err(WordsFault::NoWords);
         }
-        if words.len() > MOST_WORDS {
+        if words.len() > MAX_WORDS {
             return Err(WordsFault::TooMany);
         }
         let words = words.to_vec(alloc).map_err(|_| WordsFault::OutOfMemory)?;
@@ -74,7 +77,7 @@ impl Words {
             return Err(WordsFault::BadWord(place));
         }
         let count = count_parts(text);
-        if count > MOST_WORDS {
+        if count > MAX_WORDS {
             return Err(WordsFault::TooMany);
         }
         let words = words_of(alloc, text, count).map_err(|_| WordsFault::OutOfMemory)?;
@@ -82,7 +85,7 @@ impl Words {
     }
 
     /// The table of a connection's stream: the first 1024 outputs of PCG32 from this seed, on the
-    /// sequence `2 * conn`, or the one after it downstream. Connections count from 1 to 1,000,000.
+    /// sequence `2 * conn`, or the one after it downstream. Connections number from 1 to [`MAX_CONNECTIONS`].
     ///
     /// Refused only by [`WordsFault::OutOfMemory`].
     pub fn from_seed(
@@ -95,12 +98,13 @@ impl Words {
         requires last { conn ≤ 1_000_000 }
         ensures ok { IfOk result (λ table. table ≡ seeded_words seed conn stream) }
         ensures err { IsOkUnless result OutOfMemory }
+        ensures numbers { MAX_CONNECTIONS ≡ 1_000_000 }
     {
         let words = seeded_words(alloc, seed, conn, stream).map_err(|_| WordsFault::OutOfMemory)?;
         Ok(Words { words })
     }
 
-    /// How many words the table has, 1 to [`MOST_WORDS`].
+    /// How many words the table has, 1 to [`MAX_WORDS`].
     pub fn len(&self) -> usize
         ensures value { result ≡ length self.now }
         ensures table { IsWordTable self.now }
@@ -120,7 +124,7 @@ impl Words {
 /// Where the `j`-th word of a lane stands in a table of `len` words. What a link draws takes one division.
 fn place_of(lane: usize, j: u64, len: usize) -> usize
     requires some { 0 < len }
-    requires most { len ≤ MOST_WORDS }
+    requires most { len ≤ max_words }
     ensures { result ≡ (lane + 16 * j) % len }
 {
     if lane < LANES && j < u64::MAX / LANES as u64 {

@@ -8,7 +8,7 @@ ghost use Rattle.tox_defs.specs.Short.{is_known};
 use crate::kind::Kind;
 
 /// How many digits a value may have.
-const MOST_DIGITS: usize = 18;
+const MAX_DIGITS: usize = 18;
 
 /// Whether a text is one or more of `a` to `z` and `_`.
 pub(super) fn is_word(text: &str) -> bool
@@ -60,7 +60,7 @@ fn cut(pair: &str) -> (&str, &str)
 fn number_of(text: &str) -> Option<u64>
     ensures { result ≡ number_of text.now }
 {
-    if text.len() > MOST_DIGITS || !are_digits(text) {
+    if text.len() > MAX_DIGITS || !are_digits(text) {
         return None;
     }
     text.parse().ok()

@@ -4,8 +4,8 @@ use Rattle.tox_words.specs.WordsText.{parts_of, words_of}
 use Rattle.tox_words.proofs.Texts.{few_words, many_words}
 use Rattle.tox_words.proofs.words.Words.from_text.Goals as goal
 
-pub returns-then-count-gt-MOST_WORDS-clause-fault : goal.returns-then-count-gt-MOST_WORDS-clause-fault
-returns-then-count-gt-MOST_WORDS-clause-fault c =
+pub returns-then-count-gt-MAX_WORDS-clause-fault : goal.returns-then-count-gt-MAX_WORDS-clause-fault
+returns-then-count-gt-MAX_WORDS-clause-fault c =
     λ _. many_words c.args.text.now (sym c.if-is_empty.ensures) (sym c.in_default.ensures) (omega arith)
 
 pub returns-in_err-words-clause-memory_last : goal.returns-in_err-words-clause-memory_last
