@@ -1,6 +1,5 @@
 ghost use Rattle.std.specs.Prelude.{◌≡◌, ◌<◌, List, [], ◌∷◌, ◌++◌, Some};
 ghost use Rattle.arrayvec.specs.ArrayVec.{array_vec_len};
-ghost use Rattle.tox_defs.specs.declared.chain.TheConstants.{MOST_TOXICS};
 ghost use Rattle.tox_time.specs.declared.item.Item.{Item as OneItem};
 ghost use Rattle.tox_time.specs.Stream.{IsStream};
 ghost use Rattle.tox_defs.specs.Flow.{chain_flow};
@@ -10,7 +9,7 @@ ghost use Rattle.tox_compile.specs.Meaning.{deadline_of, earlier, means};
 use crate::normal::add;
 use arrayvec::ArrayVec;
 use std::marker::Model;
-use tox_defs::{Chain, MOST_TOXICS, Op};
+use tox_defs::{Chain, MAX_TOXICS, Op};
 use tox_time::Micros;
 use tox_words::Words;
 
@@ -18,7 +17,7 @@ use tox_words::Words;
 /// where a rule allows.
 #[derive(Drop)]
 pub struct Plan {
-    ops: ArrayVec<Op, MOST_TOXICS>,
+    ops: ArrayVec<Op, MAX_TOXICS>,
 }
 
 impl Model for Plan {

@@ -14,7 +14,7 @@ use tox_defs::{Entry, Kind, ToxicFault};
 use tox_time::Stream;
 
 /// The greatest toxicity, in thousandths, and that of a toxic that tells none.
-const WHOLE_TOXICITY: u64 = 1000;
+const MAX_TOXICITY: u64 = 1000;
 
 /// A toxic of a rule, with a name that is lent or stands for the type and the stream.
 #[derive(Clone, Copy)]
@@ -60,9 +60,9 @@ fn toxicity_in(value: Option<&Value>) -> Option<u16>
     ensures { result ≡ toxicity_in (option_map (λ value. view value.now) value.entry) }
 {
     match value {
-        None => Some(WHOLE_TOXICITY as u16),
+        None => Some(MAX_TOXICITY as u16),
         Some(value) => {
-            let toxicity = whole_between(value, 0, WHOLE_TOXICITY)?;
+            let toxicity = whole_between(value, 0, MAX_TOXICITY)?;
             Some(toxicity as u16)
         }
     }
