@@ -17,7 +17,7 @@ use Rattle.tox_defs.specs.Varied.{varied}
 use Rattle.tox_defs.specs.Op.{op_giving, op_reaction, IsOp, EndsInTime}
 use Rattle.tox_defs.specs.toxics.Latency.{IsNormal}
 use Rattle.tox_defs.proofs.OpStreams.{IsStream-final, IsStream-op_flow}
-use Rattle.tox_defs.proofs.StreamKeepers.{flow_from-muted}
+use Rattle.tox_defs.proofs.ToxicProofs.Timeout.{flow_from-muted}
 use Rattle.tox_compile.specs.Normal.{joined, after_mute}
 use Rattle.tox_compile.proofs.Delays.{delays_join_second, delays_join_first}
 use Rattle.tox_compile.proofs.Slows.{slows_join}

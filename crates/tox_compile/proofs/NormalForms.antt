@@ -15,7 +15,7 @@ use Rattle.tox_defs.specs.Flow.{chain_flow}
 use Rattle.tox_defs.specs.Op.{op_reaction, IsOp}
 use Rattle.tox_defs.specs.toxics.Latency.{IsNormal}
 use Rattle.tox_defs.proofs.OpStreams.{IsStream-op_flow}
-use Rattle.tox_defs.proofs.StreamKeepers.{flow_from-muted}
+use Rattle.tox_defs.proofs.ToxicProofs.Timeout.{flow_from-muted}
 use Rattle.tox_compile.specs.Compiled.{ops_of}
 use Rattle.tox_compile.specs.Meaning.{op_reactions, means}
 use Rattle.tox_compile.specs.Normal.{vanishes, joined, one_or_two, with_last, with_op, normal_form}

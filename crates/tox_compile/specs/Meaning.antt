@@ -4,7 +4,7 @@ use Rattle.tox_time.specs.declared.item.Item.{Item}
 use Rattle.tox_words.specs.Draw.{Draws, draw}
 use Rattle.tox_defs.specs.declared.op.Op.{Op}
 use Rattle.tox_defs.specs.declared.op.Op.TheVariants.{Mute, Cutoff}
-use Rattle.tox_defs.specs.declared.chain.TheConstants.{MAX_TOXICS}
+use Rattle.tox_defs.specs.Chain.{max_toxics}
 use Rattle.tox_defs.specs.Reaction.{Reaction, flow_through}
 use Rattle.tox_defs.specs.Op.{op_reaction, IsOp}
 
@@ -14,7 +14,7 @@ pub record Ops : Type 0 where
 
 -- what every plan keeps
 pub record IsPlan (plan : Ops) : Type 0 where
-  pub most : length plan.ops ≤ MAX_TOXICS
+  pub most : length plan.ops ≤ max_toxics
   pub operations : All IsOp plan.ops
 
 -- the reactions of operations, in order

@@ -1,7 +1,7 @@
 //! Operations joined to the ones before them.
 ghost use Rattle.std.specs.Prelude.{◌≡◌, ◌+◌, ◌<◌, ◌^◌, [], ◌∷◌, ◌++◌, All};
 ghost use Rattle.arrayvec.specs.ArrayVec.{array_vec_len};
-ghost use Rattle.tox_defs.specs.declared.chain.TheConstants.{MAX_TOXICS};
+ghost use Rattle.tox_defs.specs.Chain.{max_toxics};
 ghost use Rattle.tox_compile.specs.Normal.{vanishes, joined, with_last, with_op};
 ghost use Rattle.tox_compile.specs.NormalInside.{millis_of, with_more};
 
@@ -10,7 +10,7 @@ use tox_defs::{MAX_TOXICS, Op, State};
 
 /// Adds an operation behind the others. A mute takes the place of all of them, and what does nothing is left out.
 pub(crate) fn add(ops: &mut ArrayVec<Op, MAX_TOXICS>, op: &Op)
-    requires room { array_vec_len ops.old < MAX_TOXICS }
+    requires room { array_vec_len ops.old < max_toxics }
     requires sums { All (λ last. millis_of last + millis_of op.now < 2 ^ 32) ops.old.items }
     ensures { ops.new.items ≡ with_op ops.old.items op.now }
 {
@@ -24,7 +24,7 @@ pub(crate) fn add(ops: &mut ArrayVec<Op, MAX_TOXICS>, op: &Op)
 
 /// Adds an operation behind the others, joined to the last where a rule allows.
 fn join_last(ops: &mut ArrayVec<Op, MAX_TOXICS>, op: &Op)
-    requires room { array_vec_len ops.old < MAX_TOXICS }
+    requires room { array_vec_len ops.old < max_toxics }
     requires sums { All (λ last. millis_of last + millis_of op.now < 2 ^ 32) ops.old.items }
     ensures { ops.new.items ≡ with_last ops.old.items op.now }
 {
@@ -113,7 +113,7 @@ fn with_more(op: &Op, more: u32) -> Op
 
 /// Adds an item behind the others.
 fn append<T: Copy>(list: &mut ArrayVec<T, MAX_TOXICS>, item: &T)
-    requires { array_vec_len list.old < MAX_TOXICS }
+    requires { array_vec_len list.old < max_toxics }
     ensures { list.new.items ≡ list.old.items ++ item.now ∷ [] }
 {
     list.push(*item);

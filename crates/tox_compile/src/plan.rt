@@ -1,6 +1,5 @@
 ghost use Rattle.std.specs.Prelude.{◌≡◌, ◌<◌, List, [], ◌∷◌, ◌++◌, Some};
 ghost use Rattle.arrayvec.specs.ArrayVec.{array_vec_len};
-ghost use Rattle.tox_defs.specs.declared.chain.TheConstants.{MAX_TOXICS};
 ghost use Rattle.tox_time.specs.declared.item.Item.{Item as OneItem};
 ghost use Rattle.tox_time.specs.Stream.{IsStream};
 ghost use Rattle.tox_defs.specs.Flow.{chain_flow};

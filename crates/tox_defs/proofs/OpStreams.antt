@@ -19,7 +19,14 @@ use Rattle.tox_defs.specs.Varied.{varied}
 use Rattle.tox_defs.specs.Op.{op_reaction, IsOp, EndsInTime}
 use Rattle.tox_defs.proofs.Drawn.{varied-positive}
 use Rattle.tox_defs.proofs.KeepingStreams.{IsStreamFrom-flow}
-use Rattle.tox_defs.proofs.StreamKeepers.{flow_from-muted, Whatever, NotAfter, NotAfterEither, delayed_keeps, paced_keeps, sliced_keeps, closed_later_keeps, cut_off_keeps, limited_keeps}
+use Rattle.tox_defs.proofs.StreamKeepers.{Whatever, NotAfter}
+use Rattle.tox_defs.proofs.ToxicProofs.Timeout.{flow_from-muted}
+use Rattle.tox_defs.proofs.ToxicProofs.ResetPeer.{NotAfterEither, cut_off_keeps}
+use Rattle.tox_defs.proofs.ToxicProofs.Latency.{delayed_keeps}
+use Rattle.tox_defs.proofs.ToxicProofs.Bandwidth.{paced_keeps}
+use Rattle.tox_defs.proofs.ToxicProofs.Slicer.{sliced_keeps}
+use Rattle.tox_defs.proofs.ToxicProofs.SlowClose.{closed_later_keeps}
+use Rattle.tox_defs.proofs.ToxicProofs.LimitData.{limited_keeps}
 
 pub IsStream-final : (ending : Ending) → EndsInTime ending → IsStream (final_of ending ∷ [])
 IsStream-final StillOpen fits = refl

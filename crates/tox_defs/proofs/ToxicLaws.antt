@@ -13,13 +13,13 @@ use Rattle.tox_defs.specs.Varied.{varied}
 use Rattle.tox_defs.specs.Laws.{HasLaw}
 use Rattle.tox_defs.proofs.Drawn.{varied-within}
 use Rattle.tox_defs.proofs.OpOf.{rate-positive, variation-below}
-use Rattle.tox_defs.proofs.LatencyLaw.{table-latency}
-use Rattle.tox_defs.proofs.BandwidthLaw.{bandwidth_law}
-use Rattle.tox_defs.proofs.SlowCloseLaw.{table-slow_close}
-use Rattle.tox_defs.proofs.TimeoutLaw.{table-muted}
-use Rattle.tox_defs.proofs.ResetPeerLaw.{All-cut_table}
-use Rattle.tox_defs.proofs.SlicerLaw.{All-sliced}
-use Rattle.tox_defs.proofs.LimitDataLaw.{length-limited_table}
+use Rattle.tox_defs.proofs.ToxicProofs.Latency.{table-latency}
+use Rattle.tox_defs.proofs.ToxicProofs.Bandwidth.{bandwidth_law}
+use Rattle.tox_defs.proofs.ToxicProofs.SlowClose.{table-slow_close}
+use Rattle.tox_defs.proofs.ToxicProofs.Timeout.{table-muted}
+use Rattle.tox_defs.proofs.ToxicProofs.ResetPeer.{All-cut_table}
+use Rattle.tox_defs.proofs.ToxicProofs.Slicer.{All-sliced}
+use Rattle.tox_defs.proofs.ToxicProofs.LimitData.{length-limited_table}
 
 -- what is before one instant is before a later one
 All-sooner : (instant later : ℕ) (ts : List ℕ) → instant ≤ later → All (λ at. at < instant) ts → All (λ at. at < later) ts

@@ -1,16 +1,12 @@
 -- What a look at the rest of a chunk finds, and what is then still to come.
-use Rattle.std.specs.Prelude.{◌≡◌, ℕ, ◌+◌, ◌==◌, min, ◌<◌, ◌≤◌, nat_lt, if◌then◌else◌, List, [], ◌∷◌, ◌++◌}
-use Rattle.tox_time.specs.declared.span.Span.{Span}
+use Rattle.std.specs.Prelude.{◌≡◌, ℕ, ◌==◌, ◌<◌, ◌≤◌, nat_lt, if◌then◌else◌, List, [], ◌∷◌, ◌++◌}
 use Rattle.tox_time.specs.declared.slice.Slice.{Slice}
-use Rattle.tox_time.specs.declared.ending.Ending.TheVariants.{Closed as ClosedAt, Reset as ResetAt}
-use Rattle.tox_time.specs.Stream.{span_len}
 use Rattle.tox_time.specs.declared.item.Item.{Item}
 use Rattle.tox_time.specs.declared.item.Item.TheVariants.{Chunk}
 use Rattle.tox_time.specs.Table.{final_of}
 use Rattle.tox_defs.specs.declared.state.State.{State}
 use Rattle.tox_defs.specs.declared.look.Look.{Look}
 use Rattle.tox_defs.specs.declared.look.Look.TheVariants.{Piece, LastPiece, Ended}
-use Rattle.tox_defs.specs.Pieces.{first_span}
 use Rattle.tox_defs.specs.Reaction.{Reaction, flow_from, state_from, with_piece, with_chunk, with_ending}
 
 -- a slice as a chunk

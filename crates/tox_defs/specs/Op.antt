@@ -1,5 +1,5 @@
 -- What an operation of a plan gives, in the words of the toxics.
-use Rattle.std.specs.Prelude.{◌≡◌, ℕ, zero, suc, ◌+◌, ◌*◌, ◌<◌, Bool, true, false}
+use Rattle.std.specs.Prelude.{ℕ, ◌*◌, ◌<◌, Bool, true, false}
 use Rattle.tox_time.specs.declared.ending.Ending.{Ending}
 use Rattle.tox_time.specs.declared.ending.Ending.TheVariants.{StillOpen, Closed, Reset}
 use Rattle.tox_time.specs.Time.{IsInstant, micros_of}

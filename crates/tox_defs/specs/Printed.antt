@@ -1,5 +1,5 @@
 -- The printed short form of a toxic with its toxicity.
-use Rattle.std.specs.Prelude.{ℕ, List, [], ◌∷◌, ◌++◌, codes, map, take}
+use Rattle.std.specs.Prelude.{ℕ, List, [], ◌∷◌, ◌++◌, codes, map}
 use Rattle.std.specs.Fmt.{decimal}
 use Rattle.std.specs.List.{join_with_byte, zip}
 use Rattle.tox_defs.specs.Kind.{attributes_of, name_of}

@@ -1,5 +1,4 @@
 ghost use Rattle.std.specs.Prelude.{◌≡◌, ℕ, ◌+◌, ◌<◌, ◌≤◌, ◌↔◌, List, [], ◌∷◌, ◌++◌, length, slice_get, Some, IsTrue, IsOk, OnOk, OnErr, IsSomeAnd};
-ghost use Rattle.tox_defs.specs.declared.chain.TheConstants.{MAX_TOXICS};
 ghost use Rattle.tox_defs.specs.Applied.{is_applied};
 
 use crate::toxic::Toxic;
@@ -72,7 +71,7 @@ impl Model for Chain {
 
 impl Chain {
     ghost use Rattle.tox_defs.specs.Toxic.{IsInRange};
-    ghost use Rattle.tox_defs.specs.Chain.{IsChain};
+    ghost use Rattle.tox_defs.specs.Chain.{IsChain, max_toxics};
     ghost use Rattle.tox_defs.specs.Flow.{chain_flow};
     ghost use Rattle.tox_defs.specs.Laws.{IsKeptBy};
     ghost use Rattle.tox_time.specs.declared.item.Item.{Item as OneItem};
@@ -91,7 +90,7 @@ impl Chain {
     pub fn push(&mut self, toxic: Toxic, toxicity: u16) -> Result<(), TooManyToxics>
         requires in_range { IsInRange toxic }
         requires thousandths { toxicity ≤ 1000 }
-        ensures room { IsOk result ↔ (length self.old.entries < MAX_TOXICS) }
+        ensures room { IsOk result ↔ (length self.old.entries < max_toxics) }
         ensures ok { OnOk result (self.new.entries ≡ self.old.entries ++ record { toxic = toxic; toxicity = toxicity } ∷ []) }
         ensures err { OnErr result (self.new ≡ self.old) }
     {

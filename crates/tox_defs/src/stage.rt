@@ -1,5 +1,6 @@
 ghost use Rattle.std.specs.Prelude.{◌≡◌, ◌^◌, ◌<◌, ◌≤◌, ◌↔◌, List, [], true, IsTrue};
 ghost use Rattle.tox_words.specs.Draw.{draw};
+ghost use Rattle.tox_defs.specs.Chain.{max_toxics};
 ghost use Rattle.tox_defs.specs.Toxic.{IsInRange};
 ghost use Rattle.tox_defs.specs.Flow.{toxic_reaction};
 ghost use Rattle.tox_defs.specs.Op.{op_of, op_reaction};
@@ -45,7 +46,7 @@ impl<'w> Stage<'w> {
     /// The stage of a toxic at a place of its chain, which draws from that lane; it was given nothing yet.
     pub fn new(toxic: Toxic, lane: usize, words: &'w Words) -> Stage<'w>
         requires in_range { IsInRange toxic }
-        requires place { lane < 16 }
+        requires place { lane < max_toxics }
         ensures first { result ≡ first_stage (op_of lane toxic) words.now }
         ensures law { HasLaw toxic }
         ensures streams { KeepsStreams toxic }

@@ -7,7 +7,7 @@ use Rattle.std.proofs.lemmas.List.Elements.{filter-append}
 use Rattle.std.proofs.lemmas.List.Sums.{length-filter}
 use Rattle.tox_time.specs.declared.stream.Stream.{Stream}
 use Rattle.tox_time.specs.declared.stream.Stream.TheVariants.{Upstream, Downstream}
-use Rattle.tox_defs.specs.declared.chain.TheConstants.{MAX_TOXICS}
+use Rattle.tox_defs.specs.Chain.{max_toxics}
 use Rattle.tox_script.specs.Chains.{has_name, on, pushed, put_toxic}
 use Rattle.tox_time.specs.Steps.{◌>>=◌}
 use Rattle.tox_script.specs.NamedChain.{NamedToxics, with_toxic}
@@ -102,7 +102,7 @@ pub put_toxic-chains_of : (at : Location) (earlier : List NamedToxic) (toxic : N
     → put_toxic at toxic (chains_of earlier) ≡ (behind at earlier toxic >>= (λ toxics. Ok (chains_of toxics)))
 put_toxic-chains_of at earlier toxic =
     rw (has_name-chains_of toxic.name earlier, length-chain_on toxic.stream earlier, pushed-chains_of earlier toxic)
-    (cases (list_any (λ other. bytes_eq other.name toxic.name) earlier) (leb MAX_TOXICS (count_by (is_on toxic.stream) earlier)))
+    (cases (list_any (λ other. bytes_eq other.name toxic.name) earlier) (leb max_toxics (count_by (is_on toxic.stream) earlier)))
   where
     cases : (named full : Bool) → cond named (Err (DoubleName at)) (cond full (Err (TooManyToxics at)) (Ok (chains_of (earlier ++ toxic ∷ []))))
         ≡ (cond named (Err (DoubleName at)) (cond full (Err (TooManyToxics at)) (Ok (earlier ++ toxic ∷ []))) >>= (λ toxics. Ok (chains_of toxics)))
@@ -112,7 +112,7 @@ put_toxic-chains_of at earlier toxic =
 
 -- a toxic that stands behind the earlier ones is one more
 pub length-behind : (at : Location) (earlier : List NamedToxic) (toxic : NamedToxic) (toxics : List NamedToxic) → behind at earlier toxic ≡ Ok toxics → length toxics ≡ length earlier + 1
-length-behind at earlier toxic toxics = cases (list_any (λ other. bytes_eq other.name toxic.name) earlier) (leb MAX_TOXICS (count_by (is_on toxic.stream) earlier))
+length-behind at earlier toxic toxics = cases (list_any (λ other. bytes_eq other.name toxic.name) earlier) (leb max_toxics (count_by (is_on toxic.stream) earlier))
   where
     cases : (named full : Bool) → cond named (Err (DoubleName at)) (cond full (Err (TooManyToxics at)) (Ok (earlier ++ toxic ∷ []))) ≡ Ok toxics → length toxics ≡ length earlier + 1
     cases true full is = absurd (cc)

@@ -1,5 +1,5 @@
 -- The attributes of a toxic, and the toxic that they make.
-use Rattle.std.specs.Prelude.{ℕ, Bool, true, List, [], ◌∷◌, map, Option, Some, None, option_and_then, option_map, slice_get, Result, Err, ok_or, if◌then◌else◌}
+use Rattle.std.specs.Prelude.{ℕ, Bool, true, List, [], ◌∷◌, map, Option, Some, None, option_and_then, option_map, Result, Err, ok_or, if◌then◌else◌}
 use Rattle.std.specs.Option.{option_map_or}
 use Rattle.toml.specs.Data.{Data, get}
 use Rattle.tox_defs.specs.Kind.{attributes_of, checked, toxic_of}

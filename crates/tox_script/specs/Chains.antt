@@ -3,7 +3,7 @@ use Rattle.std.specs.Prelude.{ℕ, ◌||◌, Bool, List, length, nat_le, Result,
 use Rattle.tox_time.specs.declared.stream.Stream.{Stream}
 use Rattle.tox_time.specs.declared.stream.Stream.TheVariants.{Upstream, Downstream}
 use Rattle.tox_defs.specs.declared.chain.Entry.{Entry}
-use Rattle.tox_defs.specs.declared.chain.TheConstants.{MAX_TOXICS}
+use Rattle.tox_defs.specs.Chain.{max_toxics}
 use Rattle.tox_script.specs.Fields.{is_among}
 use Rattle.tox_script.specs.NamedChain.{NamedToxics, nothing, with_toxic}
 use Rattle.tox_script.specs.Toxic.{NamedToxic}
@@ -34,5 +34,5 @@ pushed Downstream entry name chains = record chains { downstream = with_toxic en
 abbrev pub put_toxic : Location → NamedToxic → Chains → Result Chains ScriptFault
 put_toxic at toxic chains =
     if has_name toxic.name chains then Err (DoubleName at)
-    else if nat_le MAX_TOXICS (length (on toxic.stream chains).chain.entries) then Err (TooManyToxics at)
+    else if nat_le max_toxics (length (on toxic.stream chains).chain.entries) then Err (TooManyToxics at)
     else Ok (pushed toxic.stream toxic.entry toxic.name chains)

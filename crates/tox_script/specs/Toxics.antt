@@ -5,7 +5,7 @@ use Rattle.std.specs.Str.{bytes_eq}
 use Rattle.toml.specs.Data.{Data, Items, no_items, item}
 use Rattle.tox_time.specs.declared.stream.Stream.{Stream}
 use Rattle.tox_time.specs.declared.stream.Stream.TheVariants.{Upstream, Downstream}
-use Rattle.tox_defs.specs.declared.chain.TheConstants.{MAX_TOXICS}
+use Rattle.tox_defs.specs.Chain.{max_toxics}
 use Rattle.tox_time.specs.Steps.{◌>>=◌, told_as}
 use Rattle.tox_script.specs.NamedChain.{NamedToxics}
 use Rattle.tox_time.specs.StreamName.{same_stream}
@@ -30,7 +30,7 @@ is_on stream toxic = same_stream stream toxic.stream
 abbrev pub behind : Location → List NamedToxic → NamedToxic → Result (List NamedToxic) ScriptFault
 behind at earlier toxic =
     if list_any (λ other. bytes_eq other.name toxic.name) earlier then Err (DoubleName at)
-    else if nat_le MAX_TOXICS (count_by (is_on toxic.stream) earlier) then Err (TooManyToxics at)
+    else if nat_le max_toxics (count_by (is_on toxic.stream) earlier) then Err (TooManyToxics at)
     else Ok (earlier ++ toxic ∷ [])
 
 -- the toxics of a rule: earlier ones and those of the tables behind them, or the first fault

@@ -2,7 +2,7 @@
 ghost use Rattle.std.specs.Prelude.{◌≡◌, ◌≢◌, ◌<◌, length, string_bytes, OnOk, IfOk, IfErr, Ok, Err};
 ghost use Rattle.toml.specs.View.{items_view, view};
 ghost use Rattle.tox_defs.specs.Chain.{IsEntry};
-ghost use Rattle.tox_defs.specs.declared.chain.TheConstants.{MAX_TOXICS as most_toxics};
+ghost use Rattle.tox_defs.specs.Chain.{max_toxics};
 ghost use Rattle.tox_script.specs.Chains.{has_name, no_chains, on, pushed, put_toxic};
 ghost use Rattle.tox_script.specs.Toxics.{read_chains, toxic_at};
 ghost use Rattle.tox_script.specs.Views.{toxic_view};
@@ -96,7 +96,7 @@ impl Chains {
     /// Adds a toxic behind the others of a stream that has room.
     fn push(&mut self, stream: Stream, entry: Entry, name: String) -> Result<(), AllocError>
         requires fits { IsEntry entry }
-        requires room { length (on stream self.old).chain.entries < most_toxics }
+        requires room { length (on stream self.old).chain.entries < max_toxics }
         ensures { OnOk result (self.new ≡ pushed stream entry (string_bytes name) self.old) }
     {
         match stream {

@@ -1,7 +1,7 @@
 //! A chain with the names of its toxics.
 ghost use Rattle.std.specs.Prelude.{◌≡◌, ◌<◌, length, map, string_bytes, nat_le, OnOk, OnErr};
 ghost use Rattle.tox_defs.specs.Chain.{IsEntry};
-ghost use Rattle.tox_defs.specs.declared.chain.TheConstants.{MAX_TOXICS as most_toxics};
+ghost use Rattle.tox_defs.specs.Chain.{max_toxics};
 ghost use Rattle.tox_script.specs.Fields.{is_among};
 
 use std::alloc::{AllocError, Global};
@@ -62,7 +62,7 @@ impl NamedChain {
     }
 
     pub(crate) fn is_full(&self) -> bool
-        ensures { result ≡ nat_le most_toxics (length self.now.chain.entries) }
+        ensures { result ≡ nat_le max_toxics (length self.now.chain.entries) }
     {
         self.chain.len() >= MAX_TOXICS
     }
@@ -70,7 +70,7 @@ impl NamedChain {
     /// Adds a toxic behind the others. A refusal leaves them unchanged.
     pub(crate) fn push(&mut self, entry: Entry, name: String) -> Result<(), AllocError>
         requires fits { IsEntry entry }
-        requires room { length self.old.chain.entries < most_toxics }
+        requires room { length self.old.chain.entries < max_toxics }
         ensures ok { OnOk result (self.new ≡ with_toxic entry (string_bytes name) self.old) }
         ensures err { OnErr result (self.new ≡ self.old) }
     {

@@ -7,11 +7,9 @@ ghost use Rattle.tox_script.specs.Views.{rule_fields_view};
 use crate::fault::Field;
 use crate::fields::{has_only, sized_text, tables_of, whole_between};
 use toml::Value;
+use tox_words::MAX_CONNECTIONS;
 
 const MAX_PROXY_LEN: usize = 255;
-
-/// The most connections of a proxy, which are numbered from 1.
-const MAX_CONNECTION: u64 = 1_000_000;
 
 /// The fields of a rule's table, lent from it. The toxics are tables.
 #[derive(Clone, Copy)]
@@ -59,7 +57,7 @@ fn first_of(table: &Value) -> Result<u64, Field>
 {
     match table.get("first") {
         None => Err(Field::First),
-        Some(value) => whole_between(value, 1, MAX_CONNECTION).ok_or(Field::First),
+        Some(value) => whole_between(value, 1, MAX_CONNECTIONS).ok_or(Field::First),
     }
 }
 
@@ -69,7 +67,7 @@ fn last_of(table: &Value, first: u64) -> Result<Option<u64>, Field>
 {
     match table.get("last") {
         None => Ok(None),
-        Some(value) => match whole_between(value, first, MAX_CONNECTION) {
+        Some(value) => match whole_between(value, first, MAX_CONNECTIONS) {
             Some(last) => Ok(Some(last)),
             None => Err(Field::Last),
         },

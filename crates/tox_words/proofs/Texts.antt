@@ -4,7 +4,7 @@ use Rattle.std.specs.List.{cons_option, filter_map, position_from}
 use Rattle.std.specs.Option.{option_map_or}
 use Rattle.std.proofs.lemmas.Iterator.Adapters.{position_from-zero}
 use Rattle.std.proofs.lemmas.List.Splits.{length-slice_split}
-use Rattle.tox_words.specs.Table.{IsWordTable, most_words, table_of}
+use Rattle.tox_words.specs.Table.{IsWordTable, max_words, table_of}
 use Rattle.tox_words.specs.WordsText.{bad_place, parts_of, table_of_text, word_of, words_of}
 use Rattle.tox_words.specs.declared.fault.WordsFault.TheVariants.{BadWord, TooMany}
 
@@ -36,7 +36,7 @@ some_parts : (text : List ℕ) → 0 < length (parts_of text)
 some_parts text = omega (arith, length-slice_split (λ byte. byte == 44) text)
 
 table_of_some : (words : List ℕ) → 0 < length words
-    → table_of words ≡ cond (nat_le (length words) most_words) (Ok words) (Err TooMany)
+    → table_of words ≡ cond (nat_le (length words) max_words) (Ok words) (Err TooMany)
 table_of_some [] some = absurd (omega arith)
 table_of_some (word ∷ words) some = refl
 
@@ -49,23 +49,23 @@ table_of_good (byte ∷ bytes) some none =
 
 -- where each part is a word, too many parts are too many words
 pub many_words : (text : List ℕ) → (length text == 0) ≡ false → bad_place (parts_of text) ≡ None
-    → most_words < length (parts_of text) → table_of_text text ≡ Err TooMany
+    → max_words < length (parts_of text) → table_of_text text ≡ Err TooMany
 many_words text some none many =
     let words = words_of (parts_of text) in
     let counted = words_counted text none in
-    let more : nat_le (length words) most_words ≡ false = rw counted (search (rules, tests)) in
+    let more : nat_le (length words) max_words ≡ false = rw counted (search (rules, tests)) in
     table_of_good text some none
     ∙ table_of_some words (omega (arith, counted, some_parts text))
     ∙ ap (λ few. cond few (Ok words) (Err TooMany)) more
 
 -- and else the words are a table
 pub few_words : (text : List ℕ) → (length text == 0) ≡ false → bad_place (parts_of text) ≡ None
-    → length (parts_of text) ≤ most_words
+    → length (parts_of text) ≤ max_words
     → (table_of_text text ≡ Ok (words_of (parts_of text))) × IsWordTable (words_of (parts_of text))
 few_words text some none few =
     let words = words_of (parts_of text) in
     let counted = words_counted text none in
-    let within : nat_le (length words) most_words ≡ true = rw counted (search (rules, tests)) in
+    let within : nat_le (length words) max_words ≡ true = rw counted (search (rules, tests)) in
     let kept : 0 < length words = omega (arith, counted, some_parts text) in (
       table_of_good text some none ∙ table_of_some words kept
           ∙ ap (λ few. cond few (Ok words) (Err TooMany)) within,

@@ -4,15 +4,15 @@ use Rattle.tox_words.specs.declared.fault.WordsFault.{WordsFault}
 use Rattle.tox_words.specs.declared.fault.WordsFault.TheVariants.{NoWords, TooMany}
 
 -- how many words a table may have
-abbrev pub most_words : ℕ
-most_words = 4096
+abbrev pub max_words : ℕ
+max_words = 4096
 
 -- 1 to 4096 words
 abbrev pub IsWordTable : List ℕ → Type 0
-IsWordTable words = (0 < length words) × (length words ≤ most_words)
+IsWordTable words = (0 < length words) × (length words ≤ max_words)
 
 -- the table of a list, or its first fault
 abbrev pub table_of : List ℕ → Result (List ℕ) WordsFault
 table_of [] = Err NoWords
 table_of (word ∷ words) =
-    if nat_le (length (word ∷ words)) most_words then Ok (word ∷ words) else Err TooMany
+    if nat_le (length (word ∷ words)) max_words then Ok (word ∷ words) else Err TooMany

@@ -9,4 +9,4 @@ mod text;
 mod words;
 
 pub use fault::WordsFault;
-pub use words::{MAX_WORDS, Words};
+pub use words::{MAX_CONNECTIONS, MAX_WORDS, Words};

@@ -1,9 +1,9 @@
 ghost use Rattle.std.specs.Prelude.{◌≡◌, ◌≢◌, ◌<◌, ◌≤◌, ◌+◌, ◌*◌, ◌%◌, IfOk, IfErr, IsOk, IsOkUnless, length};
 ghost use Rattle.tox_words.specs.Draw.{draw};
 ghost use Rattle.tox_words.specs.Seeded.{seeded_words};
-ghost use Rattle.tox_words.specs.Table.{IsWordTable, table_of};
+ghost use Rattle.tox_words.specs.Table.{IsWordTable, max_words, table_of};
 ghost use Rattle.tox_words.specs.WordsText.{table_of_text};
-ghost use Rattle.tox_words.specs.declared.words.TheConstants.{MAX_WORDS};
+ghost use Rattle.tox_words.specs.declared.words.TheConstants.{MAX_CONNECTIONS};
 ghost use Rattle.tox_words.specs.declared.fault.WordsFault.TheVariants.{OutOfMemory};
 
 use crate::fault::WordsFault;
@@ -15,6 +15,9 @@ use tox_time::Stream;
 
 /// How many words a table may have.
 pub const MAX_WORDS: usize = 4096;
+
+/// The most connections of a proxy, which number from 1.
+pub const MAX_CONNECTIONS: u64 = 1_000_000;
 
 /// How many lanes take turns at a table.
 const LANES: usize = 16;
@@ -82,7 +85,7 @@ impl Words {
     }
 
     /// The table of a connection's stream: the first 1024 outputs of PCG32 from this seed, on the
-    /// sequence `2 * conn`, or the one after it downstream. Connections count from 1 to 1,000,000.
+    /// sequence `2 * conn`, or the one after it downstream. Connections number from 1 to [`MAX_CONNECTIONS`].
     ///
     /// Refused only by [`WordsFault::OutOfMemory`].
     pub fn from_seed(
@@ -95,6 +98,7 @@ impl Words {
         requires last { conn ≤ 1_000_000 }
         ensures ok { IfOk result (λ table. table ≡ seeded_words seed conn stream) }
         ensures err { IsOkUnless result OutOfMemory }
+        ensures numbers { MAX_CONNECTIONS ≡ 1_000_000 }
     {
         let words = seeded_words(alloc, seed, conn, stream).map_err(|_| WordsFault::OutOfMemory)?;
         Ok(Words { words })
@@ -120,7 +124,7 @@ impl Words {
 /// Where the `j`-th word of a lane stands in a table of `len` words. What a link draws takes one division.
 fn place_of(lane: usize, j: u64, len: usize) -> usize
     requires some { 0 < len }
-    requires most { len ≤ MAX_WORDS }
+    requires most { len ≤ max_words }
     ensures { result ≡ (lane + 16 * j) % len }
 {
     if lane < LANES && j < u64::MAX / LANES as u64 {

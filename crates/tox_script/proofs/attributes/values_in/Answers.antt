@@ -1,5 +1,5 @@
 -- Each attribute has its value, or one has none.
-use Rattle.std.proofs.Common.{◌≡◌, [], None, option_map, refl, sym, rules, arith, ◌∙◌}
+use Rattle.std.proofs.Common.{◌≡◌, [], None, option_map, sym, rules}
 use Rattle.toml.specs.View.{view}
 use Rattle.tox_script.proofs.AttributeValues.{values_in-all, values_in-none}
 use Rattle.tox_script.proofs.attributes.values_in.Goals as goal

@@ -1,6 +1,6 @@
 -- A bandwidth finds the first piece of the chunk that it cuts.
 use Rattle.std.proofs.Common.{refl}
-use Rattle.tox_defs.proofs.CuttingOps.{pace_found}
+use Rattle.tox_defs.proofs.ToxicProofs.Bandwidth.{pace_found}
 use Rattle.tox_defs.proofs.toxics.bandwidth.look.Goals as goal
 
 pub returns-clause-finds : goal.returns-clause-finds

@@ -1,7 +1,7 @@
 -- A slicer finds the first piece of the chunk that it cuts.
 use Rattle.std.proofs.Common.{refl}
 use Rattle.tox_words.specs.Draw.{draw}
-use Rattle.tox_defs.proofs.CuttingOps.{slicing_found}
+use Rattle.tox_defs.proofs.ToxicProofs.Slicer.{slicing_found}
 use Rattle.tox_defs.proofs.toxics.slicer.look.Goals as goal
 
 pub returns-clause-finds : goal.returns-clause-finds

@@ -1,21 +1,59 @@
--- A bandwidth keeps each byte back until the link could have carried it.
-use Rattle.std.proofs.Common.{◌≡◌, ℕ, zero, suc, ◌+◌, ◌-◌, ◌*◌, ◌<◌, ◌≤◌, min, max, true, List, [], ◌∷◌, ◌++◌, length, replicate, refl, arith, ap, append_assoc, mul_comm, add-zero}
+-- bandwidth: it keeps streams and bytes, what a look finds, and its law.
+use Rattle.std.proofs.Common.{◌≡◌, ℕ, zero, suc, ◌+◌, ◌-◌, ◌*◌, ◌<◌, ◌≤◌, max, true, false, List, [], ◌∷◌, ◌++◌, refl, arith, inl, min, ap, length, replicate, append_assoc, mul_comm, add-zero}
 use Rattle.std.specs.Prelude.{slice_index}
 use Rattle.std.specs.Int.{div_ceil}
 use Rattle.std.proofs.lemmas.Grind.{div_ceil_times}
 use Rattle.std.proofs.Math.Nat.{lt_of_mul-lt-mul_left}
 use Rattle.tox_time.specs.declared.item.Item.{Item}
 use Rattle.tox_time.specs.declared.item.Item.TheVariants.{Chunk, Closed, Reset, Quiet}
-use Rattle.tox_time.specs.Time.{plus}
-use Rattle.tox_time.specs.Stream.{span_len, arrived, latest_from, is_final, IsStreamFrom}
+use Rattle.tox_time.specs.Time.{horizon, plus}
+use Rattle.tox_time.specs.Stream.{span_len, latest_from, is_final, IsStreamFrom, arrived}
 use Rattle.tox_time.specs.Table.{table}
-use Rattle.tox_defs.specs.Reaction.{chunk_count, counted, flow_from}
-use Rattle.tox_defs.specs.toxics.Bandwidth.{pace_gives}
-use Rattle.tox_defs.specs.Pieces.{cut, leave}
-use Rattle.tox_defs.specs.toxics.Bandwidth.{first_instant}
 use Rattle.tox_time.proofs.StreamLemmas.{table-append}
-use Rattle.tox_defs.proofs.OpenStates.{has_final-leave, open_state}
+use Rattle.tox_time.specs.declared.slice.Slice.{Slice}
+use Rattle.tox_defs.specs.Reaction.{counted, flow_from, chunk_count}
+use Rattle.tox_defs.specs.toxics.Bandwidth.{pace_gives, first_instant}
+use Rattle.tox_defs.specs.Pieces.{cut, leave, first_span}
+use Rattle.tox_defs.proofs.OpenStates.{open_state, has_final-leave}
 use Rattle.tox_defs.proofs.FlowLemmas.{flow_from-last}
+use Rattle.tox_defs.proofs.KeepingStreams.{CanFollow, KeepsStreams}
+use Rattle.tox_defs.specs.declared.state.State.{State}
+use Rattle.tox_defs.specs.declared.look.Look.TheVariants.{Piece}
+use Rattle.tox_defs.specs.Look.{Finds}
+use Rattle.tox_defs.proofs.Cutting.{Cuts, cut_found, cut-same_size}
+use Rattle.tox_defs.proofs.StreamKeepers.{Whatever, in_order_final, leave_goes_on}
+use Rattle.tox_defs.proofs.PassedBytes.{PassesAtMost, arrived-leave}
+
+paced_final : (rate previous chunks pieces passed : ℕ) (item : Item) (position since : ℕ) → previous ≤ horizon → is_final item ≡ true → CanFollow position since item → IsStreamFrom position previous (pace_gives rate (open_state previous chunks pieces passed) item)
+paced_final rate previous chunks pieces passed (Chunk span t) position since fits final follows = absurd (cc)
+paced_final rate previous chunks pieces passed (Closed t) position since fits final follows = in_order_final previous position since (Closed t) fits final follows
+paced_final rate previous chunks pieces passed (Reset t) position since fits final follows = in_order_final previous position since (Reset t) fits final follows
+paced_final rate previous chunks pieces passed Quiet position since fits final follows = refl
+
+pub paced_keeps : (rate : ℕ) → 0 < rate → KeepsStreams Whatever (pace_gives rate)
+paced_keeps rate positive = record {
+  at_chunk = λ previous chunks pieces passed span t since fits related some late instant.
+      inl (leave_goes_on (λ _. 100 * rate) (λ len. div_ceil (1000 * len) rate) (λ n. omega (arith, positive)) 0 previous t span fits some instant);
+  at_final = λ previous chunks pieces passed item position since fits related final follows. paced_final rate previous chunks pieces passed item position since fits final follows;
+}
+
+pub paced-passes : (rate : ℕ) → PassesAtMost (pace_gives rate)
+paced-passes rate state (Chunk span t) = omega (arith, arrived-leave (λ _. 100 * rate) (λ len. div_ceil (1000 * len) rate) 0 span.start (span_len span) (span_len span) state.previous t)
+paced-passes rate state (Closed t) = omega arith
+paced-passes rate state (Reset t) = omega arith
+paced-passes rate state Quiet = omega arith
+
+pub paced-cuts : (rate : ℕ) → Cuts (pace_gives rate) (λ _. 100 * rate) (λ len. div_ceil (1000 * len) rate)
+paced-cuts rate state span t =
+    ap (λ spans. leave (λ len. div_ceil (1000 * len) rate) state.previous t spans) (cut-same_size (100 * rate) 0 state.pieces span.start (span_len span) (span_len span))
+
+-- what comes first of a chunk that a pace cuts
+pub pace_found : (rate : ℕ) (state : State) (rest piece : Slice) (items : List Item) → 0 < rate
+    → state.done ≡ false → rest.span.start < rest.span.stop
+    → piece ≡ record { span = first_span (100 * rate) rest.span; instant = plus (max state.previous rest.instant) (div_ceil (1000 * span_len (first_span (100 * rate) rest.span)) rate) }
+    → Finds (counted (pace_gives rate)) state rest items (Piece piece)
+pace_found rate state rest piece items positive running nonempty found =
+    cut_found (pace_gives rate) (λ _. 100 * rate) (λ len. div_ceil (1000 * len) rate) (λ _. omega (arith, positive)) (paced-cuts rate) state rest piece items running nonempty found
 
 -- a product below another, by the other factor
 below_by : (d m n : ℕ) → m * d < n * d → m < n

@@ -1,17 +1,54 @@
--- The pieces of a slicer have its sizes, unless they are the last of their arrival.
-use Rattle.std.proofs.Common.{◌≡◌, ℕ, zero, suc, ◌+◌, ◌-◌, ◌<◌, ◌≤◌, min, Bool, true, false, List, [], ◌∷◌, refl, arith, inl, inr, ◌⊎◌}
+-- slicer: it keeps streams and bytes, what a look finds, and its law.
+use Rattle.std.proofs.Common.{◌≡◌, ℕ, zero, suc, ◌+◌, ◌-◌, ◌<◌, ◌≤◌, max, Bool, true, false, List, [], ◌∷◌, refl, arith, inl, inr, ◌⊎◌, min}
+use Rattle.std.specs.Prelude.{nat_lt, All}
+use Rattle.std.proofs.lemmas.Bool.{ltb-true, ltb-false}
+use Rattle.std.proofs.lemmas.List.Elements.{All-append, All-nil, All-cons, All-same}
 use Rattle.tox_time.specs.declared.item.Item.{Item}
 use Rattle.tox_time.specs.declared.item.Item.TheVariants.{Chunk, Closed, Reset, Quiet}
-use Rattle.tox_time.specs.Stream.{span_len, IsStreamFrom}
+use Rattle.tox_time.specs.Time.{horizon, plus}
+use Rattle.tox_time.specs.Stream.{span_len, is_final, IsStreamFrom}
+use Rattle.tox_time.specs.declared.slice.Slice.{Slice}
 use Rattle.tox_defs.specs.Reaction.{counted, flow_from}
-use Rattle.tox_defs.specs.Pieces.{cut, leave}
-use Rattle.tox_defs.specs.toxics.Slicer.{slicing_gives}
-use Rattle.tox_defs.specs.toxics.Slicer.{IsSized, StopsAt}
-use Rattle.tox_defs.proofs.FlowLemmas.{flow_from-last}
-use Rattle.std.proofs.lemmas.List.Elements.{All-append, All-nil, All-cons, All-same}
-use Rattle.std.proofs.lemmas.Bool.{ltb-true, ltb-false}
-use Rattle.std.specs.Prelude.{All, nat_lt}
+use Rattle.tox_defs.specs.toxics.Slicer.{slicing_gives, slicer_gives, IsSized, StopsAt}
+use Rattle.tox_defs.specs.Pieces.{cut, leave, first_span}
 use Rattle.tox_defs.proofs.OpenStates.{open_state, has_final-leave}
+use Rattle.tox_defs.proofs.FlowLemmas.{flow_from-last}
+use Rattle.tox_defs.proofs.KeepingStreams.{CanFollow, KeepsStreams}
+use Rattle.tox_defs.specs.declared.state.State.{State}
+use Rattle.tox_defs.specs.Varied.{varied}
+use Rattle.tox_defs.specs.declared.look.Look.TheVariants.{Piece}
+use Rattle.tox_defs.specs.Look.{Finds}
+use Rattle.tox_defs.proofs.Drawn.{varied-positive}
+use Rattle.tox_defs.proofs.Cutting.{cut_found}
+use Rattle.tox_defs.proofs.StreamKeepers.{Whatever, in_order_final, leave_goes_on}
+use Rattle.tox_defs.proofs.PassedBytes.{PassesAtMost, arrived-leave}
+
+sliced_final : (size : ℕ → ℕ) (micros previous chunks pieces passed : ℕ) (item : Item) (position since : ℕ) → previous ≤ horizon → is_final item ≡ true → CanFollow position since item → IsStreamFrom position previous (slicing_gives size micros (open_state previous chunks pieces passed) item)
+sliced_final size micros previous chunks pieces passed (Chunk span t) position since fits final follows = absurd (cc)
+sliced_final size micros previous chunks pieces passed (Closed t) position since fits final follows = in_order_final previous position since (Closed t) fits final follows
+sliced_final size micros previous chunks pieces passed (Reset t) position since fits final follows = in_order_final previous position since (Reset t) fits final follows
+sliced_final size micros previous chunks pieces passed Quiet position since fits final follows = refl
+
+pub sliced_keeps : (size : ℕ → ℕ) (micros : ℕ) → ((n : ℕ) → 0 < size n) → KeepsStreams Whatever (slicing_gives size micros)
+sliced_keeps size micros some_size = record {
+  at_chunk = λ previous chunks pieces passed span t since fits related some late instant.
+      inl (leave_goes_on size (λ _. micros) some_size pieces previous t span fits some instant);
+  at_final = λ previous chunks pieces passed item position since fits related final follows. sliced_final size micros previous chunks pieces passed item position since fits final follows;
+}
+
+pub sliced-passes : (size : ℕ → ℕ) (micros : ℕ) → PassesAtMost (slicing_gives size micros)
+sliced-passes size micros state (Chunk span t) = omega (arith, arrived-leave size (λ _. micros) state.pieces span.start (span_len span) (span_len span) state.previous t)
+sliced-passes size micros state (Closed t) = omega arith
+sliced-passes size micros state (Reset t) = omega arith
+sliced-passes size micros state Quiet = omega arith
+
+-- what comes first of a chunk that a slicer cuts
+pub slicing_found : (average variation micros : ℕ) (words : ℕ → ℕ) (state : State) (rest piece : Slice) (items : List Item) → variation < average
+    → state.done ≡ false → rest.span.start < rest.span.stop
+    → piece ≡ record { span = first_span (varied average variation (words (1 + state.pieces))) rest.span; instant = plus (max state.previous rest.instant) micros }
+    → Finds (counted (slicer_gives average variation micros words)) state rest items (Piece piece)
+slicing_found average variation micros words state rest piece items less running nonempty found =
+    cut_found (slicer_gives average variation micros words) (λ piece. varied average variation (words (1 + piece))) (λ _. micros) (λ piece. varied-positive average variation (words (1 + piece)) less) (λ state span t. refl) state rest piece items running nonempty found
 
 piece_last : (arrivals : List Item) (least size start left : ℕ) (b : Bool) → nat_lt size (suc left) ≡ b → least ≤ size → StopsAt (start + suc left) arrivals → (least ≤ (start + min size (suc left) - start)) ⊎ StopsAt (start + min size (suc left)) arrivals
 piece_last arrivals least size start left true e enough stops =
