@@ -1,5 +1,6 @@
 //! The command line, as `clap` reads it.
 use crate::help;
+use crate::link::LinkArguments;
 use crate::stages::{Cap, DEFAULT_CAP, MAX_CAP};
 use clap::builder::ValueParser;
 use clap::error::ErrorKind;
@@ -7,9 +8,7 @@ use clap::{Arg, ArgAction, ArgMatches, Command, Error, value_parser};
 use std::alloc::{AllocError, Global};
 use std::convert::AsStr;
 use tox_proxy::PickRequest;
-
-/// The most connections of a proxy, which are numbered from 1.
-const MAX_CONNECTIONS: u64 = 1_000_000;
+use tox_words::MAX_CONNECTIONS;
 
 /// The version, and the kit that proves and builds it.
 const VERSION: &str = "0.1.0 (rattle-kit-13b logic dac8208d650f15bf)";
@@ -17,45 +16,33 @@ const VERSION: &str = "0.1.0 (rattle-kit-13b logic dac8208d650f15bf)";
 /// What the command line asks for.
 #[derive(Debug, Drop)]
 pub enum Task<'a> {
-    Dry {
-        words: Option<&'a str>,
-        toxics: Vec<&'a str>,
-    },
-    Plan {
-        words: Option<&'a str>,
-        toxics: Vec<&'a str>,
-    },
-    Stages {
-        cap: Cap,
-        words: Option<&'a str>,
-        toxics: Vec<&'a str>,
-    },
+    Dry(LinkArguments<'a>),
+    Plan(LinkArguments<'a>),
+    Stages(Cap, LinkArguments<'a>),
     Pick(PickRequest<'a>),
 }
 
 /// Reads the command line. An error is `clap`'s own text, help too.
 pub fn read<'a, S: AsStr>(alloc: Global, words: &'a [S]) -> Result<Task<'a>, Error> {
     let matches = toxi(alloc)?.try_get_matches_from(words)?;
-    task_of(alloc, &matches)
+    match matches.subcommand() {
+        Some(("dry", given)) => Ok(Task::Dry(link_of(alloc, given)?)),
+        Some(("plan", given)) => Ok(Task::Plan(link_of(alloc, given)?)),
+        Some(("stages", given)) => Ok(Task::Stages(cap_of(given), link_of(alloc, given)?)),
+        Some(("pick", given)) => pick_task(alloc, given),
+        _ => Err(toxi(alloc)?.error(ErrorKind::MissingSubcommand, "a command is required")?),
+    }
 }
 
-fn task_of<'a>(alloc: Global, matches: &ArgMatches<'a>) -> Result<Task<'a>, Error> {
-    let Some((name, given)) = matches.subcommand() else {
-        return Err(toxi(alloc)?.error(ErrorKind::MissingSubcommand, "a command is required")?);
+/// The words and toxics that a command is given.
+fn link_of<'a>(alloc: Global, given: &ArgMatches<'a>) -> Result<LinkArguments<'a>, AllocError> {
+    let toxics = match given.get_strs("toxics") {
+        Some(toxics) => Vec::from_slice(alloc, toxics)?,
+        None => Vec::new(alloc),
     };
-    if name == "pick" {
-        return pick_task(alloc, given);
-    }
-    let words = given.get_str("words");
-    let toxics = toxics_of(alloc, given)?;
-    Ok(match name {
-        "plan" => Task::Plan { words, toxics },
-        "stages" => Task::Stages {
-            cap: cap_of(given),
-            words,
-            toxics,
-        },
-        _ => Task::Dry { words, toxics },
+    Ok(LinkArguments {
+        words: given.get_str("words"),
+        toxics,
     })
 }
 
@@ -85,16 +72,9 @@ fn pick_of<'a>(given: &ArgMatches<'a>) -> Option<PickRequest<'a>> {
     })
 }
 
-/// The room of each ring. `clap` refuses what is none.
+/// The room of each ring. `clap` has rejected other values.
 fn cap_of(given: &ArgMatches<'_>) -> Cap {
     Cap::new(given.get_one::<usize>("cap").unwrap_or(DEFAULT_CAP))
-}
-
-fn toxics_of<'a>(alloc: Global, given: &ArgMatches<'a>) -> Result<Vec<&'a str>, AllocError> {
-    match given.get_strs("toxics") {
-        Some(toxics) => Vec::from_slice(alloc, toxics),
-        None => Ok(Vec::new(alloc)),
-    }
 }
 
 fn toxi<'a>(alloc: Global) -> Result<Command<'a>, AllocError> {

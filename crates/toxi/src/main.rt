@@ -3,7 +3,9 @@
 
 mod command_line;
 mod dry;
+mod fault;
 mod help;
+mod link;
 mod pick;
 mod plan;
 mod stages;
@@ -41,11 +43,9 @@ fn perform<R: Input + Print + Eprint + Files + AllocGlobal + Threads + Wait + Sy
     task: &Task<'_>,
 ) -> ExitCode {
     match task {
-        Task::Dry { words, toxics } => tell(rt, dry::dry(rt, *words, toxics.as_slice())),
-        Task::Plan { words, toxics } => tell(rt, plan::plan(rt, *words, toxics.as_slice())),
-        Task::Stages { cap, words, toxics } => {
-            tell(rt, stages::stages(rt, cap, *words, toxics.as_slice()))
-        }
+        Task::Dry(link) => tell(rt, dry::dry(rt, link)),
+        Task::Plan(link) => tell(rt, plan::plan(rt, link)),
+        Task::Stages(cap, link) => tell(rt, stages::stages(rt, cap, link)),
         Task::Pick(request) => tell(rt, pick::pick(rt, request)),
     }
 }

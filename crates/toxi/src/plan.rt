@@ -1,18 +1,14 @@
 //! `toxi plan`: what toxics are compiled into, on standard output.
-use crate::dry::{Fault, words_of};
+use crate::fault::Fault;
+use crate::link::LinkArguments;
 use std::io;
 use tox_compile::compile;
-use tox_proxy::{print_plan, read_chain};
+use tox_proxy::print_plan;
 use tox_time::Real;
 
-/// Reads the words, and then the toxics from the left. Without words the table is the one word 0.
-pub fn plan<R: Print + AllocGlobal>(
-    rt: &R,
-    words: Option<&str>,
-    toxics: &[&str],
-) -> Result<(), Fault> {
-    let words = words_of(rt.alloc(), words).map_err(Fault::Words)?;
-    let chain = read_chain(toxics).map_err(Fault::Toxics)?;
+/// Reads the link, and prints its plan.
+pub fn plan<R: Print + AllocGlobal>(rt: &R, link: &LinkArguments<'_>) -> Result<(), Fault> {
+    let link = link.read(rt.alloc())?;
     let mut writer = Real::new(io::writer(rt));
-    print_plan(&mut writer, &compile(&chain, &words)).map_err(Fault::Write)
+    print_plan(&mut writer, &compile(&link.chain, &link.words)).map_err(Fault::Write)
 }

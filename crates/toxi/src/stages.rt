@@ -2,11 +2,12 @@
 ghost use Rattle.std.specs.Prelude.{◌≤◌};
 ghost use Rattle.toxi.specs.declared.stages.TheConstants.{MAX_CAP};
 
-use crate::dry::{Fault, words_of};
+use crate::fault::Fault;
+use crate::link::LinkArguments;
 use std::io;
 use std::sync::Wait;
 use std::thread::Threads;
-use tox_proxy::{read_chain, stages_run};
+use tox_proxy::stages_run;
 use tox_time::{Gate, Real};
 
 /// The most items of a ring.
@@ -39,15 +40,13 @@ impl Gate for Open {
     fn pass(&self, _stage: usize, _nth: u64) {}
 }
 
-/// Reads the words, then the toxics from the left, and then the input. Without words the table is the one word 0.
+/// Reads the link, and then the input.
 pub fn stages<R: Input + Print + AllocGlobal + Threads + Wait + Sync>(
     rt: &R,
     cap: &Cap,
-    words: Option<&str>,
-    toxics: &[&str],
+    link: &LinkArguments<'_>,
 ) -> Result<(), Fault> {
-    let words = words_of(rt.alloc(), words).map_err(Fault::Words)?;
-    let chain = read_chain(toxics).map_err(Fault::Toxics)?;
+    let link = link.read(rt.alloc())?;
     let mut reader = Real::new(rt.reader());
     let mut writer = Real::new(io::writer(rt));
     stages_run(
@@ -55,8 +54,8 @@ pub fn stages<R: Input + Print + AllocGlobal + Threads + Wait + Sync>(
         rt.alloc(),
         &mut reader,
         &mut writer,
-        &chain,
-        &words,
+        &link.chain,
+        &link.words,
         cap.items,
         &Open,
     )
