@@ -1,12 +1,12 @@
--- A giving that keeps streams at each item gives a stream for a stream.
-use Rattle.std.proofs.Common.{◌≡◌, ℕ, zero, suc, ◌+◌, ◌-◌, ◌<◌, ◌≤◌, min, max, true, false, List, [], ◌∷◌, ◌++◌, refl, arith, sym, subst, inl, inr, ◌⊎◌}
+-- A reaction that keeps streams at each item gives a stream for a stream.
+use Rattle.std.proofs.Common.{◌≡◌, ℕ, zero, suc, ◌+◌, ◌-◌, ◌<◌, ◌≤◌, min, max, Bool, true, false, List, [], ◌∷◌, ◌++◌, refl, ap, ◌∙◌, arith, sym, subst, inl, inr, ◌⊎◌}
 use Rattle.std.proofs.lemmas.List.{append-nil}
 use Rattle.tox_time.specs.declared.span.Span.{Span}
 use Rattle.tox_time.specs.declared.item.Item.{Item}
 use Rattle.tox_time.specs.declared.item.Item.TheVariants.{Chunk, Closed, Reset, Quiet}
 use Rattle.tox_time.specs.Time.{horizon, plus, IsInstant}
 use Rattle.tox_time.specs.Stream.{has_final, latest_from, is_final, IsStreamFrom}
-use Rattle.tox_defs.specs.Reaction.{Giving, counted, flow_from, state_after}
+use Rattle.tox_defs.specs.Reaction.{Answer, Giving, Reaction, counted, flow_from}
 use Rattle.tox_defs.specs.declared.state.State.{State}
 use Rattle.tox_defs.specs.Pieces.{cut, leave}
 use Rattle.tox_defs.proofs.OpenStates.{open_state}
@@ -68,37 +68,68 @@ pub record EndsThere (given : List Item) (start previous : ℕ) : Type 0 where
   pub a_final : has_final given ≡ true
   pub in_row : IsStreamFrom start previous given
 
--- a giving that keeps streams, where R stands between the last given instant and the last taken one
-pub record KeepsStreams (R : ℕ → ℕ → Type 0) (giving : Giving) : Type 0 where
-  pub at_chunk : (previous chunks pieces passed : ℕ) (span : Span) (t since : ℕ) → previous ≤ horizon → R previous since → span.start < span.stop → since ≤ t → t ≤ horizon → GoesOn R (giving (open_state previous chunks pieces passed) (Chunk span t)) span.start previous span.stop t ⊎ EndsThere (giving (open_state previous chunks pieces passed) (Chunk span t)) span.start previous
-  pub at_final : (previous chunks pieces passed : ℕ) (item : Item) (position since : ℕ) → previous ≤ horizon → R previous since → is_final item ≡ true → CanFollow position since item → IsStreamFrom position previous (giving (open_state previous chunks pieces passed) item)
+-- an answer whose state follows what is given: its last instant, and whether a final is among it
+pub record Follows (previous : ℕ) (answer : Answer) : Type 0 where
+  pub instant : answer.state.previous ≡ latest_from previous answer.given
+  pub done : answer.state.done ≡ has_final answer.given
+
+-- what counts all that it takes and gives follows it
+pub counted_follows : (giving : Giving) (previous chunks pieces passed : ℕ) (item : Item) → Follows previous (counted giving (open_state previous chunks pieces passed) item)
+counted_follows giving previous chunks pieces passed item = record { instant = refl; done = refl }
+
+-- a reaction that keeps streams, where R stands between the last given instant and the last taken one
+pub record KeepsStreams (R : ℕ → ℕ → Type 0) (reaction : Reaction) : Type 0 where
+  pub at_chunk : (previous chunks pieces passed : ℕ) (span : Span) (t since : ℕ) → previous ≤ horizon → R previous since → span.start < span.stop → since ≤ t → t ≤ horizon
+      → GoesOn R (reaction (open_state previous chunks pieces passed) (Chunk span t)).given span.start previous span.stop t ⊎ EndsThere (reaction (open_state previous chunks pieces passed) (Chunk span t)).given span.start previous
+  pub at_final : (previous chunks pieces passed : ℕ) (item : Item) (position since : ℕ) → previous ≤ horizon → R previous since → is_final item ≡ true → CanFollow position since item
+      → IsStreamFrom position previous (reaction (open_state previous chunks pieces passed) item).given
+  pub follows : (previous chunks pieces passed : ℕ) (item : Item) → Follows previous (reaction (open_state previous chunks pieces passed) item)
+
+-- a state that has given no final
+opened : (state : State) → state.done ≡ false → state ≡ open_state state.previous state.chunks state.pieces state.passed
+opened state undone =
+    let make : Bool → State = λ done. record { previous = state.previous; chunks = state.chunks; pieces = state.pieces; passed = state.passed; done = done } in
+    ap make undone
+
+-- the flow behind a chunk, from the state after it
+flow_behind : (R : ℕ → ℕ → Type 0) (reaction : Reaction) (answer : Answer) (previous stop t : ℕ) (items : List Item) → Follows previous answer
+    → has_final answer.given ≡ false → R (latest_from previous answer.given) t → latest_from previous answer.given ≤ horizon
+    → ((previous' chunks' pieces' passed' : ℕ) → previous' ≤ horizon → R previous' t → IsStreamFrom stop previous' (flow_from reaction (open_state previous' chunks' pieces' passed') items))
+    → IsStreamFrom stop (latest_from previous answer.given) (flow_from reaction answer.state items)
+flow_behind R reaction answer previous stop t items follows undone related instant others =
+    let state : State = answer.state in
+    let here : IsStreamFrom stop state.previous (flow_from reaction (open_state state.previous state.chunks state.pieces state.passed) items) =
+    others state.previous state.chunks state.pieces state.passed (subst (λ at. at ≤ horizon) (sym follows.instant) instant) (subst (λ at. R at t) (sym follows.instant) related) in
+    subst (λ state. IsStreamFrom stop (latest_from previous answer.given) (flow_from reaction state items)) (sym (opened state (follows.done ∙ undone)))
+    (subst (λ at. IsStreamFrom stop at (flow_from reaction (open_state state.previous state.chunks state.pieces state.passed) items)) follows.instant here)
 
 -- the flow at a chunk
-flow_at_chunk : (R : ℕ → ℕ → Type 0) (giving : Giving) (previous chunks pieces passed : ℕ) (span : Span) (t : ℕ) (items : List Item) → GoesOn R (giving (open_state previous chunks pieces passed) (Chunk span t)) span.start previous span.stop t ⊎ EndsThere (giving (open_state previous chunks pieces passed) (Chunk span t)) span.start previous
-    → ((previous' chunks' pieces' passed' : ℕ) → previous' ≤ horizon → R previous' t → IsStreamFrom span.stop previous' (flow_from (counted giving) (open_state previous' chunks' pieces' passed') items))
-    → IsStreamFrom span.start previous (flow_from (counted giving) (open_state previous chunks pieces passed) (Chunk span t ∷ items))
-flow_at_chunk R giving previous chunks pieces passed span t items (inl on) others =
-    rw on.no_final (IsStreamFrom-append (giving (open_state previous chunks pieces passed) (Chunk span t)) _ span.start previous span.stop on.in_row (others _ _ _ _ on.instant on.related))
-flow_at_chunk R giving previous chunks pieces passed span t items (inr end) others =
-    let state : State = state_after (open_state previous chunks pieces passed) (Chunk span t) (giving (open_state previous chunks pieces passed) (Chunk span t)) in
-    rw (flow_from-done (counted giving) state items end.a_final) (rw (append-nil (giving (open_state previous chunks pieces passed) (Chunk span t))) end.in_row)
+flow_at_chunk : (R : ℕ → ℕ → Type 0) (reaction : Reaction) (answer : Answer) (previous : ℕ) (span : Span) (t : ℕ) (items : List Item) → Follows previous answer
+    → GoesOn R answer.given span.start previous span.stop t ⊎ EndsThere answer.given span.start previous
+    → ((previous' chunks' pieces' passed' : ℕ) → previous' ≤ horizon → R previous' t → IsStreamFrom span.stop previous' (flow_from reaction (open_state previous' chunks' pieces' passed') items))
+    → IsStreamFrom span.start previous (answer.given ++ flow_from reaction answer.state items)
+flow_at_chunk R reaction answer previous span t items follows (inl on) others =
+    IsStreamFrom-append answer.given (flow_from reaction answer.state items) span.start previous span.stop on.in_row
+    (flow_behind R reaction answer previous span.stop t items follows on.no_final on.related on.instant others)
+flow_at_chunk R reaction answer previous span t items follows (inr end) others =
+    rw (flow_from-done reaction answer.state items (follows.done ∙ end.a_final)) (rw (append-nil answer.given) end.in_row)
 
-flow_at_final : (giving : Giving) (previous chunks pieces passed position : ℕ) (item : Item) (items : List Item) → items ≡ [] → IsStreamFrom position previous (giving (open_state previous chunks pieces passed) item) → IsStreamFrom position previous (flow_from (counted giving) (open_state previous chunks pieces passed) (item ∷ items))
-flow_at_final giving previous chunks pieces passed position item items none stream =
-    let same : flow_from (counted giving) (open_state previous chunks pieces passed) (item ∷ items) ≡ giving (open_state previous chunks pieces passed) item = flow_from-last (counted giving) (open_state previous chunks pieces passed) item items none in
+flow_at_final : (reaction : Reaction) (previous chunks pieces passed position : ℕ) (item : Item) (items : List Item) → items ≡ [] → IsStreamFrom position previous (reaction (open_state previous chunks pieces passed) item).given → IsStreamFrom position previous (flow_from reaction (open_state previous chunks pieces passed) (item ∷ items))
+flow_at_final reaction previous chunks pieces passed position item items none stream =
+    let same : flow_from reaction (open_state previous chunks pieces passed) (item ∷ items) ≡ (reaction (open_state previous chunks pieces passed) item).given = flow_from-last reaction (open_state previous chunks pieces passed) item items none in
     subst (λ given. IsStreamFrom position previous given) (sym same) stream
 
 -- streams give streams
-pub IsStreamFrom-flow : (R : ℕ → ℕ → Type 0) (giving : Giving) → KeepsStreams R giving → (items : List Item) (previous chunks pieces passed position since : ℕ) → previous ≤ horizon → R previous since → IsStreamFrom position since items → IsStreamFrom position previous (flow_from (counted giving) (open_state previous chunks pieces passed) items)
-IsStreamFrom-flow R giving keeps [] previous chunks pieces passed position since fits related stream = stream
-IsStreamFrom-flow R giving keeps (Chunk span t ∷ items) previous chunks pieces passed position since fits related stream =
+pub IsStreamFrom-flow : (R : ℕ → ℕ → Type 0) (reaction : Reaction) → KeepsStreams R reaction → (items : List Item) (previous chunks pieces passed position since : ℕ) → previous ≤ horizon → R previous since → IsStreamFrom position since items → IsStreamFrom position previous (flow_from reaction (open_state previous chunks pieces passed) items)
+IsStreamFrom-flow R reaction keeps [] previous chunks pieces passed position since fits related stream = stream
+IsStreamFrom-flow R reaction keeps (Chunk span t ∷ items) previous chunks pieces passed position since fits related stream =
     rw (← stream.0)
-    (flow_at_chunk R giving previous chunks pieces passed span t items
+    (flow_at_chunk R reaction (reaction (open_state previous chunks pieces passed) (Chunk span t)) previous span t items (keeps.follows previous chunks pieces passed (Chunk span t))
     (keeps.at_chunk previous chunks pieces passed span t since fits related (omega (arith, stream.0, stream.1)) stream.2 stream.3)
-    (λ previous' chunks' pieces' passed' fits' related'. IsStreamFrom-flow R giving keeps items previous' chunks' pieces' passed' span.stop t fits' related' stream.4))
-IsStreamFrom-flow R giving keeps (Closed t ∷ items) previous chunks pieces passed position since fits related stream =
-    flow_at_final giving previous chunks pieces passed position (Closed t) items stream.2 (keeps.at_final previous chunks pieces passed (Closed t) position since fits related refl (stream.0, stream.1))
-IsStreamFrom-flow R giving keeps (Reset t ∷ items) previous chunks pieces passed position since fits related stream =
-    flow_at_final giving previous chunks pieces passed position (Reset t) items stream.2 (keeps.at_final previous chunks pieces passed (Reset t) position since fits related refl (stream.0, stream.1))
-IsStreamFrom-flow R giving keeps (Quiet ∷ items) previous chunks pieces passed position since fits related stream =
-    flow_at_final giving previous chunks pieces passed position Quiet items stream (keeps.at_final previous chunks pieces passed Quiet position since fits related refl tt)
+    (λ previous' chunks' pieces' passed' fits' related'. IsStreamFrom-flow R reaction keeps items previous' chunks' pieces' passed' span.stop t fits' related' stream.4))
+IsStreamFrom-flow R reaction keeps (Closed t ∷ items) previous chunks pieces passed position since fits related stream =
+    flow_at_final reaction previous chunks pieces passed position (Closed t) items stream.2 (keeps.at_final previous chunks pieces passed (Closed t) position since fits related refl (stream.0, stream.1))
+IsStreamFrom-flow R reaction keeps (Reset t ∷ items) previous chunks pieces passed position since fits related stream =
+    flow_at_final reaction previous chunks pieces passed position (Reset t) items stream.2 (keeps.at_final previous chunks pieces passed (Reset t) position since fits related refl (stream.0, stream.1))
+IsStreamFrom-flow R reaction keeps (Quiet ∷ items) previous chunks pieces passed position since fits related stream =
+    flow_at_final reaction previous chunks pieces passed position Quiet items stream (keeps.at_final previous chunks pieces passed Quiet position since fits related refl tt)

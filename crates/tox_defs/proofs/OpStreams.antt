@@ -8,7 +8,7 @@ use Rattle.tox_time.specs.Table.{final_of}
 use Rattle.tox_words.specs.Draw.{Draws}
 use Rattle.tox_defs.specs.declared.op.Op.{Op}
 use Rattle.tox_defs.specs.declared.op.Op.TheVariants.{Delay, Pace, Slow, Mute, Cutoff, Slicing, Limit}
-use Rattle.tox_defs.specs.Reaction.{flow}
+use Rattle.tox_defs.specs.Reaction.{counted, flow}
 use Rattle.tox_defs.specs.toxics.Latency.{delay_gives}
 use Rattle.tox_defs.specs.toxics.Bandwidth.{pace_gives}
 use Rattle.tox_defs.specs.toxics.Slicer.{slicing_gives}
@@ -35,12 +35,12 @@ IsStream-final (Reset t) fits = (omega arith, fits, refl)
 
 pub IsStream-op_flow : (op : Op) (draws : Draws) (items : List Item) → IsOp op → IsStream items → IsStream (flow (op_reaction op draws) items)
 IsStream-op_flow (Delay fixed latency jitter lane) draws items fits stream =
-    IsStreamFrom-flow Whatever (delay_gives (λ chunk. 1000 * (fixed + varied latency jitter (draws lane (1 + chunk))))) (delayed_keeps (λ chunk. 1000 * (fixed + varied latency jitter (draws lane (1 + chunk))))) items 0 0 0 0 0 0 (omega arith) tt stream
-IsStream-op_flow (Pace rate) draws items fits stream = IsStreamFrom-flow Whatever (pace_gives rate) (paced_keeps rate fits) items 0 0 0 0 0 0 (omega arith) tt stream
-IsStream-op_flow (Slow millis) draws items fits stream = IsStreamFrom-flow NotAfter (slow_gives (1000 * millis)) (closed_later_keeps (1000 * millis)) items 0 0 0 0 0 0 (omega arith) (omega arith) stream
+    IsStreamFrom-flow Whatever (counted (delay_gives (λ chunk. 1000 * (fixed + varied latency jitter (draws lane (1 + chunk)))))) (delayed_keeps (λ chunk. 1000 * (fixed + varied latency jitter (draws lane (1 + chunk))))) items 0 0 0 0 0 0 (omega arith) tt stream
+IsStream-op_flow (Pace rate) draws items fits stream = IsStreamFrom-flow Whatever (counted (pace_gives rate)) (paced_keeps rate fits) items 0 0 0 0 0 0 (omega arith) tt stream
+IsStream-op_flow (Slow millis) draws items fits stream = IsStreamFrom-flow NotAfter (counted (slow_gives (1000 * millis))) (closed_later_keeps (1000 * millis)) items 0 0 0 0 0 0 (omega arith) (omega arith) stream
 IsStream-op_flow (Mute ending) draws items fits stream = rw (flow_from-muted (final_of ending) items 0 0 0 0 0 0 stream) (IsStream-final ending fits)
 IsStream-op_flow (Cutoff instant) draws items fits stream =
-    IsStreamFrom-flow (NotAfterEither instant) (cutoff_gives instant) (cut_off_keeps instant fits) items 0 0 0 0 0 0 (omega arith) (omega arith, omega arith) stream
+    IsStreamFrom-flow (NotAfterEither instant) (counted (cutoff_gives instant)) (cut_off_keeps instant fits) items 0 0 0 0 0 0 (omega arith) (omega arith, omega arith) stream
 IsStream-op_flow (Slicing average variation micros lane) draws items fits stream =
-    IsStreamFrom-flow Whatever (slicing_gives (λ piece. varied average variation (draws lane (1 + piece))) micros) (sliced_keeps (λ piece. varied average variation (draws lane (1 + piece))) micros (λ piece. varied-positive average variation (draws lane (1 + piece)) fits)) items 0 0 0 0 0 0 (omega arith) tt stream
-IsStream-op_flow (Limit bytes) draws items fits stream = IsStreamFrom-flow NotAfter (limit_gives bytes) (limited_keeps bytes) items 0 0 0 0 0 0 (omega arith) (omega arith) stream
+    IsStreamFrom-flow Whatever (counted (slicing_gives (λ piece. varied average variation (draws lane (1 + piece))) micros)) (sliced_keeps (λ piece. varied average variation (draws lane (1 + piece))) micros (λ piece. varied-positive average variation (draws lane (1 + piece)) fits)) items 0 0 0 0 0 0 (omega arith) tt stream
+IsStream-op_flow (Limit bytes) draws items fits stream = IsStreamFrom-flow NotAfter (counted (limit_gives bytes)) (limited_keeps bytes) items 0 0 0 0 0 0 (omega arith) (omega arith) stream

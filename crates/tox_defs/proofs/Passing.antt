@@ -5,7 +5,7 @@ use Rattle.tox_time.specs.Time.{micros_of}
 use Rattle.tox_time.specs.Stream.{arrived}
 use Rattle.tox_defs.specs.declared.toxic.Toxic.{Toxic}
 use Rattle.tox_defs.specs.declared.toxic.Toxic.TheVariants.{Latency, Bandwidth, SlowClose, Timeout, ResetPeer, Slicer, LimitData}
-use Rattle.tox_defs.specs.Flow.{toxic_giving}
+use Rattle.tox_defs.specs.Flow.{toxic_reaction}
 use Rattle.tox_defs.specs.Laws.{toxic_flow}
 use Rattle.tox_defs.specs.Varied.{varied}
 use Rattle.tox_defs.specs.toxics.Timeout.{timeout_ending}
@@ -18,7 +18,7 @@ use Rattle.tox_defs.proofs.ToxicProofs.ResetPeer.{cut_off-passes}
 use Rattle.tox_defs.proofs.ToxicProofs.Slicer.{sliced-passes}
 use Rattle.tox_defs.proofs.ToxicProofs.LimitData.{limited-passes}
 
-pub toxic-passes : (toxic : Toxic) (words : ℕ → ℕ) → PassesAtMost (toxic_giving toxic words)
+pub toxic-passes : (toxic : Toxic) (words : ℕ → ℕ) → PassesAtMost (toxic_reaction toxic words)
 toxic-passes (Latency latency jitter) words = delayed-passes (λ chunk. 1000 * varied latency jitter (words (1 + chunk)))
 toxic-passes (Bandwidth rate) words = paced-passes rate
 toxic-passes (SlowClose delay) words = closed_later-passes (1000 * delay)
@@ -28,4 +28,4 @@ toxic-passes (Slicer average_size size_variation delay) words = sliced-passes (�
 toxic-passes (LimitData bytes) words = limited-passes bytes
 
 pub arrived-toxic_flow : (toxic : Toxic) (words : ℕ → ℕ) (items : List Item) → arrived (toxic_flow toxic words items) ≤ arrived items
-arrived-toxic_flow toxic words items = arrived-flow_from (toxic_giving toxic words) (toxic-passes toxic words) _ items
+arrived-toxic_flow toxic words items = arrived-flow_from (toxic_reaction toxic words) (toxic-passes toxic words) _ items

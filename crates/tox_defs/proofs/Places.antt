@@ -4,7 +4,7 @@ use Rattle.std.proofs.lemmas.Bool.Decides.{nat_tests}
 use Rattle.tox_time.specs.declared.item.Item.{Item}
 use Rattle.tox_time.specs.declared.item.Item.TheVariants.{Chunk, Closed, Reset, Quiet}
 use Rattle.tox_time.specs.Stream.{IsStreamFrom, arrived}
-use Rattle.tox_defs.specs.Place.{fits, AllFit}
+use Rattle.tox_defs.specs.StreamPosition.{fits, AllFit}
 
 AllFit-none : (position since : ℕ) (items : List Item) → items ≡ [] → AllFit (record { position = position; latest = since; ended = true }) items
 AllFit-none position since items none = rw none tt

@@ -7,10 +7,10 @@ use Rattle.tox_time.specs.Table.{final_of}
 use Rattle.tox_words.specs.Draw.{Draws, draw}
 use Rattle.tox_defs.specs.declared.state.State.{State}
 use Rattle.tox_defs.specs.declared.level.Level.{Level}
-use Rattle.tox_defs.specs.declared.place.Place.{Place}
+use Rattle.tox_defs.specs.declared.position.StreamPosition.{StreamPosition}
 use Rattle.tox_defs.specs.Reaction.{react, flow_from, state_from, state_after, with_ending}
 use Rattle.tox_defs.specs.Op.{op_giving, op_reaction}
-use Rattle.tox_defs.specs.Place.{place_after}
+use Rattle.tox_defs.specs.StreamPosition.{position_after}
 use Rattle.tox_defs.specs.Level.{level_gives, level_leaves}
 use Rattle.tox_defs.specs.Stage.{Staged, taken}
 use Rattle.tox_defs.proofs.FlowLemmas.{state_same, react-running}
@@ -29,7 +29,7 @@ state_after-final state (Reset u) (Closed t) = state_same _ _ _ _ _ _ _ _ (omega
 state_after-final state (Reset u) (Reset t) = state_same _ _ _ _ _ _ _ _ (omega arith) (omega arith) (omega arith)
 
 -- a stage with nothing left to emit
-read_stage : (words : List ℕ) (start : ℕ) (level : Level) (place : Place) → level.ending ≡ None → start ≡ level.stop
+read_stage : (words : List ℕ) (start : ℕ) (level : Level) (place : StreamPosition) → level.ending ≡ None → start ≡ level.stop
     → ◌≡◌ {A = Staged} (record { op = level.op; words = words; state = level_leaves (draw words) start level; pending = level_gives (draw words) start level []; place = place }) (record { op = level.op; words = words; state = level.state; pending = []; place = place })
 read_stage words start level place running read =
     let nothing = rest_of-read start level.stop level.instant (omega (arith, read)) in
@@ -38,12 +38,12 @@ read_stage words start level place running read =
     ∙ ap (make level.state) (level_gives-running (draw words) start level [] running ∙ ap (λ rest. flow_from (op_reaction level.op (draw words)) level.state (rest ++ [])) nothing)
 
 -- a running stage that takes a final has what its operation gives for it to emit
-pub took_final : (words : List ℕ) (start : ℕ) (level : Level) (place : Place) (self : Staged) (item : Item) (ending last : Ending) → level.ending ≡ None → start ≡ level.stop → level.state.done ≡ false
+pub took_final : (words : List ℕ) (start : ℕ) (level : Level) (place : StreamPosition) (self : Staged) (item : Item) (ending last : Ending) → level.ending ≡ None → start ≡ level.stop → level.state.done ≡ false
     → ◌≡◌ {A = Staged} (record { op = level.op; words = words; state = level_leaves (draw words) start level; pending = level_gives (draw words) start level []; place = place }) self
     → item ≡ final_of ending → ((draws : Draws) → op_giving level.op draws level.state (final_of ending) ≡ final_of last ∷ [])
-    → ◌≡◌ {A = Staged} (record { op = level.op; words = words; state = with_ending level.state last; pending = final_of last ∷ []; place = place_after place item }) (taken self item)
+    → ◌≡◌ {A = Staged} (record { op = level.op; words = words; state = with_ending level.state last; pending = final_of last ∷ []; place = position_after place item }) (taken self item)
 took_final words start level place self item ending last running read undone view is gives =
-    let make : State → List Item → Staged = λ state pending. record { op = level.op; words = words; state = state; pending = pending; place = place_after place item } in
+    let make : State → List Item → Staged = λ state pending. record { op = level.op; words = words; state = state; pending = pending; place = position_after place item } in
     let reacts : react (op_reaction level.op (draw words)) level.state item ≡ record { state = with_ending level.state last; given = final_of last ∷ [] }
     = react-running (op_reaction level.op (draw words)) level.state item undone
     ∙ ap (λ item. op_reaction level.op (draw words) level.state item) is

@@ -8,8 +8,8 @@ use Rattle.tox_words.specs.Draw.{Draws}
 use Rattle.tox_defs.specs.declared.state.State.{State}
 use Rattle.tox_defs.specs.declared.op.Op.{Op}
 use Rattle.tox_defs.specs.declared.level.Level.{Level}
-use Rattle.tox_defs.specs.declared.level.Advanced.{Advanced}
-use Rattle.tox_defs.specs.declared.level.Advanced.TheVariants.{Piece, End}
+use Rattle.tox_defs.specs.declared.level.Emission.{Emission}
+use Rattle.tox_defs.specs.declared.level.Emission.TheVariants.{Piece, End}
 use Rattle.tox_defs.specs.Reaction.{first_state, flow_from, state_from}
 use Rattle.tox_defs.specs.Op.{IsOp, op_reaction}
 use Rattle.tox_defs.specs.Look.{as_chunk, rest_of}
@@ -71,6 +71,6 @@ pub record IsAtEnd (draws : Draws) (start : ℕ) (old new : Level) (ending : End
   pub leaves : level_leaves draws start old ≡ new.state
 
 -- what an advance brought
-abbrev pub MatchAdvanced : Draws → ℕ → Level → Level → Advanced → Type 0
-MatchAdvanced draws start old new (Piece piece) = IsNextPiece draws start old new piece
-MatchAdvanced draws start old new (End ending) = IsAtEnd draws start old new ending
+abbrev pub MatchEmission : Draws → ℕ → Level → Level → Emission → Type 0
+MatchEmission draws start old new (Piece piece) = IsNextPiece draws start old new piece
+MatchEmission draws start old new (End ending) = IsAtEnd draws start old new ending

@@ -11,7 +11,7 @@ pub mod Pieces
 pub mod Flow
 pub mod Op
 pub mod Look
-pub mod Place
+pub mod StreamPosition
 pub mod Level
 pub mod Stage
 pub mod StageInside

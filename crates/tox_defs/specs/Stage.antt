@@ -4,10 +4,10 @@ use Rattle.tox_time.specs.declared.item.Item.{Item}
 use Rattle.tox_words.specs.Draw.{draw}
 use Rattle.tox_defs.specs.declared.op.Op.{Op}
 use Rattle.tox_defs.specs.declared.state.State.{State}
-use Rattle.tox_defs.specs.declared.place.Place.{Place}
+use Rattle.tox_defs.specs.declared.position.StreamPosition.{StreamPosition}
 use Rattle.tox_defs.specs.Reaction.{Reaction, first_state, react}
 use Rattle.tox_defs.specs.Op.{op_reaction}
-use Rattle.tox_defs.specs.Place.{first_place, place_after}
+use Rattle.tox_defs.specs.StreamPosition.{first_position, position_after}
 
 -- what a stage is seen as
 pub record Staged : Type 0 where
@@ -15,11 +15,11 @@ pub record Staged : Type 0 where
   pub words : List ℕ
   pub state : State
   pub pending : List Item
-  pub place : Place
+  pub place : StreamPosition
 
 -- a stage that was given nothing yet
 abbrev pub first_stage : Op → List ℕ → Staged
-first_stage op words = record { op = op; words = words; state = first_state; pending = []; place = first_place }
+first_stage op words = record { op = op; words = words; state = first_state; pending = []; place = first_position }
 
 -- how a stage reacts to an item
 abbrev pub reaction_of : Staged → Reaction
@@ -32,7 +32,7 @@ taken stage item = record {
   words = stage.words;
   state = (react (reaction_of stage) stage.state item).state;
   pending = (react (reaction_of stage) stage.state item).given;
-  place = place_after stage.place item;
+  place = position_after stage.place item;
 }
 
 -- the first item that is still to emit leaves the stage, if there is one

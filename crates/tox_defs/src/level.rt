@@ -1,7 +1,7 @@
 ghost use Rattle.std.specs.Prelude.{◌≡◌, ◌<◌, None, false};
 ghost use Rattle.tox_words.specs.Draw.{draw};
 ghost use Rattle.tox_defs.specs.Op.{is_mute};
-ghost use Rattle.tox_defs.specs.Level.{IsSound, MatchAdvanced, first_level};
+ghost use Rattle.tox_defs.specs.Level.{IsSound, MatchEmission, first_level};
 
 use crate::look::Look;
 use crate::op::Op;
@@ -22,7 +22,7 @@ pub struct Level {
 
 /// What an advance through a chunk brings.
 #[derive(Clone, Copy, Debug, PartialEq, Eq)]
-pub enum Advanced {
+pub enum Emission {
     /// The next piece.
     Piece(Slice),
     /// The ending, before which no piece is left.
@@ -43,12 +43,12 @@ impl Level {
     /// The next piece of the present chunk, of which the bytes from `start` on are unread, or the ending where
     /// the operation gives no piece before it. An ending that was found is kept in `ending`.
     #[inline(always)]
-    pub fn advance(&mut self, start: u64, words: &Words) -> Advanced
+    pub fn advance(&mut self, start: u64, words: &Words) -> Emission
         requires some { start < self.old.stop }
         requires heard { is_mute self.old.op ≡ false }
         requires open { self.old.ending ≡ None }
         requires sound { IsSound start self.old }
-        ensures { MatchAdvanced (draw words.now) start self.old self.new result }
+        ensures { MatchEmission (draw words.now) start self.old self.new result }
     {
         let rest = Slice {
             span: Span {
@@ -60,20 +60,20 @@ impl Level {
         match &self.op.look(&self.state, &rest, words) {
             Look::Piece(piece) => {
                 self.state.add_piece_of(self.stop, piece);
-                Advanced::Piece(*piece)
+                Emission::Piece(*piece)
             }
             Look::LastPiece(piece, ending) => {
                 self.state.add_piece(piece);
                 self.state.add_chunk();
                 self.state.add_ending(ending);
                 self.ending = Some(*ending);
-                Advanced::Piece(*piece)
+                Emission::Piece(*piece)
             }
             Look::Ended(ending) => {
                 self.state.add_chunk();
                 self.state.add_ending(ending);
                 self.ending = Some(*ending);
-                Advanced::End(*ending)
+                Emission::End(*ending)
             }
         }
     }

@@ -83,7 +83,7 @@ impl Op {
     }
 
     /// The ending that the operation gives for one that comes to it.
-    pub fn last(&self, state: &State, ending: &Ending) -> Ending
+    pub fn map_ending(&self, state: &State, ending: &Ending) -> Ending
         ensures { (draws : Draws) → op_giving self.now draws state.now (final_of ending.now) ≡ final_of result ∷ [] }
     {
         match self {

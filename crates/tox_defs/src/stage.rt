@@ -4,14 +4,14 @@ ghost use Rattle.tox_defs.specs.Chain.{max_toxics};
 ghost use Rattle.tox_defs.specs.Toxic.{IsInRange};
 ghost use Rattle.tox_defs.specs.Flow.{toxic_reaction};
 ghost use Rattle.tox_defs.specs.Op.{op_of, op_reaction};
-ghost use Rattle.tox_defs.specs.Place.{fits, AllFit};
+ghost use Rattle.tox_defs.specs.StreamPosition.{fits, AllFit};
 ghost use Rattle.tox_defs.specs.Laws.{HasLaw, KeepsStreams};
 ghost use Rattle.tox_time.specs.declared.item.Item.{Item as OneItem};
 ghost use Rattle.tox_time.specs.Stream.{IsStream, arrived};
 
-use crate::level::{Advanced, Level};
+use crate::level::{Emission, Level};
 use crate::op::Op;
-use crate::place::Place;
+use crate::position::StreamPosition;
 use crate::toxic::Toxic;
 use std::marker::Model;
 use tox_time::{Ending, Item};
@@ -25,7 +25,7 @@ pub struct Stage<'w> {
     level: Level,
     start: u64,
     words: &'w Words,
-    place: Place,
+    place: StreamPosition,
 }
 
 impl<'w> Model for Stage<'w> {
@@ -57,7 +57,7 @@ impl<'w> Stage<'w> {
             level: Level::new(&Op::of(&toxic, lane)),
             start: 0,
             words,
-            place: Place::start(),
+            place: StreamPosition::start(),
         }
     }
 
@@ -99,7 +99,7 @@ impl<'w> Stage<'w> {
             Item::Quiet => Ending::StillOpen,
         };
         if !self.level.state.done {
-            let last = self.level.op.last(&self.level.state, &ending);
+            let last = self.level.op.map_ending(&self.level.state, &ending);
             self.level.state.add_ending(&last);
             self.level.ending = Some(last);
         }
@@ -110,7 +110,7 @@ impl<'w> Stage<'w> {
         ensures { MatchEmitted self.old self.new result }
     {
         if self.level.ending.is_none() && self.start < self.level.stop {
-            if let Advanced::Piece(piece) = self.level.advance(self.start, self.words) {
+            if let Emission::Piece(piece) = self.level.advance(self.start, self.words) {
                 self.start = piece.span.stop;
                 return Some(Item::Chunk(piece.span, piece.instant));
             }

@@ -16,7 +16,7 @@ use Rattle.tox_defs.specs.toxics.Bandwidth.{pace_gives, first_instant}
 use Rattle.tox_defs.specs.Pieces.{cut, leave, first_span}
 use Rattle.tox_defs.proofs.OpenStates.{open_state, has_final-leave}
 use Rattle.tox_defs.proofs.FlowLemmas.{flow_from-last}
-use Rattle.tox_defs.proofs.KeepingStreams.{CanFollow, KeepsStreams}
+use Rattle.tox_defs.proofs.KeepingStreams.{counted_follows, CanFollow, KeepsStreams}
 use Rattle.tox_defs.specs.declared.state.State.{State}
 use Rattle.tox_defs.specs.declared.look.Look.TheVariants.{Piece}
 use Rattle.tox_defs.specs.Look.{Finds}
@@ -30,14 +30,15 @@ paced_final rate previous chunks pieces passed (Closed t) position since fits fi
 paced_final rate previous chunks pieces passed (Reset t) position since fits final follows = in_order_final previous position since (Reset t) fits final follows
 paced_final rate previous chunks pieces passed Quiet position since fits final follows = refl
 
-pub paced_keeps : (rate : ℕ) → 0 < rate → KeepsStreams Whatever (pace_gives rate)
+pub paced_keeps : (rate : ℕ) → 0 < rate → KeepsStreams Whatever (counted (pace_gives rate))
 paced_keeps rate positive = record {
   at_chunk = λ previous chunks pieces passed span t since fits related some late instant.
       inl (leave_goes_on (λ _. 100 * rate) (λ len. div_ceil (1000 * len) rate) (λ n. omega (arith, positive)) 0 previous t span fits some instant);
   at_final = λ previous chunks pieces passed item position since fits related final follows. paced_final rate previous chunks pieces passed item position since fits final follows;
+  follows = counted_follows (pace_gives rate);
 }
 
-pub paced-passes : (rate : ℕ) → PassesAtMost (pace_gives rate)
+pub paced-passes : (rate : ℕ) → PassesAtMost (counted (pace_gives rate))
 paced-passes rate state (Chunk span t) = omega (arith, arrived-leave (λ _. 100 * rate) (λ len. div_ceil (1000 * len) rate) 0 span.start (span_len span) (span_len span) state.previous t)
 paced-passes rate state (Closed t) = omega arith
 paced-passes rate state (Reset t) = omega arith

@@ -5,10 +5,10 @@ use Rattle.tox_time.specs.declared.item.Item.TheVariants.{Chunk, Closed, Reset, 
 use Rattle.tox_time.specs.Time.{horizon, plus}
 use Rattle.tox_time.specs.Stream.{span_len, is_final, IsStreamFrom}
 use Rattle.tox_time.specs.Table.{table}
-use Rattle.tox_defs.specs.Reaction.{flow_from}
+use Rattle.tox_defs.specs.Reaction.{counted, flow_from}
 use Rattle.tox_defs.specs.toxics.Latency.{delay_gives}
 use Rattle.tox_defs.proofs.OpenStates.{open_state}
-use Rattle.tox_defs.proofs.KeepingStreams.{CanFollow, KeepsStreams}
+use Rattle.tox_defs.proofs.KeepingStreams.{counted_follows, CanFollow, KeepsStreams}
 use Rattle.tox_defs.specs.declared.toxic.Toxic.TheVariants.{Latency}
 use Rattle.tox_defs.specs.Flow.{toxic_reaction}
 use Rattle.tox_defs.proofs.StreamKeepers.{Whatever, in_order_final}
@@ -20,14 +20,15 @@ delayed_final wait previous chunks pieces passed (Closed t) position since fits 
 delayed_final wait previous chunks pieces passed (Reset t) position since fits final follows = in_order_final previous position since (Reset t) fits final follows
 delayed_final wait previous chunks pieces passed Quiet position since fits final follows = refl
 
-pub delayed_keeps : (wait : ℕ → ℕ) → KeepsStreams Whatever (delay_gives wait)
+pub delayed_keeps : (wait : ℕ → ℕ) → KeepsStreams Whatever (counted (delay_gives wait))
 delayed_keeps wait = record {
   at_chunk = λ previous chunks pieces passed span t since fits related some late instant.
       inl (record { in_row = (refl, some, omega arith, omega (arith, fits), refl); no_final = refl; related = tt; instant = omega (arith, fits) });
   at_final = λ previous chunks pieces passed item position since fits related final follows. delayed_final wait previous chunks pieces passed item position since fits final follows;
+  follows = counted_follows (delay_gives wait);
 }
 
-pub delayed-passes : (wait : ℕ → ℕ) → PassesAtMost (delay_gives wait)
+pub delayed-passes : (wait : ℕ → ℕ) → PassesAtMost (counted (delay_gives wait))
 delayed-passes wait state (Chunk span t) = omega arith
 delayed-passes wait state (Closed t) = omega arith
 delayed-passes wait state (Reset t) = omega arith

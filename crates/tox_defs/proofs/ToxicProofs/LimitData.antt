@@ -13,7 +13,7 @@ use Rattle.tox_defs.specs.Reaction.{counted, flow_from, state_after}
 use Rattle.tox_defs.specs.toxics.LimitData.{limit_gives, first_bytes}
 use Rattle.tox_defs.proofs.OpenStates.{open_state, has_final-first_bytes}
 use Rattle.tox_defs.proofs.FlowLemmas.{flow_from-done}
-use Rattle.tox_defs.proofs.KeepingStreams.{CanFollow, GoesOn, EndsThere, KeepsStreams}
+use Rattle.tox_defs.proofs.KeepingStreams.{counted_follows, CanFollow, GoesOn, EndsThere, KeepsStreams}
 use Rattle.tox_defs.specs.declared.state.State.{State}
 use Rattle.tox_defs.proofs.StreamKeepers.{NotAfter, unchanged_final}
 use Rattle.tox_defs.proofs.PassedBytes.{PassesAtMost}
@@ -34,10 +34,11 @@ limited_final bytes previous chunks pieces passed (Closed t) position since befo
 limited_final bytes previous chunks pieces passed (Reset t) position since before final follows = unchanged_final previous position since (Reset t) before final follows
 limited_final bytes previous chunks pieces passed Quiet position since before final follows = refl
 
-pub limited_keeps : (bytes : ℕ) → KeepsStreams NotAfter (limit_gives bytes)
+pub limited_keeps : (bytes : ℕ) → KeepsStreams NotAfter (counted (limit_gives bytes))
 limited_keeps bytes = record {
   at_chunk = λ previous chunks pieces passed span t since fits before some late t_fits. limited_chunk bytes previous chunks pieces passed span t since (nat_lt (span_len span) (bytes - passed)) refl before some late t_fits;
   at_final = λ previous chunks pieces passed item position since fits before final follows. limited_final bytes previous chunks pieces passed item position since before final follows;
+  follows = counted_follows (limit_gives bytes);
 }
 
 arrived-first_bytes : (n : ℕ) (span : Span) (t : ℕ) → arrived (first_bytes n span t ++ (Closed t ∷ [])) ≤ n
@@ -51,7 +52,7 @@ limited_by false bytes state span t is =
     let room : bytes - state.passed ≤ span_len span = ltb-false (span_len span) (bytes - state.passed) is in
     omega (arith, arrived-first_bytes (bytes - state.passed) span t, room)
 
-pub limited-passes : (bytes : ℕ) → PassesAtMost (limit_gives bytes)
+pub limited-passes : (bytes : ℕ) → PassesAtMost (counted (limit_gives bytes))
 limited-passes bytes state (Chunk span t) = limited_by (nat_lt (span_len span) (bytes - state.passed)) bytes state span t refl
 limited-passes bytes state (Closed t) = omega arith
 limited-passes bytes state (Reset t) = omega arith

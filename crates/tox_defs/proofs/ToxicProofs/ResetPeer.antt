@@ -13,7 +13,7 @@ use Rattle.tox_defs.specs.Reaction.{counted, flow_from}
 use Rattle.tox_defs.specs.toxics.ResetPeer.{cutoff_gives, is_before}
 use Rattle.tox_defs.proofs.OpenStates.{open_state}
 use Rattle.tox_defs.proofs.FlowLemmas.{flow_from-done}
-use Rattle.tox_defs.proofs.KeepingStreams.{CanFollow, GoesOn, EndsThere, KeepsStreams}
+use Rattle.tox_defs.proofs.KeepingStreams.{counted_follows, CanFollow, GoesOn, EndsThere, KeepsStreams}
 use Rattle.tox_defs.specs.declared.state.State.{State}
 use Rattle.tox_defs.proofs.StreamKeepers.{unchanged_final}
 use Rattle.tox_defs.proofs.PassedBytes.{PassesAtMost}
@@ -33,17 +33,18 @@ cut_off_by : (instant previous chunks pieces passed position since : ℕ) (item 
 cut_off_by instant previous chunks pieces passed position since item true e before within final follows = rw e (unchanged_final previous position since item before.0 final follows)
 cut_off_by instant previous chunks pieces passed position since item false e before within final follows = rw e (before.1, within, refl)
 
-pub cut_off_keeps : (instant : ℕ) → instant ≤ horizon → KeepsStreams (NotAfterEither instant) (cutoff_gives instant)
+pub cut_off_keeps : (instant : ℕ) → instant ≤ horizon → KeepsStreams (NotAfterEither instant) (counted (cutoff_gives instant))
 cut_off_keeps instant within = record {
   at_chunk = λ previous chunks pieces passed span t since fits before some late t_fits. cut_off_chunk instant previous chunks pieces passed span t since (nat_lt t instant) refl before within some late t_fits;
   at_final = λ previous chunks pieces passed item position since fits before final follows. cut_off_by instant previous chunks pieces passed position since item (is_before instant item) refl before within final follows;
+  follows = counted_follows (cutoff_gives instant);
 }
 
 passes_by : (before : Bool) (item : Item) (instant : ℕ) → arrived ((if before then item else Reset instant) ∷ []) ≤ arrived (item ∷ [])
 passes_by true item instant = omega arith
 passes_by false item instant = omega arith
 
-pub cut_off-passes : (instant : ℕ) → PassesAtMost (cutoff_gives instant)
+pub cut_off-passes : (instant : ℕ) → PassesAtMost (counted (cutoff_gives instant))
 cut_off-passes instant state item = passes_by (is_before instant item) item instant
 
 abbrev cut_table : ℕ → State → List Item → List ℕ

@@ -13,7 +13,7 @@ use Rattle.tox_defs.specs.toxics.Slicer.{slicing_gives, slicer_gives, IsSized, S
 use Rattle.tox_defs.specs.Pieces.{cut, leave, first_span}
 use Rattle.tox_defs.proofs.OpenStates.{open_state, has_final-leave}
 use Rattle.tox_defs.proofs.FlowLemmas.{flow_from-last}
-use Rattle.tox_defs.proofs.KeepingStreams.{CanFollow, KeepsStreams}
+use Rattle.tox_defs.proofs.KeepingStreams.{counted_follows, CanFollow, KeepsStreams}
 use Rattle.tox_defs.specs.declared.state.State.{State}
 use Rattle.tox_defs.specs.Varied.{varied}
 use Rattle.tox_defs.specs.declared.look.Look.TheVariants.{Piece}
@@ -29,14 +29,15 @@ sliced_final size micros previous chunks pieces passed (Closed t) position since
 sliced_final size micros previous chunks pieces passed (Reset t) position since fits final follows = in_order_final previous position since (Reset t) fits final follows
 sliced_final size micros previous chunks pieces passed Quiet position since fits final follows = refl
 
-pub sliced_keeps : (size : ℕ → ℕ) (micros : ℕ) → ((n : ℕ) → 0 < size n) → KeepsStreams Whatever (slicing_gives size micros)
+pub sliced_keeps : (size : ℕ → ℕ) (micros : ℕ) → ((n : ℕ) → 0 < size n) → KeepsStreams Whatever (counted (slicing_gives size micros))
 sliced_keeps size micros some_size = record {
   at_chunk = λ previous chunks pieces passed span t since fits related some late instant.
       inl (leave_goes_on size (λ _. micros) some_size pieces previous t span fits some instant);
   at_final = λ previous chunks pieces passed item position since fits related final follows. sliced_final size micros previous chunks pieces passed item position since fits final follows;
+  follows = counted_follows (slicing_gives size micros);
 }
 
-pub sliced-passes : (size : ℕ → ℕ) (micros : ℕ) → PassesAtMost (slicing_gives size micros)
+pub sliced-passes : (size : ℕ → ℕ) (micros : ℕ) → PassesAtMost (counted (slicing_gives size micros))
 sliced-passes size micros state (Chunk span t) = omega (arith, arrived-leave size (λ _. micros) state.pieces span.start (span_len span) (span_len span) state.previous t)
 sliced-passes size micros state (Closed t) = omega arith
 sliced-passes size micros state (Reset t) = omega arith

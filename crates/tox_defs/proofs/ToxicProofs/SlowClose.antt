@@ -5,10 +5,10 @@ use Rattle.tox_time.specs.declared.item.Item.{Item}
 use Rattle.tox_time.specs.declared.item.Item.TheVariants.{Chunk, Closed, Reset, Quiet}
 use Rattle.tox_time.specs.Stream.{span_len, is_final, IsStreamFrom}
 use Rattle.tox_time.specs.Table.{table}
-use Rattle.tox_defs.specs.Reaction.{flow_from}
+use Rattle.tox_defs.specs.Reaction.{counted, flow_from}
 use Rattle.tox_defs.specs.toxics.SlowClose.{slow_gives}
 use Rattle.tox_defs.proofs.OpenStates.{open_state}
-use Rattle.tox_defs.proofs.KeepingStreams.{CanFollow, KeepsStreams}
+use Rattle.tox_defs.proofs.KeepingStreams.{counted_follows, CanFollow, KeepsStreams}
 use Rattle.tox_defs.specs.declared.toxic.Toxic.TheVariants.{SlowClose}
 use Rattle.tox_defs.specs.Flow.{toxic_reaction}
 use Rattle.tox_defs.proofs.StreamKeepers.{NotAfter, unchanged_final}
@@ -20,14 +20,15 @@ closed_later_final micros previous chunks pieces passed (Closed t) position sinc
 closed_later_final micros previous chunks pieces passed (Reset t) position since before fits final follows = unchanged_final previous position since (Reset t) before final follows
 closed_later_final micros previous chunks pieces passed Quiet position since before fits final follows = refl
 
-pub closed_later_keeps : (micros : ℕ) → KeepsStreams NotAfter (slow_gives micros)
+pub closed_later_keeps : (micros : ℕ) → KeepsStreams NotAfter (counted (slow_gives micros))
 closed_later_keeps micros = record {
   at_chunk = λ previous chunks pieces passed span t since fits before some late instant.
       inl (record { in_row = (refl, some, omega (arith, before, late), instant, refl); no_final = refl; related = omega arith; instant = instant });
   at_final = λ previous chunks pieces passed item position since fits before final follows. closed_later_final micros previous chunks pieces passed item position since before fits final follows;
+  follows = counted_follows (slow_gives micros);
 }
 
-pub closed_later-passes : (micros : ℕ) → PassesAtMost (slow_gives micros)
+pub closed_later-passes : (micros : ℕ) → PassesAtMost (counted (slow_gives micros))
 closed_later-passes micros state (Chunk span t) = omega arith
 closed_later-passes micros state (Closed t) = omega arith
 closed_later-passes micros state (Reset t) = omega arith

@@ -25,7 +25,7 @@ arrived-final StillOpen = refl
 arrived-final (ClosedAt t) = refl
 arrived-final (ResetAt t) = refl
 
-pub muted-passes : (ending : Ending) → PassesAtMost (mute_gives (final_of ending))
+pub muted-passes : (ending : Ending) → PassesAtMost (counted (mute_gives (final_of ending)))
 muted-passes ending state (Chunk span t) = omega arith
 muted-passes ending state (Closed t) = omega (arith, arrived-final ending)
 muted-passes ending state (Reset t) = omega (arith, arrived-final ending)

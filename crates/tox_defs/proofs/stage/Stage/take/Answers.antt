@@ -16,4 +16,4 @@ returns-then-not-self c =
       | in-Quiet w ↦ w.in-Quiet.is ∙ ap final_of (sym w.ending-is)
     ] in
     rw (c.add_ending.ensures, c.after-self-inside.ensures)
-    (took_final c.self.inside.words.now c.self.inside.start c.self.inside.level c.self.inside.place c.args.self.now c.args.item c.match-item.ending c.last-last.result none read c.if-not-self.true c.self.view_is is c.last-last.ensures)
+    (took_final c.self.inside.words.now c.self.inside.start c.self.inside.level c.self.inside.place c.args.self.now c.args.item c.match-item.ending c.map_ending-last.result none read c.if-not-self.true c.self.view_is is c.map_ending-last.ensures)

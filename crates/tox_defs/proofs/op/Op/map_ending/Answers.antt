@@ -1,5 +1,5 @@
 -- A slow close and a cutoff give the ending that their files say.
-use Rattle.tox_defs.proofs.op.Op.last.Goals as goal
+use Rattle.tox_defs.proofs.op.Op.map_ending.Goals as goal
 
 pub returns-in-Slow : goal.returns-in-Slow
 returns-in-Slow c = λ draws. rw c.in-Slow.is (c.map_ending.ensures c.args.state.now)

@@ -1,22 +1,22 @@
 ghost use Rattle.std.specs.Prelude.{◌≡◌};
-ghost use Rattle.tox_defs.specs.Place.{fits, first_place, place_after};
+ghost use Rattle.tox_defs.specs.StreamPosition.{fits, first_position, position_after};
 
 use tox_time::{Item, MAX_BYTES, Micros};
 
 /// How far a stream has come: where its next chunk starts, its latest instant, and whether its final came.
 #[derive(Clone, Copy, Debug, PartialEq, Eq)]
-pub struct Place {
+pub struct StreamPosition {
     pub position: u64,
     pub latest: Micros,
     pub ended: bool,
 }
 
-impl Place {
+impl StreamPosition {
     /// Before the first item.
-    pub(crate) fn start() -> Place
-        ensures { result ≡ first_place }
+    pub(crate) fn start() -> StreamPosition
+        ensures { result ≡ first_position }
     {
-        Place {
+        StreamPosition {
             position: 0,
             latest: Micros::ZERO,
             ended: false,
@@ -44,21 +44,21 @@ impl Place {
     }
 
     /// The place behind the item.
-    pub(crate) fn after(&self, item: &Item) -> Place
-        ensures { result ≡ place_after self.now item.now }
+    pub(crate) fn after(&self, item: &Item) -> StreamPosition
+        ensures { result ≡ position_after self.now item.now }
     {
         match item {
-            Item::Chunk(span, instant) => Place {
+            Item::Chunk(span, instant) => StreamPosition {
                 position: span.stop,
                 latest: *instant,
                 ..*self
             },
-            Item::Closed(instant) | Item::Reset(instant) => Place {
+            Item::Closed(instant) | Item::Reset(instant) => StreamPosition {
                 latest: *instant,
                 ended: true,
                 ..*self
             },
-            Item::Quiet => Place {
+            Item::Quiet => StreamPosition {
                 ended: true,
                 ..*self
             },
