@@ -1,3 +1,4 @@
+//! The runner of a plan: pieces in, slices out, one at a time.
 ghost use Rattle.std.specs.Prelude.{◌≡◌, ◌≢◌, ℕ, ◌+◌, ◌*◌, ◌^◌, ◌<◌, ◌≤◌, ◌↔◌, ◌⊎◌, List, [], ◌∷◌, ◌++◌, length, true, false, None, Some, IsSome, IsNone, IfSome, IfNone, MatchOption, OnOk, OnErr};
 ghost use Rattle.tox_time.specs.declared.item.Item.{Item as OneItem};
 ghost use Rattle.tox_time.specs.declared.item.Item.TheVariants.{Closed, Quiet};
@@ -52,7 +53,7 @@ impl<'w> Model for Runner<'w> {
 }
 
 impl<'w> Runner<'w> {
-    /// A runner of the plan that was offered nothing yet.
+    /// A runner of the plan. Nothing was offered yet.
     pub fn new(plan: Plan, words: &'w Words) -> Runner<'w>
         ensures to_come { (items : List OneItem) → IsStream items → to_come result items ≡ means plan words.now items }
         ensures start { (result.idle ≡ true) × (result.finished ≡ false) × (result.position ≡ 0) × (result.piece ≡ no_piece) × (result.latest ≡ 0) × (result.words ≡ words.now) }
@@ -87,7 +88,7 @@ impl<'w> Runner<'w> {
         }
     }
 
-    /// Whether nothing was offered yet, or nothing of the offered piece is left.
+    /// Whether nothing was offered yet, or `next_cut` has returned None since the last accepted offer.
     pub fn is_idle(&self) -> bool
         ensures value { result ≡ self.now.idle }
         ensures drained { self.now.idle ≡ true → HasNoChunk (to_come self.now (Quiet ∷ [])) }
@@ -95,9 +96,10 @@ impl<'w> Runner<'w> {
         self.idle
     }
 
-    /// Offers the next piece of `len` bytes, which comes at `instant` after the offered ones. Refused in this order:
-    /// an instant below the last one, an empty piece, more than 2^40 bytes in all, a piece once the ending is known.
-    /// A refusal changes nothing.
+    /// Offers the next piece of `len` bytes, which arrives at `instant`.
+    ///
+    /// Refuses, in this order, an instant below the last one, an empty piece, more than 2^40 bytes in all, and a piece
+    /// once the ending is known. A refusal changes nothing.
     pub fn offer(&mut self, len: u64, instant: Micros) -> Result<(), ArrivalFault>
         requires { self.old.idle ≡ true }
         ensures answer { result ≡ offer_answer self.old len instant }
@@ -136,9 +138,8 @@ impl<'w> Runner<'w> {
         Ok(())
     }
 
-    /// The next slice of the offered piece, all that is left of it at one instant; or None exactly where nothing is
-    /// left, and the runner is then idle. It looks at each operation at most once for each cut that it gives, and
-    /// once more.
+    /// The next slice of the offered piece: all that is left of it at one instant. None exactly when nothing is left;
+    /// the runner is then idle. Looks at each operation at most once for each cut that it gives, and once more.
     pub fn next_cut(&mut self) -> Option<Slice>
         ensures some { IfSome result (IsCut self.old self.new) }
         ensures place { IfSome result (λ slice. (slice.span.start ≡ self.old.position) × (self.new.position ≡ slice.span.stop) × (self.new.idle ≡ false)) }
@@ -239,7 +240,7 @@ impl<'w> Runner<'w> {
         }
     }
 
-    /// The source ended at `end`: how the link ends. The last instant is then this one.
+    /// Finishes at the source's end. Returns the link's ending. The last instant is then `end`.
     pub fn finish(&mut self, end: Micros) -> Ending
         requires idle { self.old.idle ≡ true }
         requires later { self.old.latest ≤ end }
@@ -251,8 +252,8 @@ impl<'w> Runner<'w> {
         ending
     }
 
-    /// The source stays quiet for ever: how the link ends. So it does whatever comes at or after the plan's deadline,
-    /// if it has one.
+    /// Finishes without an end of the source. Returns the link's ending. If the plan has a deadline, the link ends so
+    /// whatever arrives at or after it.
     pub fn quiet(&mut self) -> Ending
         requires { self.old.idle ≡ true }
         ensures last { to_come self.old (Quiet ∷ []) ≡ final_of result ∷ [] }

@@ -1,10 +1,11 @@
+//! The slices of an offered piece, lent from its bytes.
 ghost use Rattle.std.specs.Prelude.{◌≡◌, false};
 ghost use Rattle.tox_plan.specs.Slices.{IsOffered};
 
 use crate::runner::Runner;
 use tox_lend::{Lent, Piece};
 
-/// The slices of an offered piece, lent from its bytes. It holds the runner until
+/// The slices of an offered piece, lent from its bytes. It owns the runner until
 /// [`into_runner`](Slices::into_runner).
 #[derive(Drop)]
 pub struct Slices<'w, 'a> {
@@ -13,7 +14,7 @@ pub struct Slices<'w, 'a> {
 }
 
 impl<'w> Runner<'w> {
-    /// The slices of this piece: the one that was offered last, of which nothing was given yet.
+    /// The slices of this piece, which was offered last and of which nothing was given yet.
     pub fn slices<'a>(self, piece: &'a Piece) -> Slices<'w, 'a>
         requires offered { IsOffered self piece.now }
         requires unread { (self.idle ≡ false) × (self.position ≡ self.piece.span.start) }
@@ -27,7 +28,7 @@ impl<'w> Runner<'w> {
 }
 
 impl<'w, 'a> Slices<'w, 'a> {
-    /// The runner as the given slices left it.
+    /// Gives the runner back, as the given slices left it.
     pub fn into_runner(self) -> Runner<'w>
         ensures { result ≡ self.entry.runner }
     {

@@ -1,3 +1,4 @@
+//! What comes out of the last ring.
 ghost use Rattle.std.specs.Prelude.{◌≡◌, List, [], ◌∷◌, ◌++◌, Some, true, false, IfOk};
 ghost use Rattle.tox_time.specs.declared.item.Item.{Item as OneItem};
 ghost use Rattle.tox_time.specs.Stream.{has_final, is_final};
@@ -7,7 +8,7 @@ use std::alloc::{AllocError, Global};
 use tox_network::Delivered;
 use tox_time::{Item, Outcome};
 
-/// What came out of the last ring, up to the final. Once memory was refused nothing more is kept.
+/// What came out of the last ring, up to the final. Once out of memory, nothing more is kept.
 #[derive(Drop)]
 pub(crate) struct Collected {
     delivered: Delivered,
@@ -19,7 +20,7 @@ pub(crate) struct Collected {
 impl Collected {
     ghost use Rattle.tox_stages.specs.Collecting.{Collects};
 
-    /// Nothing came; takes no memory.
+    /// Nothing came yet. Takes no memory.
     pub(crate) fn new(alloc: Global) -> Collected
         ensures { Collects result [] }
     {
@@ -37,7 +38,7 @@ impl Collected {
         self.ended
     }
 
-    /// Keeps an item, unless memory is or was refused.
+    /// Keeps an item, unless out of memory now or before.
     pub(crate) fn keep(&mut self, item: Item)
         requires { self.old.ended ≡ false }
         ensures kept { (items : List OneItem) → Collects self.old items → Collects self.new (items ++ item ∷ []) }

@@ -1,3 +1,4 @@
+//! Why running stages give no outcome.
 use thiserror::Error;
 
 /// Why running stages gave no outcome.
@@ -6,7 +7,7 @@ pub enum StageFault {
     /// Memory was refused for a ring, or for a slice of the outcome.
     #[error("F0 OutOfMemory")]
     OutOfMemory,
-    /// A thread can't be had.
+    /// A thread was refused.
     #[error("F1 SpawnRefused")]
     SpawnRefused,
 }

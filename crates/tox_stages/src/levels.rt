@@ -41,7 +41,7 @@ struct Pipeline<'s, R, G> {
 /// A worker that was started, and the consumer of the ring behind it.
 type Started<'s> = (PromisedHandle<Ends, SendsFlowOf<'s>>, Consumer<Item>);
 
-/// Starts the worker of a toxic, which promises its flow. Where a ring or a thread can't be had, the consumer is dropped.
+/// Starts the worker of a toxic, which promises its flow. If a ring or a thread is refused, the consumer is dropped.
 fn start<'s, E: 's, R: Threads + Wait + Sync, G: Gate>(
     pipeline: &Pipeline<'s, R, G>,
     scope: &'s Scope<'s, E>,
@@ -97,7 +97,7 @@ fn start<'s, E: 's, R: Threads + Wait + Sync, G: Gate>(
 /// The stages of the toxics from place `lane` of the chain on. Gives back the consumer of the ring before them, with
 /// what was delivered.
 ///
-/// Where a ring or a thread can't be had, nothing was sent yet: `Quiet` alone is, on which each worker ends.
+/// If a ring or a thread is refused nothing was sent yet. Only `Quiet` is sent then, on which each worker ends.
 fn level<'s, E: 's, R: Threads + Wait + Sync, G: Gate>(
     pipeline: &Pipeline<'s, R, G>,
     scope: &'s Scope<'s, E>,
@@ -159,9 +159,9 @@ fn level<'s, E: 's, R: Threads + Wait + Sync, G: Gate>(
 }
 
 /// What a chain delivers of these arrivals, on a link with these words, by a thread for each applied toxic over rings
-/// of `cap` items, 1 to 1024. Worker k tells the gate of each item that it took before it works on it.
+/// of `cap` items, 1 to 1024. Worker k calls the gate with each item that it took, before it works on it.
 ///
-/// All threads have ended when it answers.
+/// Waits for its threads: all of them have ended when it returns.
 pub fn run_stages<R: Threads + Wait + Sync, G: Gate>(
     rt: &R,
     alloc: Global,

@@ -49,7 +49,7 @@ fn emit_all<R: Wait>(rt: &R, stage: &mut Stage<'_>, producer: &mut Producer<Item
 
 /// Takes items until the final, and sends what the toxic gives for each.
 ///
-/// An item that doesn't go on with those before it would end the work; none comes.
+/// Stops defensively at an item that does not follow those before it; none comes.
 pub(crate) fn work<R: Wait, G: Gate>(
     rt: &R,
     gate: &G,

@@ -1,3 +1,4 @@
+//! What arrives on a link, and what is refused.
 ghost use Rattle.std.specs.Prelude.{◌≡◌, ◌≢◌, ◌+◌, ◌<◌, ◌≤◌, ◌^◌, [], ◌∷◌, ◌++◌, List, OnOk, OnErr, IfErr};
 ghost use Rattle.tox_time.specs.Arrivals.{push_fault, eof_fault, next_chunk};
 
@@ -68,7 +69,7 @@ impl Arrivals {
     /// Adds a piece of `len` bytes that arrived at `instant`.
     ///
     /// Refuses, in this order, an instant below the last one, an empty piece, more than 2^40 bytes
-    /// in all, a piece after the end; and then for want of memory. The list is unchanged after each.
+    /// in all, a piece after the end; and then if out of memory. A refusal changes nothing.
     pub fn push(&mut self, len: u64, instant: Micros) -> Result<(), ArrivalFault>
         ensures ok { OnOk result (self.new ≡ self.old ++ next_chunk self.old len instant ∷ []) }
         ensures accepted { OnOk result (push_fault self.old len instant ≡ None) }
@@ -102,8 +103,8 @@ impl Arrivals {
 
     /// The source ended at `instant`.
     ///
-    /// Refuses, in this order, an instant below the last one and a second end; and then for want
-    /// of memory. The list is unchanged after each.
+    /// Refuses, in this order, an instant below the last one and a second end; and then if out of
+    /// memory. A refusal changes nothing.
     pub fn eof(&mut self, instant: Micros) -> Result<(), ArrivalFault>
         ensures ok { OnOk result (self.new ≡ self.old ++ Item.Closed instant ∷ []) }
         ensures accepted { OnOk result (eof_fault self.old instant ≡ None) }
@@ -125,7 +126,7 @@ impl Arrivals {
         Ok(())
     }
 
-    /// The chunks, then `Closed` if the source ended. Where it didn't, a `Quiet` that isn't stored ends the list.
+    /// The chunks, then `Closed` if the source ended. Otherwise a `Quiet` that isn't stored ends the list.
     pub fn items(&self) -> &[Item]
         ensures stored { result.now ≡ self.now }
         ensures list { IsArrivalList (arrival_list self.now) }

@@ -1,3 +1,4 @@
+//! How a link ends.
 ghost use Rattle.std.specs.Prelude.{◌≡◌};
 
 use crate::item::Item;
@@ -6,7 +7,7 @@ use crate::micros::Micros;
 /// How a link ends.
 #[derive(Clone, Copy, Debug, PartialEq, Eq, Hash)]
 pub enum Ending {
-    /// It doesn't: the last item is `Quiet`.
+    /// It stays open: the last item is `Quiet`.
     StillOpen,
     Closed(Micros),
     Reset(Micros),

@@ -1,3 +1,4 @@
+//! Readers and writers with contracts: what bytes are read from and written to.
 ghost use Rattle.std.specs.Prelude.{◌≡◌, ℕ, ◌<◌, ◌≤◌, Bool, false, true, List, Option, length, take, IfOk, OnOk, OnErr};
 ghost use Rattle.std.specs.Io.KnownBytes.{prepend_known, append_known, IsAtEnd};
 ghost use Rattle.tox_time.specs.Ends.{takes_nothing};
@@ -9,18 +10,16 @@ use thiserror::Error;
 #[error("an end has failed")]
 pub struct EndFault;
 
-/// What bytes are read from.
-///
-/// Each call wants a source that has not failed.
+/// A reader. It may be called only while it has not failed.
 pub trait Source {
     /// Whether it has failed.
     ghost failed: { Self → Bool };
 
-    /// The bytes that it has still to give, where it tells them.
+    /// The bytes still to be read, if the source tells them.
     ghost remaining: { Self → Option (List ℕ) };
 
-    /// Puts the next bytes at the buffer's front and says how many: 0 into a nonempty buffer only at the end.
-    /// An `Err` takes no byte, and the source has failed.
+    /// Reads the next bytes into the front of the buffer and returns how many. 0 for a nonempty buffer means the end.
+    /// An `Err` reads no byte, and the source has failed for good.
     fn read(&mut self, buffer: &mut [u8]) -> Result<usize, EndFault>
         requires { failed self.old ≡ false }
         ensures count { IfOk result (λ n. n ≤ length buffer.new) }
@@ -31,18 +30,16 @@ pub trait Source {
         ensures kept { OnErr result (remaining self.new ≡ remaining self.old) };
 }
 
-/// What bytes are written to.
-///
-/// Each call wants a sink that has not failed.
+/// A writer. It may be called only while it has not failed.
 pub trait Sink {
     /// Whether it has failed.
     ghost failed: { Self → Bool };
 
-    /// The bytes that were written to it, where it tells them.
+    /// The bytes written so far, if the sink tells them.
     ghost written: { Self → Option (List ℕ) };
 
-    /// Appends the first of these bytes and says how many. It has failed where it took none of some.
-    /// An `Err` appends nothing, and the sink has failed.
+    /// Appends the first of these bytes and returns how many. A zero-byte write of a nonempty buffer fails the sink.
+    /// An `Err` appends nothing, and the sink has failed for good.
     fn write(&mut self, bytes: &[u8]) -> Result<usize, EndFault>
         requires { failed self.old ≡ false }
         ensures count { IfOk result (λ n. n ≤ length bytes.now) }

@@ -1,4 +1,6 @@
-/// What running workers tell of the items that they take.
+//! A hook for the items that running workers take.
+
+/// Hook called before a worker processes an item.
 pub trait Gate: Sync {
     /// Worker `stage` took its `nth` item, both counted from 0, and has not worked on it yet.
     fn pass(&self, stage: usize, nth: u64);

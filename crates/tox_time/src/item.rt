@@ -1,3 +1,4 @@
+//! What passes over a link.
 ghost use Rattle.std.specs.Prelude.{◌≡◌};
 
 use crate::micros::Micros;
@@ -19,7 +20,7 @@ pub enum Item {
 impl Item {
     ghost use Rattle.tox_time.specs.Stream.{is_final};
 
-    /// Whether nothing comes after it: it is no chunk.
+    /// Whether it is a final: anything but a chunk.
     pub fn is_final(&self) -> bool
         ensures { result ≡ is_final self.now }
     {

@@ -1,3 +1,4 @@
+//! A writer into memory that can fail at a set call.
 ghost use Rattle.std.specs.Prelude.{◌≡◌, ◌<◌, ◌-◌, ◌↔◌, [], ◌++◌, false, true, Some, min, length, take, IsErr, IfOk, OnErr};
 ghost use Rattle.tox_time.specs.Ends.{takes_nothing};
 ghost use Rattle.tox_time.specs.MemoryEnds.{FailsNext, one_more};
@@ -6,8 +7,8 @@ use crate::ends::{EndFault, Sink};
 use std::alloc::{AllocError, Global};
 use std::marker::Model;
 
-/// A sink into memory whose room is reserved when it is made. It takes at most a set number of bytes in a call,
-/// none once it is full, and fails at a set call.
+/// A sink into memory. Its room is reserved when it is made. It takes at most a set number of bytes a call, none once it
+/// is full, and fails at a set call.
 #[derive(Debug, Drop)]
 pub struct MemorySink {
     room: Vec<u8>,

@@ -1,3 +1,4 @@
+//! A reader of bytes in memory that can fail at a set call.
 ghost use Rattle.std.specs.Prelude.{◌≡◌, ◌<◌, ◌↔◌, [], ◌++◌, false, true, Some, min, length, take, drop, IsErr, IfOk, OnOk, OnErr};
 ghost use Rattle.std.specs.Io.KnownBytes.{prepend_known, IsAtEnd};
 ghost use Rattle.tox_time.specs.MemoryEnds.{FailsNext, one_more};
@@ -5,7 +6,7 @@ ghost use Rattle.tox_time.specs.MemoryEnds.{FailsNext, one_more};
 use crate::ends::{EndFault, Source};
 use std::marker::Model;
 
-/// A source over bytes in memory, which moves at most a set number of them in a call and fails at a set call.
+/// A source over bytes in memory. It gives at most a set number of them a call, and fails at a set call.
 #[derive(Debug, Drop)]
 pub struct MemorySource {
     bytes: Vec<u8>,

@@ -1,3 +1,4 @@
+//! Instants and lengths of time.
 ghost use Rattle.std.specs.Prelude.{◌≡◌, ℕ, ◌+◌, ◌*◌, ◌^◌, ◌≤◌, ◌↔◌, min, max, IsSome, IfSome};
 ghost use Rattle.tox_time.specs.declared.micros.TheConstants.{HORIZON};
 ghost use Rattle.tox_time.specs.Time.{horizon, plus, micros_of};
@@ -40,7 +41,7 @@ impl Micros {
         }
     }
 
-    /// So many milliseconds, stopping at the horizon.
+    /// A number of milliseconds, stopping at the horizon.
     pub fn from_millis(millis: u64) -> Micros
         ensures value { result ≡ micros_of millis }
         ensures bound { result ≤ horizon }
@@ -60,7 +61,7 @@ impl Micros {
         }
     }
 
-    /// The instant so many microseconds later, stopping at the horizon.
+    /// The instant `micros` microseconds later, stopping at the horizon.
     pub fn after(self, micros: u64) -> Micros
         ensures value { result ≡ plus self micros }
         ensures bound { result ≤ horizon }

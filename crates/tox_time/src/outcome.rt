@@ -1,3 +1,4 @@
+//! What a link delivered.
 use crate::ending::Ending;
 use crate::slice::SliceList;
 

@@ -1,3 +1,4 @@
+//! std's readers and writers as ends of a link.
 ghost use Rattle.std.specs.Prelude.{◌≡◌, ◌≤◌, false, true, None, length, IfOk, OnOk, OnErr};
 ghost use Rattle.std.specs.Io.KnownBytes.{ReadConsumes, WriteAppends};
 ghost use Rattle.tox_time.specs.Ends.{takes_nothing};
@@ -5,7 +6,7 @@ ghost use Rattle.tox_time.specs.Ends.{takes_nothing};
 use crate::ends::{EndFault, Sink, Source};
 use std::io::{Read, Write};
 
-/// A reader or writer of std, which keeps whether it has failed and tells no bytes.
+/// A reader or writer of std. Keeps whether it has failed. Its bytes are unknown to contracts.
 #[derive(Debug, Drop)]
 pub struct Real<E> {
     inner: E,
@@ -30,7 +31,7 @@ impl<R: Read> Source for Real<R> {
 
     ghost remaining = { λ _. None };
 
-    // The reader's own bytes, where it tells them, are passed on as they are.
+    // If the reader tells its own bytes, these are passed on as they are.
     fn read(&mut self, buffer: &mut [u8]) -> Result<usize, EndFault>
         ensures count { IfOk result (λ n. n ≤ length buffer.new) }
         ensures inner { ReadConsumes (R.remaining self.old.inner) (R.remaining self.new.inner) result buffer.new }

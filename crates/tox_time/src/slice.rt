@@ -1,3 +1,4 @@
+//! Slices: ranges of bytes that leave at one instant.
 ghost use Rattle.std.specs.Prelude.{◌≡◌, [], ◌∷◌, ◌++◌, List, OnOk, OnErr};
 
 use crate::micros::Micros;
@@ -12,7 +13,7 @@ pub struct Slice {
     pub instant: Micros,
 }
 
-/// Slices in the order in which they leave.
+/// Slices in the order in which they leave. Contracts see it as a list.
 #[derive(Debug, Drop)]
 pub struct SliceList {
     slices: Vec<Slice>,
@@ -28,7 +29,7 @@ impl Model for SliceList {
 }
 
 impl SliceList {
-    /// No slice; takes no memory.
+    /// An empty list. Takes no memory.
     pub fn new(alloc: Global) -> SliceList
         ensures { result ≡ [] }
     {
@@ -37,7 +38,7 @@ impl SliceList {
         }
     }
 
-    /// Adds a slice behind the others.
+    /// Appends a slice.
     pub fn push(&mut self, slice: Slice) -> Result<(), AllocError>
         ensures ok { OnOk result (self.new ≡ self.old ++ slice ∷ []) }
         ensures err { OnErr result (self.new ≡ self.old) }
@@ -53,7 +54,7 @@ impl SliceList {
         &self.slices
     }
 
-    /// The vector that the list was made over; takes no memory.
+    /// The list as a vector. Takes no memory.
     pub fn into_vec(self) -> Vec<Slice>
         ensures { result.items ≡ self }
     {

@@ -1,3 +1,4 @@
+//! The two directions of a link.
 ghost use Rattle.std.specs.Prelude.{◌≡◌};
 ghost use Rattle.tox_time.specs.StreamName.{stream_name, stream_named};
 
