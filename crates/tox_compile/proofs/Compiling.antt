@@ -15,7 +15,7 @@ use Rattle.tox_defs.specs.Flow.{Placed, toxic_reaction, applied_from, applied, c
 use Rattle.tox_defs.specs.Op.{IsOp, op_of}
 use Rattle.tox_defs.proofs.OpOf.{op_reaction-op_of, IsOp-op_of}
 use Rattle.tox_defs.proofs.ChainStreams.{in_range-applied}
-use Rattle.tox_compile.specs.Compiled.{op_of_placed, ops_of}
+use Rattle.tox_compile.specs.Compiled.{op_of_placed, applied_ops}
 use Rattle.tox_compile.specs.Meaning.{op_reactions, means}
 
 reactions-placed : (draws : Draws) (toxics : List Placed) → op_reactions (map op_of_placed toxics) draws ≡ map (λ placed. toxic_reaction placed.toxic (draws placed.place)) toxics
@@ -25,8 +25,8 @@ reactions-placed draws (placed ∷ toxics) =
     ∙ ap (λ reactions. toxic_reaction placed.toxic (draws placed.place) ∷ reactions) (reactions-placed draws toxics)
 
 -- for every list of items
-pub means-ops_of : (chain : Toxics) (words : List ℕ) (items : List Item) → means (record { ops = ops_of chain words }) words items ≡ chain_flow chain words items
-means-ops_of chain words items = ap (λ reactions. flow_through reactions items) (reactions-placed (draw words) (applied chain words))
+pub means-applied_ops : (chain : Toxics) (words : List ℕ) (items : List Item) → means (record { ops = applied_ops chain words }) words items ≡ chain_flow chain words items
+means-applied_ops chain words items = ap (λ reactions. flow_through reactions items) (reactions-placed (draw words) (applied chain words))
 
 operations-placed : (toxics : List Placed) → All (λ placed. IsInRange placed.toxic) toxics → All IsOp (map op_of_placed toxics)
 operations-placed [] fit = All-nil IsOp
@@ -36,8 +36,8 @@ operations-placed (placed ∷ toxics) fit =
     (operations-placed toxics (All-tail (λ placed. IsInRange placed.toxic) placed toxics fit))
 
 -- the operations of a chain are operations that a plan may have
-pub operations-ops_of : (chain : Toxics) (words : List ℕ) → IsChain chain → All IsOp (ops_of chain words)
-operations-ops_of chain words fits = operations-placed (applied chain words) (in_range-applied chain words fits)
+pub operations-applied_ops : (chain : Toxics) (words : List ℕ) → IsChain chain → All IsOp (applied_ops chain words)
+operations-applied_ops chain words fits = operations-placed (applied chain words) (in_range-applied chain words fits)
 
 -- the operations of the toxics from a place on
 abbrev pub ops_from : ℕ → List Entry → List ℕ → List Op

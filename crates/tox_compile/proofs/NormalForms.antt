@@ -16,10 +16,10 @@ use Rattle.tox_defs.specs.Op.{op_reaction, IsOp}
 use Rattle.tox_defs.specs.toxics.Latency.{IsNormal}
 use Rattle.tox_defs.proofs.OpStreams.{IsStream-op_flow}
 use Rattle.tox_defs.proofs.ToxicProofs.Timeout.{flow_from-muted}
-use Rattle.tox_compile.specs.Compiled.{ops_of}
+use Rattle.tox_compile.specs.Compiled.{applied_ops}
 use Rattle.tox_compile.specs.Meaning.{op_reactions, means}
 use Rattle.tox_compile.specs.Normal.{vanishes, joined, one_or_two, with_last, with_op, normal_form}
-use Rattle.tox_compile.proofs.Compiling.{means-ops_of, operations-ops_of}
+use Rattle.tox_compile.proofs.Compiling.{means-applied_ops, operations-applied_ops}
 use Rattle.tox_compile.proofs.Delays.{delay_vanishes}
 use Rattle.tox_compile.proofs.Slows.{slow_vanishes}
 use Rattle.tox_compile.proofs.Joins.{IsJoint, giving-fixed, is_joint}
@@ -111,8 +111,8 @@ operations-fold draws before (op ∷ ops) fits fits' =
 -- the normal form means what the chain means
 pub means-normal_form : (chain : Toxics) (words : List ℕ) (items : List Item) → IsChain chain → IsStream items → means (record { ops = normal_form chain words }) words items ≡ chain_flow chain words items
 means-normal_form chain words items fits stream =
-    given_by-fold (draw words) [] (ops_of chain words) items (All-nil IsOp) (operations-ops_of chain words fits) stream ∙ means-ops_of chain words items
+    given_by-fold (draw words) [] (applied_ops chain words) items (All-nil IsOp) (operations-applied_ops chain words fits) stream ∙ means-applied_ops chain words items
 
 -- its operations are operations that a plan may have
 pub operations-normal_form : (chain : Toxics) (words : List ℕ) → IsChain chain → All IsOp (normal_form chain words)
-operations-normal_form chain words fits = operations-fold (draw words) [] (ops_of chain words) (All-nil IsOp) (operations-ops_of chain words fits)
+operations-normal_form chain words fits = operations-fold (draw words) [] (applied_ops chain words) (All-nil IsOp) (operations-applied_ops chain words fits)

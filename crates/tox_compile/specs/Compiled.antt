@@ -10,5 +10,5 @@ abbrev pub op_of_placed : Placed → Op
 op_of_placed placed = op_of placed.place placed.toxic
 
 -- one operation for each applied toxic, in order
-abbrev pub ops_of : Toxics → List ℕ → List Op
-ops_of chain words = map op_of_placed (applied chain words)
+abbrev pub applied_ops : Toxics → List ℕ → List Op
+applied_ops chain words = map op_of_placed (applied chain words)

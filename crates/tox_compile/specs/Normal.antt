@@ -7,7 +7,7 @@ use Rattle.tox_defs.specs.declared.op.Op.TheVariants.{Delay, Slow, Mute, Cutoff,
 use Rattle.tox_defs.specs.Chain.{Toxics}
 use Rattle.tox_defs.specs.Op.{op_giving}
 use Rattle.tox_defs.specs.Reaction.{first_state}
-use Rattle.tox_compile.specs.Compiled.{ops_of}
+use Rattle.tox_compile.specs.Compiled.{applied_ops}
 
 -- whether an operation does nothing: a delay of zero without jitter, or a slow close of zero
 abbrev pub vanishes : Op → Bool
@@ -49,4 +49,4 @@ with_op ops op = if vanishes op then ops else with_last ops op
 
 -- the operations of the applied toxics, one after the other
 abbrev pub normal_form : Toxics → List ℕ → List Op
-normal_form chain words = fold with_op [] (ops_of chain words)
+normal_form chain words = fold with_op [] (applied_ops chain words)

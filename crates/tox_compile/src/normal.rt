@@ -1,4 +1,4 @@
-//! Operations joined to the ones before them.
+//! The joining of operations.
 ghost use Rattle.std.specs.Prelude.{◌≡◌, ◌+◌, ◌<◌, ◌^◌, [], ◌∷◌, ◌++◌, All};
 ghost use Rattle.arrayvec.specs.ArrayVec.{array_vec_len};
 ghost use Rattle.tox_defs.specs.Chain.{max_toxics};
@@ -8,7 +8,7 @@ ghost use Rattle.tox_compile.specs.NormalInside.{millis_of, with_more};
 use arrayvec::ArrayVec;
 use tox_defs::{MAX_TOXICS, Op, State};
 
-/// Adds an operation behind the others. A mute takes the place of all of them, and what does nothing is left out.
+/// Appends an operation. A mute replaces all before it, and a no-op is dropped.
 pub(crate) fn add(ops: &mut ArrayVec<Op, MAX_TOXICS>, op: &Op)
     requires room { array_vec_len ops.old < max_toxics }
     requires sums { All (λ last. millis_of last + millis_of op.now < 2 ^ 32) ops.old.items }
@@ -22,7 +22,7 @@ pub(crate) fn add(ops: &mut ArrayVec<Op, MAX_TOXICS>, op: &Op)
     }
 }
 
-/// Adds an operation behind the others, joined to the last where a rule allows.
+/// Appends an operation, joined to the last one if a rule allows.
 fn join_last(ops: &mut ArrayVec<Op, MAX_TOXICS>, op: &Op)
     requires room { array_vec_len ops.old < max_toxics }
     requires sums { All (λ last. millis_of last + millis_of op.now < 2 ^ 32) ops.old.items }
@@ -40,7 +40,7 @@ fn join_last(ops: &mut ArrayVec<Op, MAX_TOXICS>, op: &Op)
     }
 }
 
-/// Whether an operation does nothing.
+/// Whether an operation is a no-op.
 fn vanishes(op: &Op) -> bool
     ensures { result ≡ vanishes op.now }
 {
@@ -51,7 +51,7 @@ fn vanishes(op: &Op) -> bool
     }
 }
 
-/// The one operation that stands for two neighbours, where a rule joins them.
+/// The operation that replaces two neighbours, if a rule joins them.
 fn joined(first: &Op, second: &Op) -> Option<Op>
     requires { millis_of first.now + millis_of second.now < 2 ^ 32 }
     ensures { result ≡ joined first.now second.now }
@@ -81,13 +81,13 @@ fn joined(first: &Op, second: &Op) -> Option<Op>
             instant: *instant.min(other),
         }),
         (Op::Mute { ending }, op) => Some(Op::Mute {
-            ending: op.last(&State::default(), ending),
+            ending: op.map_ending(&State::default(), ending),
         }),
         _ => None,
     }
 }
 
-/// The operation, where it delays every chunk or a close, with so many milliseconds more.
+/// The operation with `more` milliseconds added, if it delays chunks or a close, and else unchanged.
 fn with_more(op: &Op, more: u32) -> Op
     requires { millis_of op.now + more < 2 ^ 32 }
     ensures { result ≡ with_more op.now more }
@@ -111,7 +111,7 @@ fn with_more(op: &Op, more: u32) -> Op
     }
 }
 
-/// Adds an item behind the others.
+/// Appends an item.
 fn append<T: Copy>(list: &mut ArrayVec<T, MAX_TOXICS>, item: &T)
     requires { array_vec_len list.old < max_toxics }
     ensures { list.new.items ≡ list.old.items ++ item.now ∷ [] }

@@ -1,3 +1,4 @@
+//! Plans, and the plan of a chain.
 ghost use Rattle.std.specs.Prelude.{◌≡◌, ◌<◌, List, [], ◌∷◌, ◌++◌, Some};
 ghost use Rattle.arrayvec.specs.ArrayVec.{array_vec_len};
 ghost use Rattle.tox_time.specs.declared.item.Item.{Item as OneItem};
@@ -13,8 +14,8 @@ use tox_defs::{Chain, MAX_TOXICS, Op};
 use tox_time::Micros;
 use tox_words::Words;
 
-/// What a chain is compiled into: the operations of its applied toxics in order, each joined to the last one
-/// where a rule allows.
+/// A compiled chain: the operations of its applied toxics in order, each joined to the one before it if a rule
+/// allows.
 #[derive(Drop)]
 pub struct Plan {
     ops: ArrayVec<Op, MAX_TOXICS>,
@@ -43,7 +44,7 @@ impl Plan {
         &self.ops
     }
 
-    /// From when on arrivals change nothing: the start where an operation mutes, else the earliest cutoff.
+    /// The instant from which arrivals change nothing: 0 if an operation drops all data, else the earliest cutoff.
     pub fn deadline(&self) -> Option<Micros>
         ensures { result ≡ deadline_of self.now.ops }
     {
@@ -62,7 +63,7 @@ fn deadline_of(ops: &[Op]) -> Option<Micros>
     }
 }
 
-/// The earlier of an instant and one that may be.
+/// The earlier of an instant and an optional one.
 fn earlier(instant: Micros, other: Option<Micros>) -> Micros
     ensures { earlier instant other ≡ Some result }
 {
@@ -72,7 +73,7 @@ fn earlier(instant: Micros, other: Option<Micros>) -> Micros
     }
 }
 
-/// The plan of a chain for a link with these words.
+/// The plan of a chain on a link with these words.
 pub fn compile(chain: &Chain, words: &Words) -> Plan
     ensures ops { result.ops ≡ normal_form chain.now words.now }
     ensures means { (items : List OneItem) → IsStream items → means result words.now items ≡ chain_flow chain.now words.now items }

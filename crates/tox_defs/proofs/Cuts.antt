@@ -1,7 +1,7 @@
 -- A text is cut at the first byte that its front lacks.
 use Rattle.std.proofs.Common.{◌≡◌, ℕ, ◌+◌, ◌<◌, Bool, true, false, not, ◌==◌, List, [], ◌∷◌, ◌++◌, length, is_some, refl, ap, ◌∙◌, arith, rules, tests, take, drop, length-append}
 use Rattle.std.specs.List.{after_first, before_first, join_with_byte, list_all, position, position_or_len, slice_split, All}
-use Rattle.std.proofs.lemmas.Bool.{and_parts}
+use Rattle.std.proofs.lemmas.Bool.{and_parts, not-true}
 use Rattle.std.proofs.Math.Seq.{take-append_seam, drop-append-add}
 use Rattle.std.proofs.lemmas.List.Elements.{All-cons, All-from_recursion}
 use Rattle.std.proofs.lemmas.List.Splits.{slice_split_at, slice_split_none}
@@ -10,10 +10,6 @@ use Rattle.std.proofs.lemmas.List.Splits.{slice_split_at, slice_split_none}
 abbrev pub lacks : (ℕ → Bool) → List ℕ → Bool
 lacks test text = list_all (λ byte. not (test byte)) text
 
-not_true : (b : Bool) → not b ≡ true → b ≡ false
-not_true true h = cc
-not_true false h = refl
-
 position_or_len-front : (test : ℕ → Bool) (front : List ℕ) (byte : ℕ) (behind : List ℕ)
     → lacks test front ≡ true → test byte ≡ true
     → position_or_len test (front ++ byte ∷ behind) ≡ length front
@@ -21,7 +17,7 @@ position_or_len-front test [] byte behind none here = rw here refl
 position_or_len-front test (first ∷ front) byte behind none here =
     let parts = and_parts (not (test first)) (lacks test front) none in
     let later = position_or_len-front test front byte behind parts.1 here in
-    rw (not_true (test first) parts.0) (omega (arith, later))
+    rw (not-true (test first) parts.0) (omega (arith, later))
 
 pub before_first-front : (test : ℕ → Bool) (front : List ℕ) (byte : ℕ) (behind : List ℕ)
     → lacks test front ≡ true → test byte ≡ true
@@ -52,7 +48,7 @@ All-from_lacks : (test : ℕ → Bool) (text : List ℕ) → lacks test text ≡
 All-from_lacks test [] none = All-from_recursion (λ byte. test byte ≡ false) [] tt
 All-from_lacks test (byte ∷ text) none =
     let parts = and_parts (not (test byte)) (lacks test text) none in
-    All-cons (λ byte. test byte ≡ false) byte text (not_true (test byte) parts.0) (All-from_lacks test text parts.1)
+    All-cons (λ byte. test byte ≡ false) byte text (not-true (test byte) parts.0) (All-from_lacks test text parts.1)
 
 -- parts that lack the byte by which they are joined
 pub slice_split-join_with_byte : (byte : ℕ) (parts : List (List ℕ)) → 0 < length parts

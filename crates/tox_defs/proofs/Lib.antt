@@ -18,6 +18,6 @@ pub mod OpStreams
 pub mod Finals
 mod Cuts
 mod Decimals
-mod Mapped
+pub mod Mapped
 mod ReadsBack
 mod WorkedCases

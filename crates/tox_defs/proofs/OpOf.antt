@@ -6,7 +6,7 @@ use mathlib.Core.Path.{fun_ext}
 use Rattle.tox_words.specs.Draw.{Draws}
 use Rattle.tox_defs.specs.declared.toxic.Toxic.{Toxic}
 use Rattle.tox_defs.specs.declared.toxic.Toxic.TheVariants.{Latency, Bandwidth, SlowClose, Timeout, ResetPeer, Slicer, LimitData}
-use Rattle.tox_defs.specs.declared.toxic.ToxicFault.TheVariants.{OutOfRange, Variation}
+use Rattle.tox_defs.specs.declared.fault.ToxicFault.TheVariants.{OutOfRange, Variation}
 use Rattle.tox_defs.specs.Toxic.{IsInRange, is_within}
 use Rattle.tox_defs.specs.Reaction.{counted}
 use Rattle.tox_defs.specs.toxics.Latency.{delay_gives}

@@ -6,7 +6,7 @@ use Rattle.tox_defs.specs.Toxic.{toxic_fault}
 use Rattle.tox_defs.specs.declared.kind.Kind.{Kind}
 use Rattle.tox_defs.specs.declared.kind.Kind.TheVariants.{Latency, Bandwidth, SlowClose, Timeout, ResetPeer, Slicer, LimitData}
 use Rattle.tox_defs.specs.declared.toxic.Toxic.{Toxic}
-use Rattle.tox_defs.specs.declared.toxic.ToxicFault.{ToxicFault}
+use Rattle.tox_defs.specs.declared.fault.ToxicFault.{ToxicFault}
 use Rattle.tox_defs.specs.toxics.Latency.{latency_attributes, latency_of}
 use Rattle.tox_defs.specs.toxics.Bandwidth.{bandwidth_attributes, bandwidth_of}
 use Rattle.tox_defs.specs.toxics.SlowClose.{slow_close_attributes, slow_close_of}

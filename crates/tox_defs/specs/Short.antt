@@ -5,11 +5,11 @@ use Rattle.std.specs.Str.{bytes_eq}
 use Rattle.tox_defs.specs.Kind.{attributes_of, checked, kind_of, toxic_of}
 use Rattle.tox_defs.specs.Pairs.{has_double_key, is_pair, is_word, key_of, pairs_of, value_at}
 use Rattle.tox_defs.specs.declared.kind.Kind.{Kind}
-use Rattle.tox_defs.specs.declared.short.ShortFault.{ShortFault}
-use Rattle.tox_defs.specs.declared.short.ShortFault.TheVariants as short
+use Rattle.tox_defs.specs.declared.fault.ShortFault.{ShortFault}
+use Rattle.tox_defs.specs.declared.fault.ShortFault.TheVariants as short
 use Rattle.tox_defs.specs.declared.toxic.Toxic.{Toxic}
-use Rattle.tox_defs.specs.declared.toxic.ToxicFault.{ToxicFault}
-use Rattle.tox_defs.specs.declared.toxic.ToxicFault.TheVariants.{UnknownType, UnknownAttribute, ToxicityNotThousandths}
+use Rattle.tox_defs.specs.declared.fault.ToxicFault.{ToxicFault}
+use Rattle.tox_defs.specs.declared.fault.ToxicFault.TheVariants.{UnknownType, UnknownAttribute, ToxicityNotThousandths}
 
 -- whether a key may stand at a type
 abbrev pub is_known : Kind → List ℕ → Bool

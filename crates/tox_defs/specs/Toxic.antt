@@ -2,8 +2,8 @@
 use Rattle.std.specs.Prelude.{◌≡◌, Bool, false, Option, Some, None, if◌then◌else◌}
 use Rattle.tox_defs.specs.declared.toxic.Toxic.{Toxic}
 use Rattle.tox_defs.specs.declared.toxic.Toxic.TheVariants.{Latency, Bandwidth, SlowClose, Timeout, ResetPeer, Slicer, LimitData}
-use Rattle.tox_defs.specs.declared.toxic.ToxicFault.{ToxicFault}
-use Rattle.tox_defs.specs.declared.toxic.ToxicFault.TheVariants.{OutOfRange, Variation}
+use Rattle.tox_defs.specs.declared.fault.ToxicFault.{ToxicFault}
+use Rattle.tox_defs.specs.declared.fault.ToxicFault.TheVariants.{OutOfRange, Variation}
 use Rattle.tox_defs.specs.toxics.Latency.{is_latency_within}
 use Rattle.tox_defs.specs.toxics.Bandwidth.{is_bandwidth_within}
 use Rattle.tox_defs.specs.toxics.SlowClose.{is_slow_close_within}

@@ -1,10 +1,11 @@
+//! Chains: the toxics of one stream of a link, each with its toxicity.
 ghost use Rattle.std.specs.Prelude.{◌≡◌, ℕ, ◌+◌, ◌<◌, ◌≤◌, ◌↔◌, List, [], ◌∷◌, ◌++◌, length, slice_get, Some, IsTrue, IsOk, OnOk, OnErr, IsSomeAnd};
 ghost use Rattle.tox_defs.specs.Applied.{is_applied};
 
+use crate::fault::TooManyToxics;
 use crate::toxic::Toxic;
 use arrayvec::ArrayVec;
 use std::marker::Model;
-use thiserror::Error;
 use tox_words::Words;
 
 /// The most toxics of a chain.
@@ -19,8 +20,8 @@ pub struct Entry {
 }
 
 impl Entry {
-    /// Whether a link with these words meets the toxic at this place of its chain: where the first word that it
-    /// draws there, modulo 1000, is below the toxicity.
+    /// Whether a link with these words meets the toxic at this place of its chain: the first word of the place's
+    /// lane, modulo 1000, is below the toxicity.
     pub fn is_applied(&self, place: usize, words: &Words) -> bool
         ensures { result ≡ is_applied self.now place words.now }
     {
@@ -45,11 +46,6 @@ impl Default for Entry {
         }
     }
 }
-
-/// The chain is full.
-#[derive(Clone, Copy, Debug, PartialEq, Eq, Error)]
-#[error("S9 TooManyToxics")]
-pub struct TooManyToxics;
 
 /// The toxics of one stream of a link, in order, each with its toxicity: at most [`MAX_TOXICS`].
 #[derive(Drop)]
@@ -77,7 +73,7 @@ impl Chain {
     ghost use Rattle.tox_time.specs.declared.item.Item.{Item as OneItem};
     ghost use Rattle.tox_time.specs.Stream.{IsStream, arrived};
 
-    /// No toxic: what arrives leaves as it is.
+    /// The empty chain, which changes nothing.
     pub fn new() -> Chain
         ensures { result ≡ record { entries = [] } }
     {
@@ -141,8 +137,8 @@ impl Chain {
         self.entries[place].toxicity
     }
 
-    /// Tells a law, and does nothing: whatever the words, a chain gives a stream for a stream,
-    /// of the same bytes or fewer, and so at most one item more than it has bytes.
+    /// A lemma as a function, with no runtime effect: for every table of words a chain gives a stream for a stream,
+    /// with no more bytes, and so with at most one item more than bytes.
     pub fn gives_streams(&self)
         ensures keeps { (words : List ℕ) (items : List OneItem) → IsStream items → IsKeptBy items (chain_flow self.now words items) }
         ensures few { (words : List ℕ) (items : List OneItem) → IsStream items → length (chain_flow self.now words items) ≤ arrived items + 1 }

@@ -7,7 +7,8 @@ ghost use Rattle.tox_defs.specs.KindInside.{saturated};
 ghost use Rattle.tox_defs.specs.Printed.{type_of, values_of};
 ghost use Rattle.tox_defs.specs.Toxic.{IsInRange};
 
-use crate::toxic::{Toxic, ToxicFault};
+use crate::fault::ToxicFault;
+use crate::toxic::Toxic;
 use crate::toxics::{bandwidth, latency, limit_data, reset_peer, slicer, slow_close, timeout};
 use arrayvec::ArrayVec;
 
@@ -27,7 +28,7 @@ pub enum Kind {
 }
 
 impl Kind {
-    /// Each type, once.
+    /// All types, each once.
     pub const ALL: [Kind; 7] = [
         Kind::Latency,
         Kind::Bandwidth,
@@ -38,14 +39,14 @@ impl Kind {
         Kind::LimitData,
     ];
 
-    /// The type of this name, as texts and files write it.
+    /// The type with this name in texts and files.
     pub fn of_name(name: &str) -> Option<Kind>
         ensures { result ≡ kind_of name.now }
     {
         Kind::ALL.iter().copied().find(|kind| kind.name() == name)
     }
 
-    /// The name of the type, as texts and files write it.
+    /// The name of the type in texts and files.
     pub fn name(self) -> &'static str
         ensures { result.now ≡ name_of self }
     {
@@ -86,7 +87,7 @@ impl Kind {
     /// The toxic of the type with these values of its attributes, in their order. Values that are
     /// absent are 0, and those past the last attribute are ignored.
     ///
-    /// Refused as by [`Toxic::check`], also where a value is too large for the attribute's type.
+    /// Fails as [`Toxic::check`] does, also if a value is too large for the attribute's type.
     pub fn toxic(self, values: &[u64]) -> Result<Toxic, ToxicFault>
         ensures value { result ≡ checked (toxic_of self values.now) }
         ensures in_range { IfOk result IsInRange }

@@ -1,3 +1,4 @@
+//! One operation of a plan at work on its present chunk.
 ghost use Rattle.std.specs.Prelude.{◌≡◌, ◌<◌, None, false};
 ghost use Rattle.tox_words.specs.Draw.{draw};
 ghost use Rattle.tox_defs.specs.Op.{is_mute};
@@ -9,8 +10,8 @@ use crate::state::State;
 use tox_time::{Ending, Micros, Slice, Span};
 use tox_words::Words;
 
-/// An operation at work: its state, its present chunk (where that stops, and its instant), and the ending that
-/// it found and whose piece may still have to leave before it.
+/// An operation at work: its state, where its present chunk stops and that chunk's instant, and the ending that
+/// it found, if any. A last piece may still leave before that ending.
 #[derive(Clone, Copy, Debug, Default, PartialEq, Eq)]
 pub struct Level {
     pub op: Op,
@@ -20,17 +21,17 @@ pub struct Level {
     pub ending: Option<Ending>,
 }
 
-/// What an advance through a chunk brings.
+/// What an operation gives next for its present chunk.
 #[derive(Clone, Copy, Debug, PartialEq, Eq)]
 pub enum Emission {
     /// The next piece.
     Piece(Slice),
-    /// The ending, before which no piece is left.
+    /// The ending. No piece is left before it.
     End(Ending),
 }
 
 impl Level {
-    /// The level of an operation that was given nothing yet.
+    /// The level of an operation before its first item.
     pub(crate) fn new(op: &Op) -> Level
         ensures { result ≡ first_level op.now }
     {
@@ -40,8 +41,8 @@ impl Level {
         }
     }
 
-    /// The next piece of the present chunk, of which the bytes from `start` on are unread, or the ending where
-    /// the operation gives no piece before it. An ending that was found is kept in `ending`.
+    /// The next piece of the present chunk, whose unread bytes are `start..stop`, or the ending if no piece comes
+    /// before it. A found ending is kept in `ending`.
     #[inline(always)]
     pub fn advance(&mut self, start: u64, words: &Words) -> Emission
         requires some { start < self.old.stop }

@@ -2,6 +2,7 @@
 #![tactic(auto)]
 
 mod chain;
+mod fault;
 mod kind;
 mod level;
 mod look;
@@ -17,12 +18,13 @@ mod toxic;
 mod toxics;
 mod varied;
 
-pub use chain::{Chain, Entry, MAX_TOXICS, TooManyToxics};
+pub use chain::{Chain, Entry, MAX_TOXICS};
+pub use fault::{ShortFault, TooManyToxics, ToxicFault};
 pub use kind::{Kind, MAX_ATTRIBUTES};
 pub use level::{Emission, Level};
 pub use op::Op;
 pub use position::StreamPosition;
-pub use short::{ShortFault, read_short};
+pub use short::read_short;
 pub use stage::Stage;
 pub use state::State;
-pub use toxic::{Toxic, ToxicFault};
+pub use toxic::Toxic;

@@ -11,10 +11,10 @@ use crate::toxics::{bandwidth, latency, limit_data, reset_peer, slicer, slow_clo
 use tox_time::{Ending, Slice};
 use tox_words::Words;
 
-/// What one look at the rest of a chunk finds.
+/// What a look at the rest of a chunk finds.
 #[derive(Clone, Copy, Debug, PartialEq, Eq)]
 pub(crate) enum Look {
-    /// The next piece, which leaves the rest behind it.
+    /// The next piece. The bytes behind it stay unread.
     Piece(Slice),
     /// The last piece, and the ending that follows it.
     LastPiece(Slice, Ending),
@@ -23,8 +23,8 @@ pub(crate) enum Look {
 }
 
 impl Op {
-    /// Looks at the rest of a chunk for the next piece that the operation gives. A call of its own would cost each
-    /// look a quarter, so it is always inlined, as is [`Level::advance`](crate::Level::advance).
+    /// Finds the next piece that the operation gives for the rest of a chunk. Not inlining this, the toxics' looks
+    /// and [`Level::advance`](crate::Level::advance) makes each look 25 % slower.
     #[inline(always)]
     pub(crate) fn look(&self, state: &State, rest: &Slice, words: &Words) -> Look
         requires operation { IsOp self.now }

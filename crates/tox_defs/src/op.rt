@@ -10,18 +10,18 @@ use crate::toxic::Toxic;
 use crate::toxics::{bandwidth, latency, limit_data, reset_peer, slicer, slow_close, timeout};
 use tox_time::{Ending, Micros};
 
-/// What one stage does: a toxic whose place is known. Plans are lists of these.
+/// What one stage does: a toxic at its place. A plan is a list of these.
 #[derive(Clone, Copy, Debug, PartialEq, Eq)]
 pub enum Op {
-    /// Delays each chunk by `fixed` milliseconds and, where `jitter` isn't 0, by `latency` plus or minus
-    /// `jitter`, drawn from `lane`. Without jitter all stands in `fixed`; `latency` and `lane` are 0.
+    /// Delays each chunk by `fixed` milliseconds and, if `jitter` isn't 0, by `latency` plus or minus `jitter`,
+    /// drawn from `lane`. Without jitter `fixed` has the whole delay, and `latency` and `lane` are 0.
     Delay {
         fixed: u32,
         latency: u32,
         jitter: u32,
         lane: usize,
     },
-    /// Lets `rate` bytes through in a millisecond.
+    /// Passes `rate` bytes per millisecond.
     Pace {
         rate: u32,
     },
@@ -29,7 +29,7 @@ pub enum Op {
     Slow {
         millis: u32,
     },
-    /// Lets nothing through, and ends in this way.
+    /// Drops all data. The link ends with `ending`.
     Mute {
         ending: Ending,
     },
@@ -63,7 +63,7 @@ impl Default for Op {
 }
 
 impl Op {
-    /// What this toxic does at this place of its chain.
+    /// The operation of a toxic at this place of its chain.
     pub fn of(toxic: &Toxic, place: usize) -> Op
         ensures { result ≡ op_of place toxic.now }
     {
@@ -82,7 +82,7 @@ impl Op {
         }
     }
 
-    /// The ending that the operation gives for one that comes to it.
+    /// The ending that the operation gives for this one.
     pub fn map_ending(&self, state: &State, ending: &Ending) -> Ending
         ensures { (draws : Draws) → op_giving self.now draws state.now (final_of ending.now) ≡ final_of result ∷ [] }
     {

@@ -1,9 +1,10 @@
+//! Positions in a stream, and the items that may come next.
 ghost use Rattle.std.specs.Prelude.{◌≡◌};
 ghost use Rattle.tox_defs.specs.StreamPosition.{fits, first_position, position_after};
 
 use tox_time::{Item, MAX_BYTES, Micros};
 
-/// How far a stream has come: where its next chunk starts, its latest instant, and whether its final came.
+/// How far a stream has come: where its next chunk starts, its latest instant, and whether it has ended.
 #[derive(Clone, Copy, Debug, PartialEq, Eq)]
 pub struct StreamPosition {
     pub position: u64,
@@ -23,8 +24,8 @@ impl StreamPosition {
         }
     }
 
-    /// Whether the item goes on with the stream: nothing follows a final, instants never fall, and a chunk has
-    /// bytes, starts where the last one stopped, and stops by 2^40.
+    /// Whether the item may come next: nothing follows a final, instants never fall, and a chunk is nonempty,
+    /// starts where the last one stopped, and stops by 2^40.
     pub(crate) fn fits(&self, item: &Item) -> bool
         ensures { result ≡ fits self.now item.now }
     {
@@ -43,7 +44,7 @@ impl StreamPosition {
         }
     }
 
-    /// The place behind the item.
+    /// The position after the item.
     pub(crate) fn after(&self, item: &Item) -> StreamPosition
         ensures { result ≡ position_after self.now item.now }
     {

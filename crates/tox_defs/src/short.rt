@@ -8,38 +8,14 @@ ghost use Rattle.tox_defs.specs.declared.toxic.Toxic.{Toxic};
 
 mod pairs;
 
+use crate::fault::{ShortFault, ToxicFault};
 use crate::kind::{Kind, MAX_ATTRIBUTES};
-use crate::toxic::{Toxic, ToxicFault};
+use crate::toxic::Toxic;
 use arrayvec::ArrayVec;
 use pairs::{are_known, are_pairs, has_double_key, is_word, value_at};
-use thiserror::Error;
 
-/// The greatest toxicity, in thousandths, and that of a toxic that tells none.
+/// The greatest toxicity, in thousandths. It is the default.
 const MAX_TOXICITY: u64 = 1000;
-
-/// Why a text is no short form of a toxic.
-#[derive(Clone, Copy, Debug, PartialEq, Eq, Error)]
-pub enum ShortFault {
-    /// The text isn't a type, or a type, a colon and pairs of a key and a number.
-    #[error("Q1 BadForm")]
-    BadForm,
-    /// A key stands twice.
-    #[error("Q2 DoubleKey")]
-    DoubleKey,
-    /// There is no such toxic.
-    #[error(transparent)]
-    Toxic(ToxicFault),
-}
-
-impl From<ToxicFault> for ShortFault {
-    ghost use Rattle.tox_defs.specs.declared.short.ShortFault.TheVariants as short;
-
-    ghost from_gives = { λ cause fault. fault ≡ short.Toxic cause };
-
-    fn from(fault: ToxicFault) -> ShortFault {
-        ShortFault::Toxic(fault)
-    }
-}
 
 /// The toxic that a short form names, with its toxicity in thousandths.
 ///
@@ -48,9 +24,9 @@ impl From<ToxicFault> for ShortFault {
 /// `_`, and a value of 1 to 18 decimal digits. An attribute that is absent is 0, and an absent
 /// toxicity 1000.
 ///
-/// Refused in this order: [`ShortFault::BadForm`], [`ToxicFault::UnknownType`],
+/// Fails in this order: [`ShortFault::BadForm`], [`ToxicFault::UnknownType`],
 /// [`ShortFault::DoubleKey`], [`ToxicFault::ToxicityNotThousandths`] for a toxicity above 1000,
-/// [`ToxicFault::UnknownAttribute`], and as by [`Toxic::check`].
+/// [`ToxicFault::UnknownAttribute`], and as [`Toxic::check`] does.
 pub fn read_short(text: &str) -> Result<(Toxic, u16), ShortFault>
     ensures value { result ≡ short_of text.now }
     ensures fits { IfOk result (λ read. IsInRange read.0 × (read.1 ≤ 1000)) }

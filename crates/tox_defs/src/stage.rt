@@ -1,3 +1,4 @@
+//! One toxic at work on a stream, item by item.
 ghost use Rattle.std.specs.Prelude.{◌≡◌, ◌^◌, ◌<◌, ◌≤◌, ◌↔◌, List, [], true, IsTrue};
 ghost use Rattle.tox_words.specs.Draw.{draw};
 ghost use Rattle.tox_defs.specs.Chain.{max_toxics};
@@ -19,7 +20,7 @@ use tox_words::Words;
 
 /// A toxic at work on one stream: it takes an item, and then emits what the toxic gives for it.
 ///
-/// It keeps the unread rest of the chunk that it took last, and no list.
+/// It keeps the unread rest of its last chunk and no list of items.
 #[derive(Drop)]
 pub struct Stage<'w> {
     level: Level,
@@ -43,7 +44,7 @@ impl<'w> Model for Stage<'w> {
 impl<'w> Stage<'w> {
     ghost use Rattle.tox_defs.specs.Stage.{first_stage, taken, MatchEmitted};
 
-    /// The stage of a toxic at a place of its chain, which draws from that lane; it was given nothing yet.
+    /// The stage of a toxic at this place of its chain, before its first item. It draws from the lane of that number.
     pub fn new(toxic: Toxic, lane: usize, words: &'w Words) -> Stage<'w>
         requires in_range { IsInRange toxic }
         requires place { lane < max_toxics }
@@ -68,14 +69,14 @@ impl<'w> Stage<'w> {
         self.level.ending.is_none() && self.start == self.level.stop
     }
 
-    /// Whether the item goes on with the stream that was taken so far.
+    /// Whether the item may follow those taken so far.
     pub fn may_take(&self, item: &Item) -> bool
         ensures { result ≡ fits self.now.place item.now }
     {
         self.place.fits(item)
     }
 
-    /// Takes an item. What the toxic gives for it is then to be emitted.
+    /// Takes an item. `emit` then gives what the toxic makes of it.
     pub fn take(&mut self, item: Item)
         requires idle { self.old.pending ≡ [] }
         requires fits { fits self.old.place item ≡ true }
@@ -105,7 +106,7 @@ impl<'w> Stage<'w> {
         }
     }
 
-    /// The next item of what the toxic gives, or None where nothing is left.
+    /// The next item that the toxic gives, or None if nothing is left.
     pub fn emit(&mut self) -> Option<Item>
         ensures { MatchEmitted self.old self.new result }
     {

@@ -1,8 +1,9 @@
+//! What an operation remembers of its stream.
 ghost use Rattle.std.specs.Prelude.{◌≡◌, ◌+◌, ◌-◌, ◌<◌, ◌≤◌, ◌^◌};
 
 use tox_time::{Ending, Micros, Slice};
 
-/// What a toxic at work remembers of the items that it took and gave.
+/// What a toxic remembers of the items that it took and gave.
 #[derive(Clone, Copy, Debug, Default, PartialEq, Eq)]
 pub struct State {
     /// The instant of the last item that it gave, 0 at the start.
@@ -13,7 +14,7 @@ pub struct State {
     pub pieces: u64,
     /// How many bytes it gave.
     pub passed: u64,
-    /// Whether it gave a final: it then takes items and gives none.
+    /// Whether it gave a final. From then on it takes items and gives none.
     pub done: bool,
 }
 
@@ -21,7 +22,7 @@ impl State {
     ghost use Rattle.tox_defs.specs.Reaction.{with_piece, with_chunk, with_ending};
     ghost use Rattle.tox_defs.specs.Look.{after_piece_of};
 
-    /// One more piece was given.
+    /// Counts a given piece.
     pub(crate) fn add_piece(&mut self, piece: &Slice)
         requires pieces { self.old.pieces + 1 < 2 ^ 64 }
         requires bytes { self.old.passed + (piece.now.span.stop - piece.now.span.start) < 2 ^ 64 }
@@ -33,7 +34,7 @@ impl State {
         self.passed += piece.span.stop - piece.span.start;
     }
 
-    /// One more chunk is done with.
+    /// Counts a chunk.
     pub(crate) fn add_chunk(&mut self)
         requires { self.old.chunks + 1 < 2 ^ 64 }
         ensures { self.new ≡ with_chunk self.old }
@@ -41,7 +42,7 @@ impl State {
         self.chunks += 1;
     }
 
-    /// A piece of a chunk that stops at `stop` was given: the chunk counts with its last piece.
+    /// Counts a given piece of a chunk that stops at `stop`, and the chunk with its last piece.
     pub(crate) fn add_piece_of(&mut self, stop: u64, piece: &Slice)
         requires chunks { self.old.chunks + 1 < 2 ^ 64 }
         requires pieces { self.old.pieces + 1 < 2 ^ 64 }
@@ -55,7 +56,7 @@ impl State {
         }
     }
 
-    /// The ending was given.
+    /// Notes that the ending was given.
     pub(crate) fn add_ending(&mut self, ending: &Ending)
         ensures { self.new ≡ with_ending self.old ending.now }
     {

@@ -1,13 +1,13 @@
-//! A toxic with its attributes, and why there is none.
+//! The toxics with their attributes.
 ghost use Rattle.std.specs.Prelude.{◌≡◌, ◌↔◌, None, Some, IsOk, IfErr};
 ghost use Rattle.tox_defs.specs.Toxic.{is_varied_too_much, is_within, toxic_fault};
 
+use crate::fault::ToxicFault;
 use crate::toxics::{bandwidth, latency, limit_data, reset_peer, slicer, slow_close, timeout};
-use thiserror::Error;
 
 /// A fault that a link can meet, with the attributes of Toxiproxy's toxic of the same name.
 ///
-/// Times are in milliseconds, but for a slicer's `delay`; sizes are in bytes.
+/// Times are in milliseconds, except a slicer's `delay` in microseconds. Sizes are in bytes.
 #[derive(Clone, Copy, Debug, PartialEq, Eq)]
 pub enum Toxic {
     /// Delays all data by `latency` plus or minus `jitter`: each 0 to 3,600,000.
@@ -23,7 +23,7 @@ pub enum Toxic {
     SlowClose {
         delay: u32,
     },
-    /// Stops all data, and closes after `timeout`: 0 to 3,600,000, where 0 never closes.
+    /// Drops all data and closes after `timeout`: 0 to 3,600,000. With 0 it never closes.
     Timeout {
         timeout: u32,
     },
@@ -42,26 +42,6 @@ pub enum Toxic {
     LimitData {
         bytes: u64,
     },
-}
-
-/// Why there is no such toxic.
-#[derive(Clone, Copy, Debug, PartialEq, Eq, Error)]
-pub enum ToxicFault {
-    /// No toxic has this type.
-    #[error("S3 UnknownType")]
-    UnknownType,
-    /// The type has no such attribute.
-    #[error("S4 UnknownAttribute")]
-    UnknownAttribute,
-    /// An attribute is out of its range.
-    #[error("S5 OutOfRange")]
-    OutOfRange,
-    /// A slicer's `size_variation` isn't below its `average_size`.
-    #[error("S6 Variation")]
-    Variation,
-    /// The toxicity is no whole number of thousandths from 0 to 1000.
-    #[error("S7 ToxicityNotThousandths")]
-    ToxicityNotThousandths,
 }
 
 impl Toxic {

@@ -1,9 +1,10 @@
+//! Faults of word tables.
 use thiserror::Error;
 
-/// Why there is no table of words.
+/// Why a table of words can't be made.
 #[derive(Clone, Copy, Debug, Drop, PartialEq, Eq, Error)]
 pub enum WordsFault {
-    /// There is not one word.
+    /// There are no words.
     #[error("W1 NoWords")]
     NoWords,
     /// There are more than [`MAX_WORDS`](crate::MAX_WORDS) words.
@@ -12,7 +13,7 @@ pub enum WordsFault {
     /// The part at this place, from 0, is not a word.
     #[error("W3 BadWord {0}")]
     BadWord(usize),
-    /// Memory was refused.
+    /// Out of memory.
     #[error("W0 OutOfMemory")]
     OutOfMemory,
 }

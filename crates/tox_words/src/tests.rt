@@ -1,3 +1,4 @@
+//! Worked word tables and draws.
 use crate::{MAX_WORDS, Words, WordsFault};
 use std::alloc::{AllocError, Global};
 use std::test::Fail;

@@ -1,3 +1,4 @@
+//! Word tables, and the words that lanes draw from them.
 ghost use Rattle.std.specs.Prelude.{◌≡◌, ◌≢◌, ◌<◌, ◌≤◌, ◌+◌, ◌*◌, ◌%◌, IfOk, IfErr, IsOk, IsOkUnless, length};
 ghost use Rattle.tox_words.specs.Draw.{draw};
 ghost use Rattle.tox_words.specs.Seeded.{seeded_words};
@@ -13,13 +14,13 @@ use std::alloc::Global;
 use std::marker::Model;
 use tox_time::Stream;
 
-/// How many words a table may have.
+/// The most words of a table.
 pub const MAX_WORDS: usize = 4096;
 
 /// The most connections of a proxy, which number from 1.
 pub const MAX_CONNECTIONS: u64 = 1_000_000;
 
-/// How many lanes take turns at a table.
+/// The lanes that share a table.
 const LANES: usize = 16;
 
 /// A table of 1 to [`MAX_WORDS`] words of 32 bits.
@@ -42,7 +43,7 @@ impl Model for Words {
 impl Words {
     /// The table of these words.
     ///
-    /// Refused in this order: [`WordsFault::NoWords`], [`WordsFault::TooMany`], and then
+    /// Fails in this order: [`WordsFault::NoWords`], [`WordsFault::TooMany`], and then
     /// [`WordsFault::OutOfMemory`].
     pub fn from_list(alloc: Global, words: &[u32]) -> Result<Words, WordsFault>
         ensures ok { IfOk result (λ table. table_of words.now ≡ Ok table) }
@@ -62,7 +63,7 @@ impl Words {
     /// The table that a text writes: numbers parted by commas, each 1 to 10 decimal digits of
     /// value at most [`u32::MAX`].
     ///
-    /// Refused in this order: [`WordsFault::NoWords`] for the empty text, [`WordsFault::BadWord`]
+    /// Fails in this order: [`WordsFault::NoWords`] for the empty text, [`WordsFault::BadWord`]
     /// with the place, from 0, of the first part that is no such number,
     /// [`WordsFault::TooMany`], and then [`WordsFault::OutOfMemory`].
     pub fn from_text(alloc: Global, text: &str) -> Result<Words, WordsFault>
@@ -87,7 +88,7 @@ impl Words {
     /// The table of a connection's stream: the first 1024 outputs of PCG32 from this seed, on the
     /// sequence `2 * conn`, or the one after it downstream. Connections number from 1 to [`MAX_CONNECTIONS`].
     ///
-    /// Refused only by [`WordsFault::OutOfMemory`].
+    /// Fails only out of memory.
     pub fn from_seed(
         alloc: Global,
         seed: u64,
@@ -112,8 +113,8 @@ impl Words {
         self.words.len()
     }
 
-    /// The `j`-th word of a lane, both from 0: the 16 lanes take turns at the table, round and
-    /// round. It answers at any numbers.
+    /// The `j`-th word of a lane, both from 0. The 16 lanes take turns at the table, round and
+    /// round. Total: any lane, any turn.
     pub fn draw(&self, lane: usize, j: u64) -> u32
         ensures { result ≡ draw self.now lane j }
     {
@@ -121,7 +122,7 @@ impl Words {
     }
 }
 
-/// Where the `j`-th word of a lane stands in a table of `len` words. What a link draws takes one division.
+/// The index of the `j`-th word of a lane in a table of `len` words. The common case costs one division.
 fn place_of(lane: usize, j: u64, len: usize) -> usize
     requires some { 0 < len }
     requires most { len ≤ max_words }

@@ -7,7 +7,7 @@ ghost use Rattle.tox_defs.specs.Short.{is_known};
 
 use crate::kind::Kind;
 
-/// How many digits a value may have.
+/// The most digits of a value.
 const MAX_DIGITS: usize = 18;
 
 /// Whether a text is one or more of `a` to `z` and `_`.
@@ -72,7 +72,7 @@ fn are_digits(text: &str) -> bool
     text.bytes().all(|byte| byte.is_ascii_digit())
 }
 
-/// Whether a key stands twice or more.
+/// Whether a key is given twice or more.
 pub(super) fn has_double_key(pairs: &str) -> bool
     ensures { result ≡ has_double_key (pairs_of pairs.now) }
 {
