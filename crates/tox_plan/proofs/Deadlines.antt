@@ -24,7 +24,7 @@ use Rattle.tox_plan.specs.Levels.{to_come_from, ops_of, AreNested, AreDrained}
 use Rattle.tox_plan.specs.Running.{Running, IsRunning, reader_at, to_come}
 use Rattle.tox_plan.proofs.Late.{AreLate, IsLateOp, late-stream, final-stream, late-flow, final-flow}
 use Rattle.tox_plan.proofs.LevelLemmas.{to_come_from-read}
-use Rattle.tox_plan.proofs.RunnerLemmas.{to_come-unfound, to_come-ended, idle-unfound, idle-drained}
+use Rattle.tox_plan.proofs.RunnerOutput.{to_come-unfound, to_come-ended, idle-unfound, idle-drained}
 
 -- no operation cuts anything off before an instant
 abbrev pub AreLateOps : ℕ → List Op → Type 0

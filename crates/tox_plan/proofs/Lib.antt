@@ -2,7 +2,12 @@ pub mod LevelLemmas
 pub mod Pulls
 pub mod Starts
 pub mod Endings
-pub mod RunnerLemmas
+pub mod RunnerOutput
+pub mod Looking
+pub mod GivenCuts
+pub mod Offering
+pub mod FirstRunner
+pub mod KnownEndings
 pub mod Deliveries
 pub mod EveryRun
 pub mod Late

@@ -1,7 +1,7 @@
 -- Where a look finds no cut, none is left.
 use Rattle.std.proofs.Common.{refl, ap, sym, subst, ◌∙◌}
 use Rattle.tox_plan.specs.Running.{IsRunning}
-use Rattle.tox_plan.proofs.RunnerLemmas.{look-none}
+use Rattle.tox_plan.proofs.Looking.{look-none}
 use Rattle.tox_plan.proofs.runner.Runner.cut.Goals as goal
 
 pub returns-in_default-clause-none : goal.returns-in_default-clause-none

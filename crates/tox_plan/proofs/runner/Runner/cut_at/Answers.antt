@@ -2,7 +2,7 @@
 use Rattle.std.proofs.Common.{◌≡◌, None, [], ◌∷◌, ap, sym, subst, ◌∙◌}
 use Rattle.tox_time.specs.declared.item.Item.TheVariants.{Quiet}
 use Rattle.tox_plan.specs.Running.{IsRunning, to_come, HasNoChunk}
-use Rattle.tox_plan.proofs.RunnerLemmas.{look-ends, look-none, no_chunk-apart}
+use Rattle.tox_plan.proofs.Looking.{look-ends, look-none, no_chunk-apart}
 use Rattle.tox_plan.proofs.runner.Runner.cut_at.Goals as goal
 
 pub returns-in_err-cut-clause-none : goal.returns-in_err-cut-clause-none

@@ -1,6 +1,6 @@
 -- The ending is known exactly where the source's end was told, or some level's ending is known.
 use Rattle.tox_plan.specs.RunnerInside.{running}
-use Rattle.tox_plan.proofs.RunnerLemmas.{ended_exactly}
+use Rattle.tox_plan.proofs.KnownEndings.{ended_exactly}
 use Rattle.tox_plan.proofs.runner.Runner.ending.Goals as goal
 
 pub returns-then-self-clause-known : goal.returns-then-self-clause-known

@@ -1,7 +1,7 @@
 -- A found cut that is given is no longer to come.
 use Rattle.std.proofs.Common.{ap, ◌∙◌}
 use Rattle.tox_plan.specs.RunnerInside.{running}
-use Rattle.tox_plan.proofs.RunnerLemmas.{IsRunning-after_given, IsOneCut-after_given}
+use Rattle.tox_plan.proofs.GivenCuts.{IsRunning-after_given, IsOneCut-after_given}
 use Rattle.tox_plan.proofs.runner.Runner.give.Goals as goal
 
 pub invariant_of-self : goal.invariant_of-self

@@ -3,7 +3,7 @@ use Rattle.std.proofs.Common.{◌≡◌, true, subst, [], ◌∷◌}
 use Rattle.tox_time.specs.declared.item.Item.TheVariants.{Quiet}
 use Rattle.tox_plan.specs.RunnerInside.{running}
 use Rattle.tox_plan.specs.Running.{Running, HasNoChunk, to_come}
-use Rattle.tox_plan.proofs.RunnerLemmas.{read-no_chunk, idle-unfound}
+use Rattle.tox_plan.proofs.RunnerOutput.{read-no_chunk, idle-unfound}
 use Rattle.tox_plan.proofs.runner.Runner.is_idle.Goals as goal
 
 pub returns-clause-drained : goal.returns-clause-drained

@@ -3,7 +3,7 @@ use Rattle.std.proofs.Common.{rules, ◌≡◌, true, false, None, length, sym, 
 use Rattle.std.proofs.lemmas.Bool.{eqb-true, not-true}
 use Rattle.tox_plan.specs.Levels.{AreDrained, AreOpenUnless, IsNext}
 use Rattle.tox_plan.specs.RunnerInside.{running}
-use Rattle.tox_plan.proofs.RunnerLemmas.{refill-whole, drained-behind, IsRunning-after_found}
+use Rattle.tox_plan.proofs.Looking.{refill-whole, drained-behind, IsRunning-after_found}
 use Rattle.tox_plan.proofs.runner.Runner.look.Goals as goal
 use Rattle.tox_plan.proofs.runner.Runner.look.Goals.{then-cut-self, else-cut-self}
 

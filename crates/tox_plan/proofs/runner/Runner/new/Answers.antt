@@ -5,7 +5,7 @@ use Rattle.tox_plan.specs.Levels.{ops_of, levels_at_start, AreNested, AreRead, A
 use Rattle.tox_plan.specs.Running.{no_piece}
 use Rattle.tox_plan.proofs.Starts.{ops_of-at_start, read-at_start, nested-at_start}
 use Rattle.tox_plan.proofs.Givens.{given-new}
-use Rattle.tox_plan.proofs.RunnerLemmas.{IsRunning-first, means-first}
+use Rattle.tox_plan.proofs.FirstRunner.{IsRunning-first, means-first}
 use Rattle.tox_plan.proofs.runner.Runner.new.Goals as goal
 
 -- the levels are those of the plan

@@ -5,7 +5,7 @@ use Rattle.std.proofs.lemmas.List.{append-nil}
 use Rattle.tox_plan.specs.Given.{HasGiven}
 use Rattle.tox_plan.proofs.Orders.{left-after}
 use Rattle.tox_plan.proofs.Givens.{given-cut, whole}
-use Rattle.tox_plan.proofs.RunnerLemmas.{one-round, more-rounds, IsCut-one, IsCut-longer, IsCut-same, keeps-both}
+use Rattle.tox_plan.proofs.GivenCuts.{one-round, more-rounds, IsCut-one, IsCut-longer, IsCut-same, keeps-both}
 use Rattle.tox_plan.proofs.runner.Runner.next_cut.Goals as goal
 
 pub returns-in_err-slice-clause-whole : goal.returns-in_err-slice-clause-whole

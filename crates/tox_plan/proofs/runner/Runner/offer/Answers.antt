@@ -4,7 +4,8 @@ use Rattle.tox_plan.specs.RunnerInside.{running}
 use Rattle.tox_defs.specs.Look.{as_chunk}
 use Rattle.tox_plan.specs.Running.{next_piece}
 use Rattle.tox_plan.proofs.Givens.{given-offer}
-use Rattle.tox_plan.proofs.RunnerLemmas.{IsRunning-after_offer, to_come-after_offer, idle-drained, none_of}
+use Rattle.tox_plan.proofs.Offering.{IsRunning-after_offer, to_come-after_offer}
+use Rattle.tox_plan.proofs.RunnerOutput.{idle-drained, none_of}
 use Rattle.tox_plan.proofs.LevelLemmas.{drained-at}
 use Rattle.tox_plan.proofs.runner.Runner.offer.Goals as goal
 

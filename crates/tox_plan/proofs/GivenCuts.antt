@@ -1,0 +1,142 @@
+-- Cuts that a runner gives, one after the other.
+use Rattle.std.proofs.Common.{◌≡◌, ℕ, ◌<◌, ◌≤◌, ◌+◌, ◌*◌, List, [], ◌∷◌, ◌++◌, map, length, length-append, append_assoc, Some, None, refl, ap, ◌∙◌, sym, subst, arith}
+use Rattle.tox_time.specs.declared.slice.Slice.{Slice}
+use Rattle.tox_time.specs.declared.item.Item.{Item}
+use Rattle.tox_defs.specs.Look.{as_chunk}
+use Rattle.tox_plan.specs.Levels.{AreNested, AreDrained}
+use Rattle.tox_plan.specs.Running.{Running, IsRunning, IsFound, to_come, reader_at}
+use Rattle.tox_plan.specs.Cuts.{IsCut, IsOneCut, KeepsOffers, Reach}
+use Rattle.tox_plan.proofs.LevelLemmas.{nested-below}
+use Rattle.tox_plan.proofs.RunnerOutput.{to_come-unfound, to_come-found, found-cut}
+use Rattle.tox_plan.proofs.Looking.{round_due-most}
+use Rattle.std.proofs.lemmas.List.{map-append}
+
+-- a runner that gives the cut that it found
+module _ (old : Running) (cut : Slice) where
+  abbrev pub after_given : Running
+  after_given = record {
+    levels = old.levels;
+    words = old.words;
+    position = cut.span.stop;
+    piece = old.piece;
+    latest = old.latest;
+    found = None;
+    read = old.read;
+    ending = old.ending;
+    finished = old.finished;
+    idle = old.idle;
+    turns = old.turns;
+    ended = old.ended;
+    cuts = old.cuts + 1;
+    pieces = old.pieces;
+  }
+
+  module _ (invariant : IsRunning old) (some : old.found ≡ Some cut) where
+    found : IsFound old cut
+    found = found-cut old cut invariant some
+
+    nested : AreNested cut.span.stop old.levels old.piece
+    nested = subst (λ found. AreNested (reader_at old.position found) old.levels old.piece) some (invariant.nested found.running)
+
+    pub IsRunning-after_given : IsRunning after_given
+    IsRunning-after_given =
+        let counted : 0 + old.turns ≤ length old.levels * (old.cuts + old.pieces) = rw some at invariant.counted in
+        let cuts_looked : 0 < length old.levels → old.cuts + 1 ≤ old.turns = rw some at invariant.looked in
+        let below : cut.span.stop ≤ old.piece.span.stop = nested-below cut.span.stop old.levels old.piece nested in
+        record {
+          nested = λ _. nested;
+          drained = λ read none. subst (λ found. AreDrained (reader_at old.position found) old.levels old.piece) some (invariant.drained read none);
+          found = tt;
+          unended = invariant.unended;
+          ended = invariant.ended;
+          idle = invariant.idle;
+          cause = invariant.cause;
+          told = invariant.told;
+          reached = below;
+          here = λ busy. omega (arith, invariant.here busy, found.some);
+          few = invariant.few;
+          few_levels = invariant.few_levels;
+          few_cuts = omega (arith, invariant.few_cuts, found.some);
+          few_pieces = invariant.few_pieces;
+          counted = omega (arith, counted, round_due-most old.read None (length old.levels));
+          looked = λ some. omega (arith, cuts_looked some);
+        }
+
+    pub IsOneCut-after_given : IsOneCut old after_given cut
+    IsOneCut-after_given =
+        let none : old.ending ≡ None = found.running in
+        record {
+          begins = found.begins;
+          some = omega (arith, found.begins, found.some);
+          stands = refl;
+          within = record {
+            from = omega (arith, invariant.here found.busy, found.begins);
+            some = omega (arith, found.begins, found.some);
+            to = nested-below cut.span.stop old.levels old.piece nested;
+          };
+          gives = λ items. to_come-found old cut items none some ∙ ap (λ items. as_chunk cut ∷ items) (sym (to_come-unfound after_given items none refl));
+          counted = refl;
+        }
+
+-- cuts at one instant are together a slice
+pub Reach-append : (start middle stop instant : ℕ) (xs ys : List Slice) → Reach start middle instant xs → Reach middle stop instant ys → Reach start stop instant (xs ++ ys)
+Reach-append start middle stop instant [] ys reach others = rw reach others
+Reach-append start middle stop instant (x ∷ xs) ys reach others = (reach.0, reach.1, reach.2, Reach-append x.span.stop middle stop instant xs ys reach.3 others)
+
+pub IsCut-one : (old new : Running) (cut : Slice) → IsOneCut old new cut → IsCut old new cut
+IsCut-one old new cut one = record {
+  within = one.within;
+  cuts = cut ∷ [];
+  parts = (refl, one.some, refl, refl);
+  gives = one.gives;
+  counted = one.counted;
+}
+
+-- one more cut at the slice's instant makes the slice longer
+pub IsCut-longer : (old middle new : Running) (slice : Slice) (stop : ℕ) → IsCut old middle slice → middle.position ≡ slice.span.stop → middle.piece ≡ old.piece
+    → IsOneCut middle new (record { span = record { start = middle.position; stop = stop }; instant = slice.instant })
+    → IsCut old new (record { span = record { start = slice.span.start; stop = stop }; instant = slice.instant })
+IsCut-longer old middle new slice stop cut at piece one =
+    let last : Slice = record { span = record { start = middle.position; stop = stop }; instant = slice.instant } in
+    record {
+      within = record {
+        from = cut.within.from;
+        some = omega (arith, cut.within.some, at, one.some);
+        to = subst (λ piece. stop ≤ piece.span.stop) piece one.within.to;
+      };
+      cuts = cut.cuts ++ last ∷ [];
+      parts = Reach-append slice.span.start slice.span.stop stop slice.instant cut.cuts (last ∷ []) cut.parts (at, omega (arith, at, one.some), refl, refl);
+      gives = λ items. cut.gives items ∙ ap (λ items. map as_chunk cut.cuts ++ items) (one.gives items)
+          ∙ sym (append_assoc (map as_chunk cut.cuts) (as_chunk last ∷ []) (to_come new items))
+          ∙ ap (λ given. given ++ to_come new items) (sym (map-append as_chunk cut.cuts (last ∷ [])));
+      counted = one.counted ∙ ap (λ n. n + 1) cut.counted ∙ omega (arith, length-append cut.cuts (last ∷ []));
+    }
+
+-- a slice stays what it is where nothing more is given
+pub IsCut-same : (old middle new : Running) (slice : Slice) → IsCut old middle slice → ((items : List Item) → to_come new items ≡ to_come middle items) → new.cuts ≡ middle.cuts → IsCut old new slice
+IsCut-same old middle new slice cut same counted = record {
+  within = cut.within;
+  cuts = cut.cuts;
+  parts = cut.parts;
+  gives = λ items. cut.gives items ∙ ap (λ items. map as_chunk cut.cuts ++ items) (sym (same items));
+  counted = counted ∙ cut.counted;
+}
+
+pub keeps-both : (old middle new : Running) → KeepsOffers old middle → KeepsOffers middle new → KeepsOffers old new
+keeps-both old middle new first second = record {
+  words = second.words ∙ first.words;
+  piece = second.piece ∙ first.piece;
+  latest = second.latest ∙ first.latest;
+  finished = second.finished ∙ first.finished;
+  pieces = second.pieces ∙ first.pieces;
+  levels = second.levels ∙ first.levels;
+  ops = second.ops ∙ first.ops;
+}
+
+-- a round of looks for one cut, and for one more
+pub one-round : (levels old new before after : ℕ) → new ≤ old + levels → after ≡ before + 1 → new + levels * before ≤ old + levels * after
+one-round levels old new before after few counted = rw counted (omega (arith, few))
+
+pub more-rounds : (levels levels' first old new before middle after : ℕ) → levels' ≡ levels → old + levels * before ≤ first + levels * middle → new ≤ old + levels' → after ≡ middle + 1
+    → new + levels * before ≤ first + levels * after
+more-rounds levels levels' first old new before middle after same rounds few counted = rw counted (omega (arith, same, rounds, few))

@@ -1,0 +1,167 @@
+-- A runner that looks for its next cut.
+use Rattle.std.proofs.Common.{◌≡◌, ℕ, ◌<◌, ◌≤◌, ◌+◌, ◌*◌, ◌^◌, Bool, true, false, List, [], ◌∷◌, length, Option, Some, None, refl, ap, ◌∙◌, sym, subst, arith, inl, inr}
+use Rattle.std.proofs.Math.Nat.{mul-le-mul_right}
+use Rattle.std.proofs.Math.Seq.{take-append_seam}
+use Rattle.std.specs.List.{refill}
+use Rattle.std.specs.Prelude.{is_some, IsSome, IsNone, IfSome}
+use Rattle.tox_time.specs.declared.slice.Slice.{Slice}
+use Rattle.tox_time.specs.declared.item.Item.{Item}
+use Rattle.tox_time.specs.declared.item.Item.TheVariants.{Chunk, Closed, Reset, Quiet}
+use Rattle.tox_time.specs.declared.ending.Ending.{Ending}
+use Rattle.tox_time.specs.Table.{final_of}
+use Rattle.tox_defs.specs.declared.level.Level.{Level}
+use Rattle.tox_plan.specs.Levels.{AreNested, AreDrained, IsNext, HaveEnded, AreOpenUnless}
+use Rattle.tox_plan.specs.Running.{Running, IsRunning, IsFound, to_come, reader_at, round_due, HasNoChunk}
+use Rattle.tox_plan.specs.Cuts.{BeginsApart, EndsHere}
+use Rattle.tox_plan.proofs.LevelLemmas.{nested-below, drained-at}
+use Rattle.tox_plan.proofs.RunnerOutput.{to_come-unfound, to_come-found, to_come-ended, unknown, final-no_chunk, read-no_chunk, unread-ending, unread-busy}
+
+-- a round of looks fits the counter of turns
+pub turns_fit : (levels turns cuts pieces : ℕ) → turns ≤ levels * (cuts + pieces) → levels ≤ 16 → cuts ≤ 2 ^ 40 → pieces ≤ 2 ^ 40 → turns + levels < 2 ^ 64
+turns_fit levels turns cuts pieces counted few few_cuts few_pieces =
+    let most : levels * (cuts + pieces) ≤ 16 * (cuts + pieces) = mul-le-mul_right (cuts + pieces) few in
+    omega arith
+
+-- at most one round is due
+round_due-most : (read : Bool) (found : Option Slice) (round : ℕ) → round_due read found round ≤ round
+round_due-most true None round = omega arith
+round_due-most false None round = omega arith
+round_due-most read (Some cut) round = omega arith
+
+-- a slice that was lent and kept its length is what was written through it
+pub refill-whole : (n : ℕ) (old new : List Level) → length new ≡ n → refill n old new ≡ new
+refill-whole n old new same_length = rw (← same_length) (take-append_seam new _)
+
+-- nothing is left behind a cut that stops where the piece does, where no level keeps an ending
+pub drained-behind : (start : ℕ) (levels : List Level) (source : Slice) → AreNested start levels source → (HaveEnded levels → ⊥) → start ≡ source.span.stop → AreDrained start levels source
+drained-behind start [] source nested unended at = sym at
+drained-behind start (level ∷ levels) source nested unended at =
+    let below : level.stop ≤ source.span.stop = nested-below level.stop levels source nested.1 in
+    let read : level.stop ≡ start = omega (arith, nested.0.sound.within, below, at) in
+    (read, unknown level.ending (λ some. unended (inl some)), drained-behind level.stop levels source nested.1 (λ ended. unended (inr ended)) (read ∙ at))
+
+-- a runner that found its next cut, and whether it is the last
+module _ (old : Running) (levels : List Level) (turns : ℕ) (ended : Bool) (cut : Slice) (last : Bool) where
+  abbrev pub after_found : Running
+  after_found = record {
+    levels = levels;
+    words = old.words;
+    position = old.position;
+    piece = old.piece;
+    latest = old.latest;
+    found = Some cut;
+    read = last;
+    ending = old.ending;
+    finished = old.finished;
+    idle = old.idle;
+    turns = turns;
+    ended = ended;
+    cuts = old.cuts;
+    pieces = old.pieces;
+  }
+
+  module _ (invariant : IsRunning old) (unread : old.read ≡ false) (unfound : old.found ≡ None) (next : IsNext old.words old.position old.levels levels old.piece cut) where
+    pub IsRunning-after_found : (last ≡ true → AreDrained cut.span.stop levels old.piece) → AreOpenUnless ended levels → length levels ≡ length old.levels → turns ≤ old.turns + length old.levels → old.turns ≤ turns → (0 < length old.levels → old.turns < turns) → IsRunning after_found
+    IsRunning-after_found drained unended same_length few_turns more looked =
+        let busy : old.idle ≡ false = unread-busy old invariant unread in
+        let running : old.ending ≡ None = unread-ending old invariant unread in
+        let counted : length old.levels + old.turns ≤ length old.levels * (old.cuts + old.pieces) = rw (unfound, unread) at invariant.counted in
+        let cuts_looked : 0 < length old.levels → old.cuts + 0 ≤ old.turns = rw unfound at invariant.looked in
+        record {
+          nested = λ _. next.nested;
+          drained = λ read none. drained read;
+          found = record { begins = next.begins; some = next.some; busy = busy; running = running };
+          unended = unended;
+          ended = λ some. absurd (let known : is_some old.ending ≡ true = some in let unknown : is_some old.ending ≡ false = ap is_some running in cc);
+          idle = λ idle. absurd (let both : true ≡ false = sym idle ∙ busy in cc);
+          cause = λ some. absurd (let both : true ≡ false = sym (invariant.ended some) ∙ unread in cc);
+          told = invariant.told;
+          reached = invariant.reached;
+          here = invariant.here;
+          few = invariant.few;
+          few_levels = rw same_length invariant.few_levels;
+          few_cuts = invariant.few_cuts;
+          few_pieces = invariant.few_pieces;
+          counted = rw same_length (omega (arith, counted, few_turns));
+          looked = λ some. omega (arith, cuts_looked (rw (← same_length) some), looked (rw (← same_length) some));
+        }
+
+    pub to_come-after_found : (items : List Item) → to_come after_found items ≡ to_come old items
+    to_come-after_found items =
+        let none : old.ending ≡ None = unread-ending old invariant unread in
+        to_come-found after_found cut items none refl ∙ sym (next.gives items) ∙ sym (to_come-unfound old items none unfound)
+
+-- a runner that has read its piece to the end
+module _ (old : Running) (levels : List Level) (turns : ℕ) (ended : Bool) (ending : Option Ending) where
+  abbrev pub after_read : Running
+  after_read = record {
+    levels = levels;
+    words = old.words;
+    position = old.position;
+    piece = old.piece;
+    latest = old.latest;
+    found = old.found;
+    read = true;
+    ending = ending;
+    finished = old.finished;
+    idle = old.idle;
+    turns = turns;
+    ended = ended;
+    cuts = old.cuts;
+    pieces = old.pieces;
+  }
+
+  module _ (invariant : IsRunning old) (unread : old.read ≡ false) (unfound : old.found ≡ None) where
+    pub IsRunning-after_read : (ending ≡ None → AreDrained old.position levels old.piece × AreNested old.position levels old.piece) → (IsSome ending → HaveEnded levels) → AreOpenUnless ended levels
+        → length levels ≡ length old.levels → turns ≤ old.turns + length old.levels → old.turns ≤ turns → IsRunning after_read
+    IsRunning-after_read drained kept unended same_length few_turns more =
+        let counted : length old.levels + old.turns ≤ length old.levels * (old.cuts + old.pieces) = rw (unfound, unread) at invariant.counted in
+        let cuts_looked : 0 < length old.levels → old.cuts + 0 ≤ old.turns = rw unfound at invariant.looked in
+        let running : old.finished ≡ true → ⊥ = (λ told. let both : true ≡ false = sym (invariant.ended (invariant.told told)) ∙ unread in absurd (cc)) in
+        record {
+          nested = λ none. rw unfound (drained none).1;
+          drained = λ read none. rw unfound (drained none).0;
+          found = subst (λ found. IfSome found (IsFound after_read)) (sym unfound) tt;
+          unended = unended;
+          ended = λ some. refl;
+          idle = λ idle. refl;
+          cause = λ some. inr (kept some);
+          told = λ told. absurd (running told);
+          reached = invariant.reached;
+          here = invariant.here;
+          few = invariant.few;
+          few_levels = rw same_length invariant.few_levels;
+          few_cuts = invariant.few_cuts;
+          few_pieces = invariant.few_pieces;
+          counted = rw (unfound, same_length) (omega (arith, counted, few_turns));
+          looked = λ some. rw unfound (omega (arith, cuts_looked (rw (← same_length) some), more));
+        }
+
+-- where a look finds no cut, no chunk is left
+pub look-none : (old new : Running) → IsRunning new → (IsNone new.found → new.read ≡ true) → new.found ≡ None → ((items : List Item) → to_come new items ≡ to_come old items)
+    → HasNoChunk (to_come new (Quiet ∷ [])) × HasNoChunk (to_come old (Quiet ∷ []))
+look-none old new invariant read none same =
+    let chunks : HasNoChunk (to_come new (Quiet ∷ [])) = read-no_chunk new invariant (read (subst IsNone (sym none) refl)) none in
+    (chunks, subst HasNoChunk (same (Quiet ∷ [])) chunks)
+
+-- a list with no chunk has none at an instant
+pub no_chunk-apart : (instant : ℕ) (items : List Item) → HasNoChunk items → BeginsApart instant items
+no_chunk-apart instant [] none = tt
+no_chunk-apart instant (Chunk span t ∷ items) none = absurd none
+no_chunk-apart instant (Closed t ∷ items) none = none
+no_chunk-apart instant (Reset t ∷ items) none = none
+no_chunk-apart instant (Quiet ∷ items) none = none
+
+-- a slice ends where a look finds no cut
+pub look-ends : (runner : Running) (instant : ℕ) → IsRunning runner → (IsNone runner.found → runner.read ≡ true) → runner.found ≡ None → EndsHere instant runner
+look-ends runner instant invariant read none = from runner.ending refl
+  where
+    is_read : runner.read ≡ true
+    is_read = read (subst IsNone (sym none) refl)
+
+    from : (ending : Option Ending) → runner.ending ≡ ending → EndsHere instant runner
+    from None is =
+        let drained : AreDrained runner.position runner.levels runner.piece = subst (λ found. AreDrained (reader_at runner.position found) runner.levels runner.piece) none (invariant.drained is_read is) in
+        inl (sym (drained-at runner.position runner.levels runner.piece drained))
+    from (Some ending) is =
+        inr (λ items. subst (BeginsApart instant) (sym (to_come-ended runner ending items is)) (no_chunk-apart instant (final_of ending ∷ []) (final-no_chunk ending)))
