@@ -57,7 +57,9 @@ fn print_to(alloc: Global, writer: &mut MemorySink) -> Result<Result<(), PrintPi
 #[test]
 fn a_toxicity_with_a_point_is_refused(rt: HostRuntime) -> Result<(), Fail> {
     let script = SCRIPT.replace(rt.alloc(), "toxicity = 0", "toxicity = 0.5")?;
-    let fault = read_script(rt.alloc(), script.as_bytes()).err().ok_or("no fault")?;
+    let fault = read_script(rt.alloc(), script.as_bytes())
+        .err()
+        .ok_or("no fault")?;
     let line = format!(in rt.alloc(); "{fault}")?;
     assert_eq!(rt; line.as_str(), "S7 ToxicityNotThousandths 1 2");
     Ok(())

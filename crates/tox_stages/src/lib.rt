@@ -10,4 +10,3 @@ mod worker;
 
 pub use fault::StageFault;
 pub use levels::run_stages;
-
