@@ -15,7 +15,7 @@ use crate::levels::{self, Looks, Pulled, last_of, pull, push_levels};
 use arrayvec::ArrayVec;
 use std::marker::Model;
 use tox_compile::Plan;
-use tox_defs::{Level, MOST_TOXICS};
+use tox_defs::{Level, MAX_TOXICS};
 use tox_time::{ArrivalFault, Ending, MOST_BYTES, Micros, Slice, Span};
 use tox_words::Words;
 
@@ -24,7 +24,7 @@ use tox_words::Words;
 /// It keeps one end, one instant and a few numbers for each operation: no queue, and no list of items.
 #[derive(Drop)]
 pub struct Runner<'w> {
-    levels: ArrayVec<Level, MOST_TOXICS>,
+    levels: ArrayVec<Level, MAX_TOXICS>,
     words: &'w Words,
     position: u64,
     piece: Slice,
