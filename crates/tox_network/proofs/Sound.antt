@@ -8,17 +8,17 @@ use Rattle.tox_time.specs.declared.item.Item.{Item}
 use Rattle.tox_time.specs.Stream.{IsStream, arrived, has_final}
 use Rattle.tox_words.specs.Draw.{draw}
 use Rattle.tox_defs.specs.declared.chain.Entry.{Entry}
-use Rattle.tox_defs.specs.declared.place.Place.{Place}
+use Rattle.tox_defs.specs.declared.position.StreamPosition.{StreamPosition}
 use Rattle.tox_defs.specs.Applied.{is_applied}
-use Rattle.tox_defs.specs.Chain.{Toxics, IsChain}
+use Rattle.tox_defs.specs.Chain.{Toxics, IsChain, max_toxics}
 use Rattle.tox_defs.specs.Reaction.{flow_through}
 use Rattle.tox_defs.specs.Flow.{Placed, toxic_reaction, applied_from, applied, reactions_of}
-use Rattle.tox_defs.specs.Place.{fits, first_place, place_after, AllFit}
+use Rattle.tox_defs.specs.StreamPosition.{fits, first_position, position_after, AllFit}
 use Rattle.tox_defs.specs.Stage.{Staged}
 use Rattle.tox_defs.proofs.OpOf.{op_reaction-op_of}
 use Rattle.tox_defs.proofs.Places.{AllFit-stream}
 use Rattle.tox_network.specs.declared.moves.Move.{Move}
-use Rattle.tox_network.specs.NetworkState.{NetworkState, StageState, first_stage, start, queue}
+use Rattle.tox_network.specs.NetworkState.{NetworkState, StageState, idle_stage, start, queue}
 use Rattle.tox_network.specs.Moves.{after, leaving}
 use Rattle.tox_network.specs.Still.{coming, still, moves_left, most_moves}
 use Rattle.tox_network.specs.Runs.{IsAtRest}
@@ -38,13 +38,13 @@ sound_shape network sound = sound.shaped ∙ ap (λ count. count + 1) (sym (stag
 -- The places of stages
 
 -- a place moves on behind these items
-abbrev pub MovesOn : Place → List Item → Place → Type 0
+abbrev pub MovesOn : StreamPosition → List Item → StreamPosition → Type 0
 MovesOn place [] next = next ≡ place
-MovesOn place (item ∷ items) next = MovesOn (place_after place item) items next
+MovesOn place (item ∷ items) next = MovesOn (position_after place item) items next
 
-AllFit-behind : (place : Place) (items rest : List Item) (next : Place) → AllFit place (items ++ rest) → MovesOn place items next → AllFit next rest
+AllFit-behind : (place : StreamPosition) (items rest : List Item) (next : StreamPosition) → AllFit place (items ++ rest) → MovesOn place items next → AllFit next rest
 AllFit-behind place [] rest next fit on = subst (λ here. AllFit here rest) (sym on) fit
-AllFit-behind place (item ∷ items) rest next fit on = AllFit-behind (place_after place item) items rest next fit.1 on
+AllFit-behind place (item ∷ items) rest next fit on = AllFit-behind (position_after place item) items rest next fit.1 on
 
 -- the place of each stage moved on behind what the move took out of the queue before it
 abbrev pub PlacesMoveOn : Move → Running → Running → Type 0
@@ -120,13 +120,13 @@ length-applied_from place (entry ∷ entries) words =
     omega (arith, before)
 
 -- the stages of toxics as the definitions see them
-states_of_toxics : (toxics : List Placed) (words : List ℕ) → map stage_of (map (placed_stage words) toxics) ≡ map first_stage (map (λ placed. toxic_reaction placed.toxic (draw words placed.place)) toxics)
+states_of_toxics : (toxics : List Placed) (words : List ℕ) → map stage_of (map (placed_stage words) toxics) ≡ map idle_stage (map (λ placed. toxic_reaction placed.toxic (draw words placed.place)) toxics)
 states_of_toxics [] words = refl
 states_of_toxics (placed ∷ toxics) words =
-    ap (λ reaction. first_stage reaction ∷ map stage_of (map (placed_stage words) toxics)) (op_reaction-op_of placed.place placed.toxic (draw words))
-    ∙ ap (λ stages. first_stage (toxic_reaction placed.toxic (draw words placed.place)) ∷ stages) (states_of_toxics toxics words)
+    ap (λ reaction. idle_stage reaction ∷ map stage_of (map (placed_stage words) toxics)) (op_reaction-op_of placed.place placed.toxic (draw words))
+    ∙ ap (λ stages. idle_stage (toxic_reaction placed.toxic (draw words placed.place)) ∷ stages) (states_of_toxics toxics words)
 
-places_of_toxics : (toxics : List Placed) (words : List ℕ) (k : ℕ) (stage : Staged) → slice_get (map (placed_stage words) toxics) k ≡ Some stage → stage.place ≡ first_place
+places_of_toxics : (toxics : List Placed) (words : List ℕ) (k : ℕ) (stage : Staged) → slice_get (map (placed_stage words) toxics) k ≡ Some stage → stage.place ≡ first_position
 places_of_toxics [] words k stage at = absurd (none-some stage at)
 places_of_toxics (placed ∷ toxics) words zero stage at = sym (ap (λ (one : Staged). one.place) (same_Some _ _ at))
 places_of_toxics (placed ∷ toxics) words (suc k) stage at = places_of_toxics toxics words k stage at
@@ -161,7 +161,7 @@ sound_start cap chain words items room fits stream bytes =
     let is : state_of network ≡ start reactions items = first_state_of cap chain words items in
     let count : length network.stages ≡ length reactions = length-map toxics (placed_stage words) ∙ sym (length-map toxics (λ placed. toxic_reaction placed.toxic (draw words placed.place))) in
     let no_item : List Item = [] in
-    let most : length network.stages ≤ 16 = omega (arith, length-map toxics (placed_stage words), length-applied_from 0 chain.entries words, fits.most) in
+    let most : length network.stages ≤ max_toxics = omega (arith, length-map toxics (placed_stage words), length-applied_from 0 chain.entries words, fits.most) in
     let moves : moves_left (start reactions items) ≤ most_moves (length reactions) items = start_moves reactions items (arrived items + 1) (few_in_front chain words items fits stream) in
     let product : (2 * length network.stages + 2) * (arrived items + 1) ≤ (2 * length network.stages + 2) * (2 ^ 40 + 1) = mul-le-mul_left (2 * length network.stages + 2) (omega arith) in
     record {
@@ -172,7 +172,7 @@ sound_start cap chain words items room fits stream bytes =
           let kept = kept_by_front chain words k items fits stream in
           let comes : coming (state_of network) k ≡ flow_through (take k reactions) items = ap (λ n. coming n k) is ∙ start_coming reactions items k within in
           subst (λ place. AllFit place (coming (state_of network) k)) (sym (places_of_toxics toxics words k stage at))
-          (subst (AllFit first_place) (sym comes) (AllFit-stream 0 0 (flow_through (take k reactions) items) kept.stream (omega (arith, kept.bytes))));
+          (subst (AllFit first_position) (sym comes) (AllFit-stream 0 0 (flow_through (take k reactions) items) kept.stream (omega (arith, kept.bytes))));
       whole =
           let kept = kept_by_front chain words (length reactions) items fits stream in
           subst IsStream (sym (ap still is ∙ start_still reactions items ∙ ap (λ all. flow_through all items) (sym (take_all (length reactions) reactions (omega arith))))) kept.stream;

@@ -6,12 +6,12 @@ use Rattle.std.proofs.lemmas.List.{length-replicate, length-map, take_all}
 use Rattle.std.proofs.lemmas.Option.{none-some, same_Some, slice_get-map, slice_get_cases}
 use Rattle.tox_time.specs.declared.item.Item.{Item}
 use Rattle.tox_defs.specs.Reaction.{Reaction, flow, flow_through}
-use Rattle.tox_network.specs.NetworkState.{NetworkState, first_stage, start, queue}
+use Rattle.tox_network.specs.NetworkState.{NetworkState, idle_stage, start, queue}
 use Rattle.tox_network.specs.Still.{to_give, to_enter, coming, still, sum_to, moves_left}
 use Rattle.tox_network.proofs.Coming.{IsShaped}
 
 pub start_stages : (reactions : List Reaction) (arrivals : List Item) → length (start reactions arrivals).stages ≡ length reactions
-start_stages reactions arrivals = length-map reactions first_stage
+start_stages reactions arrivals = length-map reactions idle_stage
 
 pub start_shaped : (reactions : List Reaction) (arrivals : List Item) → IsShaped (start reactions arrivals)
 start_shaped reactions arrivals =
@@ -34,8 +34,8 @@ flow_through-more [] items k reaction h = absurd (none-some reaction h)
 flow_through-more (first ∷ reactions) items zero reaction h = ap (λ one. flow one items) (same_Some _ _ h)
 flow_through-more (first ∷ reactions) items (suc k) reaction h = flow_through-more reactions (flow first items) k reaction h
 
-start_stage : (reactions : List Reaction) (arrivals : List Item) (k : ℕ) (reaction : Reaction) → slice_get reactions k ≡ Some reaction → slice_get (start reactions arrivals).stages k ≡ Some (first_stage reaction)
-start_stage reactions arrivals k reaction at = slice_get-map first_stage reactions k ∙ ap (option_map first_stage) at
+start_stage : (reactions : List Reaction) (arrivals : List Item) (k : ℕ) (reaction : Reaction) → slice_get reactions k ≡ Some reaction → slice_get (start reactions arrivals).stages k ≡ Some (idle_stage reaction)
+start_stage reactions arrivals k reaction at = slice_get-map idle_stage reactions k ∙ ap (option_map idle_stage) at
 
 -- at first, what comes to queue k is what will be given to it
 start_queued : (reactions : List Reaction) (arrivals : List Item) (k : ℕ) → coming (start reactions arrivals) k ≡ to_enter (start reactions arrivals) k

@@ -18,15 +18,15 @@ pub record NetworkState : Type 0 where
   pub delivered : List Item
 
 -- a stage that took nothing yet
-abbrev pub first_stage : Reaction → StageState
-first_stage reaction = record { reaction = reaction; state = first_state; unsent = [] }
+abbrev pub idle_stage : Reaction → StageState
+idle_stage reaction = record { reaction = reaction; state = first_state; unsent = [] }
 
 -- all arrivals wait, and all else is empty
 abbrev pub start : List Reaction → List Item → NetworkState
 start reactions arrivals = record {
   arrivals = arrivals;
   queues = replicate (length reactions + 1) [];
-  stages = map first_stage reactions;
+  stages = map idle_stage reactions;
   delivered = [];
 }
 

@@ -5,7 +5,7 @@ use Rattle.tox_time.specs.Stream.{IsStream, is_final}
 use Rattle.tox_defs.specs.Chain.{Toxics}
 use Rattle.tox_defs.specs.Flow.{Placed, reactions_of}
 use Rattle.tox_defs.specs.Op.{op_of}
-use Rattle.tox_defs.specs.Place.{AllFit}
+use Rattle.tox_defs.specs.StreamPosition.{AllFit}
 use Rattle.tox_defs.specs.Stage.{Staged, first_stage, reaction_of}
 use Rattle.tox_network.specs.declared.moves.Move.{Move}
 use Rattle.tox_network.specs.NetworkState.{NetworkState, StageState, start, queue}

@@ -1,3 +1,4 @@
+//! The list of delivered items.
 ghost use Rattle.std.specs.Prelude.{◌≡◌, [], ◌∷◌, ◌++◌, true, false, Some, OnOk, OnErr};
 ghost use Rattle.tox_time.specs.Stream.{has_final, is_final};
 ghost use Rattle.tox_network.specs.Shown.{shown};
@@ -6,7 +7,7 @@ use std::alloc::{AllocError, Global};
 use std::marker::Model;
 use tox_time::{Ending, Item, Outcome, Slice, SliceList};
 
-/// The list that was delivered: a slice for each chunk, and the ending of the final.
+/// The delivered items: a slice for each chunk, and the ending of the final.
 #[derive(Drop)]
 pub struct Delivered {
     slices: SliceList,
@@ -24,7 +25,7 @@ impl Model for Delivered {
 }
 
 impl Delivered {
-    /// Nothing was; takes no memory.
+    /// Nothing delivered. Allocates nothing.
     pub fn new(alloc: Global) -> Delivered
         ensures { result ≡ [] }
     {
@@ -34,7 +35,7 @@ impl Delivered {
         }
     }
 
-    /// Adds an item. Memory is taken for a chunk alone.
+    /// Adds an item. Only a chunk allocates.
     pub fn push(&mut self, item: Item) -> Result<(), AllocError>
         requires { has_final self.old ≡ false }
         ensures ok { OnOk result (self.new ≡ self.old ++ item ∷ []) }

@@ -1,3 +1,4 @@
+//! Faults of moves.
 use thiserror::Error;
 
 /// Why a move was not made.
@@ -6,7 +7,7 @@ pub enum StepFault {
     /// The network can't make it now.
     #[error("N1 NotPossible")]
     NotPossible,
-    /// Memory was refused for the slice of a chunk.
+    /// Out of memory for the slice of a chunk.
     #[error("N0 OutOfMemory")]
     OutOfMemory,
 }

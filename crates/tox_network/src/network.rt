@@ -1,3 +1,4 @@
+//! A network of stages, and its moves.
 ghost use Rattle.std.specs.Prelude.{◌≡◌, ◌≤◌, ◌↔◌, Some, None, IfNone, IfSome, IfErr, IfOk, length, IsNone, IsSome, IsSomeAnd, OnOk, OnErr, IsTrue, IsFalse};
 ghost use Rattle.std.specs.Result.{IsErrOf};
 ghost use Rattle.tox_time.specs.Arrivals.{arrival_list};
@@ -51,7 +52,7 @@ impl<'a> Network<'a> {
     /// A network in which all arrivals wait, with queues of `cap` items, from 1 to 1024. It has a stage for each
     /// toxic of the chain that a link with these words meets.
     ///
-    /// Told with it are the laws of every run, in whatever order and with whatever room: at rest, the chain's flow
+    /// Its clauses state the laws of every run, for every order of moves and every room: at rest the chain's flow
     /// was delivered.
     pub fn new(
         alloc: Global,
@@ -149,8 +150,8 @@ impl<'a> Network<'a> {
         Ok(())
     }
 
-    /// Makes a move, unless it isn't possible, or memory is refused for a chunk that is to be delivered.
-    /// The network is unchanged after a refusal.
+    /// Makes a move. Fails if it isn't possible, or out of memory for a delivered chunk. A failure leaves the network
+    /// unchanged.
     pub fn step(&mut self, next: Move) -> Result<(), StepFault>
         ensures moved { OnOk result (IsStep next self.old self.new) }
         ensures refused { IsErrOf result StepFault.NotPossible ↔ (after self.old.cap (state_of self.old) next ≡ None) }
@@ -190,8 +191,7 @@ impl<'a> Network<'a> {
         }
     }
 
-    /// The move that is made where none is asked for: the possible one nearest to the end. None exactly at rest,
-    /// where nothing waits.
+    /// The default move: the possible one nearest to the output. None exactly at rest.
     pub fn possible(&self) -> Option<Move>
         ensures value { result ≡ possible (state_of self.now) }
         ensures rest { IsNone result ↔ IsAtRest self.now.cap (state_of self.now) }
@@ -206,7 +206,7 @@ impl<'a> Network<'a> {
         }
     }
 
-    /// Makes the listed move, if there is one and it is possible, and else the other.
+    /// Makes the listed move if it is possible, else the other one.
     fn turn(&mut self, listed: Option<Move>, other: Move) -> Result<(), StepFault>
         requires other { possible (state_of self.old) ≡ Some other }
         requires possible { IsSome (after self.old.cap (state_of self.old) other) }
@@ -223,8 +223,8 @@ impl<'a> Network<'a> {
         self.step(other)
     }
 
-    /// Makes moves until rest. Each turn takes the next move off the list, and makes it if it is possible, and
-    /// else the one that `possible` tells. Where memory is refused for a chunk, the moves made before stay.
+    /// Makes moves until rest. Each turn takes the next move off the list and makes it if it is possible, else the
+    /// default move. Out of memory stops it; the moves made before stay.
     pub fn settle(&mut self, moves: &[Move]) -> Result<(), StepFault>
         ensures rest { OnOk result (IsAtRest self.new.cap (state_of self.new)) }
         ensures made { Settles moves.now self.old self.new }

@@ -1,3 +1,4 @@
+//! The queues between stages.
 ghost use Rattle.std.specs.Prelude.{◌≡◌, ◌≢◌, ◌<◌, ◌↔◌, ◌++◌, ◌∷◌, [], IsTrue, IfOk, length, replicate, slice_set, drop};
 ghost use Rattle.tox_network.specs.Queued.{list_at};
 
@@ -6,7 +7,7 @@ use std::collections::VecDeque;
 use std::marker::Model;
 use tox_time::Item;
 
-/// Queues with room for the same number of items each, all of which is made at the start.
+/// Queues with room for the same number of items each, allocated at the start.
 #[derive(Drop)]
 pub(crate) struct Queues {
     queues: Vec<VecDeque<Item>>,
@@ -53,7 +54,7 @@ impl Queues {
         self.queues[place].is_empty()
     }
 
-    /// Puts an item at the end of a queue.
+    /// Appends an item to a queue.
     pub(crate) fn push(&mut self, place: usize, item: Item)
         requires place { place < length self.old.lists }
         requires room { length (list_at self.old place) < self.old.room }

@@ -1,3 +1,4 @@
+//! The stages of a chain.
 ghost use Rattle.std.specs.Prelude.{◌≡◌, IfOk, map};
 ghost use Rattle.tox_defs.specs.Chain.{IsChain};
 ghost use Rattle.tox_defs.specs.Flow.{applied};
@@ -7,7 +8,7 @@ use std::alloc::{AllocError, Global};
 use tox_defs::{Chain, Stage};
 use tox_words::Words;
 
-/// A stage for each toxic that a link with these words meets, in order; nothing was given to any yet.
+/// A stage for each toxic that a link with these words meets, in order, each before its first item.
 pub(crate) fn first_stages<'w>(
     alloc: Global,
     chain: &Chain,

@@ -1,3 +1,4 @@
+//! The arrivals that wait in front of a network.
 ghost use Rattle.std.specs.Prelude.{◌≡◌, ◌≢◌, ◌≤◌, ◌↔◌, ◌^◌, [], ◌∷◌, IsTrue, not};
 ghost use Rattle.std.specs.List.{list_all};
 ghost use Rattle.tox_time.specs.Arrivals.{arrival_list};
@@ -6,7 +7,7 @@ ghost use Rattle.tox_time.specs.Stream.{IsArrivalList, arrived, is_final};
 use std::marker::Model;
 use tox_time::{Arrivals, Item};
 
-/// The arrivals that are not in the network yet, with the `Quiet` that isn't stored.
+/// The arrivals that have not entered the network yet, with the final `Quiet` that isn't stored.
 #[derive(Drop)]
 pub struct Waiting<'a> {
     items: &'a [Item],

@@ -12,7 +12,7 @@ use Rattle.tox_defs.specs.declared.level.Level.{Level}
 use Rattle.tox_defs.specs.Reaction.{flow, flow_through}
 use Rattle.tox_defs.specs.Op.{IsOp, is_mute, op_reaction}
 use Rattle.tox_defs.specs.Level.{level_gives}
-use Rattle.tox_defs.proofs.StreamKeepers.{flow_from-muted}
+use Rattle.tox_defs.proofs.ToxicProofs.Timeout.{flow_from-muted}
 use Rattle.tox_defs.proofs.OpStreams.{IsStream-op_flow}
 use Rattle.tox_compile.specs.Meaning.{op_reactions}
 use Rattle.tox_plan.specs.Levels.{ops_of, ending_at_start, level_at_start, levels_at_start, to_come_from, IsLevel, AreNested, AreRead}

@@ -3,14 +3,14 @@
 ghost use Rattle.std.specs.Prelude.{◌≡◌, ℕ, ◌+◌, ◌^◌, ◌<◌, ◌≤◌, List, [], ◌∷◌, ◌++◌, length, take, drop, All, None, false, IsSome, MatchOption};
 ghost use Rattle.tox_time.specs.Table.{final_of};
 ghost use Rattle.tox_time.specs.declared.slice.Slice.{Slice as OneSlice};
-ghost use Rattle.tox_defs.specs.declared.chain.TheConstants.{MAX_TOXICS};
+ghost use Rattle.tox_defs.specs.Chain.{max_toxics};
 ghost use Rattle.tox_defs.specs.declared.level.Level.{Level as OneLevel};
 ghost use Rattle.tox_defs.specs.Op.{is_mute};
 ghost use Rattle.tox_defs.specs.Level.{IsSound};
 ghost use Rattle.tox_plan.specs.Levels.{AreNested, AreDrained, AreRead, HaveEnded, AreOpenUnless, IsRead, BeginsUnread, IsFrom, MatchGiven, OnlyEnds, MatchPulled, levels_at_start, level_at_start, ending_at_start, ops_of, to_come_from};
 
 use arrayvec::ArrayVec;
-use tox_defs::{Advanced, Level, MAX_TOXICS, Op};
+use tox_defs::{Emission, Level, MAX_TOXICS, Op};
 use tox_time::{Ending, Slice, Span};
 use tox_words::Words;
 
@@ -158,7 +158,7 @@ fn pass_one(level: &mut Level, start: u64, pulled: &mut Pulled, words: &Words, l
             level.instant = piece.instant;
             *pulled = advance(level, start, words, looks);
         }
-        Pulled::End(ending) => *pulled = Pulled::End(level.op.last(&level.state, &ending)),
+        Pulled::End(ending) => *pulled = Pulled::End(level.op.map_ending(&level.state, &ending)),
         Pulled::Nothing => {}
     }
 }
@@ -179,14 +179,14 @@ fn advance(level: &mut Level, start: u64, words: &Words, looks: &mut Looks) -> P
     let advanced = level.advance(start, words);
     looks.ended |= level.ending.is_some();
     match advanced {
-        Advanced::Piece(piece) => Pulled::Piece(piece),
-        Advanced::End(ending) => Pulled::End(ending),
+        Emission::Piece(piece) => Pulled::Piece(piece),
+        Emission::End(ending) => Pulled::End(ending),
     }
 }
 
 /// Adds the levels of these operations at their start, the last operation first.
 pub(crate) fn push_levels(levels: &mut ArrayVec<Level, MAX_TOXICS>, ops: &[Op])
-    requires { length levels.old.items + length ops.now ≤ MAX_TOXICS }
+    requires { length levels.old.items + length ops.now ≤ max_toxics }
     ensures items { levels.new.items ≡ levels.old.items ++ levels_at_start ops.now }
     ensures len { length levels.new.items ≡ length levels.old.items + length ops.now }
 {
@@ -217,7 +217,9 @@ pub(crate) fn last_of(levels: &[Level], ending: &Ending) -> Ending
 {
     match levels {
         [] => *ending,
-        [level, upstream @ ..] => level.op.last(&level.state, &last_of(upstream, ending)),
+        [level, upstream @ ..] => level
+            .op
+            .map_ending(&level.state, &last_of(upstream, ending)),
     }
 }
 
@@ -234,7 +236,7 @@ pub(crate) fn known_ending(levels: &[Level]) -> Option<Ending>
         return Some(*ending);
     }
     match &known_ending(upstream) {
-        Some(ending) => Some(level.op.last(&level.state, ending)),
+        Some(ending) => Some(level.op.map_ending(&level.state, ending)),
         None => None,
     }
 }

@@ -1,11 +1,6 @@
--- Tests of what a function makes of each element.
-use Rattle.std.proofs.Common.{◌≡◌, Bool, true, false, cond, ◌||◌, List, [], ◌∷◌, Option, Some, None, Bor, map, option_map, refl, ap}
-use Rattle.std.specs.List.{find, list_any}
-
--- some element passes where some of its images does
-pub list_any-map : {X Y : Type 0} (test : Y → Bool) (f : X → Y) (xs : List X) → list_any test (map f xs) ≡ list_any (λ x. test (f x)) xs
-list_any-map test f [] = refl
-list_any-map test f (x ∷ xs) = ap (λ others. test (f x) || others) (list_any-map test f xs)
+-- The first image that passes a test.
+use Rattle.std.proofs.Common.{◌≡◌, Bool, true, false, cond, List, [], ◌∷◌, Option, Some, None, Bor, map, option_map, refl, ap}
+use Rattle.std.specs.List.{find}
 
 -- the first image that passes is that of the first element whose image does
 pub find-map : {X Y : Type 0} (test : Y → Bool) (f : X → Y) (xs : List X) → option_map f (find (λ x. test (f x)) xs) ≡ find test (map f xs)

@@ -5,8 +5,8 @@ use Rattle.toml.specs.Data.{Data, get}
 use Rattle.tox_defs.specs.Kind.{attributes_of, checked, toxic_of}
 use Rattle.tox_defs.specs.declared.kind.Kind.{Kind}
 use Rattle.tox_defs.specs.declared.toxic.Toxic.{Toxic}
-use Rattle.tox_defs.specs.declared.toxic.ToxicFault.{ToxicFault}
-use Rattle.tox_defs.specs.declared.toxic.ToxicFault.TheVariants.{OutOfRange, UnknownAttribute}
+use Rattle.tox_defs.specs.declared.fault.ToxicFault.{ToxicFault}
+use Rattle.tox_defs.specs.declared.fault.ToxicFault.TheVariants.{OutOfRange, UnknownAttribute}
 use Rattle.tox_script.specs.Fields.{has_only, whole}
 use Rattle.tox_time.specs.Steps.{◌>>=◌}
 

@@ -5,8 +5,8 @@ use Rattle.tox_time.specs.declared.stream.Stream.{Stream}
 use Rattle.tox_defs.specs.Kind.{kind_of, name_of}
 use Rattle.tox_defs.specs.declared.chain.Entry.{Entry}
 use Rattle.tox_defs.specs.declared.kind.Kind.{Kind}
-use Rattle.tox_defs.specs.declared.toxic.ToxicFault.{ToxicFault}
-use Rattle.tox_defs.specs.declared.toxic.ToxicFault.TheVariants.{ToxicityNotThousandths, UnknownType}
+use Rattle.tox_defs.specs.declared.fault.ToxicFault.{ToxicFault}
+use Rattle.tox_defs.specs.declared.fault.ToxicFault.TheVariants.{ToxicityNotThousandths, UnknownType}
 use Rattle.tox_script.specs.Attributes.{toxic_with}
 use Rattle.tox_script.specs.Fields.{whole_between}
 use Rattle.tox_time.specs.Steps.{◌>>=◌}

@@ -5,40 +5,40 @@ use Rattle.std.proofs.lemmas.List.{append-nil}
 use Rattle.tox_time.specs.declared.item.Item.{Item}
 use Rattle.tox_time.specs.declared.item.Item.TheVariants.{Chunk, Closed, Reset, Quiet}
 use Rattle.tox_time.specs.Stream.{IsStream, is_final, has_final}
-use Rattle.tox_defs.specs.declared.place.Place.{Place}
-use Rattle.tox_defs.specs.Place.{first_place, fits, place_after, AllFit}
+use Rattle.tox_defs.specs.declared.position.StreamPosition.{StreamPosition}
+use Rattle.tox_defs.specs.StreamPosition.{first_position, fits, position_after, AllFit}
 use Rattle.tox_defs.proofs.Places.{AllFit-stream}
 use Rattle.tox_network.proofs.Streams.{no_final_before, final_of_stream}
 use Rattle.tox_stages.specs.Passing.{IsLinkStream, BeginsStream}
 
 -- the place behind these items
-abbrev pub place_behind : Place → List Item → Place
+abbrev pub place_behind : StreamPosition → List Item → StreamPosition
 place_behind place [] = place
-place_behind place (item ∷ items) = place_behind (place_after place item) items
+place_behind place (item ∷ items) = place_behind (position_after place item) items
 
-pub place_behind-last : (place : Place) (items : List Item) (item : Item) → place_behind place (items ++ item ∷ []) ≡ place_after (place_behind place items) item
+pub place_behind-last : (place : StreamPosition) (items : List Item) (item : Item) → place_behind place (items ++ item ∷ []) ≡ position_after (place_behind place items) item
 place_behind-last place [] item = refl
-place_behind-last place (first ∷ items) item = place_behind-last (place_after place first) items item
+place_behind-last place (first ∷ items) item = place_behind-last (position_after place first) items item
 
 -- the next item goes on with those before it
-AllFit-next : (place : Place) (items : List Item) (item : Item) (rest : List Item) → AllFit place (items ++ item ∷ rest) → fits (place_behind place items) item ≡ true
+AllFit-next : (place : StreamPosition) (items : List Item) (item : Item) (rest : List Item) → AllFit place (items ++ item ∷ rest) → fits (place_behind place items) item ≡ true
 AllFit-next place [] item rest fit = fit.0
-AllFit-next place (first ∷ items) item rest fit = AllFit-next (place_after place first) items item rest fit.1
+AllFit-next place (first ∷ items) item rest fit = AllFit-next (position_after place first) items item rest fit.1
 
-ended_stays : (place : Place) (items : List Item) → place.ended ≡ true → (place_behind place items).ended ≡ true
+ended_stays : (place : StreamPosition) (items : List Item) → place.ended ≡ true → (place_behind place items).ended ≡ true
 ended_stays place [] ended = ended
-ended_stays place (Chunk span t ∷ items) ended = ended_stays (place_after place (Chunk span t)) items ended
-ended_stays place (Closed t ∷ items) ended = ended_stays (place_after place (Closed t)) items refl
-ended_stays place (Reset t ∷ items) ended = ended_stays (place_after place (Reset t)) items refl
-ended_stays place (Quiet ∷ items) ended = ended_stays (place_after place Quiet) items refl
+ended_stays place (Chunk span t ∷ items) ended = ended_stays (position_after place (Chunk span t)) items ended
+ended_stays place (Closed t ∷ items) ended = ended_stays (position_after place (Closed t)) items refl
+ended_stays place (Reset t ∷ items) ended = ended_stays (position_after place (Reset t)) items refl
+ended_stays place (Quiet ∷ items) ended = ended_stays (position_after place Quiet) items refl
 
 -- behind items is an end exactly where they have a final
-pub ended_behind : (place : Place) (items : List Item) → place.ended ≡ false → (place_behind place items).ended ≡ has_final items
+pub ended_behind : (place : StreamPosition) (items : List Item) → place.ended ≡ false → (place_behind place items).ended ≡ has_final items
 ended_behind place [] unended = unended
-ended_behind place (Chunk span t ∷ items) unended = ended_behind (place_after place (Chunk span t)) items unended
-ended_behind place (Closed t ∷ items) unended = ended_stays (place_after place (Closed t)) items refl
-ended_behind place (Reset t ∷ items) unended = ended_stays (place_after place (Reset t)) items refl
-ended_behind place (Quiet ∷ items) unended = ended_stays (place_after place Quiet) items refl
+ended_behind place (Chunk span t ∷ items) unended = ended_behind (position_after place (Chunk span t)) items unended
+ended_behind place (Closed t ∷ items) unended = ended_stays (position_after place (Closed t)) items refl
+ended_behind place (Reset t ∷ items) unended = ended_stays (position_after place (Reset t)) items refl
+ended_behind place (Quiet ∷ items) unended = ended_stays (position_after place Quiet) items refl
 
 -- one item more
 pub has_final-last : (items : List Item) (item : Item) → has_final items ≡ false → has_final (items ++ item ∷ []) ≡ is_final item
@@ -66,15 +66,15 @@ pub nothing_more : (items rest : List Item) → IsStream items → IsStream (ite
 nothing_more items rest stream goes_on = nothing_follows items rest (final_of_stream 0 0 items stream) goes_on
 
 -- an item that doesn't go on with those before it is not the next one of a stream
-pub misfit : (items : List Item) (item : Item) → fits (place_behind first_place items) item ≡ false → BeginsStream (items ++ item ∷ []) → ⊥
+pub misfit : (items : List Item) (item : Item) → fits (place_behind first_position items) item ≡ false → BeginsStream (items ++ item ∷ []) → ⊥
 misfit items item wrong (rest, link) =
     let whole : IsLinkStream (items ++ item ∷ rest) = subst IsLinkStream (append_assoc items (item ∷ []) rest) link in
-    let all : AllFit first_place (items ++ item ∷ rest) = AllFit-stream 0 0 (items ++ item ∷ rest) whole.stream (let few = whole.few in omega arith) in
-    let right : fits (place_behind first_place items) item ≡ true = AllFit-next first_place items item rest all in
+    let all : AllFit first_position (items ++ item ∷ rest) = AllFit-stream 0 0 (items ++ item ∷ rest) whole.stream (let few = whole.few in omega arith) in
+    let right : fits (place_behind first_position items) item ≡ true = AllFit-next first_position items item rest all in
     cc
 
 -- a chunk takes the place on, and not past the limit
-pub grows : (place : Place) (item : Item) → fits place item ≡ true → is_final item ≡ false → (place.position < (place_after place item).position) × ((place_after place item).position ≤ 2 ^ 40)
+pub grows : (place : StreamPosition) (item : Item) → fits place item ≡ true → is_final item ≡ false → (place.position < (position_after place item).position) × ((position_after place item).position ≤ 2 ^ 40)
 grows place (Chunk span t) fit chunk = grind (arith, nat_tests)
 grows place (Closed t) fit chunk = cc
 grows place (Reset t) fit chunk = cc

@@ -3,9 +3,9 @@ use Rattle.std.proofs.Common.{◌≡◌, ℕ, ◌^◌, ◌≤◌, true, false, L
 use Rattle.std.proofs.lemmas.List.{append-nil}
 use Rattle.tox_time.specs.declared.item.Item.{Item}
 use Rattle.tox_time.specs.Stream.{is_final, has_final}
-use Rattle.tox_defs.specs.declared.place.Place.{Place}
+use Rattle.tox_defs.specs.declared.position.StreamPosition.{StreamPosition}
 use Rattle.tox_defs.specs.declared.state.State.{State}
-use Rattle.tox_defs.specs.Place.{first_place, fits, place_after}
+use Rattle.tox_defs.specs.StreamPosition.{first_position, fits, position_after}
 use Rattle.tox_defs.specs.Reaction.{Answer, Reaction, first_state, react, flow, flow_from, state_from}
 use Rattle.tox_words.specs.Draw.{draw}
 use Rattle.tox_defs.specs.Op.{op_reaction}
@@ -33,7 +33,7 @@ pub record HasWorked (stage : Staged) (items given : List Item) (s : Staged) : T
   pub same_words : s.words ≡ stage.words
   pub idle : s.pending ≡ []
   pub unended : s.place.ended ≡ false
-  pub place : s.place ≡ place_behind first_place items
+  pub place : s.place ≡ place_behind first_position items
   pub state : s.state ≡ state_from (reaction_of stage) first_state items
   pub flowed : given ≡ flow_from (reaction_of stage) first_state items
 
@@ -55,19 +55,19 @@ flowed_more stage items given s item more h is =
 
 -- items without an end have no final
 unended_items : (stage : Staged) (items given : List Item) (s : Staged) → HasWorked stage items given s → has_final items ≡ false
-unended_items stage items given s h = sym (ended_behind first_place items refl) ∙ ap (λ (place : Place). place.ended) (sym h.place) ∙ h.unended
+unended_items stage items given s h = sym (ended_behind first_position items refl) ∙ ap (λ (place : StreamPosition). place.ended) (sym h.place) ∙ h.unended
 
 -- a chunk more
 pub worked_on : (stage : Staged) (items given : List Item) (s : Staged) (item : Item) (t : Staged) (all more : List Item) → HasWorked stage items given s → is_final item ≡ false
     → t ≡ record (taken s item) { pending = [] } → all ≡ items ++ item ∷ [] → more ≡ given ++ (taken s item).pending → HasWorked stage all more t
 worked_on stage items given s item t all more h chunk is received is_sent =
-    let place : t.place ≡ place_behind first_place all =
-    ap (λ (s : Staged). s.place) is ∙ ap (λ place. place_after place item) h.place ∙ sym (place_behind-last first_place items item) ∙ ap (place_behind first_place) (sym received) in
+    let place : t.place ≡ place_behind first_position all =
+    ap (λ (s : Staged). s.place) is ∙ ap (λ place. position_after place item) h.place ∙ sym (place_behind-last first_position items item) ∙ ap (place_behind first_position) (sym received) in
     record {
       same_op = ap (λ (s : Staged). s.op) is ∙ h.same_op;
       same_words = ap (λ (s : Staged). s.words) is ∙ h.same_words;
       idle = ap (λ (s : Staged). s.pending) is;
-      unended = ap (λ (place : Place). place.ended) place ∙ ended_behind first_place all refl ∙ ap has_final received ∙ has_final-last items item (unended_items stage items given s h) ∙ chunk;
+      unended = ap (λ (place : StreamPosition). place.ended) place ∙ ended_behind first_position all refl ∙ ap has_final received ∙ has_final-last items item (unended_items stage items given s h) ∙ chunk;
       place = place;
       state = ap (λ (s : Staged). s.state) is ∙ ap (λ (answer : Answer). answer.state) (reacts stage items given s item h)
           ∙ sym (state_from-last (reaction_of stage) first_state items item)

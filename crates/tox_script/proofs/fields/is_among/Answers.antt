@@ -3,7 +3,7 @@ use Rattle.std.proofs.Common.{rules, tests, sym, ◌∙◌, List, ℕ}
 use Rattle.std.specs.Str.{bytes_eq}
 use Rattle.std.proofs.lemmas.Iterator.{YieldsList-from_slice}
 use Rattle.std.proofs.lemmas.Iterator.Search.{any_from_yields_List}
-use Rattle.tox_script.proofs.Mapped.{list_any-map}
+use Rattle.tox_defs.proofs.Mapped.{list_any-map}
 use Rattle.tox_script.proofs.fields.is_among.Goals as goal
 
 pub returns : goal.returns

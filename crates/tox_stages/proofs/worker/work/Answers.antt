@@ -2,7 +2,7 @@
 use Rattle.std.proofs.Common.{◌≡◌, [], ◌++◌, true, false, ap, sym, ◌∙◌, rules, arith}
 use Rattle.rtrb.specs.Ring.{sent}
 use Rattle.tox_time.specs.Stream.{is_final}
-use Rattle.tox_defs.specs.Place.{fits, place_after}
+use Rattle.tox_defs.specs.StreamPosition.{fits, position_after}
 use Rattle.tox_defs.specs.Stage.{Staged, reaction_of, taken}
 use Rattle.tox_stages.proofs.Places.{grows}
 use Rattle.tox_stages.proofs.Working.{worked_on, worked_all, misfits}
@@ -27,7 +27,7 @@ loop-nth-preserved g c =
     let chunk : is_final item ≡ false = sym c.is_final-is_last.ensures ∙ c.if-is_last.false in
     let is : c.emit_all.new.stage ≡ record (taken stage item) { pending = [] } = c.emit_all.ensures.stage ∙ ap (λ (one : Staged). record one { pending = [] }) c.take.ensures in
     let grown = grows stage.place item fit chunk in
-    let position : c.emit_all.new.stage.place.position ≡ (place_after stage.place item).position = ap (λ (one : Staged). one.place.position) is in
+    let position : c.emit_all.new.stage.place.position ≡ (position_after stage.place item).position = ap (λ (one : Staged). one.place.position) is in
     record {
       same_consumer = search rules;
       same_producer = search rules;

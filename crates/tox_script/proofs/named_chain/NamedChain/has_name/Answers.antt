@@ -4,7 +4,7 @@ use Rattle.std.specs.List.{list_any}
 use Rattle.std.specs.Str.{bytes_eq}
 use Rattle.std.proofs.lemmas.Iterator.{YieldsList-from_slice}
 use Rattle.std.proofs.lemmas.Iterator.Search.{any_from_yields_List}
-use Rattle.tox_script.proofs.Mapped.{list_any-map}
+use Rattle.tox_defs.proofs.Mapped.{list_any-map}
 use Rattle.tox_script.proofs.named_chain.NamedChain.has_name.Goals as goal
 
 pub returns : goal.returns
