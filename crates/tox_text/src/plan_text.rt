@@ -42,10 +42,8 @@ fn write_ops<W: Sink>(buffer: &mut Buffer, writer: &mut W, ops: &[Op]) -> Result
 
 fn print_text<W: Sink>(buffer: &mut Buffer, writer: &mut W, ops: &[Op]) -> Result<(), EndFault>
     requires { W.failed writer.old ≡ false }
-    ensures {
-        Prints result (W.written writer.old) buffer.old (W.written writer.new) buffer.new
-        (W.failed writer.new) (plan_text ops.now)
-    }
+    ensures { Prints result (W.written writer.old) buffer.old (W.written writer.new) buffer.new
+        (W.failed writer.new) (plan_text ops.now) }
 {
     if ops.is_empty() {
         return buffer.put(writer, b"pass\n");
