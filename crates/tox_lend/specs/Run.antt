@@ -2,11 +2,12 @@
 use Rattle.std.specs.Prelude.{ℕ, ◌+◌, ◌-◌, ◌≤◌, List, length, slice_range}
 use Rattle.tox_time.specs.declared.span.Span.{Span}
 
--- bytes from a position on, and their instant: what a piece is seen as
+-- bytes from a position on, their instant, and how many bytes their vector has room for: what a piece is seen as
 pub record Run : Type 0 where
   pub start : ℕ
   pub bytes : List ℕ
   pub instant : ℕ
+  pub room : ℕ
 
 -- the position after the last byte
 abbrev pub stop_of : Run → ℕ

@@ -15,7 +15,9 @@ impl Model for Piece {
 
     ghost Value = { Run };
 
-    ghost view = { λ p. record { start = p.start; bytes = p.bytes.items; instant = p.instant } };
+    ghost use Rattle.std.specs.Prelude.{vec_capacity};
+
+    ghost view = { λ p. record { start = p.start; bytes = p.bytes.items; instant = p.instant; room = vec_capacity p.bytes } };
 }
 
 impl Piece {

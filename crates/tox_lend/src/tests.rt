@@ -7,7 +7,7 @@ use std::test::Fail;
 use tox_time::Micros;
 
 fn piece(alloc: Global, start: u64, bytes: &[u8]) -> Result<Piece, AllocError>
-    ensures { IfOk result (λ piece. piece ≡ record { start = start; bytes = bytes.now; instant = 0 }) }
+    ensures { IfOk result (λ piece. (piece.start ≡ start) × (piece.bytes ≡ bytes.now)) }
 {
     Ok(Piece {
         start,

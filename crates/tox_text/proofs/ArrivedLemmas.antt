@@ -30,12 +30,12 @@ ArePiecesFrom-push position (first ∷ pieces) piece joined starts some =
     (joined.0, joined.1, ArePiecesFrom-push (stop_of first) pieces piece joined.2 (omega (arith, starts, joined.0, length-append first.bytes (bytes_of pieces))) some)
 
 -- a piece more
-pub IsKept-piece : (a b : Inside) (t : ℕ) (bytes : List ℕ) → IsKept a → 0 < length bytes
+pub IsKept-piece : (a b : Inside) (t : ℕ) (bytes : List ℕ) (room : ℕ) → IsKept a → 0 < length bytes
     → b.arrivals ≡ a.arrivals ++ next_chunk a.arrivals (length bytes) t ∷ []
-    → b.pieces.items ≡ a.pieces.items ++ record { start = a.bytes; bytes = bytes; instant = t } ∷ []
+    → b.pieces.items ≡ a.pieces.items ++ record { start = a.bytes; bytes = bytes; instant = t; room = room } ∷ []
     → b.bytes ≡ a.bytes + length bytes → IsKept b
-IsKept-piece a b t bytes kept some arrivals pieces sum =
-    let piece : Run = record { start = a.bytes; bytes = bytes; instant = t } in
+IsKept-piece a b t bytes room kept some arrivals pieces sum =
+    let piece : Run = record { start = a.bytes; bytes = bytes; instant = t; room = room } in
     let chunk : Item = next_chunk a.arrivals (length bytes) t in
     let same : chunk_of piece ≡ chunk = ap (λ n. Chunk (record { start = n; stop = n + length bytes }) t) kept.bytes_arrived in
     let counted : arrived b.arrivals ≡ arrived a.arrivals + arrived (chunk ∷ []) = ap arrived arrivals ∙ arrived-append a.arrivals (chunk ∷ []) in

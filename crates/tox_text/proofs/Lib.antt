@@ -1,6 +1,7 @@
 pub mod ArrivedLemmas
 pub mod Digits
 pub mod HexParts
+pub mod HexPairs
 pub mod LineParts
 pub mod LineTurns
 pub mod Listed
@@ -12,3 +13,5 @@ pub mod PrintTurns
 pub mod Runs
 pub mod ShortParts
 pub mod Writes
+pub mod CountLemmas
+pub mod FirstLines

@@ -13,7 +13,7 @@ use Rattle.tox_text.proofs.Runs.{StandsAt}
 
 -- what stands in place of a piece where there is none
 abbrev pub no_piece : Run
-no_piece = record { start = 0; bytes = []; instant = 0 }
+no_piece = record { start = 0; bytes = []; instant = 0; room = 0 }
 
 -- the piece at a place
 abbrev pub piece_at : List Run → ℕ → Run

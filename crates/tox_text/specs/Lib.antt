@@ -1,7 +1,10 @@
 pub mod Line
 pub mod ArrivalsText
+pub mod Lines
 pub mod Pieces
 pub mod ArrivedInside
+pub mod Checked
+pub mod Counting
 pub mod Writing
 pub mod ResultText
 pub mod PlanText

@@ -41,11 +41,12 @@ line_of text = do
   t ← instant_of parts.0
   line_at t parts.1
 
--- what happened at an instant, as the line that says it
-abbrev pub event_seen : ℕ → kinds.Event → Line
-event_seen t (Data bytes) = arrival t bytes.items
-event_seen t Eof = end t
+-- what happened at an instant, as the line that says it, if its digits are pairs
+abbrev pub event_seen : ℕ → kinds.Event → Option Line
+event_seen t (Data digits) = option_map (arrival t) (result_ok (decode_of digits.now))
+event_seen t Eof = Some (end t)
 
--- what the code keeps of a line
-abbrev pub line_seen : code.Line → Line
-line_seen line = event_seen line.instant line.event
+-- what the code keeps of a line, as a line of the arrivals text
+abbrev pub line_seen : Option code.Line → Option Line
+line_seen None = None
+line_seen (Some line) = event_seen line.instant line.event

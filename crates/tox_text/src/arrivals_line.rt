@@ -1,11 +1,10 @@
-//! One line of the arrivals text.
-ghost use Rattle.std.specs.Prelude.{◌≡◌, ◌==◌, IfOk, option_map, position};
+//! One line of the arrivals text, in its parts.
+ghost use Rattle.std.specs.Prelude.{◌≡◌, ◌==◌, ◌*◌, ◌≤◌, length, is_ok, option_map, position, vec_capacity, IsOk};
 ghost use Rattle.std.specs.Char.{is_ascii_digit};
 ghost use Rattle.std.specs.List.{list_all};
+ghost use Rattle.hex.specs.Hex.{decode_of, is_hex_digit};
 ghost use Rattle.tox_text.specs.Line.{cut_at, instant_of, line_of, line_seen};
 
-use hex::FromHexError;
-use std::alloc::{AllocError, Global};
 use std::str;
 use tox_time::Micros;
 
@@ -13,47 +12,61 @@ use tox_time::Micros;
 const MAX_DIGITS: usize = 16;
 
 /// What happened at an instant.
-#[derive(Debug, Drop)]
-pub(crate) struct Line {
-    pub(crate) instant: Micros,
-    pub(crate) event: Event,
+#[derive(Clone, Copy, Debug)]
+pub struct Line<'a> {
+    pub instant: Micros,
+    pub event: Event<'a>,
 }
 
-#[derive(Debug, Drop)]
-pub(crate) enum Event {
-    /// These bytes arrived.
-    Data(Vec<u8>),
+#[derive(Clone, Copy, Debug)]
+pub enum Event<'a> {
+    /// The bytes that these hexadecimal digits write arrived. Whether they are digits, in pairs, is not known yet.
+    Data(&'a [u8]),
     /// The source ended.
     Eof,
 }
 
-/// What a line says, or None where it is no line of the arrivals text.
-pub(crate) fn line_of(alloc: Global, text: &[u8]) -> Result<Option<Line>, AllocError>
-    ensures { IfOk result (λ line. option_map line_seen line ≡ line_of text.now) }
+/// The parts of a line, or None if it isn't a line of the arrivals text whatever the digits are.
+pub fn line_of<'a>(text: &'a [u8]) -> Option<Line<'a>>
+    ensures { line_seen result ≡ line_of text.now }
 {
-    let Some((time, event)) = cut_at(text, b' ') else {
-        return Ok(None);
-    };
-    let Some(instant) = instant_of(time) else {
-        return Ok(None);
-    };
+    let (time, event) = cut_at(text, b' ')?;
+    let instant = instant_of(time)?;
     if event == b"eof".as_slice() {
-        return Ok(Some(Line {
+        return Some(Line {
             instant,
             event: Event::Eof,
-        }));
+        });
     }
-    let Some(digits) = event.strip_prefix(b"data ") else {
-        return Ok(None);
-    };
-    match hex::decode(alloc, digits) {
-        Ok(bytes) => Ok(Some(Line {
-            instant,
-            event: Event::Data(bytes),
-        })),
-        Err(FromHexError::OutOfMemory) => Err(AllocError),
-        Err(_) => Ok(None),
-    }
+    let digits = event.strip_prefix(b"data ")?;
+    Some(Line {
+        instant,
+        event: Event::Data(digits),
+    })
+}
+
+/// Whether these are hexadecimal digits in pairs.
+pub fn are_pairs(digits: &[u8]) -> bool
+    ensures { result ≡ is_ok (decode_of digits.now) }
+{
+    digits.len() % 2 == 0 && are_hex_digits(digits)
+}
+
+fn are_hex_digits(digits: &[u8]) -> bool
+    ensures { result ≡ list_all is_hex_digit digits.now }
+{
+    digits.iter().all(|digit| digit.is_ascii_hexdigit())
+}
+
+/// Writes the bytes of hexadecimal digits into a vector that has room for them, in place of its own.
+pub fn decode_into(bytes: &mut Vec<u8>, digits: &[u8])
+    requires pairs { IsOk (decode_of digits.now) }
+    requires room { length digits.now ≤ 2 * vec_capacity bytes.old }
+    ensures decoded { decode_of digits.now ≡ Ok bytes.new.items }
+    ensures kept { vec_capacity bytes.old ≤ vec_capacity bytes.new }
+{
+    bytes.resize(digits.len() / 2, 0).unwrap();
+    hex::decode_to_slice(digits, bytes.as_mut_slice()).unwrap();
 }
 
 /// The parts round the first such byte.

@@ -7,6 +7,7 @@ ghost use Rattle.tox_text.specs.declared.fault.DryFault.TheVariants.{OutOfMemory
 
 use crate::arrivals_line::{Event, Line, line_of};
 use crate::fault::DryFault;
+use hex::FromHexError;
 use std::alloc::Global;
 use std::marker::Model;
 use tox_lend::Piece;
@@ -80,14 +81,15 @@ impl ArrivedText {
         if line.is_empty() {
             return Ok(());
         }
-        let Ok(read) = line_of(alloc, line) else {
-            return Err(DryFault::OutOfMemory);
-        };
-        let Some(Line { instant, event }) = read else {
+        let Some(Line { instant, event }) = line_of(line) else {
             return Err(DryFault::BadLine(number));
         };
         let added = match event {
-            Event::Data(bytes) => self.add_piece(instant, bytes),
+            Event::Data(digits) => match hex::decode(alloc, digits) {
+                Ok(bytes) => self.add_piece(instant, bytes),
+                Err(FromHexError::OutOfMemory) => return Err(DryFault::OutOfMemory),
+                Err(_) => return Err(DryFault::BadLine(number)),
+            },
             Event::Eof => self.add_end(instant),
         };
         added.map_err(|fault| at_line(fault, number))

@@ -1,6 +1,7 @@
 //! Texts: what an arrivals text says, and result, plan and pick texts on their way to a writer.
 #![tactic(auto)]
 
+mod arrivals_check;
 mod arrivals_line;
 mod arrivals_text;
 mod buffer;
@@ -10,7 +11,10 @@ mod plan_text;
 mod result_line;
 mod result_text;
 mod short_form;
+mod text_lines;
 
+pub use arrivals_check::check_arrivals;
+pub use arrivals_line::{Event, Line, decode_into, line_of};
 pub use arrivals_text::ArrivedText;
 pub use buffer::Buffer;
 pub use fault::{DryFault, WriteFault};
@@ -18,3 +22,4 @@ pub use pick_text::{PrintPickFault, print_pick};
 pub use plan_text::print_plan;
 pub use result_line::print_ending;
 pub use result_text::print_slices;
+pub use text_lines::first_line;

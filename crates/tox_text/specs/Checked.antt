@@ -1,0 +1,22 @@
+-- What the check of an arrivals text knows.
+use Rattle.std.specs.Prelude.{◌≡◌, ℕ, ◌*◌, ◌≤◌, ◌^◌, List, [], ◌∷◌, length, Ok}
+use Rattle.tox_time.specs.Stream.{IsArrivalList, arrived as count_of}
+use Rattle.tox_time.specs.Arrivals.{arrival_list}
+use Rattle.tox_text.specs.ArrivalsText.{Arrived, arrivals_of, lines_of}
+
+-- an arrival list of at most 2^40 bytes
+pub record AreArrivals (so_far : Arrived) : Type 0 where
+  pub list : IsArrivalList (arrival_list so_far.items)
+  pub few : count_of so_far.items ≤ 2 ^ 40
+
+-- no line is longer than twice this
+abbrev pub AreShort : ℕ → List (List ℕ) → Type 0
+AreShort longest [] = Unit {0}
+AreShort longest (line ∷ lines) = (length line ≤ 2 * longest) × AreShort longest lines
+
+-- the text has no fault, and no line of it says more bytes than this
+pub record IsChecked (text : List ℕ) (longest : ℕ) : Type 0 where
+  pub arrived : Arrived
+  pub spelled : arrivals_of text ≡ Ok arrived
+  pub arrivals : AreArrivals arrived
+  pub short : AreShort longest (lines_of text)
