@@ -21,7 +21,7 @@ returns-in_err-print_attributes g c =
     let named = c.as_bytes.ensures.value ∙ c.name.ensures ∙ ap name_of c.kind-kind.ensures in
     let keyed = c.attributes.ensures.names ∙ ap attributes_of c.kind-kind.ensures in
     let exit = err_from_is_err_and result c.from_residual-in_err-print_attributes.ensures.1 in
-    Prints-as result _ _ _ _ _ _ _ (printed_short-parts _ _ _ _ entry.toxic entry.toxicity named keyed c.values.ensures.values refl)
+    Prints-as result _ _ _ _ _ _ _ (printed_short-parts _ _ _ _ entry.toxic entry.toxicity named keyed (c.deref.ensures.0 ∙ c.values.ensures.values) refl)
     (Prints-then result _ _ _ _ _ _ _ _ _ c.in_ok-put_all.ensures.0
     (Prints-failed result exit.0 _ _ _ _ _ _ _ exit.1 c.in_err-print_attributes.ensures))
 
@@ -32,7 +32,7 @@ returns-in_err-put g c =
     let named = c.as_bytes.ensures.value ∙ c.name.ensures ∙ ap name_of c.kind-kind.ensures in
     let keyed = c.attributes.ensures.names ∙ ap attributes_of c.kind-kind.ensures in
     let exit = err_from_is_err_and result c.from_residual-in_err-put.ensures.1 in
-    Prints-as result _ _ _ _ _ _ _ (printed_short-parts _ _ _ _ entry.toxic entry.toxicity named keyed c.values.ensures.values refl)
+    Prints-as result _ _ _ _ _ _ _ (printed_short-parts _ _ _ _ entry.toxic entry.toxicity named keyed (c.deref.ensures.0 ∙ c.values.ensures.values) refl)
     (Prints-then result _ _ _ _ _ _ _ _ _ c.in_ok-put_all.ensures.0
     (Prints-then result _ _ _ _ _ _ _ _ _ c.in_ok-print_attributes.ensures.0
     (Prints-failed result exit.0 _ _ _ _ _ _ _ exit.1 c.in_err-put.ensures)))
@@ -43,7 +43,7 @@ returns g c =
     let result = c.put_number.result in
     let named = c.as_bytes.ensures.value ∙ c.name.ensures ∙ ap name_of c.kind-kind.ensures in
     let keyed = c.attributes.ensures.names ∙ ap attributes_of c.kind-kind.ensures in
-    Prints-as result _ _ _ _ _ _ _ (printed_short-parts _ _ _ _ entry.toxic entry.toxicity named keyed c.values.ensures.values c.from.ensures)
+    Prints-as result _ _ _ _ _ _ _ (printed_short-parts _ _ _ _ entry.toxic entry.toxicity named keyed (c.deref.ensures.0 ∙ c.values.ensures.values) c.from.ensures)
     (Prints-then result _ _ _ _ _ _ _ _ _ c.in_ok-put_all.ensures.0
     (Prints-then result _ _ _ _ _ _ _ _ _ c.in_ok-print_attributes.ensures.0
     (Prints-then result _ _ _ _ _ _ _ _ _ c.in_ok-put.ensures.0 c.put_number.ensures)))
