@@ -1,12 +1,11 @@
 -- The entries that are given have distinct names, and are few.
-use Rattle.std.proofs.Common.{◌≡◌, ℕ, zero, suc, ◌≤◌, Bool, true, false, cond, not, List, [], ◌∷◌, Option, Some, None, Ok, length, map, slice_get, arith, refl, ap, ◌∙◌, string_bytes}
+use Rattle.std.proofs.Common.{◌≡◌, ℕ, zero, suc, ◌≤◌, Bool, true, false, cond, not, List, [], ◌∷◌, Option, Some, None, Ok, length, map, slice_get, arith, refl, ap, ◌∙◌}
 use Rattle.std.specs.List.{AllByRecursion, IsDistinct}
 use Rattle.std.specs.Str.{bytes_eq}
 use Rattle.std.proofs.lemmas.List.{length-map}
-use Rattle.tox_config.specs.Proxy.{Proxy, proxy_view}
+use Rattle.tox_config.specs.Proxy.{Proxy}
 use Rattle.tox_config.specs.Populate.{Front, entries_of, is_named, most_names, names_of, populated, unless_fault, unless_too_many}
 use Rattle.tox_config.specs.declared.fault.ConfigFault.{ConfigFault}
-use Rattle.tox_config.specs.declared.proxy.ProxyDef.{ProxyDef}
 use Rattle.tox_config.proofs.Names.{is_named-sym}
 use Rattle.tox_config.proofs.Puts.{name-last_named, others_of}
 
@@ -78,15 +77,10 @@ given front None is entries gives =
 AreEntries-populated : (front : Front) (entries : List Proxy) → populated front ≡ Ok entries → AreEntries entries
 AreEntries-populated front entries gives = given front (slice_get (names_of front.proxies) most_names) refl entries gives
 
--- the names of definitions
-map-proxy_view : (defs : List ProxyDef) → map (λ p. p.name) (map proxy_view defs) ≡ map (λ def. string_bytes def.name) defs
-map-proxy_view [] = refl
-map-proxy_view (def ∷ defs) = ap (λ rest. string_bytes def.name ∷ rest) (map-proxy_view defs)
+-- what a front gives has distinct names
+pub distinct-defs : (front : Front) (entries : List Proxy) → populated front ≡ Ok entries → IsDistinct bytes_eq (map (λ p. p.name) entries)
+distinct-defs front entries gives = (AreEntries-populated front entries gives).distinct
 
--- definitions that show what a front gives have distinct names
-pub distinct-defs : (front : Front) (entries : List Proxy) (defs : List ProxyDef) → populated front ≡ Ok entries → map proxy_view defs ≡ entries → IsDistinct bytes_eq (map (λ def. string_bytes def.name) defs)
-distinct-defs front entries defs gives shown = rw (← map-proxy_view defs, shown) (AreEntries-populated front entries gives).distinct
-
--- and are few
-pub few-defs : (front : Front) (entries : List Proxy) (defs : List ProxyDef) → populated front ≡ Ok entries → map proxy_view defs ≡ entries → length defs ≤ most_names
-few-defs front entries defs gives shown = omega (arith, (AreEntries-populated front entries gives).few, length-map defs proxy_view, ap length shown)
+-- and is short
+pub few-defs : (front : Front) (entries : List Proxy) → populated front ≡ Ok entries → length entries ≤ most_names
+few-defs front entries gives = (AreEntries-populated front entries gives).few

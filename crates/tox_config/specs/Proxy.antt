@@ -1,11 +1,10 @@
 -- The proxy that one object of a populate file gives.
-use Rattle.std.specs.Prelude.{ℕ, Bool, true, List, [], ◌∷◌, codes, Option, Some, None, option_and_then, Result, Ok, Err, ok_or, string_bytes, if◌then◌else◌}
+use Rattle.std.specs.Prelude.{ℕ, Bool, true, List, [], ◌∷◌, codes, Option, Some, None, option_and_then, Result, Ok, Err, ok_or, if◌then◌else◌}
 use Rattle.serde_json.specs.Data.{Data, null}
 use Rattle.serde_json.specs.Find.{as_bool, as_object, as_str, get}
 use Rattle.tox_config.specs.Address.{is_address, is_sized}
 use Rattle.tox_config.specs.declared.fault.ConfigFault.{ConfigFault}
 use Rattle.tox_config.specs.declared.fault.ConfigFault.TheVariants.{NotObject, Name, Listen, Upstream, Enabled}
-use Rattle.tox_config.specs.declared.proxy.ProxyDef.{ProxyDef}
 
 -- a proxy, with its texts as bytes
 pub record Proxy : Type 0 where
@@ -13,15 +12,6 @@ pub record Proxy : Type 0 where
   pub listen : List ℕ
   pub upstream : List ℕ
   pub enabled : Bool
-
--- the proxy that a definition stands for
-abbrev pub proxy_view : ProxyDef → Proxy
-proxy_view def = record {
-  name = string_bytes def.name;
-  listen = string_bytes def.listen;
-  upstream = string_bytes def.upstream;
-  enabled = def.enabled;
-}
 
 -- a text, where it passes a test
 abbrev pub passing : (List ℕ → Bool) → List ℕ → Option (List ℕ)

@@ -1,7 +1,7 @@
 //! One object of a populate file, lent from the value that was read.
 ghost use Rattle.std.specs.Prelude.{◌≡◌, codes, option_map, IfOk, IfErr, Ok, Err};
 ghost use Rattle.serde_json.specs.View.{view};
-ghost use Rattle.tox_config.specs.Proxy.{enabled_of, listen_of, listen_text, name_of, proxy_of, proxy_view, upstream_of};
+ghost use Rattle.tox_config.specs.Proxy.{enabled_of, listen_of, listen_text, name_of, proxy_of, upstream_of};
 ghost use Rattle.tox_config.specs.Entry.{entry_view};
 
 use crate::address::{is_address, is_sized};
@@ -44,7 +44,7 @@ impl<'a> Entry<'a> {
 
     /// A definition with texts of its own.
     pub(crate) fn to_def(&self, alloc: Global) -> Result<ProxyDef, AllocError>
-        ensures { IfOk result (λ def. proxy_view def ≡ entry_view self.now) }
+        ensures { IfOk result (λ def. def ≡ entry_view self.now) }
     {
         Ok(ProxyDef {
             name: String::from_str(alloc, self.name)?,

@@ -1,11 +1,10 @@
 //! A whole populate file.
-ghost use Rattle.std.specs.Prelude.{◌≡◌, ◌≢◌, ◌<◌, ◌≤◌, length, string_bytes, vec_len, map, position, IsTrue, IfOk, IfErr, Some, None, Ok, Err, OnOk};
+ghost use Rattle.std.specs.Prelude.{◌≡◌, ◌≢◌, ◌<◌, ◌≤◌, length, vec_len, map, position, IsTrue, IfOk, IfErr, Some, None, Ok, Err, OnOk};
 ghost use Rattle.std.specs.List.{IsDistinct};
 ghost use Rattle.std.specs.Str.{bytes_eq, is_utf8};
 ghost use Rattle.serde_json.specs.View.{items_view, view};
 ghost use Rattle.tox_config.specs.Entry.{entry_view, put};
 ghost use Rattle.tox_config.specs.Populate.{front_of, is_named, json_of, most_names, populate, populated};
-ghost use Rattle.tox_config.specs.Proxy.{proxy_view};
 ghost use Rattle.tox_config.specs.declared.fault.ConfigFault.TheVariants.{NotJson, OutOfMemory};
 
 use crate::entry::Entry;
@@ -26,10 +25,10 @@ const MAX_PROXIES: usize = 64;
 /// The fault of the first faulty place, and within a place the first in the order of [`ConfigFault`]. Want of memory may
 /// stand in its place.
 pub fn read_populate(alloc: Global, bytes: &[u8]) -> Result<Vec<ProxyDef>, ConfigFault>
-    ensures ok { IfOk result (λ defs. populate bytes.now ≡ Ok (map proxy_view defs.items)) }
+    ensures ok { IfOk result (λ defs. populate bytes.now ≡ Ok defs.items) }
     ensures err { IfErr result (λ fault. fault ≢ OutOfMemory → populate bytes.now ≡ Err fault) }
     ensures distinct { IfOk result
-        (λ defs. IsDistinct bytes_eq (map (λ def. string_bytes def.name) defs.items)) }
+        (λ defs. IsDistinct bytes_eq (map (λ def. def.name) defs.items)) }
     ensures few { IfOk result (λ defs. vec_len defs ≤ most_names) }
     // What is no text is refused before memory is asked for.
     ensures memory { result ≡ Err OutOfMemory
@@ -99,7 +98,7 @@ fn position_of(entries: &[Entry<'_>], name: &str) -> Option<usize>
 
 /// The definitions that some entries stand for.
 fn defs_of(alloc: Global, entries: &[Entry<'_>]) -> Result<Vec<ProxyDef>, AllocError>
-    ensures { IfOk result (λ defs. map proxy_view defs.items ≡ map entry_view entries.now) }
+    ensures { IfOk result (λ defs. defs.items ≡ map entry_view entries.now) }
 {
     let mut defs = Vec::with_capacity(alloc, entries.len())?;
     for entry in entries {

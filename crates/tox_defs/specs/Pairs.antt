@@ -3,7 +3,7 @@ use Rattle.std.specs.Prelude.{ℕ, ◌&&◌, ◌||◌, ◌==◌, Bool, List, len
 use Rattle.std.specs.Char.{is_ascii_lowercase}
 use Rattle.std.specs.List.{after_first, before_first, find, list_all, list_any, slice_split}
 use Rattle.std.specs.Str.{bytes_eq}
-use Rattle.tox_words.specs.Decimal.{decimal}
+use Rattle.tox_words.specs.Decimal.{decimal_value}
 
 -- one of a to z and _
 abbrev pub is_word_byte : ℕ → Bool
@@ -15,7 +15,7 @@ is_word text = nat_lt 0 (length text) && list_all is_word_byte text
 
 -- the number that a text writes in 1 to 18 digits, which always fits 64 bits
 abbrev pub number_of : List ℕ → Option ℕ
-number_of text = decimal 18 18_446_744_073_709_551_615 text
+number_of text = decimal_value 18 18_446_744_073_709_551_615 text
 
 -- the sign between a key and its value
 abbrev pub is_equals : ℕ → Bool

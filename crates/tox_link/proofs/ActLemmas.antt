@@ -11,7 +11,7 @@ use Rattle.tox_time.specs.Stream.{IsStreamFrom, span_len}
 use Rattle.tox_time.specs.Table.{SameResult, final_of, table, ending}
 use Rattle.tox_compile.specs.Meaning.{deadline_of}
 use Rattle.tox_plan.specs.Levels.{ops_of}
-use Rattle.tox_plan.specs.Running.{Running, HasNoChunk, to_come, found_chunk, known_ending}
+use Rattle.tox_plan.specs.RunnerView.{RunnerView, HasNoChunk, to_come, found_chunk, known_ending}
 use Rattle.tox_plan.proofs.RunnerLemmas.{final-no_chunk}
 use Rattle.tox_link.specs.declared.act.Act.{Act}
 use Rattle.tox_link.specs.declared.act.Act.TheVariants.{Write, WaitUntil, WaitForInput, End}

@@ -4,7 +4,7 @@ use Rattle.std.specs.Prelude.{is_some, IsSome, IfSome}
 use Rattle.tox_time.specs.declared.slice.Slice.{Slice}
 use Rattle.tox_time.specs.declared.item.Item.{Item}
 use Rattle.tox_time.specs.declared.ending.Ending.{Ending}
-use Rattle.tox_plan.specs.Running.{Running, to_come, found_chunk}
+use Rattle.tox_plan.specs.RunnerView.{RunnerView, to_come, found_chunk}
 use Rattle.tox_link.specs.declared.waiting.WaitingPiece.{WaitingPiece}
 use Rattle.tox_link.specs.Core.{CoreView, kept_count, remaining_output, arrivals_from, end_or}
 use Rattle.tox_link.specs.CoreKept.{IsCore, IsOver, IsFoundSlice, AreTimely, arrived_by, total_len}
@@ -18,12 +18,12 @@ no_end core invariant running = by core.end refl
     by None is = is
     by (Some t) is = absurd (let ended : core.ended ≡ true = invariant.ended (subst IsSome (sym is) refl) in let both : true ≡ false = sym ended ∙ running in cc)
 
-found-more : (found : Option Slice) (runner : Running) (bytes more : ℕ) → bytes ≤ more → IfSome found (IsFoundSlice runner bytes) → IfSome found (IsFoundSlice runner more)
+found-more : (found : Option Slice) (runner : RunnerView) (bytes more : ℕ) → bytes ≤ more → IfSome found (IsFoundSlice runner bytes) → IfSome found (IsFoundSlice runner more)
 found-more None runner bytes more below is = tt
 found-more (Some slice) runner bytes more below is = record { busy = is.busy; stands = is.stands; within = is.within; arrived = omega (arith, is.arrived, below); apart = is.apart }
 
 -- a runner that is over gives the same whatever comes
-pub over-same : (runner : Running) → IsOver runner → (xs ys : List Item) → to_come runner xs ≡ to_come runner ys
+pub over-same : (runner : RunnerView) → IsOver runner → (xs ys : List Item) → to_come runner xs ≡ to_come runner ys
 over-same runner over xs ys = over.only xs ∙ sym (over.only ys)
 
 -- a core after an accepted piece

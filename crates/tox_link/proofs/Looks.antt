@@ -15,8 +15,8 @@ use Rattle.tox_time.specs.Table.{final_of}
 use Rattle.tox_defs.specs.Look.{as_chunk}
 use Rattle.tox_plan.specs.Levels.{ops_of}
 use Rattle.tox_plan.specs.Cuts.{IsCut, IsWithin, BeginsApart}
-use Rattle.tox_plan.specs.Running.{Running, HasNoChunk, to_come, found_chunk, next_piece, offer_answer, answer_of}
-use Rattle.tox_plan.specs.Delivering.{Goes}
+use Rattle.tox_plan.specs.RunnerView.{RunnerView, HasNoChunk, to_come, found_chunk, next_piece, offer_answer, answer_of}
+use Rattle.tox_plan.specs.Delivering.{PreservesOutput}
 use Rattle.tox_plan.proofs.Deliveries.{goes-cut}
 use Rattle.tox_plan.proofs.RunnerLemmas.{to_come-ended, final-no_chunk}
 use Rattle.tox_link.specs.declared.waiting.WaitingPiece.{WaitingPiece}
@@ -65,16 +65,16 @@ looked-both a b c first second = record {
 }
 
 -- a cut of a runner, as one slice, has its part of the result
-cut-same : (old new : Running) (slice : Slice) → IsCut old new slice → (items : List Item) → SameResult (as_chunk slice ∷ to_come new items) (to_come old items)
+cut-same : (old new : RunnerView) (slice : Slice) → IsCut old new slice → (items : List Item) → SameResult (as_chunk slice ∷ to_come new items) (to_come old items)
 cut-same old new slice cut items =
-    let goes : Goes old [] items new (slice ∷ []) items = goes-cut old new slice [] items cut in
+    let goes : PreservesOutput old [] items new (slice ∷ []) items = goes-cut old new slice [] items cut in
     record {
       tables = sym (goes.tables ∙ ap (λ ts. ts ++ table (to_come new items)) (append-nil (replicate (span_len slice.span) slice.instant)));
       endings = sym goes.endings;
     }
 
 -- a runner takes a piece that fits, unless its ending is known
-takes : (runner : Running) (len instant : ℕ) → runner.latest ≤ instant → 0 < len → runner.piece.span.stop + len ≤ 2 ^ 40 → runner.ending ≡ None → offer_answer runner len instant ≡ Ok tt
+takes : (runner : RunnerView) (len instant : ℕ) → runner.latest ≤ instant → 0 < len → runner.piece.span.stop + len ≤ 2 ^ 40 → runner.ending ≡ None → offer_answer runner len instant ≡ Ok tt
 takes runner len instant later some few open_yet =
     let in_time : nat_lt instant runner.latest ≡ false = le-ltb instant runner.latest later in
     let few_bytes : nat_lt (2 ^ 40) (runner.piece.span.stop + len) ≡ false = le-ltb (2 ^ 40) (runner.piece.span.stop + len) few in
@@ -82,7 +82,7 @@ takes runner len instant later some few open_yet =
     rw (in_time, not_empty, few_bytes, open_yet) refl
 
 -- so where it refuses one, it is over
-refused-over : (runner : Running) (len instant : ℕ) (fault : ArrivalFault) → runner.latest ≤ instant → 0 < len → runner.piece.span.stop + len ≤ 2 ^ 40 → offer_answer runner len instant ≡ Err fault → IsOver runner
+refused-over : (runner : RunnerView) (len instant : ℕ) (fault : ArrivalFault) → runner.latest ≤ instant → 0 < len → runner.piece.span.stop + len ≤ 2 ^ 40 → offer_answer runner len instant ≡ Err fault → IsOver runner
 refused-over runner len instant fault later some few refused = by runner.ending refl
   where
     by : (known : Option Ending) → runner.ending ≡ known → IsOver runner
@@ -90,19 +90,19 @@ refused-over runner len instant fault later some few refused = by runner.ending 
     by (Some last) is = record { last = last; only = λ items. to_come-ended runner last items is }
 
 -- a runner that has no next cut
-pub record Stays (old new : Running) : Type 0 where
+pub record Stays (old new : RunnerView) : Type 0 where
   pub idle : new.idle ≡ true
   pub position : new.position ≡ old.position
   pub same : (items : List Item) → to_come new items ≡ to_come old items
 
 -- where a slice that is the next cut stands
-pub record Stands (old new : Running) (slice : Slice) : Type 0 where
+pub record Stands (old new : RunnerView) (slice : Slice) : Type 0 where
   pub starts : slice.span.start ≡ old.position
   pub stops : new.position ≡ slice.span.stop
   pub busy : new.idle ≡ false
 
 -- what a runner that isn't idle makes of a call for its next cut
-pub record Cuts (old new : Running) (found : Option Slice) : Type 0 where
+pub record Cuts (old new : RunnerView) (found : Option Slice) : Type 0 where
   pub some : IfSome found (IsCut old new)
   pub place : IfSome found (Stands old new)
   pub apart : IfSome found (λ slice. BeginsApart slice.instant (to_come new (Quiet ∷ [])))
@@ -115,17 +115,17 @@ pub record Cuts (old new : Running) (found : Option Slice) : Type 0 where
   pub latest : new.latest ≡ old.latest
   pub ops : ops_of new.levels ≡ ops_of old.levels
 
-stands_of : (old new : Running) (found : Option Slice) → IfSome found (λ slice. (slice.span.start ≡ old.position) × (new.position ≡ slice.span.stop) × (new.idle ≡ false)) → IfSome found (Stands old new)
+stands_of : (old new : RunnerView) (found : Option Slice) → IfSome found (λ slice. (slice.span.start ≡ old.position) × (new.position ≡ slice.span.stop) × (new.idle ≡ false)) → IfSome found (Stands old new)
 stands_of old new None place = tt
 stands_of old new (Some slice) place = record { starts = place.0; stops = place.1; busy = place.2 }
 
-stays_of : (old new : Running) (found : Option Slice) → IfNone found ((new.idle ≡ true) × (new.position ≡ old.position) × (new.cuts ≡ old.cuts) × ((items : List Item) → to_come new items ≡ to_come old items))
+stays_of : (old new : RunnerView) (found : Option Slice) → IfNone found ((new.idle ≡ true) × (new.position ≡ old.position) × (new.cuts ≡ old.cuts) × ((items : List Item) → to_come new items ≡ to_come old items))
     → IfNone found (Stays old new)
 stays_of old new None stays = record { idle = stays.0; position = stays.1; same = stays.3 }
 stays_of old new (Some slice) stays = tt
 
 -- what the runner's call tells
-pub cuts_of : (old new : Running) (found : Option Slice) → IfSome found (IsCut old new)
+pub cuts_of : (old new : RunnerView) (found : Option Slice) → IfSome found (IsCut old new)
     → IfSome found (λ slice. (slice.span.start ≡ old.position) × (new.position ≡ slice.span.stop) × (new.idle ≡ false))
     → IfSome found (λ slice. BeginsApart slice.instant (to_come new (Quiet ∷ [])))
     → IsNone found ↔ HasNoChunk (to_come old (Quiet ∷ []))
@@ -152,7 +152,7 @@ cut_count n false true busy = omega arith
 cut_count n false false busy = omega arith
 
 -- a core whose busy runner was asked for its next cut
-module _ (core : CoreView) (new : Running) (found : Option Slice) where
+module _ (core : CoreView) (new : RunnerView) (found : Option Slice) where
   abbrev pub after_cut : CoreView
   after_cut = record core { runner = new; found = found }
 
@@ -244,7 +244,7 @@ module _ (core : CoreView) (new : Running) (found : Option Slice) where
         record { idle = idle.idle; none = subst HasNoChunk (sym (idle.same (Quiet ∷ []))) (cuts.drained (subst IsNone (sym is) refl)) }
 
 -- a core whose idle runner took the first waiting piece
-module _ (core : CoreView) (new : Running) (piece : WaitingPiece) (rest : List WaitingPiece) where
+module _ (core : CoreView) (new : RunnerView) (piece : WaitingPiece) (rest : List WaitingPiece) where
   abbrev pub after_offer : CoreView
   after_offer = record core { runner = new; waiting = rest }
 

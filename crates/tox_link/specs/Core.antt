@@ -9,13 +9,13 @@ use Rattle.tox_time.specs.Table.{SameResult, table, ending}
 use Rattle.tox_compile.specs.Meaning.{deadline_of}
 use Rattle.tox_plan.specs.Levels.{ops_of}
 use Rattle.tox_plan.specs.Cuts.{IsWithin, BeginsApart}
-use Rattle.tox_plan.specs.Running.{Running, HasNoChunk, found_chunk, to_come, known_ending}
+use Rattle.tox_plan.specs.RunnerView.{RunnerView, HasNoChunk, found_chunk, to_come, known_ending}
 use Rattle.tox_link.specs.declared.waiting.WaitingPiece.{WaitingPiece}
 
 -- what a link core is seen as
 pub record CoreView : Type 0 where
   -- the runner; while it isn't idle, a piece is with it
-  pub runner : Running
+  pub runner : RunnerView
   -- the kept pieces behind that one
   pub waiting : List WaitingPiece
   -- the next slice, if it is found

@@ -5,7 +5,7 @@ use Rattle.tox_time.specs.declared.item.Item.{Item}
 use Rattle.tox_time.specs.declared.item.Item.TheVariants.{Quiet}
 use Rattle.tox_time.specs.declared.ending.Ending.{Ending}
 use Rattle.tox_time.specs.Table.{final_of}
-use Rattle.tox_plan.specs.Running.{Running, to_come}
+use Rattle.tox_plan.specs.RunnerView.{RunnerView, to_come}
 use Rattle.tox_plan.specs.Cuts.{IsWithin, BeginsApart}
 use Rattle.tox_link.specs.declared.waiting.WaitingPiece.{WaitingPiece}
 use Rattle.tox_link.specs.Core.{CoreView, kept_count}
@@ -21,7 +21,7 @@ AreTimely since [] until = since ≤ until
 AreTimely since (piece ∷ pieces) until = (since ≤ piece.instant) × (0 < piece.len) × AreTimely piece.instant pieces until
 
 -- whatever comes, this runner gives an ending alone
-pub record IsOver (runner : Running) : Type 0 where
+pub record IsOver (runner : RunnerView) : Type 0 where
   pub last : Ending
   pub only : (items : List Item) → to_come runner items ≡ final_of last ∷ []
 
@@ -31,7 +31,7 @@ arrived_by None latest = latest
 arrived_by (Some t) latest = t
 
 -- a found slice is the last one that the runner gave
-pub record IsFoundSlice (runner : Running) (bytes : ℕ) (slice : Slice) : Type 0 where
+pub record IsFoundSlice (runner : RunnerView) (bytes : ℕ) (slice : Slice) : Type 0 where
   pub busy : runner.idle ≡ false
   pub stands : runner.position ≡ slice.span.stop
   pub within : IsWithin runner.piece slice

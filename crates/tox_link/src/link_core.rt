@@ -7,7 +7,7 @@ ghost use Rattle.tox_time.specs.Stream.{IsStream};
 ghost use Rattle.tox_time.specs.Table.{final_of};
 ghost use Rattle.tox_compile.specs.Meaning.{means};
 ghost use Rattle.tox_plan.specs.Levels.{ops_of};
-ghost use Rattle.tox_plan.specs.Running.{answer_of, no_piece};
+ghost use Rattle.tox_plan.specs.RunnerView.{answer_of, no_piece};
 ghost use Rattle.tox_link.specs.Core.{remaining_output, core_ending, core_position, core_deadline, kept_count, next_instant, KeepsCore, Looked, IsDrained, IsEmptied, Settled, HandsOnEnd};
 ghost use Rattle.tox_link.specs.Acts.{idle_act, IsSliceAct, After, Answered};
 

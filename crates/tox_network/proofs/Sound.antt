@@ -22,17 +22,17 @@ use Rattle.tox_network.specs.NetworkState.{NetworkState, StageState, idle_stage,
 use Rattle.tox_network.specs.Moves.{after, leaving}
 use Rattle.tox_network.specs.Still.{coming, still, moves_left, most_moves}
 use Rattle.tox_network.specs.Runs.{IsAtRest}
-use Rattle.tox_network.specs.Running.{Running, stage_of, placed_stage, state_of, IsStart, IsStep, IsSound}
+use Rattle.tox_network.specs.NetworkView.{NetworkView, stage_of, placed_stage, state_of, IsStart, IsStep, IsSound}
 use Rattle.tox_network.proofs.Coming.{IsShaped, coming_first}
 use Rattle.tox_network.proofs.Kept.{keeps_stages, keeps_shape, keeps_still, leaves, one_less}
 use Rattle.tox_network.proofs.Starting.{start_coming, start_still, start_moves}
 use Rattle.tox_network.proofs.Resting.{rest_empty, empty_still}
 use Rattle.tox_network.proofs.Streams.{kept_by_front, few_in_front, no_final_before, final_of_stream}
 
-pub stage_count : (network : Running) → length (state_of network).stages ≡ length network.stages
+pub stage_count : (network : NetworkView) → length (state_of network).stages ≡ length network.stages
 stage_count network = length-map network.stages stage_of
 
-pub sound_shape : (network : Running) → IsSound network → IsShaped (state_of network)
+pub sound_shape : (network : NetworkView) → IsSound network → IsShaped (state_of network)
 sound_shape network sound = sound.shaped ∙ ap (λ count. count + 1) (sym (stage_count network))
 
 -- The places of stages
@@ -47,14 +47,14 @@ AllFit-behind place [] rest next fit on = subst (λ here. AllFit here rest) (sym
 AllFit-behind place (item ∷ items) rest next fit on = AllFit-behind (position_after place item) items rest next fit.1 on
 
 -- the place of each stage moved on behind what the move took out of the queue before it
-abbrev pub PlacesMoveOn : Move → Running → Running → Type 0
+abbrev pub PlacesMoveOn : Move → NetworkView → NetworkView → Type 0
 PlacesMoveOn move old new =
     (k : ℕ) (stage : Staged) → slice_get new.stages k ≡ Some stage →
     (before : Staged) × (slice_get old.stages k ≡ Some before) × MovesOn before.place (leaving (state_of old) move k) stage.place
 
 -- Moves
 
-pub sound_after : (old new : Running) (move : Move) → IsSound old → after old.cap (state_of old) move ≡ Some (state_of new) → new.cap ≡ old.cap → new.arrived ≡ old.arrived → new.steps ≡ old.steps + 1 → PlacesMoveOn move old new → IsSound new
+pub sound_after : (old new : NetworkView) (move : Move) → IsSound old → after old.cap (state_of old) move ≡ Some (state_of new) → new.cap ≡ old.cap → new.arrived ≡ old.arrived → new.steps ≡ old.steps + 1 → PlacesMoveOn move old new → IsSound new
 sound_after old new move sound made cap arrived steps places =
     let n : NetworkState = state_of old in
     let t : NetworkState = state_of new in
@@ -76,7 +76,7 @@ sound_after old new move sound made cap arrived steps places =
       small = subst (λ bound. bound < 2 ^ 64) (sym most) sound.small;
     }
 
-pub step_made : (old new : Running) (move : Move) → IsSound old → after old.cap (state_of old) move ≡ Some (state_of new) → new.cap ≡ old.cap → new.arrived ≡ old.arrived → new.steps ≡ old.steps + 1 → IsStep move old new
+pub step_made : (old new : NetworkView) (move : Move) → IsSound old → after old.cap (state_of old) move ≡ Some (state_of new) → new.cap ≡ old.cap → new.arrived ≡ old.arrived → new.steps ≡ old.steps + 1 → IsStep move old new
 step_made old new move sound made cap arrived steps =
     let shaped = sound_shape old sound in
     record {
@@ -89,20 +89,20 @@ step_made old new move sound made cap arrived steps =
     }
 
 -- the first item of a queue may be taken
-pub may_take : (network : Running) (k : ℕ) (stage : Staged) (item : Item) (rest : List Item) → IsSound network → slice_get network.stages k ≡ Some stage → queue (state_of network) k ≡ item ∷ rest → fits stage.place item ≡ true
+pub may_take : (network : NetworkView) (k : ℕ) (stage : Staged) (item : Item) (rest : List Item) → IsSound network → slice_get network.stages k ≡ Some stage → queue (state_of network) k ≡ item ∷ rest → fits stage.place item ≡ true
 may_take network k stage item rest sound at first =
     let comes = coming_first (state_of network) k item rest first in
     (subst (AllFit stage.place) comes.1 (sound.fits k stage at)).0
 
 -- while an item is still to be delivered no final was
-pub no_final_yet : (network : Running) (item : Item) (rest : List Item) → IsSound network → queue (state_of network) (length network.stages) ≡ item ∷ rest → has_final network.delivered ≡ false
+pub no_final_yet : (network : NetworkView) (item : Item) (rest : List Item) → IsSound network → queue (state_of network) (length network.stages) ≡ item ∷ rest → has_final network.delivered ≡ false
 no_final_yet network item rest sound first =
     let here : queue (state_of network) (length (state_of network).stages) ≡ item ∷ rest = subst (λ k. queue (state_of network) k ≡ item ∷ rest) (sym (stage_count network)) first in
     let comes = coming_first (state_of network) (length (state_of network).stages) item rest here in
     no_final_before 0 0 network.delivered item comes.0 (subst (λ items. IsStream (network.delivered ++ items)) comes.1 sound.whole)
 
 -- at rest the final was delivered
-pub final_at_rest : (network : Running) → IsSound network → IsAtRest network.cap (state_of network) → has_final network.delivered ≡ true
+pub final_at_rest : (network : NetworkView) → IsSound network → IsAtRest network.cap (state_of network) → has_final network.delivered ≡ true
 final_at_rest network sound rest =
     let empty = rest_empty network.cap (state_of network) sound.room (sound_shape network sound) rest in
     final_of_stream 0 0 network.delivered (subst IsStream (empty_still (state_of network) empty) sound.whole)
@@ -132,7 +132,7 @@ places_of_toxics (placed ∷ toxics) words zero stage at = sym (ap (λ (one : St
 places_of_toxics (placed ∷ toxics) words (suc k) stage at = places_of_toxics toxics words k stage at
 
 -- a network as it is made
-pub first_network : ℕ → List ℕ → List Placed → List Item → Running
+pub first_network : ℕ → List ℕ → List Placed → List Item → NetworkView
 first_network cap words toxics items = record {
   cap = cap;
   arrived = items;
@@ -157,7 +157,7 @@ unfolding first_network
 sound_start cap chain words items room fits stream bytes =
     let toxics = applied chain words in
     let reactions = reactions_of chain words in
-    let network : Running = first_network cap words toxics items in
+    let network : NetworkView = first_network cap words toxics items in
     let is : state_of network ≡ start reactions items = first_state_of cap chain words items in
     let count : length network.stages ≡ length reactions = length-map toxics (placed_stage words) ∙ sym (length-map toxics (λ placed. toxic_reaction placed.toxic (draw words placed.place))) in
     let no_item : List Item = [] in
@@ -181,13 +181,13 @@ sound_start cap chain words items room fits stream bytes =
     }
 
 -- a network made of these parts is sound, and made no move yet
-pub first_made : (network : Running) (cap : ℕ) (chain : Toxics) (words : List ℕ) (items : List Item) → 1 ≤ cap → IsChain chain → IsStream items → arrived items ≤ 2 ^ 40
+pub first_made : (network : NetworkView) (cap : ℕ) (chain : Toxics) (words : List ℕ) (items : List Item) → 1 ≤ cap → IsChain chain → IsStream items → arrived items ≤ 2 ^ 40
     → network.cap ≡ cap → network.arrived ≡ items → network.steps ≡ 0 → network.waiting ≡ items → network.queues ≡ replicate (length network.stages + 1) []
     → network.stages ≡ map (placed_stage words) (applied chain words) → network.delivered ≡ [] → IsSound network × IsStart chain words items cap network
 unfolding first_network
 first_made network cap chain words items room fits stream bytes same_cap same_arrived same_steps same_waiting same_queues same_stages same_delivered =
     let toxics = applied chain words in
-    let make : ℕ → List Item → ℕ → List Item → List (List Item) → List Staged → List Item → Running
+    let make : ℕ → List Item → ℕ → List Item → List (List Item) → List Staged → List Item → NetworkView
     = λ c a n w q s d. record { cap = c; arrived = a; steps = n; waiting = w; queues = q; stages = s; delivered = d } in
     let queues : network.queues ≡ replicate (length toxics + 1) [] = same_queues ∙ ap (λ count. replicate (count + 1) []) (ap length same_stages ∙ length-map toxics (placed_stage words)) in
     let same : network ≡ first_network cap words toxics items =

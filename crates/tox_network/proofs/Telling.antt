@@ -12,18 +12,18 @@ use Rattle.tox_network.specs.Moves.{after}
 use Rattle.tox_network.specs.Still.{IsEmpty}
 use Rattle.tox_network.specs.Runs.{IsAtRest}
 use Rattle.tox_network.specs.Possible.{if_any, possible, possible_before}
-use Rattle.tox_network.specs.Running.{Running, state_of, IsSound}
+use Rattle.tox_network.specs.NetworkView.{NetworkView, state_of, IsSound}
 use Rattle.tox_network.proofs.Resting.{Finds, finds_possible, empty_rest}
 use Rattle.tox_network.proofs.Sound.{sound_shape}
 use Rattle.tox_network.proofs.Made.{state_at}
 
 -- what the clauses of `possible` say of its answer
-pub record Tells (network : Running) (told : Option Move) : Type 0 where
+pub record Tells (network : NetworkView) (told : Option Move) : Type 0 where
   pub rest : IsNone told ↔ IsAtRest network.cap (state_of network)
   pub some : IfSome told (λ next. IsSome (after network.cap (state_of network) next))
   pub empty : IfNone told (IsEmpty (state_of network))
 
-tells_found : (network : Running) (told : Option Move) → Finds network.cap (state_of network) told → Tells network told
+tells_found : (network : NetworkView) (told : Option Move) → Finds network.cap (state_of network) told → Tells network told
 tells_found network None found = record { rest = (λ none. empty_rest network.cap (state_of network) found, λ rest. refl); some = tt; empty = found }
 tells_found network (Some move) found = record {
   rest = (λ none. absurd (cc), λ rest. absurd (none-some found.0 (sym (rest move) ∙ found.1)));
@@ -31,15 +31,15 @@ tells_found network (Some move) found = record {
   empty = tt;
 }
 
-pub tells : (network : Running) (told : Option Move) → IsSound network → told ≡ possible (state_of network) → Tells network told
+pub tells : (network : NetworkView) (told : Option Move) → IsSound network → told ≡ possible (state_of network) → Tells network told
 tells network told sound is =
     subst (Tells network) (sym is) (tells_found network (possible (state_of network)) (finds_possible network.cap (state_of network) sound.room (sound_shape network sound)))
 
-pub tells_at : (network now : Running) (told : Option Move) → IsSound network → network ≡ now → told ≡ possible (state_of now) → Tells now told
+pub tells_at : (network now : NetworkView) (told : Option Move) → IsSound network → network ≡ now → told ≡ possible (state_of now) → Tells now told
 tells_at network now told sound same is = tells now told (subst IsSound same sound) is
 
 -- an idle stage has no item, so its queue is looked at
-pub before_idle : (network : Running) (place k : ℕ) (stage : Staged) → k + 1 ≡ place → slice_get network.stages k ≡ Some stage → stage.pending ≡ []
+pub before_idle : (network : NetworkView) (place k : ℕ) (stage : Staged) → k + 1 ≡ place → slice_get network.stages k ≡ Some stage → stage.pending ≡ []
     → possible_before (state_of network) place ≡ if_any (queue (state_of network) k) (Take k) (possible_before (state_of network) k)
 before_idle network place k stage next at idle =
     let n = state_of network in

@@ -11,7 +11,7 @@ use Rattle.tox_network.specs.declared.moves.Move.TheVariants.{Deliver}
 use Rattle.tox_network.specs.NetworkState.{NetworkState}
 use Rattle.tox_network.specs.Moves.{after}
 use Rattle.tox_network.specs.Runs.{after_all, IsRun}
-use Rattle.tox_network.specs.Running.{Running, state_of, IsStep, HasChunkFirst}
+use Rattle.tox_network.specs.NetworkView.{NetworkView, state_of, IsStep, HasChunkFirst}
 use Rattle.tox_network.specs.Settling.{turn, Follows, Settles, IsRefusedAt}
 use Rattle.tox_network.proofs.AlongRuns.{went_on}
 
@@ -43,14 +43,14 @@ follows_more cap listed (first ∷ made) n u move run follows next =
     )
 
 -- the move of the turn that comes next
-turn_at : (moves : List Move) (first mid : Running) (rest : List Move) (s : Settles moves first mid) → rest ≡ drop (length s.made) moves → (move : Move)
+turn_at : (moves : List Move) (first mid : NetworkView) (rest : List Move) (s : Settles moves first mid) → rest ≡ drop (length s.made) moves → (move : Move)
     → turn mid.cap (slice_get rest 0) (state_of mid) ≡ Some move → turn first.cap (slice_get moves (length s.made)) (state_of mid) ≡ Some move
 turn_at moves first mid rest s is move next =
     let listed : slice_get rest 0 ≡ slice_get moves (length s.made) = ap (λ all. slice_get all 0) is ∙ first_of_rest moves (length s.made) in
     ap (λ one. turn first.cap one (state_of mid)) (sym listed) ∙ ap (λ cap. turn cap (slice_get rest 0) (state_of mid)) (sym s.cap) ∙ next
 
 -- a turn more, and a listed move less
-pub settles_more : (moves : List Move) (first mid last : Running) (rest : List Move) (s : Settles moves first mid) → rest ≡ drop (length s.made) moves → (move : Move) → turn mid.cap (slice_get rest 0) (state_of mid) ≡ Some move → IsStep move mid last → (t : Settles moves first last) × (drop 1 rest ≡ drop (length t.made) moves)
+pub settles_more : (moves : List Move) (first mid last : NetworkView) (rest : List Move) (s : Settles moves first mid) → rest ≡ drop (length s.made) moves → (move : Move) → turn mid.cap (slice_get rest 0) (state_of mid) ≡ Some move → IsStep move mid last → (t : Settles moves first last) × (drop 1 rest ≡ drop (length t.made) moves)
 settles_more moves first mid last rest s is move next step =
     let here = turn_at moves first mid rest s is move next in
     let moved : after first.cap (state_of mid) move ≡ Some (state_of last) = subst (λ cap. after cap (state_of mid) move ≡ Some (state_of last)) s.cap step.moved in
@@ -76,7 +76,7 @@ next_listed s t None taken =
 next_listed s t (Some move) taken = (ap (λ moves. slice_get moves 0) (sym taken), ap (drop 1) (sym taken))
 
 -- memory that is refused leaves the moves made before
-pub refused_at : (moves : List Move) (first mid last : Running) (rest : List Move) (s : Settles moves first mid) → rest ≡ drop (length s.made) moves → last ≡ mid
+pub refused_at : (moves : List Move) (first mid last : NetworkView) (rest : List Move) (s : Settles moves first mid) → rest ≡ drop (length s.made) moves → last ≡ mid
     → turn mid.cap (slice_get rest 0) (state_of mid) ≡ Some Deliver → HasChunkFirst mid → IsRefusedAt moves first last
 refused_at moves first mid last rest s is same next chunk =
     let here : IsRefusedAt moves first mid = record { settles = s; delivers = turn_at moves first mid rest s is Deliver next; chunk = chunk } in

@@ -9,6 +9,6 @@ pub mod Shown
 pub mod Queued
 pub mod Arriving
 pub mod WaitingInside
-pub mod Running
+pub mod NetworkView
 pub mod NetworkInside
 pub mod Settling

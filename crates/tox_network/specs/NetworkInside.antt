@@ -1,8 +1,8 @@
 -- What a contract sees of a `Network`, and what its fields keep.
 use Rattle.tox_network.specs.declared.network.Network.TheInside.{Inside}
-use Rattle.tox_network.specs.Running.{Running, IsSound}
+use Rattle.tox_network.specs.NetworkView.{NetworkView, IsSound}
 
-abbrev pub running : Inside → Running
+abbrev pub running : Inside → NetworkView
 running network = record {
   cap = network.queues.room;
   arrived = network.waiting.arrived;

@@ -6,7 +6,7 @@ use Rattle.tox_network.specs.NetworkState.{NetworkState}
 use Rattle.tox_network.specs.Moves.{after}
 use Rattle.tox_network.specs.Runs.{IsRun}
 use Rattle.tox_network.specs.Possible.{possible}
-use Rattle.tox_network.specs.Running.{Running, state_of, HasChunkFirst}
+use Rattle.tox_network.specs.NetworkView.{NetworkView, state_of, HasChunkFirst}
 
 -- the move of a turn: the listed one where it is possible, else the one that is made unasked
 abbrev pub turn : ℕ → Option Move → NetworkState → Option Move
@@ -20,7 +20,7 @@ Follows cap listed (move ∷ made) n =
     (turn cap (slice_get listed 0) n ≡ Some move) × ((t : NetworkState) → after cap n move ≡ Some t → Follows cap (drop 1 listed) made t)
 
 -- some moves that follow the list lead from one network to the other
-pub record Settles (listed : List Move) (old new : Running) : Type 0 where
+pub record Settles (listed : List Move) (old new : NetworkView) : Type 0 where
   pub made : List Move
   pub run : IsRun old.cap (state_of old) made (state_of new)
   pub rule : Follows old.cap listed made (state_of old)
@@ -29,7 +29,7 @@ pub record Settles (listed : List Move) (old new : Running) : Type 0 where
   pub arrived : new.arrived ≡ old.arrived
 
 -- the turn after some moves that follow the list delivers a chunk
-pub record IsRefusedAt (listed : List Move) (old new : Running) : Type 0 where
+pub record IsRefusedAt (listed : List Move) (old new : NetworkView) : Type 0 where
   pub settles : Settles listed old new
   pub delivers : turn old.cap (slice_get listed (length settles.made)) (state_of new) ≡ Some Deliver
   pub chunk : HasChunkFirst new

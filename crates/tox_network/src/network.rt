@@ -35,9 +35,9 @@ pub struct Network<'a> {
 }
 
 impl<'a> Model for Network<'a> {
-    ghost use Rattle.tox_network.specs.Running.{Running};
+    ghost use Rattle.tox_network.specs.NetworkView.{NetworkView};
 
-    ghost Value = { Running };
+    ghost Value = { NetworkView };
 
     ghost use Rattle.tox_network.specs.NetworkInside.{running, IsKept};
 
@@ -47,7 +47,7 @@ impl<'a> Model for Network<'a> {
 }
 
 impl<'a> Network<'a> {
-    ghost use Rattle.tox_network.specs.Running.{state_of, IsStart, IsStep, HasChunkFirst};
+    ghost use Rattle.tox_network.specs.NetworkView.{state_of, IsStart, IsStep, HasChunkFirst};
 
     /// A network in which all arrivals wait, with queues of `cap` items, from 1 to 1024. It has a stage for each
     /// toxic of the chain that a link with these words meets.

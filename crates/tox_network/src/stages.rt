@@ -2,7 +2,7 @@
 ghost use Rattle.std.specs.Prelude.{◌≡◌, IfOk, map};
 ghost use Rattle.tox_defs.specs.Chain.{IsChain};
 ghost use Rattle.tox_defs.specs.Flow.{applied};
-ghost use Rattle.tox_network.specs.Running.{placed_stage};
+ghost use Rattle.tox_network.specs.NetworkView.{placed_stage};
 
 use std::alloc::{AllocError, Global};
 use tox_defs::{Chain, Stage};

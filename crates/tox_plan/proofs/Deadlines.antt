@@ -21,7 +21,7 @@ use Rattle.tox_defs.proofs.FlowLemmas.{Continues-counted, flow_from-done}
 use Rattle.tox_defs.proofs.Levels.{rest_of-read, level_gives-running}
 use Rattle.tox_compile.specs.Meaning.{deadline_of, earlier}
 use Rattle.tox_plan.specs.Levels.{to_come_from, ops_of, AreNested, AreDrained}
-use Rattle.tox_plan.specs.Running.{Running, IsRunning, reader_at, to_come}
+use Rattle.tox_plan.specs.RunnerView.{RunnerView, IsRunning, reader_at, to_come}
 use Rattle.tox_plan.proofs.Late.{AreLate, IsLateOp, late-stream, final-stream, late-flow, final-flow}
 use Rattle.tox_plan.proofs.LevelLemmas.{to_come_from-read}
 use Rattle.tox_plan.proofs.RunnerOutput.{to_come-unfound, to_come-ended, idle-unfound, idle-drained}
@@ -197,12 +197,12 @@ begins-in-time d position since (Reset t ∷ items) from stream = inl (omega (ar
 begins-in-time d position since (Quiet ∷ items) from stream = inr (ap (λ items. Quiet ∷ items) stream)
 
 -- what comes at or after the deadline to an idle runner changes nothing
-module _ (runner : Running) (invariant : IsRunning runner) (idle : runner.idle ≡ true) where
+module _ (runner : RunnerView) (invariant : IsRunning runner) (idle : runner.idle ≡ true) where
   past-running : (d position since : ℕ) (items : List Item) → runner.ending ≡ None → d ≤ horizon → deadline_of (ops_of runner.levels) ≡ Some d → d ≤ since → IsStreamFrom position since items
       → to_come runner items ≡ to_come runner (Quiet ∷ [])
   past-running d position since items running fits is from stream =
       let found = stop-deadline d (ops_of runner.levels) is in
-      let unfound : runner.found ≡ None = idle-unfound runner invariant idle in
+      let unfound : runner.lookahead ≡ None = idle-unfound runner invariant idle in
       let nested : AreNested runner.position runner.levels runner.piece = subst (λ found. AreNested (reader_at runner.position found) runner.levels runner.piece) unfound (invariant.nested running) in
       to_come-unfound runner items running unfound
       ∙ same-later d runner.words runner.position runner.levels runner.piece items (Quiet ∷ []) fits nested (idle-drained runner invariant idle running) found.0 found.1

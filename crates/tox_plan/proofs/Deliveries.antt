@@ -12,12 +12,12 @@ use Rattle.tox_time.specs.declared.ending.Ending.TheVariants.{StillOpen, Closed 
 use Rattle.tox_time.specs.Stream.{IsStreamFrom, HasReset, arrived, latest_from, span_len}
 use Rattle.tox_time.specs.Arrivals.{arrival_list}
 use Rattle.tox_time.specs.Table.{final_of, table, slices_table, ending, IsOutcomeOf}
-use Rattle.tox_time.specs.Neighbours.{AreNeighbours, LiesIn}
+use Rattle.tox_time.specs.Neighbours.{AreNeighbours, LiesInChunk}
 use Rattle.tox_time.proofs.StreamLemmas.{table-append}
 use Rattle.tox_defs.specs.Look.{as_chunk}
-use Rattle.tox_plan.specs.Running.{Running, to_come, no_piece}
+use Rattle.tox_plan.specs.RunnerView.{RunnerView, to_come, no_piece}
 use Rattle.tox_plan.specs.Cuts.{Reach, IsCut, IsWithin}
-use Rattle.tox_plan.specs.Delivering.{Goes, stop_from, MayFollow, EndsAt, StandsAt, StandsBehind}
+use Rattle.tox_plan.specs.Delivering.{PreservesOutput, stop_from, MayFollow, EndsAt, StandsAt, StandsBehind}
 
 pub slices_table-append : (xs ys : List Slice) → slices_table (xs ++ ys) ≡ slices_table xs ++ slices_table ys
 slices_table-append [] ys = refl
@@ -45,14 +45,14 @@ ending-cuts : (cuts : List Slice) (items : List Item) → ending (map as_chunk c
 ending-cuts [] items = refl
 ending-cuts (cut ∷ cuts) items = ending-cuts cuts items
 
-pub goes-same : (runner : Running) (given : List Slice) (items : List Item) → Goes runner given items runner given items
+pub goes-same : (runner : RunnerView) (given : List Slice) (items : List Item) → PreservesOutput runner given items runner given items
 goes-same runner given items = record { tables = refl; endings = refl }
 
-pub goes-on : (a b c : Running) (xs ys zs : List Slice) (us vs ws : List Item) → Goes a xs us b ys vs → Goes b ys vs c zs ws → Goes a xs us c zs ws
+pub goes-on : (a b c : RunnerView) (xs ys zs : List Slice) (us vs ws : List Item) → PreservesOutput a xs us b ys vs → PreservesOutput b ys vs c zs ws → PreservesOutput a xs us c zs ws
 goes-on a b c xs ys zs us vs ws first second = record { tables = first.tables ∙ second.tables; endings = first.endings ∙ second.endings }
 
 -- a cut that is given is no longer to come
-pub goes-cut : (old new : Running) (slice : Slice) (given : List Slice) (items : List Item) → IsCut old new slice → Goes old given items new (given ++ slice ∷ []) items
+pub goes-cut : (old new : RunnerView) (slice : Slice) (given : List Slice) (items : List Item) → IsCut old new slice → PreservesOutput old given items new (given ++ slice ∷ []) items
 goes-cut old new slice given items cut =
     let part : List ℕ = replicate (span_len slice.span) slice.instant in
     let comes : table (to_come old items) ≡ part ++ table (to_come new items)
@@ -70,26 +70,26 @@ stop_from-append position [] slice = refl
 stop_from-append position (first ∷ slices) slice = stop_from-append first.span.stop slices slice
 
 -- one more slice goes on with its neighbours
-pub neighbours-append : (items : List Item) (position : ℕ) (slices : List Slice) (slice : Slice) → AreNeighbours items position slices → slice.span.start ≡ stop_from position slices → slice.span.start < slice.span.stop → Any (LiesIn slice.span) items
+pub neighbours-append : (items : List Item) (position : ℕ) (slices : List Slice) (slice : Slice) → AreNeighbours items position slices → slice.span.start ≡ stop_from position slices → slice.span.start < slice.span.stop → Any (LiesInChunk slice.span) items
     → AreNeighbours items position (slices ++ slice ∷ [])
 neighbours-append items position [] slice neighbours here some lies = (here, omega (arith, here, some), lies, tt)
 neighbours-append items position (first ∷ slices) slice neighbours here some lies =
     (neighbours.0, neighbours.1, neighbours.2, neighbours-append items first.span.stop slices slice neighbours.3 here some lies)
 
 -- what lies in a part of an arrival lies in the arrival
-lies-within : (piece slice : Slice) (item : Item) → IsWithin piece slice → LiesIn piece.span item → LiesIn slice.span item
+lies-within : (piece slice : Slice) (item : Item) → IsWithin piece slice → LiesInChunk piece.span item → LiesInChunk slice.span item
 lies-within piece slice (Chunk span t) within lies = (omega (arith, within.from, lies.0), omega (arith, within.to, lies.1))
 lies-within piece slice (Closed t) within lies = lies
 lies-within piece slice (Reset t) within lies = lies
 lies-within piece slice Quiet within lies = lies
 
-pub any-within : (items : List Item) (piece slice : Slice) → IsWithin piece slice → Any (LiesIn piece.span) items → Any (LiesIn slice.span) items
+pub any-within : (items : List Item) (piece slice : Slice) → IsWithin piece slice → Any (LiesInChunk piece.span) items → Any (LiesInChunk slice.span) items
 any-within items piece slice within lies = (lies.0, lies.1, lies.2, lies.3, lies-within piece slice lies.1 within lies.4)
 
 -- an arrival lies in itself
-pub any-itself : (items : List Item) (span : Span) (t : ℕ) → Any (λ other. other ≡ Chunk span t) items → Any (LiesIn span) items
+pub any-itself : (items : List Item) (span : Span) (t : ℕ) → Any (λ other. other ≡ Chunk span t) items → Any (LiesInChunk span) items
 any-itself items span t among =
-    (among.0, among.1, among.2, among.3, subst (λ item. LiesIn span item) (sym among.4) (omega arith, omega arith))
+    (among.0, among.1, among.2, among.3, subst (λ item. LiesInChunk span item) (sym among.4) (omega arith, omega arith))
 
 at-arrival_list : (items : List Item) (k : ℕ) (d : Item) → k < length items → (k < length (arrival_list items)) × (get_or (arrival_list items) k d ≡ get_or items k d)
 at-arrival_list [] k d within = absurd (omega (arith, within))
@@ -105,7 +105,7 @@ any-stored P items any =
     let here = at-arrival_list items any.0 any.1 any.2 in (any.0, any.1, here.0, here.1 ∙ any.3, any.4)
 
 -- the items go on after the last piece, at which the runner stands unless its ending is known
-pub record IsAhead (runner : Running) (items : List Item) : Type 0 where
+pub record IsAhead (runner : RunnerView) (items : List Item) : Type 0 where
   pub last : Slice
   pub stream : IsStreamFrom last.span.stop last.instant (arrival_list items)
   pub no_reset : HasReset (arrival_list items) → ⊥
@@ -114,7 +114,7 @@ pub record IsAhead (runner : Running) (items : List Item) : Type 0 where
   pub stands : runner.ending ≡ None → StandsAt runner last
 
 -- the next item may follow
-pub next_follows : (runner : Running) (item : Item) (items : List Item) → IsAhead runner (item ∷ items)
+pub next_follows : (runner : RunnerView) (item : Item) (items : List Item) → IsAhead runner (item ∷ items)
     → (last : Slice) × MayFollow last item × (runner.latest ≤ last.instant) × (runner.ending ≡ None → StandsAt runner last)
 next_follows runner (Chunk span t) items ahead =
     (ahead.last, (ahead.stream.0, omega (arith, ahead.stream.0, ahead.stream.1), omega (arith, ahead.stream.0, ahead.stream.1, ahead.few), ahead.stream.2), ahead.latest, ahead.stands)
@@ -123,17 +123,17 @@ next_follows runner (Reset t) items ahead = absurd (ahead.no_reset tt)
 next_follows runner Quiet items ahead = (ahead.last, tt, ahead.latest, ahead.stands)
 
 -- nothing comes after a final
-pub ends_at : (runner : Running) (item : Item) (items : List Item) → IsAhead runner (item ∷ items) → EndsAt item items
+pub ends_at : (runner : RunnerView) (item : Item) (items : List Item) → IsAhead runner (item ∷ items) → EndsAt item items
 ends_at runner (Chunk span t) items ahead = tt
 ends_at runner (Closed t) items ahead = ahead.stream.2
 ends_at runner (Reset t) items ahead = ahead.stream.2
 ends_at runner Quiet items ahead = ahead.stream
 
-empty_ahead : (runner : Running) (last : Slice) → last.span.stop ≤ 2 ^ 40 → runner.latest ≤ last.instant → (runner.ending ≡ None → StandsAt runner last) → IsAhead runner []
+empty_ahead : (runner : RunnerView) (last : Slice) → last.span.stop ≤ 2 ^ 40 → runner.latest ≤ last.instant → (runner.ending ≡ None → StandsAt runner last) → IsAhead runner []
 empty_ahead runner last few latest stands = record { last = last; stream = refl; no_reset = λ reset. reset; few = omega (arith, few); latest = latest; stands = stands }
 
 -- the runner behind the next item
-pub ahead_next : (old new : Running) (item : Item) (items : List Item) → IsAhead old (item ∷ items) → new.latest ≤ latest_from old.latest (item ∷ []) → (new.ending ≡ None → StandsBehind new item) → IsAhead new items
+pub ahead_next : (old new : RunnerView) (item : Item) (items : List Item) → IsAhead old (item ∷ items) → new.latest ≤ latest_from old.latest (item ∷ []) → (new.ending ≡ None → StandsBehind new item) → IsAhead new items
 ahead_next old new (Chunk span t) items ahead latest stands = record {
   last = record { span = span; instant = t };
   stream = ahead.stream.4;
@@ -149,7 +149,7 @@ ahead_next old new Quiet items ahead latest stands =
     subst (λ items. IsAhead new items) (sym ahead.stream) (empty_ahead new (record { span = record { start = 0; stop = 0 }; instant = new.latest }) (omega arith) (omega arith) (λ none. absurd (stands none)))
 
 -- a stored arrival list goes on from its first position
-pub stored_ahead : (runner : Running) (items : List Item) → IsStreamFrom 0 0 (arrival_list items) → (HasReset (arrival_list items) → ⊥) → arrived items ≤ 2 ^ 40 → runner.latest ≡ 0 → runner.piece ≡ no_piece → IsAhead runner items
+pub stored_ahead : (runner : RunnerView) (items : List Item) → IsStreamFrom 0 0 (arrival_list items) → (HasReset (arrival_list items) → ⊥) → arrived items ≤ 2 ^ 40 → runner.latest ≡ 0 → runner.piece ≡ no_piece → IsAhead runner items
 stored_ahead runner items stream no_reset few latest piece = record {
   last = no_piece;
   stream = stream;
@@ -174,7 +174,7 @@ table-final (ClosedAt t) = refl
 table-final (ResetAt t) = refl
 
 -- all slices were given, and the ending alone is to come
-pub outcome_of : (first runner : Running) (items all : List Item) (outcome : Outcome) → Goes first [] all runner outcome.slices items → to_come runner items ≡ final_of outcome.ending ∷ [] → (flow : List Item) → to_come first all ≡ flow → IsOutcomeOf flow outcome
+pub outcome_of : (first runner : RunnerView) (items all : List Item) (outcome : Outcome) → PreservesOutput first [] all runner outcome.slices items → to_come runner items ≡ final_of outcome.ending ∷ [] → (flow : List Item) → to_come first all ≡ flow → IsOutcomeOf flow outcome
 outcome_of first runner items all outcome goes last flow is = record {
   tables = sym (append-nil (slices_table outcome.slices)) ∙ ap (λ ts. slices_table outcome.slices ++ ts) (sym (table-final outcome.ending)) ∙ ap (λ items. slices_table outcome.slices ++ table items) (sym last) ∙ sym goes.tables ∙ ap table is;
   endings = ending-final outcome.ending ∙ ap ending (sym last) ∙ sym goes.endings ∙ ap ending is;
@@ -184,4 +184,4 @@ outcome_of first runner items all outcome goes last flow is = record {
 pub neighbours-stored : (items : List Item) (position : ℕ) (slices : List Slice) → AreNeighbours items position slices → AreNeighbours (arrival_list items) position slices
 neighbours-stored items position [] neighbours = tt
 neighbours-stored items position (slice ∷ slices) neighbours =
-    (neighbours.0, neighbours.1, any-stored (LiesIn slice.span) items neighbours.2, neighbours-stored items slice.span.stop slices neighbours.3)
+    (neighbours.0, neighbours.1, any-stored (LiesInChunk slice.span) items neighbours.2, neighbours-stored items slice.span.stop slices neighbours.3)

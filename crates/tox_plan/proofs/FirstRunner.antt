@@ -10,21 +10,21 @@ use Rattle.tox_defs.specs.Reaction.{flow_through}
 use Rattle.tox_defs.specs.Op.{IsOp}
 use Rattle.tox_compile.specs.Meaning.{op_reactions}
 use Rattle.tox_plan.specs.Levels.{levels_at_start, AreDrained, OnlyEnds, HaveEnded}
-use Rattle.tox_plan.specs.Running.{Running, IsRunning, to_come, no_piece}
+use Rattle.tox_plan.specs.RunnerView.{RunnerView, IsRunning, to_come, no_piece}
 use Rattle.tox_plan.proofs.Starts.{nested-at_start, means-at_start, length-levels_at_start}
 use Rattle.tox_plan.proofs.RunnerOutput.{to_come-unfound, to_come-ended, drained-unended, none_of}
 
 -- a runner that was offered nothing yet
 module _ (ops : List Op) (words : List ℕ) (known : Option Ending) where
-  abbrev pub first_runner : Running
+  abbrev pub first_runner : RunnerView
   first_runner = record {
     levels = levels_at_start ops;
     words = words;
     position = 0;
     piece = no_piece;
     latest = 0;
-    found = None;
-    read = true;
+    lookahead = None;
+    drained = true;
     ending = known;
     finished = false;
     idle = true;

@@ -4,7 +4,7 @@ use Rattle.tox_time.specs.declared.slice.Slice.{Slice}
 use Rattle.tox_time.specs.declared.item.Item.{Item}
 use Rattle.tox_defs.specs.Look.{as_chunk}
 use Rattle.tox_plan.specs.Levels.{AreNested, AreDrained}
-use Rattle.tox_plan.specs.Running.{Running, IsRunning, IsFound, to_come, reader_at}
+use Rattle.tox_plan.specs.RunnerView.{RunnerView, IsRunning, IsFound, to_come, reader_at}
 use Rattle.tox_plan.specs.Cuts.{IsCut, IsOneCut, KeepsOffers, Reach}
 use Rattle.tox_plan.proofs.LevelLemmas.{nested-below}
 use Rattle.tox_plan.proofs.RunnerOutput.{to_come-unfound, to_come-found, found-cut}
@@ -12,16 +12,16 @@ use Rattle.tox_plan.proofs.Looking.{round_due-most}
 use Rattle.std.proofs.lemmas.List.{map-append}
 
 -- a runner that gives the cut that it found
-module _ (old : Running) (cut : Slice) where
-  abbrev pub after_given : Running
+module _ (old : RunnerView) (cut : Slice) where
+  abbrev pub after_given : RunnerView
   after_given = record {
     levels = old.levels;
     words = old.words;
     position = cut.span.stop;
     piece = old.piece;
     latest = old.latest;
-    found = None;
-    read = old.read;
+    lookahead = None;
+    drained = old.drained;
     ending = old.ending;
     finished = old.finished;
     idle = old.idle;
@@ -31,7 +31,7 @@ module _ (old : Running) (cut : Slice) where
     pieces = old.pieces;
   }
 
-  module _ (invariant : IsRunning old) (some : old.found ≡ Some cut) where
+  module _ (invariant : IsRunning old) (some : old.lookahead ≡ Some cut) where
     found : IsFound old cut
     found = found-cut old cut invariant some
 
@@ -58,7 +58,7 @@ module _ (old : Running) (cut : Slice) where
           few_levels = invariant.few_levels;
           few_cuts = omega (arith, invariant.few_cuts, found.some);
           few_pieces = invariant.few_pieces;
-          counted = omega (arith, counted, round_due-most old.read None (length old.levels));
+          counted = omega (arith, counted, round_due-most old.drained None (length old.levels));
           looked = λ some. omega (arith, cuts_looked some);
         }
 
@@ -83,7 +83,7 @@ pub Reach-append : (start middle stop instant : ℕ) (xs ys : List Slice) → Re
 Reach-append start middle stop instant [] ys reach others = rw reach others
 Reach-append start middle stop instant (x ∷ xs) ys reach others = (reach.0, reach.1, reach.2, Reach-append x.span.stop middle stop instant xs ys reach.3 others)
 
-pub IsCut-one : (old new : Running) (cut : Slice) → IsOneCut old new cut → IsCut old new cut
+pub IsCut-one : (old new : RunnerView) (cut : Slice) → IsOneCut old new cut → IsCut old new cut
 IsCut-one old new cut one = record {
   within = one.within;
   cuts = cut ∷ [];
@@ -93,7 +93,7 @@ IsCut-one old new cut one = record {
 }
 
 -- one more cut at the slice's instant makes the slice longer
-pub IsCut-longer : (old middle new : Running) (slice : Slice) (stop : ℕ) → IsCut old middle slice → middle.position ≡ slice.span.stop → middle.piece ≡ old.piece
+pub IsCut-longer : (old middle new : RunnerView) (slice : Slice) (stop : ℕ) → IsCut old middle slice → middle.position ≡ slice.span.stop → middle.piece ≡ old.piece
     → IsOneCut middle new (record { span = record { start = middle.position; stop = stop }; instant = slice.instant })
     → IsCut old new (record { span = record { start = slice.span.start; stop = stop }; instant = slice.instant })
 IsCut-longer old middle new slice stop cut at piece one =
@@ -113,7 +113,7 @@ IsCut-longer old middle new slice stop cut at piece one =
     }
 
 -- a slice stays what it is where nothing more is given
-pub IsCut-same : (old middle new : Running) (slice : Slice) → IsCut old middle slice → ((items : List Item) → to_come new items ≡ to_come middle items) → new.cuts ≡ middle.cuts → IsCut old new slice
+pub IsCut-same : (old middle new : RunnerView) (slice : Slice) → IsCut old middle slice → ((items : List Item) → to_come new items ≡ to_come middle items) → new.cuts ≡ middle.cuts → IsCut old new slice
 IsCut-same old middle new slice cut same counted = record {
   within = cut.within;
   cuts = cut.cuts;
@@ -122,7 +122,7 @@ IsCut-same old middle new slice cut same counted = record {
   counted = counted ∙ cut.counted;
 }
 
-pub keeps-both : (old middle new : Running) → KeepsOffers old middle → KeepsOffers middle new → KeepsOffers old new
+pub keeps-both : (old middle new : RunnerView) → KeepsOffers old middle → KeepsOffers middle new → KeepsOffers old new
 keeps-both old middle new first second = record {
   words = second.words ∙ first.words;
   piece = second.piece ∙ first.piece;

@@ -3,12 +3,12 @@ use Rattle.std.proofs.Common.{◌≡◌, ◌≢◌, true, [], ◌∷◌, Option,
 use Rattle.std.specs.Prelude.{IsSome}
 use Rattle.tox_time.specs.declared.ending.Ending.{Ending}
 use Rattle.tox_time.specs.Table.{final_of}
-use Rattle.tox_plan.specs.Running.{Running, IsRunning, to_come}
+use Rattle.tox_plan.specs.RunnerView.{RunnerView, IsRunning, to_come}
 use Rattle.tox_plan.proofs.LevelLemmas.{drained-silent}
 use Rattle.tox_plan.proofs.RunnerOutput.{to_come-unfound, to_come-ended, idle-unfound, idle-drained}
 
 -- the ending is known exactly where the source has ended, or something is to come though nothing more arrives
-pub ended_exactly : (runner : Running) → IsRunning runner → runner.idle ≡ true
+pub ended_exactly : (runner : RunnerView) → IsRunning runner → runner.idle ≡ true
     → (IsSome runner.ending → (runner.idle ≡ true) × ((runner.finished ≡ true) ⊎ (to_come runner [] ≢ []))) × ((runner.idle ≡ true) × ((runner.finished ≡ true) ⊎ (to_come runner [] ≢ [])) → IsSome runner.ending)
 ended_exactly runner invariant idle = (λ some. (idle, inr (ends runner.ending refl some)), λ ended. from runner.ending refl ended.1)
   where

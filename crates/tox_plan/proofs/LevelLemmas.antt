@@ -62,9 +62,9 @@ drained-at start (level ∷ levels) source drained = drained-at level.stop level
 pub drained-silent : (words : List ℕ) (start : ℕ) (levels : List Level) (source : Slice) → AreDrained start levels source → to_come_from words start levels source [] ≡ []
 drained-silent words start [] source drained = to_come_from-read words start source [] drained
 drained-silent words start (level ∷ levels) source drained =
-    ap (λ items. level_gives words start level items) (drained-silent words level.stop levels source drained.2)
-    ∙ level_gives-running words start level [] drained.1
-    ∙ ap (λ rest. flow_from (op_reaction level.op words) level.state (rest ++ [])) (rest_of-read start level.stop level.instant (omega (arith, drained.0)))
+    ap (λ items. level_gives (draw words) start level items) (drained-silent words level.stop levels source drained.2)
+    ∙ level_gives-running (draw words) start level [] drained.1
+    ∙ ap (λ rest. flow_from (op_reaction level.op (draw words)) level.state (rest ++ [])) (rest_of-read start level.stop level.instant (omega (arith, drained.0)))
 
 -- the next piece of the source is the next item of what comes to drained levels
 pub drained-offered : (words : List ℕ) (start : ℕ) (levels : List Level) (old new : Slice) (items : List Item) → AreDrained start levels old → new.span.start ≡ old.span.stop → new.span.start < new.span.stop

@@ -11,7 +11,7 @@ use Rattle.tox_time.specs.declared.ending.Ending.{Ending}
 use Rattle.tox_time.specs.Table.{final_of}
 use Rattle.tox_defs.specs.declared.level.Level.{Level}
 use Rattle.tox_plan.specs.Levels.{AreNested, AreDrained, IsNext, HaveEnded, AreOpenUnless}
-use Rattle.tox_plan.specs.Running.{Running, IsRunning, IsFound, to_come, reader_at, round_due, HasNoChunk}
+use Rattle.tox_plan.specs.RunnerView.{RunnerView, IsRunning, IsFound, to_come, reader_at, round_due, HasNoChunk}
 use Rattle.tox_plan.specs.Cuts.{BeginsApart, EndsHere}
 use Rattle.tox_plan.proofs.LevelLemmas.{nested-below, drained-at}
 use Rattle.tox_plan.proofs.RunnerOutput.{to_come-unfound, to_come-found, to_come-ended, unknown, final-no_chunk, read-no_chunk, unread-ending, unread-busy}
@@ -23,7 +23,7 @@ turns_fit levels turns cuts pieces counted few few_cuts few_pieces =
     omega arith
 
 -- at most one round is due
-round_due-most : (read : Bool) (found : Option Slice) (round : ℕ) → round_due read found round ≤ round
+pub round_due-most : (read : Bool) (found : Option Slice) (round : ℕ) → round_due read found round ≤ round
 round_due-most true None round = omega arith
 round_due-most false None round = omega arith
 round_due-most read (Some cut) round = omega arith
@@ -41,16 +41,16 @@ drained-behind start (level ∷ levels) source nested unended at =
     (read, unknown level.ending (λ some. unended (inl some)), drained-behind level.stop levels source nested.1 (λ ended. unended (inr ended)) (read ∙ at))
 
 -- a runner that found its next cut, and whether it is the last
-module _ (old : Running) (levels : List Level) (turns : ℕ) (ended : Bool) (cut : Slice) (last : Bool) where
-  abbrev pub after_found : Running
+module _ (old : RunnerView) (levels : List Level) (turns : ℕ) (ended : Bool) (cut : Slice) (last : Bool) where
+  abbrev pub after_found : RunnerView
   after_found = record {
     levels = levels;
     words = old.words;
     position = old.position;
     piece = old.piece;
     latest = old.latest;
-    found = Some cut;
-    read = last;
+    lookahead = Some cut;
+    drained = last;
     ending = old.ending;
     finished = old.finished;
     idle = old.idle;
@@ -60,7 +60,7 @@ module _ (old : Running) (levels : List Level) (turns : ℕ) (ended : Bool) (cut
     pieces = old.pieces;
   }
 
-  module _ (invariant : IsRunning old) (unread : old.read ≡ false) (unfound : old.found ≡ None) (next : IsNext old.words old.position old.levels levels old.piece cut) where
+  module _ (invariant : IsRunning old) (unread : old.drained ≡ false) (unfound : old.lookahead ≡ None) (next : IsNext old.words old.position old.levels levels old.piece cut) where
     pub IsRunning-after_found : (last ≡ true → AreDrained cut.span.stop levels old.piece) → AreOpenUnless ended levels → length levels ≡ length old.levels → turns ≤ old.turns + length old.levels → old.turns ≤ turns → (0 < length old.levels → old.turns < turns) → IsRunning after_found
     IsRunning-after_found drained unended same_length few_turns more looked =
         let busy : old.idle ≡ false = unread-busy old invariant unread in
@@ -92,16 +92,16 @@ module _ (old : Running) (levels : List Level) (turns : ℕ) (ended : Bool) (cut
         to_come-found after_found cut items none refl ∙ sym (next.gives items) ∙ sym (to_come-unfound old items none unfound)
 
 -- a runner that has read its piece to the end
-module _ (old : Running) (levels : List Level) (turns : ℕ) (ended : Bool) (ending : Option Ending) where
-  abbrev pub after_read : Running
+module _ (old : RunnerView) (levels : List Level) (turns : ℕ) (ended : Bool) (ending : Option Ending) where
+  abbrev pub after_read : RunnerView
   after_read = record {
     levels = levels;
     words = old.words;
     position = old.position;
     piece = old.piece;
     latest = old.latest;
-    found = old.found;
-    read = true;
+    lookahead = old.lookahead;
+    drained = true;
     ending = ending;
     finished = old.finished;
     idle = old.idle;
@@ -111,7 +111,7 @@ module _ (old : Running) (levels : List Level) (turns : ℕ) (ended : Bool) (end
     pieces = old.pieces;
   }
 
-  module _ (invariant : IsRunning old) (unread : old.read ≡ false) (unfound : old.found ≡ None) where
+  module _ (invariant : IsRunning old) (unread : old.drained ≡ false) (unfound : old.lookahead ≡ None) where
     pub IsRunning-after_read : (ending ≡ None → AreDrained old.position levels old.piece × AreNested old.position levels old.piece) → (IsSome ending → HaveEnded levels) → AreOpenUnless ended levels
         → length levels ≡ length old.levels → turns ≤ old.turns + length old.levels → old.turns ≤ turns → IsRunning after_read
     IsRunning-after_read drained kept unended same_length few_turns more =
@@ -138,7 +138,7 @@ module _ (old : Running) (levels : List Level) (turns : ℕ) (ended : Bool) (end
         }
 
 -- where a look finds no cut, no chunk is left
-pub look-none : (old new : Running) → IsRunning new → (IsNone new.found → new.read ≡ true) → new.found ≡ None → ((items : List Item) → to_come new items ≡ to_come old items)
+pub look-none : (old new : RunnerView) → IsRunning new → (IsNone new.lookahead → new.drained ≡ true) → new.lookahead ≡ None → ((items : List Item) → to_come new items ≡ to_come old items)
     → HasNoChunk (to_come new (Quiet ∷ [])) × HasNoChunk (to_come old (Quiet ∷ []))
 look-none old new invariant read none same =
     let chunks : HasNoChunk (to_come new (Quiet ∷ [])) = read-no_chunk new invariant (read (subst IsNone (sym none) refl)) none in
@@ -153,10 +153,10 @@ no_chunk-apart instant (Reset t ∷ items) none = none
 no_chunk-apart instant (Quiet ∷ items) none = none
 
 -- a slice ends where a look finds no cut
-pub look-ends : (runner : Running) (instant : ℕ) → IsRunning runner → (IsNone runner.found → runner.read ≡ true) → runner.found ≡ None → EndsHere instant runner
+pub look-ends : (runner : RunnerView) (instant : ℕ) → IsRunning runner → (IsNone runner.lookahead → runner.drained ≡ true) → runner.lookahead ≡ None → EndsHere instant runner
 look-ends runner instant invariant read none = from runner.ending refl
   where
-    is_read : runner.read ≡ true
+    is_read : runner.drained ≡ true
     is_read = read (subst IsNone (sym none) refl)
 
     from : (ending : Option Ending) → runner.ending ≡ ending → EndsHere instant runner

@@ -4,21 +4,21 @@ use Rattle.std.specs.Prelude.{is_some, IsSome, IfSome}
 use Rattle.tox_time.specs.declared.item.Item.{Item}
 use Rattle.tox_defs.specs.Look.{as_chunk}
 use Rattle.tox_plan.specs.Levels.{AreDrained}
-use Rattle.tox_plan.specs.Running.{Running, IsRunning, IsFound, to_come, reader_at, next_piece}
+use Rattle.tox_plan.specs.RunnerView.{RunnerView, IsRunning, IsFound, to_come, reader_at, next_piece}
 use Rattle.tox_plan.proofs.LevelLemmas.{nested-longer, drained-at, drained-offered}
 use Rattle.tox_plan.proofs.RunnerOutput.{to_come-unfound, idle-unfound, idle-drained}
 
 -- a runner after an offer
-module _ (old : Running) (len instant : ℕ) where
-  abbrev pub after_offer : Running
+module _ (old : RunnerView) (len instant : ℕ) where
+  abbrev pub after_offer : RunnerView
   after_offer = record {
     levels = old.levels;
     words = old.words;
     position = old.position;
     piece = next_piece old len instant;
     latest = instant;
-    found = old.found;
-    read = false;
+    lookahead = old.lookahead;
+    drained = false;
     ending = old.ending;
     finished = old.finished;
     idle = false;
@@ -29,7 +29,7 @@ module _ (old : Running) (len instant : ℕ) where
   }
 
   module _ (invariant : IsRunning old) (idle : old.idle ≡ true) (none : old.ending ≡ None) where
-    unfound : old.found ≡ None
+    unfound : old.lookahead ≡ None
     unfound = idle-unfound old invariant idle
 
     drained : AreDrained old.position old.levels old.piece
@@ -42,7 +42,7 @@ module _ (old : Running) (len instant : ℕ) where
         let counted : 0 + old.turns ≤ length old.levels * (old.cuts + old.pieces) = rw (unfound, invariant.idle idle) at invariant.counted in
         let cuts_looked : 0 < length old.levels → old.cuts + 0 ≤ old.turns = rw unfound at invariant.looked in
         record {
-          nested = λ _. nested-longer (reader_at old.position old.found) old.levels old.piece (next_piece old len instant) (omega arith) (invariant.nested none);
+          nested = λ _. nested-longer (reader_at old.position old.lookahead) old.levels old.piece (next_piece old len instant) (omega arith) (invariant.nested none);
           drained = λ read. absurd (let e : false ≡ true = read in cc);
           found = subst (λ found. IfSome found (IsFound after_offer)) (sym unfound) tt;
           unended = invariant.unended;

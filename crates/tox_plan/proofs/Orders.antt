@@ -15,7 +15,7 @@ use Rattle.tox_defs.proofs.OpStreams.{IsStream-op_flow}
 use Rattle.tox_compile.specs.Meaning.{Ops, IsPlan, means, op_reactions}
 use Rattle.tox_plan.specs.Cuts.{BeginsApart}
 use Rattle.tox_plan.specs.Given.{AreAfter, HasGiven}
-use Rattle.tox_plan.specs.Running.{Running, HasNoChunk, to_come}
+use Rattle.tox_plan.specs.RunnerView.{RunnerView, HasNoChunk, to_come}
 use Rattle.tox_plan.proofs.Deliveries.{slices_table-append}
 use Rattle.tox_plan.proofs.Givens.{table-no_chunk}
 
@@ -75,7 +75,7 @@ never-from zero instant ts since some never = absurd (omega (arith, some))
 never-from (suc n) instant ts since some never = never-behind instant (replicate n instant) ts never.1
 
 -- what is left behind a slice leaves later, where all that was given and is to come is a plan's meaning
-pub left-after : (plan : Ops) (offered : List Item) (given : List Slice) (slice : Slice) (runner : Running) → IsPlan plan → IsStream (offered ++ Quiet ∷ []) → HasGiven plan offered (given ++ slice ∷ []) runner
+pub left-after : (plan : Ops) (offered : List Item) (given : List Slice) (slice : Slice) (runner : RunnerView) → IsPlan plan → IsStream (offered ++ Quiet ∷ []) → HasGiven plan offered (given ++ slice ∷ []) runner
     → slice.span.start < slice.span.stop → BeginsApart slice.instant (to_come runner (Quiet ∷ [])) → AreAfter slice.instant (table (to_come runner (Quiet ∷ [])))
 left-after plan offered given slice runner fits stream has some apart =
     let left : List ℕ = table (to_come runner (Quiet ∷ [])) in

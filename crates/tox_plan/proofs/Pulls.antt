@@ -10,8 +10,8 @@ use Rattle.tox_defs.specs.declared.level.Level.{Level}
 use Rattle.tox_defs.specs.Op.{op_giving, is_mute}
 use Rattle.tox_defs.specs.Look.{as_chunk}
 use Rattle.tox_defs.specs.Level.{level_gives, IsSound, IsNextPiece, IsAtEnd}
-use Rattle.tox_plan.specs.declared.levels.Pulled.{Pulled}
-use Rattle.tox_plan.specs.declared.levels.Pulled.TheVariants.{Piece, End, Nothing}
+use Rattle.tox_plan.specs.declared.pulling.Pulled.{Pulled}
+use Rattle.tox_plan.specs.declared.pulling.Pulled.TheVariants.{Piece, End, Nothing}
 use Rattle.tox_plan.specs.Levels.{to_come_from, AreNested, AreDrained, AreRead, IsNext, IsFrom, MatchGiven, MatchPulled, OnlyEnds}
 use Rattle.tox_plan.proofs.LevelLemmas.{nested-below, level_gives-filled, level_gives-final}
 

@@ -11,46 +11,46 @@ use Rattle.tox_defs.specs.declared.level.Level.{Level}
 use Rattle.tox_defs.specs.Look.{as_chunk}
 use Rattle.tox_defs.specs.Level.{ending_or}
 use Rattle.tox_plan.specs.Levels.{to_come_from, AreNested, AreDrained, HaveEnded}
-use Rattle.tox_plan.specs.Running.{Running, IsRunning, IsFound, to_come, found_chunk, reader_at, HasNoChunk}
+use Rattle.tox_plan.specs.RunnerView.{RunnerView, IsRunning, IsFound, to_come, found_chunk, reader_at, HasNoChunk}
 use Rattle.tox_plan.proofs.Endings.{drained-final}
 
-pub to_come-running : (runner : Running) (items : List Item) → runner.ending ≡ None
-    → to_come runner items ≡ found_chunk runner.found ++ to_come_from runner.words (reader_at runner.position runner.found) runner.levels runner.piece items
+pub to_come-running : (runner : RunnerView) (items : List Item) → runner.ending ≡ None
+    → to_come runner items ≡ found_chunk runner.lookahead ++ to_come_from runner.words (reader_at runner.position runner.lookahead) runner.levels runner.piece items
 to_come-running runner items running =
-    ap (λ ending. ending_or ending (found_chunk runner.found ++ to_come_from runner.words (reader_at runner.position runner.found) runner.levels runner.piece items)) running
+    ap (λ ending. ending_or ending (found_chunk runner.lookahead ++ to_come_from runner.words (reader_at runner.position runner.lookahead) runner.levels runner.piece items)) running
 
-pub to_come-unfound : (runner : Running) (items : List Item) → runner.ending ≡ None → runner.found ≡ None → to_come runner items ≡ to_come_from runner.words runner.position runner.levels runner.piece items
+pub to_come-unfound : (runner : RunnerView) (items : List Item) → runner.ending ≡ None → runner.lookahead ≡ None → to_come runner items ≡ to_come_from runner.words runner.position runner.levels runner.piece items
 to_come-unfound runner items running none =
     to_come-running runner items running
     ∙ ap (λ found. found_chunk found ++ to_come_from runner.words (reader_at runner.position found) runner.levels runner.piece items) none
 
-pub to_come-found : (runner : Running) (cut : Slice) (items : List Item) → runner.ending ≡ None → runner.found ≡ Some cut
+pub to_come-found : (runner : RunnerView) (cut : Slice) (items : List Item) → runner.ending ≡ None → runner.lookahead ≡ Some cut
     → to_come runner items ≡ as_chunk cut ∷ to_come_from runner.words cut.span.stop runner.levels runner.piece items
 to_come-found runner cut items running some =
     to_come-running runner items running
     ∙ ap (λ found. found_chunk found ++ to_come_from runner.words (reader_at runner.position found) runner.levels runner.piece items) some
 
-pub to_come-ended : (runner : Running) (ending : Ending) (items : List Item) → runner.ending ≡ Some ending → to_come runner items ≡ final_of ending ∷ []
+pub to_come-ended : (runner : RunnerView) (ending : Ending) (items : List Item) → runner.ending ≡ Some ending → to_come runner items ≡ final_of ending ∷ []
 to_come-ended runner ending items ended =
-    ap (λ ending. ending_or ending (found_chunk runner.found ++ to_come_from runner.words (reader_at runner.position runner.found) runner.levels runner.piece items)) ended
+    ap (λ ending. ending_or ending (found_chunk runner.lookahead ++ to_come_from runner.words (reader_at runner.position runner.lookahead) runner.levels runner.piece items)) ended
 
 -- an idle runner has found nothing
-pub idle-unfound : (runner : Running) → IsRunning runner → runner.idle ≡ true → runner.found ≡ None
-idle-unfound runner invariant idle = by runner.found refl
+pub idle-unfound : (runner : RunnerView) → IsRunning runner → runner.idle ≡ true → runner.lookahead ≡ None
+idle-unfound runner invariant idle = by runner.lookahead refl
   where
-    by : (found : Option Slice) → runner.found ≡ found → runner.found ≡ None
+    by : (found : Option Slice) → runner.lookahead ≡ found → runner.lookahead ≡ None
     by None is = is
     by (Some cut) is =
         let found : IsFound runner cut = subst (λ found. IfSome found (IsFound runner)) is invariant.found in
         absurd (let both : true ≡ false = sym idle ∙ found.busy in cc)
 
 -- the levels of an idle runner with no ending are drained
-pub idle-drained : (runner : Running) → IsRunning runner → runner.idle ≡ true → runner.ending ≡ None → AreDrained runner.position runner.levels runner.piece
+pub idle-drained : (runner : RunnerView) → IsRunning runner → runner.idle ≡ true → runner.ending ≡ None → AreDrained runner.position runner.levels runner.piece
 idle-drained runner invariant idle none =
     subst (λ found. AreDrained (reader_at runner.position found) runner.levels runner.piece) (idle-unfound runner invariant idle) (invariant.drained (invariant.idle idle) none)
 
 -- what is found comes before any ending
-pub found-cut : (runner : Running) (cut : Slice) → IsRunning runner → runner.found ≡ Some cut → IsFound runner cut
+pub found-cut : (runner : RunnerView) (cut : Slice) → IsRunning runner → runner.lookahead ≡ Some cut → IsFound runner cut
 found-cut runner cut invariant is = subst (λ found. IfSome found (IsFound runner)) is invariant.found
 
 -- drained levels keep no ending
@@ -79,7 +79,7 @@ drained-no_chunk words start levels source nested drained =
     subst HasNoChunk (sym last.1) (final-no_chunk last.0)
 
 -- no chunk comes any more from a runner that has read its piece, unless it is offered one
-pub read-no_chunk : (runner : Running) → IsRunning runner → runner.read ≡ true → runner.found ≡ None → HasNoChunk (to_come runner (Quiet ∷ []))
+pub read-no_chunk : (runner : RunnerView) → IsRunning runner → runner.drained ≡ true → runner.lookahead ≡ None → HasNoChunk (to_come runner (Quiet ∷ []))
 read-no_chunk runner invariant read none = from runner.ending refl
   where
     from : (ending : Option Ending) → runner.ending ≡ ending → HasNoChunk (to_come runner (Quiet ∷ []))
@@ -90,10 +90,10 @@ read-no_chunk runner invariant read none = from runner.ending refl
     from (Some ending) is = subst HasNoChunk (sym (to_come-ended runner ending (Quiet ∷ []) is)) (final-no_chunk ending)
 
 -- a runner that has not read its piece has no ending
-pub unread-ending : (runner : Running) → IsRunning runner → runner.read ≡ false → runner.ending ≡ None
-unread-ending runner invariant unread = unknown runner.ending (λ some. let read : runner.read ≡ true = invariant.ended some in absurd (let both : true ≡ false = sym read ∙ unread in cc))
+pub unread-ending : (runner : RunnerView) → IsRunning runner → runner.drained ≡ false → runner.ending ≡ None
+unread-ending runner invariant unread = unknown runner.ending (λ some. let read : runner.drained ≡ true = invariant.ended some in absurd (let both : true ≡ false = sym read ∙ unread in cc))
 
-pub unread-busy : (runner : Running) → IsRunning runner → runner.read ≡ false → runner.idle ≡ false
+pub unread-busy : (runner : RunnerView) → IsRunning runner → runner.drained ≡ false → runner.idle ≡ false
 unread-busy runner invariant unread = by runner.idle refl
   where
     by : (idle : Bool) → runner.idle ≡ idle → runner.idle ≡ false

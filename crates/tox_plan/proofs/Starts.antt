@@ -16,7 +16,7 @@ use Rattle.tox_defs.proofs.ToxicProofs.Timeout.{flow_from-muted}
 use Rattle.tox_defs.proofs.OpStreams.{IsStream-op_flow}
 use Rattle.tox_compile.specs.Meaning.{op_reactions}
 use Rattle.tox_plan.specs.Levels.{ops_of, ending_at_start, level_at_start, levels_at_start, to_come_from, IsLevel, AreNested, AreRead}
-use Rattle.tox_plan.specs.Running.{no_piece}
+use Rattle.tox_plan.specs.RunnerView.{no_piece}
 use Rattle.tox_plan.proofs.LevelLemmas.{ops_of-append}
 
 -- a level at its start gives its operation's flow of a stream

@@ -5,7 +5,7 @@ use Rattle.tox_time.specs.declared.item.Item.{Item}
 use Rattle.tox_time.specs.declared.item.Item.TheVariants.{Chunk, Closed, Reset, Quiet}
 use Rattle.tox_defs.specs.Look.{as_chunk}
 use Rattle.tox_plan.specs.Levels.{ops_of}
-use Rattle.tox_plan.specs.Running.{Running, HasNoChunk, to_come}
+use Rattle.tox_plan.specs.RunnerView.{RunnerView, HasNoChunk, to_come}
 
 -- nonempty cuts at one instant that reach from one position to another
 abbrev pub Reach : ℕ → ℕ → ℕ → List Slice → Type 0
@@ -20,7 +20,7 @@ pub record IsWithin (piece slice : Slice) : Type 0 where
   pub to : slice.span.stop ≤ piece.span.stop
 
 -- the slice lies in the offered piece, and is one or more cuts that come first in the remaining output, all at its instant
-pub record IsCut (old new : Running) (slice : Slice) : Type 0 where
+pub record IsCut (old new : RunnerView) (slice : Slice) : Type 0 where
   pub within : IsWithin old.piece slice
   pub cuts : List Slice
   pub parts : Reach slice.span.start slice.span.stop slice.instant cuts
@@ -28,7 +28,7 @@ pub record IsCut (old new : Running) (slice : Slice) : Type 0 where
   pub counted : new.cuts ≡ old.cuts + length cuts
 
 -- the slice is the next cut by itself
-pub record IsOneCut (old new : Running) (cut : Slice) : Type 0 where
+pub record IsOneCut (old new : RunnerView) (cut : Slice) : Type 0 where
   pub begins : cut.span.start ≡ old.position
   pub some : cut.span.start < cut.span.stop
   pub stands : new.position ≡ cut.span.stop
@@ -37,7 +37,7 @@ pub record IsOneCut (old new : Running) (cut : Slice) : Type 0 where
   pub counted : new.cuts ≡ old.cuts + 1
 
 -- the offers, the words and the plan's operations stay
-pub record KeepsOffers (old new : Running) : Type 0 where
+pub record KeepsOffers (old new : RunnerView) : Type 0 where
   pub words : new.words ≡ old.words
   pub piece : new.piece ≡ old.piece
   pub latest : new.latest ≡ old.latest
@@ -55,6 +55,6 @@ BeginsApart instant (Reset t ∷ items) = HasNoChunk items
 BeginsApart instant (Quiet ∷ items) = HasNoChunk items
 
 -- a slice of this instant can't be longer: the piece is over, or the next chunk leaves at another instant, whatever arrives later
-abbrev pub EndsHere : ℕ → Running → Type 0
+abbrev pub EndsHere : ℕ → RunnerView → Type 0
 EndsHere instant runner =
     (runner.position ≡ runner.piece.span.stop) ⊎ ((items : List Item) → BeginsApart instant (to_come runner items))

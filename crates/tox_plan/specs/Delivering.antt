@@ -4,7 +4,7 @@ use Rattle.tox_time.specs.declared.slice.Slice.{Slice}
 use Rattle.tox_time.specs.declared.item.Item.{Item}
 use Rattle.tox_time.specs.declared.item.Item.TheVariants.{Chunk, Closed, Reset, Quiet}
 use Rattle.tox_time.specs.Table.{table, slices_table, ending}
-use Rattle.tox_plan.specs.Running.{Running, to_come}
+use Rattle.tox_plan.specs.RunnerView.{RunnerView, to_come}
 
 -- the item may come after this piece
 abbrev pub MayFollow : Slice → Item → Type 0
@@ -21,18 +21,18 @@ EndsAt (Reset t) items = items ≡ []
 EndsAt Quiet items = items ≡ []
 
 -- the runner stands at this piece
-abbrev pub StandsAt : Running → Slice → Type 0
+abbrev pub StandsAt : RunnerView → Slice → Type 0
 StandsAt runner piece = (runner.piece ≡ piece) × (runner.latest ≡ piece.instant)
 
 -- the runner stands at the item, as far as the item is a chunk
-abbrev pub StandsBehind : Running → Item → Type 0
+abbrev pub StandsBehind : RunnerView → Item → Type 0
 StandsBehind runner (Chunk span t) = StandsAt runner (record { span = span; instant = t })
 StandsBehind runner (Closed t) = ⊥
 StandsBehind runner (Reset t) = Unit {0}
 StandsBehind runner Quiet = ⊥
 
 -- slices that were given, and what is then still to come, come to the same as before
-pub record Goes (old : Running) (given : List Slice) (olds : List Item) (new : Running) (more : List Slice) (news : List Item) : Type 0 where
+pub record PreservesOutput (old : RunnerView) (given : List Slice) (olds : List Item) (new : RunnerView) (more : List Slice) (news : List Item) : Type 0 where
   pub tables : slices_table given ++ table (to_come old olds) ≡ slices_table more ++ table (to_come new news)
   pub endings : ending (to_come old olds) ≡ ending (to_come new news)
 

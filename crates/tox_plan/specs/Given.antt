@@ -6,15 +6,15 @@ use Rattle.tox_time.specs.declared.item.Item.TheVariants.{Quiet}
 use Rattle.tox_time.specs.Stream.{IsStream, IsPrefix}
 use Rattle.tox_time.specs.Table.{table, slices_table, ending}
 use Rattle.tox_compile.specs.Meaning.{Ops, means}
-use Rattle.tox_plan.specs.Running.{Running, to_come}
+use Rattle.tox_plan.specs.RunnerView.{RunnerView, to_come}
 
 -- the slices that were given of the offered pieces, and what is still to come, are the plan's meaning, whatever comes later
-pub record HasGiven (plan : Ops) (offered : List Item) (given : List Slice) (runner : Running) : Type 0 where
+pub record HasGiven (plan : Ops) (offered : List Item) (given : List Slice) (runner : RunnerView) : Type 0 where
   pub tables : (items : List Item) → IsStream (offered ++ items) → slices_table given ++ table (to_come runner items) ≡ table (means plan runner.words (offered ++ items))
   pub endings : (items : List Item) → IsStream (offered ++ items) → ending (to_come runner items) ≡ ending (means plan runner.words (offered ++ items))
 
 -- a call that took these pieces and gave these slices
-abbrev pub GoesOn : Running → List Item → List Slice → Running → Type 0
+abbrev pub GoesOn : RunnerView → List Item → List Slice → RunnerView → Type 0
 GoesOn old pieces slices new =
     (plan : Ops) (offered : List Item) (given : List Slice) → HasGiven plan offered given old → HasGiven plan (offered ++ pieces) (given ++ slices) new
 

@@ -12,8 +12,8 @@ use Rattle.tox_defs.specs.Reaction.{first_state}
 use Rattle.tox_defs.specs.Op.{is_mute}
 use Rattle.tox_defs.specs.Look.{as_chunk, rest_of}
 use Rattle.tox_defs.specs.Level.{level_gives, IsSound, IsNextPiece, IsAtEnd}
-use Rattle.tox_plan.specs.declared.levels.Pulled.{Pulled}
-use Rattle.tox_plan.specs.declared.levels.Pulled.TheVariants.{Piece, End, Nothing}
+use Rattle.tox_plan.specs.declared.pulling.Pulled.{Pulled}
+use Rattle.tox_plan.specs.declared.pulling.Pulled.TheVariants.{Piece, End, Nothing}
 
 -- the ending that an operation has from the start
 abbrev pub ending_at_start : Op → Option Ending

@@ -1,5 +1,5 @@
 pub mod Levels
-pub mod Running
+pub mod RunnerView
 pub mod RunnerInside
 pub mod Cuts
 pub mod Delivering

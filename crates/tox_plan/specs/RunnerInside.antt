@@ -1,16 +1,16 @@
 -- What a contract sees of a `Runner`, and what its fields keep.
 use Rattle.tox_plan.specs.declared.runner.Runner.TheInside.{Inside}
-use Rattle.tox_plan.specs.Running.{Running, IsRunning}
+use Rattle.tox_plan.specs.RunnerView.{RunnerView, IsRunning}
 
-abbrev pub running : Inside → Running
+abbrev pub running : Inside → RunnerView
 running runner = record {
   levels = runner.levels.items;
   words = runner.words.now;
   position = runner.position;
   piece = runner.piece;
   latest = runner.latest;
-  found = runner.found;
-  read = runner.read;
+  lookahead = runner.lookahead;
+  drained = runner.drained;
   ending = runner.ending;
   finished = runner.finished;
   idle = runner.idle;

@@ -8,12 +8,12 @@ use Rattle.tox_lend.specs.Run.{Run, stop_of}
 use Rattle.tox_lend.specs.Lent.{IsExactSlice}
 use Rattle.tox_lend.specs.declared.lent.Lent.{Lent}
 use Rattle.tox_plan.specs.declared.slices.Slices.{Slices}
-use Rattle.tox_plan.specs.Running.{Running, to_come, HasNoChunk}
+use Rattle.tox_plan.specs.RunnerView.{RunnerView, to_come, HasNoChunk}
 use Rattle.tox_plan.specs.Cuts.{IsCut, BeginsApart}
 use Rattle.tox_plan.specs.Levels.{ops_of}
 
 -- the piece has the start, the length and the instant of the last accepted offer
-pub record IsOffered (runner : Running) (piece : Run) : Type 0 where
+pub record IsOffered (runner : RunnerView) (piece : Run) : Type 0 where
   pub starts : runner.piece.span.start ≡ piece.start
   pub stops : runner.piece.span.stop ≡ stop_of piece
   pub arrives : runner.piece.instant ≡ piece.instant

@@ -5,11 +5,11 @@ ghost use Rattle.tox_time.specs.declared.slice.Slice.{Slice as OneSlice};
 ghost use Rattle.tox_time.specs.Arrivals.{arrival_list};
 ghost use Rattle.tox_time.specs.Stream.{IsStream, latest_from};
 ghost use Rattle.tox_time.specs.Table.{IsOutcomeOf};
-ghost use Rattle.tox_time.specs.Neighbours.{AreNeighbours, LiesIn};
+ghost use Rattle.tox_time.specs.Neighbours.{AreNeighbours, LiesInChunk};
 ghost use Rattle.tox_defs.specs.Flow.{chain_flow};
 ghost use Rattle.tox_compile.specs.Meaning.{means};
 ghost use Rattle.tox_network.specs.Runs.{OfEveryRest};
-ghost use Rattle.tox_plan.specs.Delivering.{MayFollow, EndsAt, StandsAt, StandsBehind, Goes, stop_from};
+ghost use Rattle.tox_plan.specs.Delivering.{MayFollow, EndsAt, StandsAt, StandsBehind, PreservesOutput, stop_from};
 
 use crate::runner::Runner;
 use std::alloc::{AllocError, Global};
@@ -20,9 +20,9 @@ use tox_words::Words;
 
 /// Takes all slices of the offered piece.
 fn take_cuts(runner: &mut Runner, slices: &mut SliceList) -> Result<(), AllocError>
-    ensures goes { OnOk result ((items : List OneItem) → Goes runner.old slices.old items runner.new slices.new items) }
+    ensures goes { OnOk result ((items : List OneItem) → PreservesOutput runner.old slices.old items runner.new slices.new items) }
     ensures idle { OnOk result ((runner.new.idle ≡ true) × (runner.new.piece ≡ runner.old.piece) × (runner.new.latest ≡ runner.old.latest)) }
-    ensures neighbours { OnOk result ((items : List OneItem) → Any (LiesIn runner.old.piece.span) items → AreNeighbours items 0 slices.old → stop_from 0 slices.old ≡ runner.old.position
+    ensures neighbours { OnOk result ((items : List OneItem) → Any (LiesInChunk runner.old.piece.span) items → AreNeighbours items 0 slices.old → stop_from 0 slices.old ≡ runner.old.position
         → AreNeighbours items 0 slices.new × (stop_from 0 slices.new ≡ runner.new.position)) }
 {
     while let Some(slice) = runner.next_cut() {
@@ -35,7 +35,7 @@ fn take_cuts(runner: &mut Runner, slices: &mut SliceList) -> Result<(), AllocErr
 fn take_item(runner: &mut Runner, slices: &mut SliceList, item: &Item) -> Result<(), AllocError>
     requires idle { runner.old.idle ≡ true }
     requires follows { (last : OneSlice) × MayFollow last item.now × (runner.old.latest ≤ last.instant) × (runner.old.ending ≡ None → StandsAt runner.old last) }
-    ensures goes { OnOk result ((items : List OneItem) → EndsAt item.now items → Goes runner.old slices.old (arrival_list (item.now ∷ items)) runner.new slices.new (arrival_list items)) }
+    ensures goes { OnOk result ((items : List OneItem) → EndsAt item.now items → PreservesOutput runner.old slices.old (arrival_list (item.now ∷ items)) runner.new slices.new (arrival_list items)) }
     ensures idle { OnOk result (runner.new.idle ≡ true) }
     ensures latest { OnOk result (runner.new.latest ≤ latest_from runner.old.latest (item.now ∷ [])) }
     ensures stands { OnOk result (runner.new.ending ≡ None → StandsBehind runner.new item.now) }

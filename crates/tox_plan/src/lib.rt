@@ -3,9 +3,11 @@
 #![tactic(auto)]
 
 mod delivery;
-mod levels;
+mod level_endings;
+mod pulling;
 mod runner;
 mod slices;
+mod starting;
 
 pub use delivery::deliver;
 pub use runner::Runner;

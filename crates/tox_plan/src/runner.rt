@@ -8,11 +8,13 @@ ghost use Rattle.tox_time.specs.Table.{final_of, table};
 ghost use Rattle.tox_defs.specs.Look.{as_chunk};
 ghost use Rattle.tox_compile.specs.Meaning.{Ops, IsPlan, means, deadline_of};
 ghost use Rattle.tox_plan.specs.Levels.{levels_at_start, ops_of};
-ghost use Rattle.tox_plan.specs.Running.{to_come, HasNoChunk, known_ending, next_piece, no_piece, offer_answer};
+ghost use Rattle.tox_plan.specs.RunnerView.{to_come, HasNoChunk, known_ending, next_piece, no_piece, offer_answer};
 ghost use Rattle.tox_plan.specs.Cuts.{IsCut, IsOneCut, KeepsOffers, BeginsApart, EndsHere};
 ghost use Rattle.tox_plan.specs.Given.{HasGiven, GoesOn, IsLasting, IsWhole, AreAfter};
 
-use crate::levels::{self, Looks, Pulled, last_of, pull, push_levels};
+use crate::level_endings::{ending_of_read, last_of};
+use crate::pulling::{PullStats, Pulled, pull};
+use crate::starting::push_levels;
 use arrayvec::ArrayVec;
 use std::marker::Model;
 use tox_compile::Plan;
@@ -30,20 +32,20 @@ pub struct Runner<'w> {
     position: u64,
     piece: Slice,
     latest: Micros,
-    found: Option<Slice>,
-    read: bool,
+    lookahead: Option<Slice>,
+    drained: bool,
     ending: Option<Ending>,
     finished: bool,
     idle: bool,
-    looks: Looks,
+    looks: PullStats,
     cuts: u64,
     pieces: u64,
 }
 
 impl<'w> Model for Runner<'w> {
-    ghost use Rattle.tox_plan.specs.Running.{Running};
+    ghost use Rattle.tox_plan.specs.RunnerView.{RunnerView};
 
-    ghost Value = { Running };
+    ghost Value = { RunnerView };
 
     ghost use Rattle.tox_plan.specs.RunnerInside.{running, IsKept};
 
@@ -64,7 +66,7 @@ impl<'w> Runner<'w> {
     {
         let mut levels = ArrayVec::new();
         push_levels(&mut levels, plan.ops());
-        let ending = levels::known_ending(&levels);
+        let ending = ending_of_read(&levels);
         Runner {
             levels,
             words,
@@ -74,12 +76,12 @@ impl<'w> Runner<'w> {
                 instant: Micros::ZERO,
             },
             latest: Micros::ZERO,
-            found: None,
-            read: true,
+            lookahead: None,
+            drained: true,
             ending,
             finished: false,
             idle: true,
-            looks: Looks {
+            looks: PullStats {
                 turns: 0,
                 ended: ending.is_some(),
             },
@@ -133,7 +135,7 @@ impl<'w> Runner<'w> {
         };
         self.latest = instant;
         self.pieces += 1;
-        self.read = false;
+        self.drained = false;
         self.idle = false;
         Ok(())
     }
@@ -172,7 +174,7 @@ impl<'w> Runner<'w> {
         ensures kept { KeepsOffers self.old self.new }
     {
         self.look();
-        let Some(cut) = self.found else {
+        let Some(cut) = self.lookahead else {
             self.idle = true;
             return None;
         };
@@ -190,7 +192,7 @@ impl<'w> Runner<'w> {
         ensures kept { KeepsOffers self.old self.new }
     {
         self.look();
-        let cut = self.found?;
+        let cut = self.lookahead?;
         if cut.instant != *instant {
             return None;
         }
@@ -200,25 +202,25 @@ impl<'w> Runner<'w> {
 
     /// Gives the found cut.
     fn give(&mut self, cut: &Slice)
-        requires { self.old.found ≡ Some cut.now }
+        requires { self.old.lookahead ≡ Some cut.now }
         ensures cut { IsOneCut self.old self.new cut.now }
         ensures same { (self.new.idle ≡ self.old.idle) × (self.new.turns ≡ self.old.turns) }
         ensures kept { KeepsOffers self.old self.new }
     {
-        self.found = None;
+        self.lookahead = None;
         self.position = cut.span.stop;
         self.cuts += 1;
     }
 
     /// Finds the next cut, where it isn't found yet and one may be left.
     fn look(&mut self)
-        ensures found { IsNone self.new.found → self.new.read ≡ true }
+        ensures found { IsNone self.new.lookahead → self.new.drained ≡ true }
         ensures to_come { (items : List OneItem) → to_come self.new items ≡ to_come self.old items }
         ensures same { (self.new.position ≡ self.old.position) × (self.new.cuts ≡ self.old.cuts) × (self.new.idle ≡ self.old.idle) }
         ensures turns { self.new.turns ≤ self.old.turns + length self.old.levels }
         ensures kept { KeepsOffers self.old self.new }
     {
-        if self.read || self.found.is_some() {
+        if self.drained || self.lookahead.is_some() {
             return;
         }
         match pull(
@@ -229,14 +231,14 @@ impl<'w> Runner<'w> {
             &mut self.looks,
         ) {
             Pulled::Piece(cut) => {
-                self.read = cut.span.stop == self.piece.span.stop && !self.looks.ended;
-                self.found = Some(cut);
+                self.drained = cut.span.stop == self.piece.span.stop && !self.looks.ended;
+                self.lookahead = Some(cut);
             }
             Pulled::End(ending) => {
                 self.ending = Some(ending);
-                self.read = true;
+                self.drained = true;
             }
-            Pulled::Nothing => self.read = true,
+            Pulled::Nothing => self.drained = true,
         }
     }
 

@@ -19,7 +19,7 @@ flow_text chain words arrived =
     let flow = chain_flow chain words (arrival_list arrived.items) in result_text arrived (table flow) (ending flow)
 
 -- a text was read, and this is what it spells
-pub record Spells (before after : Option (List ℕ)) (arrived : Arrived) : Type 0 where
+pub record ParsesInput (before after : Option (List ℕ)) (arrived : Arrived) : Type 0 where
   pub text : List ℕ
   pub read : IsRead before after text
   pub spelled : arrivals_of text ≡ Ok arrived
@@ -27,19 +27,19 @@ pub record Spells (before after : Option (List ℕ)) (arrived : Arrived) : Type 
 -- the result of what the read text spells was written, and nothing else
 pub record WritesResult (chain : Toxics) (words : List ℕ) (before after old new : Option (List ℕ)) : Type 0 where
   pub arrived : Arrived
-  pub read : Spells before after arrived
+  pub read : ParsesInput before after arrived
   pub written : new ≡ append_known old (flow_text chain words arrived)
 
 -- the result of what every run of the chain's stage network at rest delivered of it was written
 pub record WritesEveryRest (chain : Toxics) (words : List ℕ) (before after old new : Option (List ℕ)) : Type 0 where
   pub arrived : Arrived
-  pub read : Spells before after arrived
+  pub read : ParsesInput before after arrived
   pub written : OfEveryRest chain words (arrival_list arrived.items) (λ moves network. new ≡ append_known old (result_text arrived (table network.delivered) (ending network.delivered)))
 
 -- a front of the result was written
 pub record WritesFront (chain : Toxics) (words : List ℕ) (before after old new : Option (List ℕ)) : Type 0 where
   pub arrived : Arrived
-  pub read : Spells before after arrived
+  pub read : ParsesInput before after arrived
   pub front : AppendsFront old new (flow_text chain words arrived)
 
 -- what a fault leaves written: a front of the result where the writer failed, and else nothing

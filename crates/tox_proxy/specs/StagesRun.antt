@@ -5,12 +5,12 @@ use Rattle.tox_proxy.specs.declared.fault.StagesFault.{StagesFault}
 use Rattle.tox_proxy.specs.declared.fault.StagesFault.TheVariants.{Dry, Stages}
 use Rattle.tox_text.specs.ArrivalsText.{Arrived}
 use Rattle.tox_proxy.specs.Reading.{HasCause}
-use Rattle.tox_proxy.specs.DryRun.{Spells, Leaves}
+use Rattle.tox_proxy.specs.DryRun.{ParsesInput, Leaves}
 
 -- why a run of stages answers a fault: as a dry run, or of its stages, where the text has no fault
 abbrev pub HasStagesCause : Option (List ℕ) → Option (List ℕ) → Bool → Bool → StagesFault → Type 0
 HasStagesCause before after read_failed write_failed (Dry fault) = HasCause before after read_failed write_failed fault
-HasStagesCause before after read_failed write_failed (Stages fault) = (arrived : Arrived) × Spells before after arrived
+HasStagesCause before after read_failed write_failed (Stages fault) = (arrived : Arrived) × ParsesInput before after arrived
 
 -- what a fault leaves written: nothing after one of the stages
 abbrev pub StagesLeave : Toxics → List ℕ → Option (List ℕ) → Option (List ℕ) → Option (List ℕ) → Option (List ℕ) → StagesFault → Type 0

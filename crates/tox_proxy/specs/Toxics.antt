@@ -1,16 +1,10 @@
 -- Chains as a command line gives them: one short form for each toxic.
 use Rattle.std.specs.Prelude.{ℕ, ◌+◌, List, [], ◌∷◌, ◌++◌, length, nat_lt, Result, Ok, Err, if◌then◌else◌}
 use Rattle.tox_time.specs.Steps.{◌>>=◌}
-use Rattle.tox_defs.specs.Chain.{Toxics}
+use Rattle.tox_defs.specs.Chain.{Toxics, max_toxics}
 use Rattle.tox_defs.specs.Short.{short_of}
 use Rattle.tox_defs.specs.declared.toxic.Toxic.{Toxic}
-<<<<<<< HEAD
-use Rattle.tox_defs.specs.declared.short.ShortFault.{ShortFault}
-use Rattle.tox_defs.specs.declared.chain.TheConstants.{MAX_TOXICS}
-=======
 use Rattle.tox_defs.specs.declared.fault.ShortFault.{ShortFault}
-use Rattle.tox_defs.specs.Chain.{max_toxics}
->>>>>>> helper-a
 use Rattle.tox_proxy.specs.declared.toxics.ToxicsFault.{ToxicsFault}
 use Rattle.tox_proxy.specs.declared.toxics.ToxicsFault.TheVariants.{Short, TooMany}
 
@@ -18,11 +12,7 @@ use Rattle.tox_proxy.specs.declared.toxics.ToxicsFault.TheVariants.{Short, TooMa
 abbrev pub with_read : ℕ → Toxics → Result (Toxic × ℕ) ShortFault → Result Toxics ToxicsFault
 with_read n chain (Err fault) = Err (Short fault n)
 with_read n chain (Ok read) =
-<<<<<<< HEAD
-    if nat_lt (length chain.entries) MAX_TOXICS
-=======
     if nat_lt (length chain.entries) max_toxics
->>>>>>> helper-a
     then Ok (record { entries = chain.entries ++ record { toxic = read.0; toxicity = read.1 } ∷ [] })
     else Err (TooMany n)
 

@@ -4,7 +4,7 @@ ghost use Rattle.std.specs.Io.KnownBytes.{append_known};
 ghost use Rattle.tox_time.specs.Arrivals.{arrival_list};
 ghost use Rattle.tox_time.specs.Neighbours.{AreNeighbours};
 ghost use Rattle.tox_time.specs.Table.{slices_table};
-ghost use Rattle.tox_proxy.specs.DryRun.{Leaves, Spells, WritesEveryRest, WritesResult};
+ghost use Rattle.tox_proxy.specs.DryRun.{Leaves, ParsesInput, WritesEveryRest, WritesResult};
 ghost use Rattle.tox_proxy.specs.Reading.{HasCause, TakesAtMost};
 ghost use Rattle.tox_text.specs.ResultText.{result_text};
 ghost use Rattle.tox_text.specs.Writing.{Prints, Writes};
@@ -56,7 +56,7 @@ pub(crate) fn read_arrivals<R: Source>(
     reader: &mut R,
 ) -> Result<ArrivedText, DryFault>
     requires { R.failed reader.old ≡ false }
-    ensures ok { IfOk result (Spells (R.remaining reader.old) (R.remaining reader.new)) }
+    ensures ok { IfOk result (ParsesInput (R.remaining reader.old) (R.remaining reader.new)) }
     ensures cause { IfErr result (HasCause (R.remaining reader.old) (R.remaining reader.new) (R.failed reader.new) false) }
     ensures most { TakesAtMost (16_777_216 + 1) (R.remaining reader.old) (R.remaining reader.new) }
 {

@@ -1,6 +1,6 @@
 //! Files, read whole.
-ghost use Rattle.std.specs.Prelude.{◌≡◌, ◌≤◌, false, vec_len, IfOk, IfErr};
-ghost use Rattle.tox_proxy.specs.Files.{HasFileCause, Names};
+ghost use Rattle.std.specs.Prelude.{◌≡◌, false, None, IfOk, IfErr};
+ghost use Rattle.tox_proxy.specs.Files.{HasFileCause, IsFileFault, IsFileOf};
 ghost use Rattle.tox_proxy.specs.Reading.{IsRead};
 
 use crate::reading::{InputFault, MAX_INPUT, read_input};
@@ -29,8 +29,8 @@ pub fn read_file<'a, F: Files>(
     alloc: Global,
     name: &'a str,
 ) -> Result<Vec<u8>, FileFault<'a>>
-    ensures short { IfOk result (λ bytes. vec_len bytes ≤ 16_777_216) }
-    ensures named { IfErr result (Names name.now) }
+    ensures ok { IfOk result (λ bytes. IsFileOf None bytes.items) }
+    ensures fault { IfErr result (IsFileFault None name.now) }
 {
     let Ok(file) = fs::open(rt, name) else {
         return Err(FileFault::Unreadable(name));

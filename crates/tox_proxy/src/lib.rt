@@ -4,6 +4,7 @@
 mod dry;
 mod fault;
 mod files;
+mod named_files;
 mod pick_request;
 mod reading;
 mod setup;
@@ -13,6 +14,7 @@ mod toxics;
 pub use dry::dry_run;
 pub use fault::StagesFault;
 pub use files::{FileFault, read_file};
+pub use named_files::{MemoryFiles, NamedFiles, RealFiles};
 pub use pick_request::{PickFault, PickRequest};
 pub use reading::MAX_INPUT;
 pub use setup::{Setup, SetupFault, find_proxy, read_setup};

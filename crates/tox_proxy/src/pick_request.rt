@@ -2,9 +2,9 @@
 ghost use Rattle.std.specs.Prelude.{◌≡◌, ◌≢◌, ◌≤◌, false, None, Err, OnOk, IfErr};
 ghost use Rattle.tox_time.specs.StreamName.{stream_named};
 
+use crate::named_files::NamedFiles;
 use crate::setup::{SetupFault, find_proxy, read_setup};
 use std::alloc::Global;
-use std::rt::Files;
 use thiserror::Error;
 use tox_text::{PrintPickFault, print_pick};
 use tox_time::{Sink, Stream};
@@ -60,22 +60,22 @@ impl<'a> PickRequest<'a> {
     ///
     /// The stream's name is read first, then the populate file, then the script, and then the proxy is looked for: the
     /// first fault is answered. Nothing is written after a fault, but for a failed write: then a front of the text is.
-    pub fn answer<F: Files, W: Sink>(
+    pub fn answer<F: NamedFiles, W: Sink>(
         &self,
-        rt: &F,
+        files: &F,
         alloc: Global,
         writer: &mut W,
     ) -> Result<(), PickFault<'a>>
         requires { W.failed writer.old ≡ false }
-        ensures ok { OnOk result (WritesPick self.now (W.written writer.old) (W.written writer.new)) }
-        ensures fault { IfErr result (HasPickCause self.now (W.written writer.old) (W.written writer.new) (W.failed writer.new)) }
+        ensures ok { OnOk result (WritesPick (F.known files.now) self.now (W.written writer.old) (W.written writer.new)) }
+        ensures fault { IfErr result (HasPickCause (F.known files.now) self.now (W.written writer.old) (W.written writer.new) (W.failed writer.new)) }
         ensures working { result ≢ Err (PickFault.Print PrintPickFault.WriteFault) → W.failed writer.new ≡ false }
         ensures stream_first { stream_named self.now.stream.now ≡ None → result ≡ Err PickFault.BadStream }
     {
         let Some(stream) = Stream::of_name(self.stream) else {
             return Err(PickFault::BadStream);
         };
-        let setup = read_setup(rt, alloc, self.config, self.script).map_err(PickFault::Setup)?;
+        let setup = read_setup(files, alloc, self.config, self.script).map_err(PickFault::Setup)?;
         let Some(proxy) = find_proxy(&setup.proxies, self.proxy) else {
             return Err(PickFault::UnknownProxy(self.proxy));
         };

@@ -2,12 +2,11 @@
 ghost use Rattle.std.specs.Prelude.{◌≡◌, map, option_map, IfOk, IfErr};
 ghost use Rattle.std.specs.List.{find};
 ghost use Rattle.tox_config.specs.Populate.{is_named};
-ghost use Rattle.tox_config.specs.Proxy.{proxy_view};
 ghost use Rattle.tox_proxy.specs.Setup.{HasConfigCause, HasScriptCause, HasSetupCause, IsSetUp, Populates, Scripts};
 
-use crate::files::{FileFault, read_file};
+use crate::files::FileFault;
+use crate::named_files::NamedFiles;
 use std::alloc::Global;
-use std::rt::Files;
 use thiserror::Error;
 use tox_config::{ConfigFault, ProxyDef, read_populate};
 use tox_script::{Script, ScriptFault, read_script};
@@ -57,45 +56,50 @@ impl<'a> From<ScriptFault> for SetupFault<'a> {
 }
 
 /// Reads the populate file of the one name whole, and then the script file of the other.
-pub fn read_setup<'a, F: Files>(
-    rt: &F,
+pub fn read_setup<'a, F: NamedFiles>(
+    files: &F,
     alloc: Global,
     config: &'a str,
     script: &'a str,
 ) -> Result<Setup, SetupFault<'a>>
-    ensures ok { IfOk result (λ setup. IsSetUp (map proxy_view setup.proxies.items) setup.script) }
-    ensures fault { IfErr result (HasSetupCause config.now script.now) }
+    ensures ok { IfOk result (λ setup. IsSetUp (F.known files.now config.now) (F.known files.now script.now)
+        setup.proxies.items setup.script) }
+    ensures fault { IfErr result (HasSetupCause (F.known files.now) config.now script.now) }
 {
-    let proxies = read_proxies(rt, alloc, config)?;
-    let script = read_rules(rt, alloc, script)?;
+    let proxies = read_proxies(files, alloc, config)?;
+    let script = read_rules(files, alloc, script)?;
     Ok(Setup { proxies, script })
 }
 
-fn read_proxies<'a, F: Files>(
-    rt: &F,
+fn read_proxies<'a, F: NamedFiles>(
+    files: &F,
     alloc: Global,
     name: &'a str,
 ) -> Result<Vec<ProxyDef>, SetupFault<'a>>
-    ensures ok { IfOk result (λ proxies. Populates (map proxy_view proxies.items)) }
-    ensures fault { IfErr result (HasConfigCause name.now) }
+    ensures ok { IfOk result (λ proxies. Populates (F.known files.now name.now) proxies.items) }
+    ensures fault { IfErr result (HasConfigCause (F.known files.now name.now) name.now) }
 {
-    let bytes = read_file(rt, alloc, name).map_err(SetupFault::ConfigFile)?;
+    let bytes = files.read(alloc, name).map_err(SetupFault::ConfigFile)?;
     let proxies = read_populate(alloc, &bytes)?;
     Ok(proxies)
 }
 
-fn read_rules<'a, F: Files>(rt: &F, alloc: Global, name: &'a str) -> Result<Script, SetupFault<'a>>
-    ensures ok { IfOk result Scripts }
-    ensures fault { IfErr result (HasScriptCause name.now) }
+fn read_rules<'a, F: NamedFiles>(
+    files: &F,
+    alloc: Global,
+    name: &'a str,
+) -> Result<Script, SetupFault<'a>>
+    ensures ok { IfOk result (Scripts (F.known files.now name.now)) }
+    ensures fault { IfErr result (HasScriptCause (F.known files.now name.now) name.now) }
 {
-    let bytes = read_file(rt, alloc, name).map_err(SetupFault::ScriptFile)?;
+    let bytes = files.read(alloc, name).map_err(SetupFault::ScriptFile)?;
     let script = read_script(alloc, &bytes)?;
     Ok(script)
 }
 
 /// The proxy of a name.
 pub fn find_proxy<'a>(proxies: &'a [ProxyDef], name: &str) -> Option<&'a ProxyDef>
-    ensures { option_map (λ proxy. proxy_view proxy.now) result ≡ find (is_named name.now) (map proxy_view proxies.now) }
+    ensures { option_map (λ proxy. proxy.now) result ≡ find (is_named name.now) proxies.now }
 {
     proxies.iter().find(|proxy| proxy.name.as_str() == name)
 }

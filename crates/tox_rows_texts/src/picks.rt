@@ -8,7 +8,8 @@ use std::test::Fail;
 use std::{env, fs, process};
 use tox_config::read_populate;
 use tox_proxy::{
-    FileFault, MAX_INPUT, PickRequest, PrintPickFault, find_proxy, print_pick, read_file,
+    FileFault, MAX_INPUT, MemoryFiles, NamedFiles, PickRequest, PrintPickFault, RealFiles,
+    find_proxy, print_pick, read_file,
 };
 use tox_script::read_script;
 use tox_time::{MemorySink, Stream};
@@ -90,9 +91,13 @@ fn path_of(rt: &(impl Env + AllocGlobal), id: u32, file: &str) -> Result<String,
 }
 
 /// What a question is answered, or its fault.
-fn answer_of(rt: &(impl Files + AllocGlobal), request: &PickRequest<'_>) -> Result<String, Fail> {
+fn answer_of(
+    rt: &impl AllocGlobal,
+    files: &impl NamedFiles,
+    request: &PickRequest<'_>,
+) -> Result<String, Fail> {
     let mut writer = MemorySink::new(rt.alloc(), ROOM, ROOM, None)?;
-    let answer = request.answer(rt, rt.alloc(), &mut writer);
+    let answer = request.answer(files, rt.alloc(), &mut writer);
     let written = String::from_utf8_lossy(rt.alloc(), writer.bytes())?;
     match answer {
         Ok(()) => Ok(written),
@@ -126,11 +131,40 @@ fn connections_meet_what_covers_them(rt: HostRuntime) -> Result<(), Fail> {
             stream,
             seed: 1,
         };
-        let answer = answer_of(&rt, &request)?;
+        let answer = answer_of(&rt, &RealFiles::new(&rt), &request)?;
         assert_eq!(rt; answer.as_str(), want, "{proxy} {conn} {stream}");
     }
     fs::remove_file(&rt, config.as_str())?;
     fs::remove_file(&rt, script.as_str())?;
+    Ok(())
+}
+
+#[test]
+fn files_in_memory_answer_too(rt: HostRuntime) -> Result<(), Fail> {
+    let files = [
+        ("proxies", CONFIG.as_bytes()),
+        ("script", SCRIPT.as_bytes()),
+        ("proxies", b"[]".as_slice()),
+    ];
+    let memory = MemoryFiles { files: &files };
+    let cases = [
+        ("proxies", "script", MET),
+        ("proxies", "none", "P1 FileFault none"),
+        ("none", "none", "P1 FileFault none"),
+        ("script", "none", "C1 NotJson"),
+    ];
+    for (config, script, want) in cases {
+        let request = PickRequest {
+            config,
+            script,
+            proxy: "a",
+            conn: 3,
+            stream: "downstream",
+            seed: 1,
+        };
+        let answer = answer_of(&rt, &memory, &request)?;
+        assert_eq!(rt; answer.as_str(), want, "{config} {script}");
+    }
     Ok(())
 }
 
@@ -148,7 +182,7 @@ fn first_fault_of(
         stream: "upstream",
         seed: u64::MAX,
     };
-    answer_of(rt, &request)
+    answer_of(rt, &RealFiles::new(rt), &request)
 }
 
 #[test]
@@ -192,7 +226,10 @@ fn a_bad_stream_is_told_before_the_files(rt: HostRuntime) -> Result<(), Fail> {
         stream: "x",
         seed: 0,
     };
-    assert_eq!(rt; answer_of(&rt, &request)?.as_str(), "P5 BadStream");
+    assert_eq!(rt;
+        answer_of(&rt, &RealFiles::new(&rt), &request)?.as_str(),
+        "P5 BadStream"
+    );
     Ok(())
 }
 

@@ -2,7 +2,7 @@
 use Rattle.std.specs.Prelude.{ℕ, List, [], ◌∷◌, codes, Option, Result, Ok}
 use Rattle.toml.specs.Data.{Data, Items, get}
 use Rattle.tox_script.specs.Fields.{needed, optional, sized_text, tables_of, unless_unknown, whole_between}
-use Rattle.tox_time.specs.Steps.{◌>>=◌, told_as}
+use Rattle.tox_time.specs.Steps.{◌>>=◌, map_err}
 use Rattle.tox_script.specs.Toxics.{read_chains}
 use Rattle.tox_script.specs.declared.chains.Chains.{Chains}
 use Rattle.tox_script.specs.declared.fault.Field.{Field}
@@ -54,6 +54,6 @@ pub record Rules : Type 0 where
 -- the rule of the table of a number, or its first fault
 abbrev pub rule_of : ℕ → Data → Result Rule ScriptFault
 rule_of number d = do
-  fields ← told_as (fault.Field (record { rule = number; toxic = 0 })) (rule_fields d)
+  fields ← map_err (fault.Field (record { rule = number; toxic = 0 })) (rule_fields d)
   chains ← read_chains number fields.toxics
   Ok (record { proxy = fields.proxy; first = fields.first; last = fields.last; chains = chains })

@@ -4,7 +4,7 @@ use Rattle.std.specs.Str.{is_utf8}
 use Rattle.toml.specs.Data.{Data, table, Items, no_items, item, get}
 use Rattle.toml.specs.Parse.{parse_document}
 use Rattle.tox_script.specs.Fields.{tables_of, unless_unknown}
-use Rattle.tox_time.specs.Steps.{◌>>=◌, told_as}
+use Rattle.tox_time.specs.Steps.{◌>>=◌, map_err}
 use Rattle.tox_script.specs.Rule.{Rule, Rules, rule_of}
 use Rattle.tox_script.specs.declared.fault.Field.{Field}
 use Rattle.tox_script.specs.declared.fault.Field.TheVariants as field
@@ -30,7 +30,7 @@ toml_of bytes = if is_utf8 bytes then option_map table (parse_document bytes) el
 abbrev pub script_in : Option Data → Result Rules ScriptFault
 script_in None = Err fault.NotToml
 script_in (Some d) = do
-  tables ← told_as (fault.Field (record { rule = 0; toxic = 0 })) (document_rules d)
+  tables ← map_err (fault.Field (record { rule = 0; toxic = 0 })) (document_rules d)
   rules ← rules_from [] tables
   Ok (record { rules = rules })
 

@@ -6,7 +6,7 @@ use Rattle.toml.specs.Data.{Data, Items, no_items, item}
 use Rattle.tox_time.specs.declared.stream.Stream.{Stream}
 use Rattle.tox_time.specs.declared.stream.Stream.TheVariants.{Upstream, Downstream}
 use Rattle.tox_defs.specs.Chain.{max_toxics}
-use Rattle.tox_time.specs.Steps.{◌>>=◌, told_as}
+use Rattle.tox_time.specs.Steps.{◌>>=◌, map_err}
 use Rattle.tox_script.specs.NamedChain.{NamedToxics}
 use Rattle.tox_time.specs.StreamName.{same_stream}
 use Rattle.tox_script.specs.Toxic.{NamedToxic, named_toxic}
@@ -19,8 +19,8 @@ use Rattle.tox_script.specs.declared.fault.ScriptFault.TheVariants.{Field, Toxic
 -- the toxic of the table at a location, or the table's first fault
 abbrev pub toxic_at : Location → Data → Result NamedToxic ScriptFault
 toxic_at at d = do
-  fields ← told_as (Field at) (toxic_fields d)
-  told_as (Toxic at) (named_toxic fields)
+  fields ← map_err (Field at) (toxic_fields d)
+  map_err (Toxic at) (named_toxic fields)
 
 -- whether a toxic is on a stream
 abbrev pub is_on : Stream → NamedToxic → Bool

@@ -13,7 +13,7 @@ use Rattle.tox_time.specs.declared.ending.Ending.TheVariants.{StillOpen, Closed 
 use Rattle.tox_time.specs.Time.{plus, micros_of}
 use Rattle.tox_time.specs.Stream.{span_len, IsStreamFrom}
 use Rattle.tox_time.specs.Table.{final_of}
-use Rattle.tox_time.specs.Neighbours.{LiesIn, AreNeighbours}
+use Rattle.tox_time.specs.Neighbours.{LiesInChunk, AreNeighbours}
 use Rattle.tox_words.specs.Draw.{draw}
 use Rattle.tox_defs.specs.declared.state.State.{State}
 use Rattle.tox_defs.specs.declared.toxic.Toxic.{Toxic}
@@ -33,17 +33,17 @@ use Rattle.tox_network.specs.Shown.{shown}
 -- each of these chunks lies in one of those items
 abbrev pub LieWithin : List Item → List Item → Type 0
 LieWithin items [] = Unit {0}
-LieWithin items (Chunk span t ∷ given) = Any (LiesIn span) items × LieWithin items given
+LieWithin items (Chunk span t ∷ given) = Any (LiesInChunk span) items × LieWithin items given
 LieWithin items (Closed t ∷ given) = LieWithin items given
 LieWithin items (Reset t ∷ given) = LieWithin items given
 LieWithin items (Quiet ∷ given) = LieWithin items given
 
 -- in the first of them
-in_first : (span whole : Span) (t : ℕ) (items : List Item) → whole.start ≤ span.start → span.stop ≤ whole.stop → Any (LiesIn span) (Chunk whole t ∷ items)
+in_first : (span whole : Span) (t : ℕ) (items : List Item) → whole.start ≤ span.start → span.stop ≤ whole.stop → Any (LiesInChunk span) (Chunk whole t ∷ items)
 in_first span whole t items from to = (0, Chunk whole t, omega arith, refl, (from, to))
 
 -- behind the first of them
-in_later : (span : Span) (item : Item) (items : List Item) → Any (LiesIn span) items → Any (LiesIn span) (item ∷ items)
+in_later : (span : Span) (item : Item) (items : List Item) → Any (LiesInChunk span) items → Any (LiesInChunk span) (item ∷ items)
 in_later span item items found = (suc found.0, found.1, (let below = found.2 in omega arith), found.3, found.4)
 
 later_within : (item : Item) (items given : List Item) → LieWithin items given → LieWithin (item ∷ items) given
@@ -68,24 +68,24 @@ themselves_within (Reset t ∷ items) = later_within (Reset t) items items (them
 themselves_within (Quiet ∷ items) = later_within Quiet items items (themselves_within items)
 
 -- a span within one that lies in an item lies in it too
-wider : (span whole : Span) (item : Item) → whole.start ≤ span.start → span.stop ≤ whole.stop → LiesIn whole item → LiesIn span item
+wider : (span whole : Span) (item : Item) → whole.start ≤ span.start → span.stop ≤ whole.stop → LiesInChunk whole item → LiesInChunk span item
 wider span whole (Chunk outer t) from to lies = (omega (arith, lies.0), omega (arith, lies.1))
 wider span whole (Closed t) from to lies = lies
 wider span whole (Reset t) from to lies = lies
 wider span whole Quiet from to lies = lies
 
-in_what_lies : (span : Span) (items given : List Item) (k : ℕ) (item : Item) → LieWithin items given → k < length given → slice_index_or given k item ≡ item → LiesIn span item → Any (LiesIn span) items
+in_what_lies : (span : Span) (items given : List Item) (k : ℕ) (item : Item) → LieWithin items given → k < length given → slice_index_or given k item ≡ item → LiesInChunk span item → Any (LiesInChunk span) items
 in_what_lies span items [] k item within below is lies = absurd (omega arith)
 in_what_lies span items (Chunk whole t ∷ given) zero item within below is lies =
-    let bounds : LiesIn span (Chunk whole t) = subst (LiesIn span) (sym is) lies in
+    let bounds : LiesInChunk span (Chunk whole t) = subst (LiesInChunk span) (sym is) lies in
     let found = within.0 in
     (found.0, found.1, found.2, found.3, wider span whole found.1 bounds.0 bounds.1 found.4)
 in_what_lies span items (Chunk whole t ∷ given) (suc k) item within below is lies = in_what_lies span items given k item within.1 (omega arith) is lies
-in_what_lies span items (Closed t ∷ given) zero item within below is lies = absurd (subst (LiesIn span) (sym is) lies)
+in_what_lies span items (Closed t ∷ given) zero item within below is lies = absurd (subst (LiesInChunk span) (sym is) lies)
 in_what_lies span items (Closed t ∷ given) (suc k) item within below is lies = in_what_lies span items given k item within (omega arith) is lies
-in_what_lies span items (Reset t ∷ given) zero item within below is lies = absurd (subst (LiesIn span) (sym is) lies)
+in_what_lies span items (Reset t ∷ given) zero item within below is lies = absurd (subst (LiesInChunk span) (sym is) lies)
 in_what_lies span items (Reset t ∷ given) (suc k) item within below is lies = in_what_lies span items given k item within (omega arith) is lies
-in_what_lies span items (Quiet ∷ given) zero item within below is lies = absurd (subst (LiesIn span) (sym is) lies)
+in_what_lies span items (Quiet ∷ given) zero item within below is lies = absurd (subst (LiesInChunk span) (sym is) lies)
 in_what_lies span items (Quiet ∷ given) (suc k) item within below is lies = in_what_lies span items given k item within (omega arith) is lies
 
 through_within : (items given last : List Item) → LieWithin items given → LieWithin given last → LieWithin items last

@@ -11,7 +11,7 @@ use Rattle.std.proofs.lemmas.Result.{OkIff-at_err}
 use Rattle.std.proofs.lemmas.Str.{IsUtf8-from_ascii}
 use Rattle.std.proofs.lemmas.Str.Parse.{parse_digits, digits_value_short}
 use Rattle.tox_time.specs.Time.{horizon}
-use Rattle.tox_words.specs.Decimal.{decimal}
+use Rattle.tox_words.specs.Decimal.{decimal_value}
 use Rattle.tox_words.proofs.Numbers.{ascii_digits}
 
 digit_below : (c : ℕ) → is_ascii_digit c ≡ true → c < 128
@@ -27,7 +27,7 @@ IsUtf8-digits text all =
 
 -- where no number is read from at most 16 digits, there are none
 pub decimal_unread : {E : Type 0} (text : List ℕ) (read : Result ℕ E) (error : E) → read ≡ Err error → length text ≤ 16
-    → list_all is_ascii_digit text ≡ true → ParsesUnsigned 64 10 text read → None ≡ decimal 16 horizon text
+    → list_all is_ascii_digit text ≡ true → ParsesUnsigned 64 10 text read → None ≡ decimal_value 16 horizon text
 decimal_unread text read error unread short all parsed =
     let few : digits_value 10 text < 10 ^ 16 = digits_value_short ascii_digits text 16 all short in
     let none = OkIff-at_err read ((0 < length text) × (digits_value 10 text < 2 ^ 64)) (digits_value 10 text) error (parse_digits ascii_digits 64 text read parsed all) unread in

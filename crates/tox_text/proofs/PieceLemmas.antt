@@ -4,7 +4,7 @@ use Rattle.std.proofs.lemmas.Bool.{cases_lt}
 use Rattle.std.proofs.lemmas.List.{get_or_append_left, get_or-append_right, get_or-map, get_or-take, get_or-drop, length-map}
 use Rattle.tox_time.specs.declared.item.Item.{Item}
 use Rattle.tox_time.specs.declared.span.Span.{Span}
-use Rattle.tox_time.specs.Neighbours.{LiesIn as LiesInItem}
+use Rattle.tox_time.specs.Neighbours.{LiesInChunk}
 use Rattle.tox_time.specs.Stream.{span_len}
 use Rattle.tox_lend.specs.Run.{Run, LiesIn, bytes_at, stop_of}
 use Rattle.tox_text.specs.Pieces.{ArePiecesFrom, arrived_by, bytes_of, chunk_of}
@@ -99,16 +99,16 @@ StandsAt-span pieces k span joined below lies =
     }
 
 -- a span within an arrival lies in some piece
-pub piece_found : (pieces : List Run) (span : Span) → Any (LiesInItem span) (map chunk_of pieces)
+pub piece_found : (pieces : List Run) (span : Span) → Any (LiesInChunk span) (map chunk_of pieces)
     → (j : ℕ) × (j < length pieces) × ((piece_at pieces j).start ≤ span.start) × (span.stop ≤ stop_of (piece_at pieces j))
 piece_found pieces span found =
     let below : found.0 < length pieces = rw length-map at found.2 in
     let is : found.1 ≡ chunk_of (piece_at pieces found.0) = sym found.3 ∙ get_or-map chunk_of pieces found.0 no_piece found.1 below in
-    let lies = subst (LiesInItem span) is found.4 in
+    let lies = subst (LiesInChunk span) is found.4 in
     (found.0, below, lies.0, lies.1)
 
 -- a span that starts in a piece lies in it
-pub lies_here : (pieces : List Run) (k : ℕ) (span : Span) → ArePiecesFrom 0 pieces → k < length pieces → Any (LiesInItem span) (map chunk_of pieces)
+pub lies_here : (pieces : List Run) (k : ℕ) (span : Span) → ArePiecesFrom 0 pieces → k < length pieces → Any (LiesInChunk span) (map chunk_of pieces)
     → span.start < span.stop → (piece_at pieces k).start ≤ span.start → span.start < stop_of (piece_at pieces k) → LiesIn span (piece_at pieces k)
 lies_here pieces k span joined below found some after before =
     let other = piece_found pieces span found in
@@ -123,7 +123,7 @@ lies_here pieces k span joined below found some after before =
     ]
 
 -- a span that starts where a piece stops lies in the next
-pub lies_next : (pieces : List Run) (k : ℕ) (span : Span) → ArePiecesFrom 0 pieces → k < length pieces → Any (LiesInItem span) (map chunk_of pieces)
+pub lies_next : (pieces : List Run) (k : ℕ) (span : Span) → ArePiecesFrom 0 pieces → k < length pieces → Any (LiesInChunk span) (map chunk_of pieces)
     → span.start < span.stop → span.start ≡ stop_of (piece_at pieces k) → (suc k < length pieces) × LiesIn span (piece_at pieces (suc k))
 lies_next pieces k span joined below found some starts =
     let other = piece_found pieces span found in

@@ -6,7 +6,7 @@ use Rattle.tox_time.specs.declared.item.Item.TheVariants.{Chunk, Closed, Reset, 
 use Rattle.tox_time.specs.declared.slice.Slice.{Slice}
 use Rattle.tox_time.specs.declared.span.Span.{Span}
 use Rattle.tox_time.specs.Arrivals.{arrival_list}
-use Rattle.tox_time.specs.Neighbours.{AreNeighbours, LiesIn}
+use Rattle.tox_time.specs.Neighbours.{AreNeighbours, LiesInChunk}
 use Rattle.tox_lend.specs.Run.{Run}
 use Rattle.tox_text.specs.ArrivalsText.{Arrived}
 use Rattle.tox_text.specs.Pieces.{ArePiecesOf, arrived_by, chunk_of, chunks_of}
@@ -19,17 +19,17 @@ chunks_of-arrival_list (Closed t ∷ items) = refl
 chunks_of-arrival_list (Reset t ∷ items) = refl
 chunks_of-arrival_list (Quiet ∷ items) = refl
 
-in_chunk : (span : Span) (items : List Item) (k : ℕ) (item : Item) → k < length items → get_or items k item ≡ item → LiesIn span item → Any (LiesIn span) (chunks_of items)
+in_chunk : (span : Span) (items : List Item) (k : ℕ) (item : Item) → k < length items → get_or items k item ≡ item → LiesInChunk span item → Any (LiesInChunk span) (chunks_of items)
 in_chunk span [] k item below is lies = absurd (omega arith)
 in_chunk span (Chunk whole t ∷ items) zero item below is lies = (0, item, omega arith, is, lies)
 in_chunk span (Chunk whole t ∷ items) (suc k) item below is lies =
     let rest = in_chunk span items k item (omega arith) is lies in
     (suc rest.0, rest.1, omega (arith, rest.2), rest.3, rest.4)
-in_chunk span (Closed t ∷ items) zero item below is lies = absurd (subst (LiesIn span) (sym is) lies)
+in_chunk span (Closed t ∷ items) zero item below is lies = absurd (subst (LiesInChunk span) (sym is) lies)
 in_chunk span (Closed t ∷ items) (suc k) item below is lies = in_chunk span items k item (omega arith) is lies
-in_chunk span (Reset t ∷ items) zero item below is lies = absurd (subst (LiesIn span) (sym is) lies)
+in_chunk span (Reset t ∷ items) zero item below is lies = absurd (subst (LiesInChunk span) (sym is) lies)
 in_chunk span (Reset t ∷ items) (suc k) item below is lies = in_chunk span items k item (omega arith) is lies
-in_chunk span (Quiet ∷ items) zero item below is lies = absurd (subst (LiesIn span) (sym is) lies)
+in_chunk span (Quiet ∷ items) zero item below is lies = absurd (subst (LiesInChunk span) (sym is) lies)
 in_chunk span (Quiet ∷ items) (suc k) item below is lies = in_chunk span items k item (omega arith) is lies
 
 -- slices within the arrivals lie within their pieces
@@ -38,9 +38,9 @@ pub AreNeighbours-pieces : (arrived : Arrived) (pieces : List Run) (position : �
 AreNeighbours-pieces arrived pieces position [] of neighbours = tt
 AreNeighbours-pieces arrived pieces position (slice ∷ slices) of neighbours =
     let found = neighbours.2 in
-    let in_list : Any (LiesIn slice.span) (chunks_of (arrival_list arrived.items)) = in_chunk slice.span (arrival_list arrived.items) found.0 found.1 found.2 found.3 found.4 in
+    let in_list : Any (LiesInChunk slice.span) (chunks_of (arrival_list arrived.items)) = in_chunk slice.span (arrival_list arrived.items) found.0 found.1 found.2 found.3 found.4 in
     let same : chunks_of (arrival_list arrived.items) ≡ map chunk_of pieces = chunks_of-arrival_list arrived.items ∙ sym of.chunks_match in
-    (neighbours.0, neighbours.1, subst (Any (LiesIn slice.span)) same in_list, AreNeighbours-pieces arrived pieces slice.span.stop slices of neighbours.3)
+    (neighbours.0, neighbours.1, subst (Any (LiesInChunk slice.span)) same in_list, AreNeighbours-pieces arrived pieces slice.span.stop slices of neighbours.3)
 
 arrival_of-chunks : (items : List Item) (position : ℕ) → arrival_of (chunks_of items) position ≡ arrival_of items position
 arrival_of-chunks [] position = refl

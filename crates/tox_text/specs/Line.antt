@@ -4,7 +4,7 @@ use Rattle.std.specs.Str.{bytes_eq}
 use Rattle.std.specs.Result.{result_ok}
 use Rattle.hex.specs.Hex.{decode_of}
 use Rattle.tox_time.specs.Time.{horizon}
-use Rattle.tox_words.specs.Decimal.{decimal}
+use Rattle.tox_words.specs.Decimal.{decimal_value}
 use Rattle.tox_text.specs.declared.arrivals_line.Line as code
 use Rattle.tox_text.specs.declared.arrivals_line.Event as kinds
 use Rattle.tox_text.specs.declared.arrivals_line.Event.TheVariants.{Data, Eof}
@@ -25,7 +25,7 @@ cut_at separator text = option_map (λ place. (take place text, drop (place + 1)
 
 -- the instant that a text writes: 1 to 16 decimal digits of value at most 10^15
 abbrev pub instant_of : List ℕ → Option ℕ
-instant_of text = decimal 16 horizon text
+instant_of text = decimal_value 16 horizon text
 
 -- what stands behind the instant: `eof`, or `data ` and pairs of hexadecimal digits
 abbrev pub line_at : ℕ → List ℕ → Option Line

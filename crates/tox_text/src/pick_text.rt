@@ -1,7 +1,6 @@
 //! What a numbered connection meets.
 ghost use Rattle.std.specs.Prelude.{◌≡◌, ◌≢◌, ◌≤◌, ◌++◌, [], false, true, length, map, string_bytes, OnOk, OnErr, IfErr, Err};
 ghost use Rattle.std.specs.Io.KnownBytes.{append_known};
-ghost use Rattle.tox_config.specs.Proxy.{proxy_view};
 ghost use Rattle.tox_text.specs.PickText.{applied_word, enabled_word, pick_text, proxy_line, toxic_line, toxics_text};
 ghost use Rattle.tox_text.specs.PrintingPick.{Leaves};
 ghost use Rattle.tox_text.specs.Writing.{Prints, Writes};
@@ -43,9 +42,9 @@ pub fn print_pick<W: Sink>(
     requires working { W.failed writer.old ≡ false }
     requires first { 1 ≤ conn }
     requires last { conn ≤ 1_000_000 }
-    ensures ok { OnOk result (W.written writer.new ≡ append_known (W.written writer.old) (pick_text (proxy_view proxy.now) script.now conn stream seed)) }
+    ensures ok { OnOk result (W.written writer.new ≡ append_known (W.written writer.old) (pick_text proxy.now script.now conn stream seed)) }
     ensures working { result ≢ Err PrintPickFault.WriteFault → W.failed writer.new ≡ false }
-    ensures left { IfErr result (Leaves (W.written writer.old) (W.written writer.new) (W.failed writer.new) (pick_text (proxy_view proxy.now) script.now conn stream seed)) }
+    ensures left { IfErr result (Leaves (W.written writer.old) (W.written writer.new) (W.failed writer.new) (pick_text proxy.now script.now conn stream seed)) }
 {
     let Ok(words) = Words::from_seed(alloc, seed, conn, stream) else {
         return Err(PrintPickFault::OutOfMemory);
@@ -72,7 +71,7 @@ fn write_pick<W: Sink>(
     requires empty { buffer.old ≡ [] }
     requires one_each { length names.now ≡ length entries.now }
     ensures { Writes result (W.written writer.old) (W.written writer.new) (W.failed writer.new)
-        (proxy_line (proxy_view proxy.now) ++ toxics_text words.now entries.now (map string_bytes names.now)) }
+        (proxy_line proxy.now ++ toxics_text words.now entries.now (map string_bytes names.now)) }
 {
     print_lines(buffer, writer, proxy, words, entries, names)?;
     buffer.flush(writer)
@@ -88,7 +87,7 @@ fn print_lines<W: Sink>(
 ) -> Result<(), EndFault>
     requires working { W.failed writer.old ≡ false }
     requires one_each { length names.now ≡ length entries.now }
-    ensures { Prints result (W.written writer.old) buffer.old (W.written writer.new) buffer.new (W.failed writer.new) (proxy_line (proxy_view proxy.now) ++ toxics_text words.now entries.now (map string_bytes names.now)) }
+    ensures { Prints result (W.written writer.old) buffer.old (W.written writer.new) buffer.new (W.failed writer.new) (proxy_line proxy.now ++ toxics_text words.now entries.now (map string_bytes names.now)) }
 {
     print_proxy(buffer, writer, proxy)?;
     print_toxics(buffer, writer, words, entries, names)
@@ -101,7 +100,7 @@ fn print_proxy<W: Sink>(
     proxy: &ProxyDef,
 ) -> Result<(), EndFault>
     requires { W.failed writer.old ≡ false }
-    ensures { Prints result (W.written writer.old) buffer.old (W.written writer.new) buffer.new (W.failed writer.new) (proxy_line (proxy_view proxy.now)) }
+    ensures { Prints result (W.written writer.old) buffer.old (W.written writer.new) buffer.new (W.failed writer.new) (proxy_line proxy.now) }
 {
     buffer.put_all(writer, &[b"proxy ", proxy.name.as_bytes(), b" listen "])?;
     buffer.put_all(writer, &[proxy.listen.as_bytes(), b" upstream "])?;

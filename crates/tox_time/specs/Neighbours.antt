@@ -6,14 +6,14 @@ use Rattle.tox_time.specs.declared.span.Span.{Span}
 use Rattle.tox_time.specs.declared.slice.Slice.{Slice}
 
 -- the span lies in this chunk
-abbrev pub LiesIn : Span → Item → Type 0
-LiesIn span (Chunk whole t) = (whole.start ≤ span.start) × (span.stop ≤ whole.stop)
-LiesIn span (Closed t) = ⊥
-LiesIn span (Reset t) = ⊥
-LiesIn span Quiet = ⊥
+abbrev pub LiesInChunk : Span → Item → Type 0
+LiesInChunk span (Chunk whole t) = (whole.start ≤ span.start) × (span.stop ≤ whole.stop)
+LiesInChunk span (Closed t) = ⊥
+LiesInChunk span (Reset t) = ⊥
+LiesInChunk span Quiet = ⊥
 
 -- nonempty slices that go on from a position, each within one arrival of the list
 abbrev pub AreNeighbours : List Item → ℕ → List Slice → Type 0
 AreNeighbours items position [] = Unit {0}
 AreNeighbours items position (slice ∷ slices) =
-    (slice.span.start ≡ position) × (position < slice.span.stop) × (Any (LiesIn slice.span) items) × AreNeighbours items slice.span.stop slices
+    (slice.span.start ≡ position) × (position < slice.span.stop) × (Any (LiesInChunk slice.span) items) × AreNeighbours items slice.span.stop slices

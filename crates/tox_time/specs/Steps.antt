@@ -8,6 +8,6 @@ Ok x >>= f = f x
 Err e >>= f = Err e
 
 -- an error in other words
-abbrev pub told_as : {A E F : Type 0} → (E → F) → Result A E → Result A F
-told_as words (Ok x) = Ok x
-told_as words (Err e) = Err (words e)
+abbrev pub map_err : {A E F : Type 0} → (E → F) → Result A E → Result A F
+map_err words (Ok x) = Ok x
+map_err words (Err e) = Err (words e)

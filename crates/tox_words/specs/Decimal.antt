@@ -10,8 +10,8 @@ is_decimal digits text =
     nat_lt 0 (length text) && nat_le (length text) digits && list_all is_ascii_digit text
 
 -- the number of 1 to so many decimal digits, where it is at most the greatest
-abbrev pub decimal : ℕ → ℕ → List ℕ → Option ℕ
-decimal digits greatest text =
+abbrev pub decimal_value : ℕ → ℕ → List ℕ → Option ℕ
+decimal_value digits greatest text =
     if is_decimal digits text && nat_le (digits_value 10 text) greatest
     then Some (digits_value 10 text)
     else None

@@ -2,7 +2,7 @@
 use Rattle.std.specs.Prelude.{ℕ, ◌==◌, List, [], ◌∷◌, Option, is_none, Result, Err}
 use Rattle.std.specs.List.{filter_map, position, slice_split}
 use Rattle.std.specs.Option.{option_map_or}
-use Rattle.tox_words.specs.Decimal.{decimal}
+use Rattle.tox_words.specs.Decimal.{decimal_value}
 use Rattle.tox_words.specs.Table.{table_of}
 use Rattle.tox_words.specs.declared.fault.WordsFault.{WordsFault}
 use Rattle.tox_words.specs.declared.fault.WordsFault.TheVariants.{NoWords, BadWord}
@@ -13,7 +13,7 @@ parts_of text = slice_split (λ byte. byte == 44) text
 
 -- the word that a part writes, in 1 to 10 digits
 abbrev pub word_of : List ℕ → Option ℕ
-word_of part = decimal 10 4_294_967_295 part
+word_of part = decimal_value 10 4_294_967_295 part
 
 -- the words that parts write
 abbrev pub words_of : List (List ℕ) → List ℕ

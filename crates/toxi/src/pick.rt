@@ -1,7 +1,7 @@
 //! `toxi pick`: what a numbered connection meets, on standard output.
 use std::io;
 use std::rt::Files;
-use tox_proxy::{PickFault, PickRequest};
+use tox_proxy::{PickFault, PickRequest, RealFiles};
 use tox_time::Real;
 
 /// Reads the files and prints the answer.
@@ -10,5 +10,5 @@ pub fn pick<'a, R: Files + Print + AllocGlobal>(
     request: &PickRequest<'a>,
 ) -> Result<(), PickFault<'a>> {
     let mut writer = Real::new(io::writer(rt));
-    request.answer(rt, rt.alloc(), &mut writer)
+    request.answer(&RealFiles::new(rt), rt.alloc(), &mut writer)
 }

@@ -2,7 +2,7 @@
 use Rattle.std.proofs.Common.{◌++◌, ◌∙◌, sym, ap, arith, map, length}
 use Rattle.std.proofs.lemmas.List.{append-nil, drop_all}
 use Rattle.tox_defs.specs.Flow.{applied_from}
-use Rattle.tox_network.specs.Running.{placed_stage}
+use Rattle.tox_network.specs.NetworkView.{placed_stage}
 use Rattle.tox_network.proofs.stages.first_stages.Goals as goal
 
 pub returns-clause-stages : goal.returns-clause-stages

@@ -1,7 +1,7 @@
 -- The stages so far, with those of the entries that are left, are those of the chain.
 use Rattle.std.proofs.Common.{◌≡◌, ◌++◌, drop, map}
 use Rattle.tox_defs.specs.Flow.{applied, applied_from}
-use Rattle.tox_network.specs.Running.{placed_stage}
+use Rattle.tox_network.specs.NetworkView.{placed_stage}
 use Rattle.tox_network.proofs.stages.first_stages.Given as goal
 
 abbrev pub invariant-loop-place : goal.invariant-loop-place

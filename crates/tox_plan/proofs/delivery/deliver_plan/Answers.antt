@@ -4,7 +4,7 @@ use Rattle.std.specs.Prelude.{Any}
 use Rattle.tox_time.specs.declared.item.Item.{Item}
 use Rattle.tox_time.specs.Arrivals.{arrival_list}
 use Rattle.tox_time.specs.Neighbours.{AreNeighbours}
-use Rattle.tox_plan.specs.Delivering.{Goes}
+use Rattle.tox_plan.specs.Delivering.{PreservesOutput}
 use Rattle.tox_plan.proofs.Deliveries.{IsAhead, ahead_next, ends_at, drop-item, goes-on, neighbours-stored}
 use Rattle.tox_plan.proofs.delivery.deliver_plan.Goals as goal
 
@@ -15,8 +15,8 @@ loop-item-preserved c =
     let later : List Item = drop (c.loop-item.item-index + 1) items in
     let split : drop c.loop-item.item-index items ≡ item ∷ later = drop-item c.loop-item.item-index items item c.loop-item-test.true ∙ ap (λ item. item ∷ later) (sym c.item-item.is) in
     let ahead : IsAhead c.loop-item.runner (item ∷ later) = subst (λ items. IsAhead c.loop-item.runner items) split c.loop-item.invariant.ahead in
-    let so_far : Goes c.new-runner.result [] (arrival_list items) c.loop-item.runner c.loop-item.slices (arrival_list (item ∷ later))
-    = subst (λ rest. Goes c.new-runner.result [] (arrival_list items) c.loop-item.runner c.loop-item.slices (arrival_list rest)) split c.loop-item.invariant.goes in
+    let so_far : PreservesOutput c.new-runner.result [] (arrival_list items) c.loop-item.runner c.loop-item.slices (arrival_list (item ∷ later))
+    = subst (λ rest. PreservesOutput c.new-runner.result [] (arrival_list items) c.loop-item.runner c.loop-item.slices (arrival_list rest)) split c.loop-item.invariant.goes in
     let among : Any (λ other. other ≡ item) items = (c.loop-item.item-index, item, c.loop-item-test.true, sym c.item-item.is, refl) in
     record {
       idle = c.in_ok-take_item.ensures.idle;

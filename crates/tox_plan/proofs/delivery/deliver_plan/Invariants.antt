@@ -2,7 +2,7 @@
 use Rattle.std.proofs.Common.{◌≡◌, true, [], drop}
 use Rattle.tox_time.specs.Arrivals.{arrival_list}
 use Rattle.tox_time.specs.Neighbours.{AreNeighbours}
-use Rattle.tox_plan.specs.Delivering.{Goes, stop_from}
+use Rattle.tox_plan.specs.Delivering.{PreservesOutput, stop_from}
 use Rattle.tox_plan.proofs.Deliveries.{IsAhead}
 use Rattle.tox_plan.proofs.delivery.deliver_plan.Given as goal
 
@@ -10,6 +10,6 @@ abbrev pub invariant-loop-item : goal.invariant-loop-item
 invariant-loop-item l = record {
   idle : l.runner.idle ≡ true;
   ahead : IsAhead l.runner (drop l.item-index l.item-items);
-  goes : Goes l.initial.runner [] (arrival_list l.item-items) l.runner l.slices (arrival_list (drop l.item-index l.item-items));
+  goes : PreservesOutput l.initial.runner [] (arrival_list l.item-items) l.runner l.slices (arrival_list (drop l.item-index l.item-items));
   neighbours : AreNeighbours l.item-items 0 l.slices × (stop_from 0 l.slices ≡ l.runner.position);
 }

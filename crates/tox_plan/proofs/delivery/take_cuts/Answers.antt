@@ -1,7 +1,7 @@
 -- One more cut.
 use Rattle.std.proofs.Common.{◌≡◌, ◌∷◌, ◌++◌, [], sym, subst, ◌∙◌}
 use Rattle.std.specs.Prelude.{Any}
-use Rattle.tox_time.specs.Neighbours.{LiesIn}
+use Rattle.tox_time.specs.Neighbours.{LiesInChunk}
 use Rattle.tox_plan.specs.Cuts.{IsCut}
 use Rattle.tox_plan.proofs.Deliveries.{goes-on, goes-cut, stop_from-append, neighbours-append, any-within}
 use Rattle.tox_plan.proofs.delivery.take_cuts.Goals as goal
@@ -17,7 +17,7 @@ loop-slice-preserved c =
       piece = (c.in-Some.ensures.kept.2 ∙ c.loop-slice.invariant.piece.0, c.in-Some.ensures.kept.3 ∙ c.loop-slice.invariant.piece.1);
       neighbours = λ items lies neighbours start.
           let before = c.loop-slice.invariant.neighbours items lies neighbours start in
-          let here : Any (LiesIn c.loop-slice.runner.piece.span) items = subst (λ piece. Any (LiesIn piece.span) items) (sym c.loop-slice.invariant.piece.0) lies in
+          let here : Any (LiesInChunk c.loop-slice.runner.piece.span) items = subst (λ piece. Any (LiesInChunk piece.span) items) (sym c.loop-slice.invariant.piece.0) lies in
           rw is (
             neighbours-append items 0 c.loop-slice.slices c.in-Some.slice before.0 (c.in-Some.ensures.place.0 ∙ sym before.1) cut.within.some (any-within items c.loop-slice.runner.piece c.in-Some.slice cut.within here),
             stop_from-append 0 c.loop-slice.slices c.in-Some.slice ∙ sym c.in-Some.ensures.place.1,

@@ -1,7 +1,6 @@
 -- The populate file was read before the script.
 use Rattle.std.proofs.Common.{inl, inr, map}
 use Rattle.std.proofs.lemmas.Result.{err_from_is_err_and}
-use Rattle.tox_config.specs.Proxy.{proxy_view}
 use Rattle.tox_proxy.proofs.setup.read_setup.Goals as goal
 
 pub returns-in_err-proxies-clause-fault : goal.returns-in_err-proxies-clause-fault
@@ -12,4 +11,4 @@ returns-in_err-proxies-clause-fault g c =
 pub returns-in_err-script-clause-fault : goal.returns-in_err-script-clause-fault
 returns-in_err-script-clause-fault g c =
     let exit = err_from_is_err_and c.from_residual-in_err-script.result c.from_residual-in_err-script.ensures.1 in
-    rw (exit.1, exit.2) (inr (record { proxies = map proxy_view c.in_ok-proxies.proxies.items; populates = c.in_ok-proxies.ensures.ok }, c.in_err-script.ensures.fault))
+    rw (exit.1, exit.2) (inr (record { proxies = c.in_ok-proxies.proxies.items; populates = c.in_ok-proxies.ensures.ok }, c.in_err-script.ensures.fault))

@@ -1,7 +1,6 @@
 -- The parts of the line, one after the other.
 use Rattle.std.proofs.Common.{refl}
 use Rattle.std.proofs.lemmas.Result.{err_from_is_err_and}
-use Rattle.tox_config.specs.Proxy.{proxy_view}
 use Rattle.tox_text.proofs.PickParts.{proxy_line-parts}
 use Rattle.tox_text.proofs.Writes.{Prints-as, Prints-failed, Prints-then}
 use Rattle.tox_text.proofs.pick_text.print_proxy.Goals as goal
@@ -10,14 +9,14 @@ pub returns-in_err-put_all : goal.returns-in_err-put_all
 returns-in_err-put_all g c =
     let result = c.from_residual.result in
     let exit = err_from_is_err_and result c.from_residual.ensures.1 in
-    Prints-as result _ _ _ _ _ _ _ (proxy_line-parts (proxy_view c.args.proxy.now) _ _ _ _ c.as_bytes.ensures.value refl refl refl)
+    Prints-as result _ _ _ _ _ _ _ (proxy_line-parts c.args.proxy.now _ _ _ _ c.as_bytes.ensures.value refl refl refl)
     (Prints-failed result exit.0 _ _ _ _ _ _ _ exit.1 c.in_err-put_all.ensures)
 
 pub returns-in_err-put_all-2 : goal.returns-in_err-put_all-2
 returns-in_err-put_all-2 g c =
     let result = c.from_residual-in_err-put_all-2.result in
     let exit = err_from_is_err_and result c.from_residual-in_err-put_all-2.ensures.1 in
-    Prints-as result _ _ _ _ _ _ _ (proxy_line-parts (proxy_view c.args.proxy.now) _ _ _ _ c.as_bytes.ensures.value c.as_bytes-2.ensures.value refl refl)
+    Prints-as result _ _ _ _ _ _ _ (proxy_line-parts c.args.proxy.now _ _ _ _ c.as_bytes.ensures.value c.as_bytes-2.ensures.value refl refl)
     (Prints-then result _ _ _ _ _ _ _ _ _ c.in_ok-put_all.ensures.0
     (Prints-failed result exit.0 _ _ _ _ _ _ _ exit.1 c.in_err-put_all-2.ensures))
 
@@ -25,7 +24,7 @@ pub returns-in_err-put_all-3 : goal.returns-in_err-put_all-3
 returns-in_err-put_all-3 g c =
     let result = c.from_residual-in_err-put_all-3.result in
     let exit = err_from_is_err_and result c.from_residual-in_err-put_all-3.ensures.1 in
-    Prints-as result _ _ _ _ _ _ _ (proxy_line-parts (proxy_view c.args.proxy.now) _ _ _ _ c.as_bytes.ensures.value c.as_bytes-2.ensures.value c.as_bytes-3.ensures.value refl)
+    Prints-as result _ _ _ _ _ _ _ (proxy_line-parts c.args.proxy.now _ _ _ _ c.as_bytes.ensures.value c.as_bytes-2.ensures.value c.as_bytes-3.ensures.value refl)
     (Prints-then result _ _ _ _ _ _ _ _ _ c.in_ok-put_all.ensures.0
     (Prints-then result _ _ _ _ _ _ _ _ _ c.in_ok-put_all-2.ensures.0
     (Prints-failed result exit.0 _ _ _ _ _ _ _ exit.1 c.in_err-put_all-3.ensures)))
@@ -33,7 +32,7 @@ returns-in_err-put_all-3 g c =
 pub returns : goal.returns
 returns g c =
     let result = c.put_all-4.result in
-    Prints-as result _ _ _ _ _ _ _ (proxy_line-parts (proxy_view c.args.proxy.now) _ _ _ _ c.as_bytes.ensures.value c.as_bytes-2.ensures.value c.as_bytes-3.ensures.value c.enabled_word.ensures)
+    Prints-as result _ _ _ _ _ _ _ (proxy_line-parts c.args.proxy.now _ _ _ _ c.as_bytes.ensures.value c.as_bytes-2.ensures.value c.as_bytes-3.ensures.value c.enabled_word.ensures)
     (Prints-then result _ _ _ _ _ _ _ _ _ c.in_ok-put_all.ensures.0
     (Prints-then result _ _ _ _ _ _ _ _ _ c.in_ok-put_all-2.ensures.0
     (Prints-then result _ _ _ _ _ _ _ _ _ c.in_ok-put_all-3.ensures.0

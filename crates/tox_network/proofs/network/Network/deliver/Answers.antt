@@ -3,7 +3,7 @@ use Rattle.std.proofs.Common.{◌≡◌, ◌∷◌, drop, false, length, refl, s
 use Rattle.tox_time.specs.Stream.{is_final}
 use Rattle.tox_network.specs.NetworkState.{queue}
 use Rattle.tox_network.specs.NetworkInside.{running}
-use Rattle.tox_network.specs.Running.{state_of, HasChunkFirst}
+use Rattle.tox_network.specs.NetworkView.{state_of, HasChunkFirst}
 use Rattle.tox_network.proofs.Sound.{no_final_yet}
 use Rattle.tox_network.proofs.Made.{deliver_made, step_from}
 use Rattle.tox_network.proofs.network.Network.deliver.Goals as goal

@@ -2,7 +2,7 @@
 use Rattle.std.proofs.Common.{◌∙◌, sym, ap, subst}
 use Rattle.tox_network.specs.NetworkInside.{running}
 use Rattle.tox_network.specs.Runs.{IsAtRest}
-use Rattle.tox_network.specs.Running.{state_of}
+use Rattle.tox_network.specs.NetworkView.{state_of}
 use Rattle.tox_network.proofs.ShownItems.{outcome_shown}
 use Rattle.tox_network.proofs.Sound.{final_at_rest}
 use Rattle.tox_network.proofs.network.Network.outcome.Goals as goal

@@ -4,7 +4,7 @@ use Rattle.std.proofs.lemmas.Grind.{common_steps}
 use Rattle.tox_network.specs.declared.moves.Move.TheVariants.{Deliver}
 use Rattle.tox_network.specs.NetworkInside.{running}
 use Rattle.tox_network.specs.Possible.{possible}
-use Rattle.tox_network.specs.Running.{state_of}
+use Rattle.tox_network.specs.NetworkView.{state_of}
 use Rattle.tox_network.proofs.Telling.{tells_at}
 use Rattle.tox_network.proofs.network.Network.possible.Goals as goal
 

@@ -6,7 +6,7 @@ use Rattle.std.proofs.lemmas.Option.{slice_get_read}
 use Rattle.tox_network.specs.declared.moves.Move.TheVariants.{Take}
 use Rattle.tox_network.specs.NetworkState.{queue}
 use Rattle.tox_network.specs.NetworkInside.{running}
-use Rattle.tox_network.specs.Running.{state_of}
+use Rattle.tox_network.specs.NetworkView.{state_of}
 use Rattle.tox_network.specs.Possible.{possible_before}
 use Rattle.tox_network.proofs.Telling.{before_idle, any_some, any_none}
 use Rattle.tox_network.proofs.network.Network.possible_before.Goals as goal

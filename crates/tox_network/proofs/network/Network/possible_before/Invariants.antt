@@ -1,7 +1,7 @@
 -- Nothing was found at the stages that were looked at.
 use Rattle.std.proofs.Common.{◌≡◌}
 use Rattle.tox_network.specs.NetworkInside.{running}
-use Rattle.tox_network.specs.Running.{state_of}
+use Rattle.tox_network.specs.NetworkView.{state_of}
 use Rattle.tox_network.specs.Possible.{possible_before}
 use Rattle.tox_network.proofs.network.Network.possible_before.Given as goal
 

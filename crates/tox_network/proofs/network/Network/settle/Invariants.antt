@@ -1,7 +1,7 @@
 -- Moves that follow the list were made, and as many are off the list; one move less is left each time.
 use Rattle.std.proofs.Common.{◌≡◌, drop, length}
 use Rattle.std.specs.Slice.Iter.{iter_rest}
-use Rattle.tox_network.specs.Running.{state_of}
+use Rattle.tox_network.specs.NetworkView.{state_of}
 use Rattle.tox_network.specs.Still.{moves_left}
 use Rattle.tox_network.specs.Settling.{Settles}
 use Rattle.tox_network.proofs.network.Network.settle.Given as goal

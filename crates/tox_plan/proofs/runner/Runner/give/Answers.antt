@@ -6,8 +6,8 @@ use Rattle.tox_plan.proofs.runner.Runner.give.Goals as goal
 
 pub invariant_of-self : goal.invariant_of-self
 invariant_of-self c =
-    IsRunning-after_given (running c.self.inside) c.args.cut.now c.self.invariant (ap (λ runner. runner.found) c.self.view_is ∙ c.requires)
+    IsRunning-after_given (running c.self.inside) c.args.cut.now c.self.invariant (ap (λ runner. runner.lookahead) c.self.view_is ∙ c.requires)
 
 pub returns-clause-cut : goal.returns-clause-cut
 returns-clause-cut c =
-    rw (← c.self.view_is) (IsOneCut-after_given (running c.self.inside) c.args.cut.now c.self.invariant (ap (λ runner. runner.found) c.self.view_is ∙ c.requires))
+    rw (← c.self.view_is) (IsOneCut-after_given (running c.self.inside) c.args.cut.now c.self.invariant (ap (λ runner. runner.lookahead) c.self.view_is ∙ c.requires))

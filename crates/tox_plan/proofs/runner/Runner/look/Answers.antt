@@ -10,8 +10,8 @@ use Rattle.tox_plan.proofs.runner.Runner.look.Goals.{then-cut-self, else-cut-sel
 pub invariant_of-self : goal.invariant_of-self
 invariant_of-self c =
     let same : length c.pull.new.levels ≡ length c.self.inside.levels.items = search rules in
-    let unread : c.self.inside.read ≡ false = search rules in
-    let unfound : c.self.inside.found ≡ None = search rules in
+    let unread : c.self.inside.drained ≡ false = search rules in
+    let unfound : c.self.inside.lookahead ≡ None = search rules in
     let next : IsNext c.self.inside.words.now c.self.inside.position c.self.inside.levels.items c.pull.new.levels c.self.inside.piece c.in-Piece.cut = search rules in
     let unended : AreOpenUnless c.pull.new.looks.ended c.pull.new.levels =
     c.pull.ensures.ended (subst (λ levels. AreOpenUnless c.self.inside.looks.ended levels) (sym c.deref_mut.ensures.value) c.self.invariant.unended) in

@@ -2,7 +2,7 @@
 use Rattle.std.proofs.Common.{◌≡◌, refl, ◌∙◌, ap, subst}
 use Rattle.std.specs.Prelude.{MatchOption}
 use Rattle.tox_plan.specs.Levels.{ops_of, levels_at_start, AreNested, AreRead, AreDrained, OnlyEnds, HaveEnded}
-use Rattle.tox_plan.specs.Running.{no_piece}
+use Rattle.tox_plan.specs.RunnerView.{no_piece}
 use Rattle.tox_plan.proofs.Starts.{ops_of-at_start, read-at_start, nested-at_start}
 use Rattle.tox_plan.proofs.Givens.{given-new}
 use Rattle.tox_plan.proofs.FirstRunner.{IsRunning-first, means-first}
@@ -16,20 +16,20 @@ levels_are c = rw (c.push_levels.ensures.items, c.new-levels.ensures, c.ops.ensu
 asked : (c : goal.After-is_some) → c.deref.result.now ≡ levels_at_start c.args.plan.ops
 asked c = c.deref.ensures.0 ∙ levels_are c
 
-knows : (c : goal.After-is_some) → MatchOption c.known_ending-ending.result (AreDrained 0 (levels_at_start c.args.plan.ops) no_piece) (OnlyEnds c.args.words.now 0 (levels_at_start c.args.plan.ops) no_piece)
+knows : (c : goal.After-is_some) → MatchOption c.ending_of_read-ending.result (AreDrained 0 (levels_at_start c.args.plan.ops) no_piece) (OnlyEnds c.args.words.now 0 (levels_at_start c.args.plan.ops) no_piece)
 knows c =
-    subst (λ levels. AreNested 0 levels no_piece → AreRead 0 levels no_piece → MatchOption c.known_ending-ending.result (AreDrained 0 levels no_piece) (OnlyEnds c.args.words.now 0 levels no_piece))
-    (asked c) (c.known_ending-ending.ensures.known c.args.words.now 0 no_piece)
+    subst (λ levels. AreNested 0 levels no_piece → AreRead 0 levels no_piece → MatchOption c.ending_of_read-ending.result (AreDrained 0 levels no_piece) (OnlyEnds c.args.words.now 0 levels no_piece))
+    (asked c) (c.ending_of_read-ending.ensures.known c.args.words.now 0 no_piece)
     (nested-at_start c.args.plan.ops c.ops.ensures.plan.operations) (read-at_start c.args.plan.ops)
 
 pub invariant_of-result-3 : goal.invariant_of-result-3
 invariant_of-result-3 c =
     rw (c.is_some.ensures, levels_are c)
-    (IsRunning-first c.args.plan.ops c.args.words.now c.known_ending-ending.result c.ops.ensures.plan.operations c.ops.ensures.plan.most (knows c) (λ some. subst HaveEnded (asked c) (c.known_ending-ending.ensures.kept some)))
+    (IsRunning-first c.args.plan.ops c.args.words.now c.ending_of_read-ending.result c.ops.ensures.plan.operations c.ops.ensures.plan.most (knows c) (λ some. subst HaveEnded (asked c) (c.ending_of_read-ending.ensures.kept some)))
 
 pub returns-clause-to_come : goal.returns-clause-to_come
 returns-clause-to_come c =
-    λ items stream. rw (levels_are c) (means-first c.args.plan.ops c.args.words.now c.known_ending-ending.result c.ops.ensures.plan.operations (knows c) items stream)
+    λ items stream. rw (levels_are c) (means-first c.args.plan.ops c.args.words.now c.ending_of_read-ending.result c.ops.ensures.plan.operations (knows c) items stream)
 
 pub returns-clause-levels : goal.returns-clause-levels
 returns-clause-levels c = levels_are c

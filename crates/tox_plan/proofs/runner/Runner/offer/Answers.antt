@@ -2,7 +2,7 @@
 use Rattle.std.proofs.Common.{ap, sym, ◌∙◌, arith}
 use Rattle.tox_plan.specs.RunnerInside.{running}
 use Rattle.tox_defs.specs.Look.{as_chunk}
-use Rattle.tox_plan.specs.Running.{next_piece}
+use Rattle.tox_plan.specs.RunnerView.{next_piece}
 use Rattle.tox_plan.proofs.Givens.{given-offer}
 use Rattle.tox_plan.proofs.Offering.{IsRunning-after_offer, to_come-after_offer}
 use Rattle.tox_plan.proofs.RunnerOutput.{idle-drained, none_of}

@@ -2,7 +2,7 @@
 use Rattle.std.proofs.Common.{subst}
 use Rattle.tox_plan.specs.Levels.{MatchPulled}
 use Rattle.tox_plan.proofs.Pulls.{passed-piece}
-use Rattle.tox_plan.proofs.levels.pass_one.Goals as goal
+use Rattle.tox_plan.proofs.pulling.pass_one.Goals as goal
 
 pub returns-in-Piece-clause-pulled : goal.returns-in-Piece-clause-pulled
 returns-in-Piece-clause-pulled c =

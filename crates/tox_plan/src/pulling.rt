@@ -1,16 +1,13 @@
-//! The levels of a plan at work, the last operation first. Each one's unread rest reaches from the stop of the
-//! level downstream to its own, so the ends nest.
-ghost use Rattle.std.specs.Prelude.{◌≡◌, ℕ, ◌+◌, ◌^◌, ◌<◌, ◌≤◌, List, [], ◌∷◌, ◌++◌, length, take, drop, All, None, false, IsSome, MatchOption};
-ghost use Rattle.tox_time.specs.Table.{final_of};
+//! The next piece through the levels of a plan. The levels stand last operation first, and their ends nest: level k's
+//! unread bytes are `level[k-1].stop..level[k].stop`.
+ghost use Rattle.std.specs.Prelude.{◌≡◌, ℕ, ◌+◌, ◌^◌, ◌<◌, ◌≤◌, List, [], ◌∷◌, ◌++◌, length, take, drop, All, None, false};
 ghost use Rattle.tox_time.specs.declared.slice.Slice.{Slice as OneSlice};
-ghost use Rattle.tox_defs.specs.Chain.{max_toxics};
 ghost use Rattle.tox_defs.specs.declared.level.Level.{Level as OneLevel};
 ghost use Rattle.tox_defs.specs.Op.{is_mute};
 ghost use Rattle.tox_defs.specs.Level.{IsSound};
-ghost use Rattle.tox_plan.specs.Levels.{AreNested, AreDrained, AreRead, HaveEnded, AreOpenUnless, IsRead, BeginsUnread, IsFrom, MatchGiven, OnlyEnds, MatchPulled, levels_at_start, level_at_start, ending_at_start, ops_of, to_come_from};
+ghost use Rattle.tox_plan.specs.Levels.{AreNested, AreOpenUnless, IsRead, BeginsUnread, IsFrom, MatchGiven, MatchPulled, ops_of};
 
-use arrayvec::ArrayVec;
-use tox_defs::{Emission, Level, MAX_TOXICS, Op};
+use tox_defs::{Emission, Level};
 use tox_time::{Ending, Slice, Span};
 use tox_words::Words;
 
@@ -27,7 +24,7 @@ pub(crate) enum Pulled {
 
 /// What the looks at levels counted and found.
 #[derive(Clone, Copy, Debug, PartialEq, Eq)]
-pub(crate) struct Looks {
+pub(crate) struct PullStats {
     /// How often a level was looked at.
     pub(crate) turns: u64,
     /// Whether some level may keep an ending.
@@ -60,7 +57,7 @@ pub(crate) fn pull(
     start: u64,
     source: &Slice,
     words: &Words,
-    looks: &mut Looks,
+    looks: &mut PullStats,
 ) -> Pulled
     requires nested { AreNested start levels.old source.now }
     requires few { source.now.span.stop ≤ 2 ^ 40 }
@@ -99,7 +96,7 @@ fn pull_nearest(
     start: u64,
     source: &Slice,
     words: &Words,
-    looks: &mut Looks,
+    looks: &mut PullStats,
 ) -> Pulled
     requires nested { AreNested start levels.old source.now }
     requires unread { BeginsUnread start levels.old }
@@ -123,7 +120,7 @@ fn pull_nearest(
 }
 
 /// Passes what comes from upstream through levels that have nothing left, the last of them first.
-fn pass(levels: &mut [Level], start: u64, pulled: &mut Pulled, words: &Words, looks: &mut Looks)
+fn pass(levels: &mut [Level], start: u64, pulled: &mut Pulled, words: &Words, looks: &mut PullStats)
     requires read { All (IsRead start) levels.old }
     requires from { IsFrom start pulled.old }
     requires room { looks.old.turns + length levels.old < 2 ^ 64 }
@@ -140,7 +137,13 @@ fn pass(levels: &mut [Level], start: u64, pulled: &mut Pulled, words: &Words, lo
 }
 
 /// Passes what comes from upstream through a level that has nothing left.
-fn pass_one(level: &mut Level, start: u64, pulled: &mut Pulled, words: &Words, looks: &mut Looks)
+fn pass_one(
+    level: &mut Level,
+    start: u64,
+    pulled: &mut Pulled,
+    words: &Words,
+    looks: &mut PullStats,
+)
     requires read { IsRead start level.old }
     requires from { IsFrom start pulled.old }
     requires room { looks.old.turns + 1 < 2 ^ 64 }
@@ -165,7 +168,7 @@ fn pass_one(level: &mut Level, start: u64, pulled: &mut Pulled, words: &Words, l
 
 /// The next piece of a level's rest, or its ending. It is inlined as [`Level::advance`] is, which is all the work of a look.
 #[inline(always)]
-fn advance(level: &mut Level, start: u64, words: &Words, looks: &mut Looks) -> Pulled
+fn advance(level: &mut Level, start: u64, words: &Words, looks: &mut PullStats) -> Pulled
     requires some { start < level.old.stop }
     requires heard { is_mute level.old.op ≡ false }
     requires open { level.old.ending ≡ None }
@@ -181,62 +184,5 @@ fn advance(level: &mut Level, start: u64, words: &Words, looks: &mut Looks) -> P
     match advanced {
         Emission::Piece(piece) => Pulled::Piece(piece),
         Emission::End(ending) => Pulled::End(ending),
-    }
-}
-
-/// Adds the levels of these operations at their start, the last operation first.
-pub(crate) fn push_levels(levels: &mut ArrayVec<Level, MAX_TOXICS>, ops: &[Op])
-    requires { length levels.old.items + length ops.now ≤ max_toxics }
-    ensures items { levels.new.items ≡ levels.old.items ++ levels_at_start ops.now }
-    ensures len { length levels.new.items ≡ length levels.old.items + length ops.now }
-{
-    if let [op, later @ ..] = ops {
-        push_levels(levels, later);
-        levels.push(Level {
-            op: *op,
-            ending: ending_at_start(op),
-            ..Level::default()
-        });
-    }
-}
-
-/// The ending that an operation has from the start.
-fn ending_at_start(op: &Op) -> Option<Ending>
-    ensures { result ≡ ending_at_start op.now }
-{
-    match op {
-        Op::Mute { ending } => Some(*ending),
-        _ => None,
-    }
-}
-
-/// The ending that levels which have nothing left give for one that comes from the source.
-pub(crate) fn last_of(levels: &[Level], ending: &Ending) -> Ending
-    ensures { (words : List ℕ) (start : ℕ) (source : OneSlice) → AreNested start levels.now source → AreDrained start levels.now source
-        → to_come_from words start levels.now source (final_of ending.now ∷ []) ≡ final_of result ∷ [] }
-{
-    match levels {
-        [] => *ending,
-        [level, upstream @ ..] => level
-            .op
-            .map_ending(&level.state, &last_of(upstream, ending)),
-    }
-}
-
-/// The ending that is known, if there is one, of levels whose chunks are read.
-pub(crate) fn known_ending(levels: &[Level]) -> Option<Ending>
-    ensures kept { IsSome result → HaveEnded levels.now }
-    ensures known { (words : List ℕ) (start : ℕ) (source : OneSlice) → AreNested start levels.now source → AreRead start levels.now source
-        → MatchOption result (AreDrained start levels.now source) (OnlyEnds words start levels.now source) }
-{
-    let Some((level, upstream)) = levels.split_first() else {
-        return None;
-    };
-    if let Some(ending) = &level.ending {
-        return Some(*ending);
-    }
-    match &known_ending(upstream) {
-        Some(ending) => Some(level.op.map_ending(&level.state, ending)),
-        None => None,
     }
 }

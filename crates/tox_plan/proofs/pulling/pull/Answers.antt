@@ -2,7 +2,7 @@
 use Rattle.std.proofs.Common.{rules, ◌≡◌, ◌++◌, ap, sym, subst, ◌∙◌}
 use Rattle.tox_plan.specs.Levels.{MatchPulled, HaveEnded, ops_of}
 use Rattle.tox_plan.proofs.LevelLemmas.{ops_of-append, ended-behind}
-use Rattle.tox_plan.proofs.levels.pull.Goals as goal
+use Rattle.tox_plan.proofs.pulling.pull.Goals as goal
 
 parts : (c : goal.After-levels-2-1) → c.split_at_mut-read.result.0.now ++ c.split_at_mut-read.result.1.now ≡ c.args.levels.now
 parts c = search rules

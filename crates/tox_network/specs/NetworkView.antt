@@ -13,7 +13,7 @@ use Rattle.tox_network.specs.Moves.{after}
 use Rattle.tox_network.specs.Still.{coming, still, moves_left, most_moves}
 
 -- what a network is seen as: the room of each queue, all arrivals, the moves made, and the parts of its state
-pub record Running : Type 0 where
+pub record NetworkView : Type 0 where
   pub cap : ℕ
   pub arrived : List Item
   pub steps : ℕ
@@ -31,7 +31,7 @@ abbrev pub placed_stage : List ℕ → Placed → Staged
 placed_stage words placed = first_stage (op_of placed.place placed.toxic) words
 
 -- the state that a network is in
-abbrev pub state_of : Running → NetworkState
+abbrev pub state_of : NetworkView → NetworkState
 state_of network = record {
   arrivals = network.waiting;
   queues = network.queues;
@@ -40,14 +40,14 @@ state_of network = record {
 }
 
 -- no move was made yet
-pub record IsStart (chain : Toxics) (words : List ℕ) (items : List Item) (room : ℕ) (network : Running) : Type 0 where
+pub record IsStart (chain : Toxics) (words : List ℕ) (items : List Item) (room : ℕ) (network : NetworkView) : Type 0 where
   pub state : state_of network ≡ start (reactions_of chain words) items
   pub cap : network.cap ≡ room
   pub arrived : network.arrived ≡ items
   pub steps : network.steps ≡ 0
 
 -- the move was possible, and leads from one network to the other
-pub record IsStep (move : Move) (old new : Running) : Type 0 where
+pub record IsStep (move : Move) (old new : NetworkView) : Type 0 where
   pub moved : after old.cap (state_of old) move ≡ Some (state_of new)
   pub counted : new.steps ≡ old.steps + 1
   pub cap : new.cap ≡ old.cap
@@ -57,12 +57,12 @@ pub record IsStep (move : Move) (old new : Running) : Type 0 where
   pub left : moves_left (state_of old) ≡ moves_left (state_of new) + 1
 
 -- the next item to be delivered is a chunk
-abbrev pub HasChunkFirst : Running → Type 0
+abbrev pub HasChunkFirst : NetworkView → Type 0
 HasChunkFirst network =
     (item : Item) × (rest : List Item) × (queue (state_of network) (length network.stages) ≡ item ∷ rest) × (is_final item ≡ false)
 
 -- what every move keeps
-pub record IsSound (network : Running) : Type 0 where
+pub record IsSound (network : NetworkView) : Type 0 where
   pub room : 1 ≤ network.cap
   -- a queue before each stage and one behind the last
   pub shaped : length network.queues ≡ length network.stages + 1

@@ -12,7 +12,7 @@ use Rattle.tox_defs.specs.Level.{ending_or}
 use Rattle.tox_plan.specs.Levels.{to_come_from, AreNested, AreDrained, HaveEnded, AreOpenUnless}
 
 -- what a runner is seen as
-pub record Running : Type 0 where
+pub record RunnerView : Type 0 where
   -- the levels, the last operation first
   pub levels : List Level
   pub words : List ℕ
@@ -22,8 +22,8 @@ pub record Running : Type 0 where
   pub piece : Slice
   pub latest : ℕ
   -- a cut that was found beyond the last slice, and whether nothing else is left of the offered piece
-  pub found : Option Slice
-  pub read : Bool
+  pub lookahead : Option Slice
+  pub drained : Bool
   -- the ending, once it is found, and whether the source's end was told
   pub ending : Option Ending
   pub finished : Bool
@@ -44,12 +44,12 @@ reader_at position None = position
 reader_at position (Some cut) = cut.span.stop
 
 -- the remaining output, if these items follow the offered pieces
-abbrev pub to_come : Running → List Item → List Item
+abbrev pub to_come : RunnerView → List Item → List Item
 to_come runner items =
-    ending_or runner.ending (found_chunk runner.found ++ to_come_from runner.words (reader_at runner.position runner.found) runner.levels runner.piece items)
+    ending_or runner.ending (found_chunk runner.lookahead ++ to_come_from runner.words (reader_at runner.position runner.lookahead) runner.levels runner.piece items)
 
 -- the ending that an idle runner knows
-abbrev pub known_ending : Running → Option Ending
+abbrev pub known_ending : RunnerView → Option Ending
 known_ending runner = if runner.idle then runner.ending else None
 
 -- a list of items with no chunk
@@ -72,25 +72,25 @@ round_due read None round = if read then 0 else round
 
 -- each turn looks at one operation: at most one round of looks for a cut or an offered piece.
 -- A runner that may have to look has a round in hand.
-abbrev pub AreCounted : Running → Type 0
+abbrev pub AreCounted : RunnerView → Type 0
 AreCounted runner =
-    round_due runner.read runner.found (length runner.levels) + runner.turns ≤ length runner.levels * (runner.cuts + runner.pieces)
+    round_due runner.drained runner.lookahead (length runner.levels) + runner.turns ≤ length runner.levels * (runner.cuts + runner.pieces)
 
 -- a found cut begins where the next slice does, and comes before any ending
-pub record IsFound (runner : Running) (cut : Slice) : Type 0 where
+pub record IsFound (runner : RunnerView) (cut : Slice) : Type 0 where
   pub begins : cut.span.start ≡ runner.position
   pub some : runner.position < cut.span.stop
   pub busy : runner.idle ≡ false
   pub running : runner.ending ≡ None
 
 -- what holds of every runner
-pub record IsRunning (runner : Running) : Type 0 where
-  pub nested : runner.ending ≡ None → AreNested (reader_at runner.position runner.found) runner.levels runner.piece
-  pub drained : runner.read ≡ true → runner.ending ≡ None → AreDrained (reader_at runner.position runner.found) runner.levels runner.piece
-  pub found : IfSome runner.found (IsFound runner)
+pub record IsRunning (runner : RunnerView) : Type 0 where
+  pub nested : runner.ending ≡ None → AreNested (reader_at runner.position runner.lookahead) runner.levels runner.piece
+  pub drained : runner.drained ≡ true → runner.ending ≡ None → AreDrained (reader_at runner.position runner.lookahead) runner.levels runner.piece
+  pub found : IfSome runner.lookahead (IsFound runner)
   pub unended : AreOpenUnless runner.ended runner.levels
-  pub ended : IsSome runner.ending → runner.read ≡ true
-  pub idle : runner.idle ≡ true → runner.read ≡ true
+  pub ended : IsSome runner.ending → runner.drained ≡ true
+  pub idle : runner.idle ≡ true → runner.drained ≡ true
   pub cause : IsSome runner.ending → (runner.finished ≡ true) ⊎ HaveEnded runner.levels
   pub told : runner.finished ≡ true → IsSome runner.ending
   pub reached : runner.position ≤ runner.piece.span.stop
@@ -100,14 +100,14 @@ pub record IsRunning (runner : Running) : Type 0 where
   pub few_cuts : runner.cuts ≤ runner.position
   pub few_pieces : runner.pieces ≤ runner.piece.span.stop
   pub counted : AreCounted runner
-  pub looked : 0 < length runner.levels → runner.cuts + found_count runner.found ≤ runner.turns
+  pub looked : 0 < length runner.levels → runner.cuts + found_count runner.lookahead ≤ runner.turns
 
 -- where nothing was offered yet
 abbrev pub no_piece : Slice
 no_piece = record { span = record { start = 0; stop = 0 }; instant = 0 }
 
 -- the piece of this many bytes that comes after the offered ones
-abbrev pub next_piece : Running → ℕ → ℕ → Slice
+abbrev pub next_piece : RunnerView → ℕ → ℕ → Slice
 next_piece runner len instant =
     record { span = record { start = runner.piece.span.stop; stop = runner.piece.span.stop + len }; instant = instant }
 
@@ -117,5 +117,5 @@ answer_of None = Ok tt
 answer_of (Some fault) = Err fault
 
 -- what an offer of a piece is answered
-abbrev pub offer_answer : Running → ℕ → ℕ → Result (Unit {0}) ArrivalFault
+abbrev pub offer_answer : RunnerView → ℕ → ℕ → Result (Unit {0}) ArrivalFault
 offer_answer runner len instant = answer_of (piece_fault runner.piece.span.stop runner.latest (is_some runner.ending) len instant)

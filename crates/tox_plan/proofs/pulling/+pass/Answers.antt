@@ -2,7 +2,7 @@
 use Rattle.std.proofs.Common.{rules, ◌≡◌, [], ◌∷◌, ◌++◌, append_assoc, ap, sym, subst, ◌∙◌}
 use Rattle.tox_plan.specs.Levels.{MatchPulled, ops_of}
 use Rattle.tox_plan.proofs.LevelLemmas.{ops_of-append}
-use Rattle.tox_plan.proofs.levels.+pass.Goals as goal
+use Rattle.tox_plan.proofs.pulling.+pass.Goals as goal
 
 pub returns-in-Some-clause-pulled : goal.returns-in-Some-clause-pulled
 returns-in-Some-clause-pulled t c =

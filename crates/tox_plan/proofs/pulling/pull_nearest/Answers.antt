@@ -3,7 +3,7 @@ use Rattle.std.proofs.Common.{rules, ◌≡◌, length, sym, subst}
 use Rattle.std.proofs.lemmas.List.{nil_from_length}
 use Rattle.tox_plan.specs.Levels.{MatchPulled}
 use Rattle.tox_plan.proofs.Pulls.{pulled-from}
-use Rattle.tox_plan.proofs.levels.pull_nearest.Goals as goal
+use Rattle.tox_plan.proofs.pulling.pull_nearest.Goals as goal
 
 pub returns-in_default-clause-pulled : goal.returns-in_default-clause-pulled
 returns-in_default-clause-pulled c =
