@@ -76,7 +76,8 @@ fn earlier(instant: Micros, other: Option<Micros>) -> Micros
 /// The plan of a chain on a link with these words.
 pub fn compile(chain: &Chain, words: &Words) -> Plan
     ensures ops { result.ops ≡ normal_form chain.now words.now }
-    ensures means { (items : List OneItem) → IsStream items → means result words.now items ≡ chain_flow chain.now words.now items }
+    ensures means { (items : List OneItem) → IsStream items
+        → means result words.now items ≡ chain_flow chain.now words.now items }
 {
     let mut ops = ArrayVec::new();
     let entries = chain.entries();

@@ -87,7 +87,8 @@ impl Chain {
         requires in_range { IsInRange toxic }
         requires thousandths { toxicity ≤ 1000 }
         ensures room { IsOk result ↔ (length self.old.entries < max_toxics) }
-        ensures ok { OnOk result (self.new.entries ≡ self.old.entries ++ record { toxic = toxic; toxicity = toxicity } ∷ []) }
+        ensures ok { OnOk result (self.new.entries
+            ≡ self.old.entries ++ record { toxic = toxic; toxicity = toxicity } ∷ []) }
         ensures err { OnErr result (self.new ≡ self.old) }
     {
         if self.entries.is_full() {
@@ -122,7 +123,8 @@ impl Chain {
     /// The toxic at a place from 0.
     pub fn toxic(&self, place: usize) -> Toxic
         requires { place < length self.now.entries }
-        ensures value { IsSomeAnd (slice_get self.now.entries place) (λ entry. result ≡ entry.toxic) }
+        ensures value { IsSomeAnd (slice_get self.now.entries place)
+            (λ entry. result ≡ entry.toxic) }
         ensures in_range { IsInRange result }
     {
         self.entries[place].toxic
@@ -131,7 +133,8 @@ impl Chain {
     /// The toxicity at a place from 0, in thousandths.
     pub fn toxicity(&self, place: usize) -> u16
         requires { place < length self.now.entries }
-        ensures value { IsSomeAnd (slice_get self.now.entries place) (λ entry. result ≡ entry.toxicity) }
+        ensures value { IsSomeAnd (slice_get self.now.entries place)
+            (λ entry. result ≡ entry.toxicity) }
         ensures bound { result ≤ 1000 }
     {
         self.entries[place].toxicity
@@ -140,8 +143,10 @@ impl Chain {
     /// A lemma as a function, with no runtime effect: for every table of words a chain gives a stream for a stream,
     /// with no more bytes, and so with at most one item more than bytes.
     pub fn gives_streams(&self)
-        ensures keeps { (words : List ℕ) (items : List OneItem) → IsStream items → IsKeptBy items (chain_flow self.now words items) }
-        ensures few { (words : List ℕ) (items : List OneItem) → IsStream items → length (chain_flow self.now words items) ≤ arrived items + 1 }
+        ensures keeps { (words : List ℕ) (items : List OneItem) → IsStream items
+            → IsKeptBy items (chain_flow self.now words items) }
+        ensures few { (words : List ℕ) (items : List OneItem) → IsStream items
+            → length (chain_flow self.now words items) ≤ arrived items + 1 }
     {
         let _ = &self.entries;
     }

@@ -79,7 +79,8 @@ impl Kind {
 
     /// Whether the type's toxics have an attribute of this name.
     pub fn has_attribute(self, name: &str) -> bool
-        ensures { result ≡ list_any (λ attribute. bytes_eq attribute name.now) (attributes_of self) }
+        ensures { result ≡ list_any
+            (λ attribute. bytes_eq attribute name.now) (attributes_of self) }
     {
         self.attributes().iter().any(|attribute| *attribute == name)
     }

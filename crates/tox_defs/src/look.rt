@@ -33,7 +33,8 @@ impl Op {
         requires some { rest.now.span.start < rest.now.span.stop }
         requires chunks { state.now.chunks + 1 < 2 ^ 64 }
         requires pieces { state.now.pieces + 1 < 2 ^ 64 }
-        ensures finds { (items : List OneItem) → Finds (op_reaction self.now (draw words.now)) state.now rest.now items result }
+        ensures finds { (items : List OneItem)
+            → Finds (op_reaction self.now (draw words.now)) state.now rest.now items result }
         ensures front { IsFrontOf rest.now result }
     {
         match *self {

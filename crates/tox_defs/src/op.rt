@@ -84,7 +84,8 @@ impl Op {
 
     /// The ending that the operation gives for this one.
     pub fn map_ending(&self, state: &State, ending: &Ending) -> Ending
-        ensures { (draws : Draws) → op_giving self.now draws state.now (final_of ending.now) ≡ final_of result ∷ [] }
+        ensures { (draws : Draws)
+            → op_giving self.now draws state.now (final_of ending.now) ≡ final_of result ∷ [] }
     {
         match self {
             Op::Delay { .. } => in_order(state.previous, ending),

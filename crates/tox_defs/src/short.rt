@@ -30,7 +30,8 @@ const MAX_TOXICITY: u64 = 1000;
 pub fn read_short(text: &str) -> Result<(Toxic, u16), ShortFault>
     ensures value { result ≡ short_of text.now }
     ensures fits { IfOk result (λ read. IsInRange read.0 × (read.1 ≤ 1000)) }
-    ensures reads_back { (toxic : Toxic) (toxicity : ℕ) → IsInRange toxic → toxicity ≤ 1000 → text.now ≡ printed_short toxic toxicity → result ≡ Ok (toxic, toxicity) }
+    ensures reads_back { (toxic : Toxic) (toxicity : ℕ) → IsInRange toxic → toxicity ≤ 1000
+        → text.now ≡ printed_short toxic toxicity → result ≡ Ok (toxic, toxicity) }
 {
     match text.split_once(':') {
         Some((name, pairs)) => read_pairs(name, pairs),

@@ -51,8 +51,10 @@ impl<'w> Stage<'w> {
         ensures first { result ≡ first_stage (op_of lane toxic) words.now }
         ensures law { HasLaw toxic }
         ensures streams { KeepsStreams toxic }
-        ensures takes { (items : List OneItem) → IsStream items → arrived items ≤ 2 ^ 40 → AllFit result.place items }
-        ensures reacts { op_reaction (op_of lane toxic) (draw words.now) ≡ toxic_reaction toxic (draw words.now lane) }
+        ensures takes { (items : List OneItem) → IsStream items → arrived items ≤ 2 ^ 40
+            → AllFit result.place items }
+        ensures reacts { op_reaction (op_of lane toxic) (draw words.now)
+            ≡ toxic_reaction toxic (draw words.now lane) }
     {
         Stage {
             level: Level::new(&Op::of(&toxic, lane)),

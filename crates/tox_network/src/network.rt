@@ -81,7 +81,8 @@ impl<'a> Network<'a> {
     /// The next arrival enters queue 0, if that has room.
     fn arrive(&mut self) -> bool
         ensures moved { IsTrue result → IsStep Arrive self.old self.new }
-        ensures refused { IsFalse result → (after self.old.cap (state_of self.old) Arrive ≡ None) × (self.new ≡ self.old) }
+        ensures refused { IsFalse result
+            → (after self.old.cap (state_of self.old) Arrive ≡ None) × (self.new ≡ self.old) }
     {
         if self.waiting.is_empty() || !self.queues.has_room(0) {
             return false;
@@ -95,7 +96,8 @@ impl<'a> Network<'a> {
     /// A stage with nothing left to emit takes the first item of the queue before it.
     fn take(&mut self, place: usize) -> bool
         ensures moved { IsTrue result → IsStep (Take place) self.old self.new }
-        ensures refused { IsFalse result → (after self.old.cap (state_of self.old) (Take place) ≡ None) × (self.new ≡ self.old) }
+        ensures refused { IsFalse result
+            → (after self.old.cap (state_of self.old) (Take place) ≡ None) × (self.new ≡ self.old) }
     {
         if place >= self.stages.len()
             || !self.stages[place].is_idle()
@@ -113,7 +115,8 @@ impl<'a> Network<'a> {
     /// A stage emits its next item into the queue behind it, if that has room.
     fn put(&mut self, place: usize) -> bool
         ensures moved { IsTrue result → IsStep (Put place) self.old self.new }
-        ensures refused { IsFalse result → (after self.old.cap (state_of self.old) (Put place) ≡ None) × (self.new ≡ self.old) }
+        ensures refused { IsFalse result
+            → (after self.old.cap (state_of self.old) (Put place) ≡ None) × (self.new ≡ self.old) }
     {
         if place >= self.stages.len()
             || self.stages[place].is_idle()
@@ -133,7 +136,8 @@ impl<'a> Network<'a> {
     /// The first item of the last queue is delivered.
     fn deliver(&mut self) -> Result<(), StepFault>
         ensures moved { OnOk result (IsStep Deliver self.old self.new) }
-        ensures refused { IsErrOf result StepFault.NotPossible ↔ (after self.old.cap (state_of self.old) Deliver ≡ None) }
+        ensures refused { IsErrOf result StepFault.NotPossible
+            ↔ (after self.old.cap (state_of self.old) Deliver ≡ None) }
         ensures unchanged { OnErr result (self.new ≡ self.old) }
         ensures memory { IsErrOf result StepFault.OutOfMemory → HasChunkFirst self.old }
     {
@@ -154,9 +158,11 @@ impl<'a> Network<'a> {
     /// unchanged.
     pub fn step(&mut self, next: Move) -> Result<(), StepFault>
         ensures moved { OnOk result (IsStep next self.old self.new) }
-        ensures refused { IsErrOf result StepFault.NotPossible ↔ (after self.old.cap (state_of self.old) next ≡ None) }
+        ensures refused { IsErrOf result StepFault.NotPossible
+            ↔ (after self.old.cap (state_of self.old) next ≡ None) }
         ensures unchanged { OnErr result (self.new ≡ self.old) }
-        ensures memory { IsErrOf result StepFault.OutOfMemory → (next ≡ Deliver) × HasChunkFirst self.old }
+        ensures memory { IsErrOf result StepFault.OutOfMemory
+            → (next ≡ Deliver) × HasChunkFirst self.old }
     {
         let made = match next {
             Move::Arrive => self.arrive(),
@@ -195,7 +201,8 @@ impl<'a> Network<'a> {
     pub fn possible(&self) -> Option<Move>
         ensures value { result ≡ possible (state_of self.now) }
         ensures rest { IsNone result ↔ IsAtRest self.now.cap (state_of self.now) }
-        ensures some { IfSome result (λ next. IsSome (after self.now.cap (state_of self.now) next)) }
+        ensures some { IfSome result
+            (λ next. IsSome (after self.now.cap (state_of self.now) next)) }
         ensures empty { IfNone result (IsEmpty (state_of self.now)) }
     {
         let last = self.stages.len();
@@ -210,9 +217,13 @@ impl<'a> Network<'a> {
     fn turn(&mut self, listed: Option<Move>, other: Move) -> Result<(), StepFault>
         requires other { possible (state_of self.old) ≡ Some other }
         requires possible { IsSome (after self.old.cap (state_of self.old) other) }
-        ensures made { OnOk result (IsSomeAnd (turn self.old.cap listed (state_of self.old)) (λ next. IsStep next self.old self.new)) }
+        ensures made { OnOk result (IsSomeAnd (turn self.old.cap listed (state_of self.old))
+            (λ next. IsStep next self.old self.new)) }
         ensures unchanged { OnErr result (self.new ≡ self.old) }
-        ensures memory { IfErr result (λ fault. (fault ≡ StepFault.OutOfMemory) × (turn self.old.cap listed (state_of self.old) ≡ Some Deliver) × HasChunkFirst self.old) }
+        ensures memory { IfErr result
+            (λ fault. (fault ≡ StepFault.OutOfMemory)
+            × (turn self.old.cap listed (state_of self.old) ≡ Some Deliver)
+            × HasChunkFirst self.old) }
     {
         if let Some(next) = listed {
             match self.step(next) {
@@ -228,7 +239,8 @@ impl<'a> Network<'a> {
     pub fn settle(&mut self, moves: &[Move]) -> Result<(), StepFault>
         ensures rest { OnOk result (IsAtRest self.new.cap (state_of self.new)) }
         ensures made { Settles moves.now self.old self.new }
-        ensures memory { IfErr result (λ fault. (fault ≡ StepFault.OutOfMemory) × IsRefusedAt moves.now self.old self.new) }
+        ensures memory { IfErr result
+            (λ fault. (fault ≡ StepFault.OutOfMemory) × IsRefusedAt moves.now self.old self.new) }
     {
         let mut listed = moves.iter();
         while let Some(other) = self.possible() {

@@ -59,7 +59,8 @@ impl Queues {
         requires place { place < length self.old.lists }
         requires room { length (list_at self.old place) < self.old.room }
         ensures room { self.new.room ≡ self.old.room }
-        ensures pushed { self.new.lists ≡ slice_set self.old.lists place (list_at self.old place ++ item ∷ []) }
+        ensures pushed { self.new.lists
+            ≡ slice_set self.old.lists place (list_at self.old place ++ item ∷ []) }
     {
         let queue = &mut self.queues[place];
         queue.push_back_reserved(item);
@@ -83,7 +84,8 @@ impl Queues {
         requires some { list_at self.old place ≢ [] }
         ensures room { self.new.room ≡ self.old.room }
         ensures first { list_at self.old place ≡ result ∷ drop 1 (list_at self.old place) }
-        ensures popped { self.new.lists ≡ slice_set self.old.lists place (drop 1 (list_at self.old place)) }
+        ensures popped { self.new.lists
+            ≡ slice_set self.old.lists place (drop 1 (list_at self.old place)) }
     {
         let queue = &mut self.queues[place];
         match queue.pop_front() {

@@ -50,7 +50,8 @@ pub(crate) fn look(rate: u32, state: &State, rest: &Slice) -> Look
     requires rate { 0 < rate }
     requires running { state.now.done ≡ false }
     requires some { rest.now.span.start < rest.now.span.stop }
-    ensures finds { (items : List OneItem) → Finds (counted (pace_gives rate)) state.now rest.now items result }
+    ensures finds { (items : List OneItem)
+        → Finds (counted (pace_gives rate)) state.now rest.now items result }
     ensures front { IsFrontOf rest.now result }
 {
     let span = front(rest, 100 * u64::from(rate));

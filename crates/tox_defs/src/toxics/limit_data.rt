@@ -49,7 +49,8 @@ pub(crate) fn op(bytes: u64) -> Op
 pub(crate) fn look(bytes: u64, state: &State, rest: &Slice) -> Look
     requires running { state.now.done ≡ false }
     requires some { rest.now.span.start < rest.now.span.stop }
-    ensures finds { (items : List OneItem) → Finds (counted (limit_gives bytes)) state.now rest.now items result }
+    ensures finds { (items : List OneItem)
+        → Finds (counted (limit_gives bytes)) state.now rest.now items result }
     ensures front { IsFrontOf rest.now result }
 {
     let room = bytes.saturating_sub(state.passed);

@@ -64,7 +64,8 @@ pub(crate) fn look(limit: Micros, rest: &Slice) -> Look
 
 /// The ending before the instant, and a reset from then on.
 pub(crate) fn map_ending(limit: Micros, ending: &Ending) -> Ending
-    ensures { (state : OneState) → cutoff_gives limit state (final_of ending.now) ≡ final_of result ∷ [] }
+    ensures { (state : OneState)
+        → cutoff_gives limit state (final_of ending.now) ≡ final_of result ∷ [] }
 {
     match ending {
         Ending::Closed(instant) | Ending::Reset(instant) if *instant < limit => *ending,

@@ -57,7 +57,8 @@ pub(crate) fn look(rest: &Slice) -> Look
 
 /// The ending, where a close comes `millis` later.
 pub(crate) fn map_ending(millis: u32, ending: &Ending) -> Ending
-    ensures { (state : OneState) → slow_gives (1000 * millis) state (final_of ending.now) ≡ final_of result ∷ [] }
+    ensures { (state : OneState)
+        → slow_gives (1000 * millis) state (final_of ending.now) ≡ final_of result ∷ [] }
 {
     match ending {
         Ending::StillOpen => Ending::StillOpen,
