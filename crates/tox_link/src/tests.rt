@@ -52,12 +52,7 @@ fn ask(rt: &impl Abort, core: &mut LinkCore<'_>, now: Micros) -> Act
 }
 
 /// Whether the core takes a piece.
-fn give(
-    rt: &impl Abort,
-    core: &mut LinkCore<'_>,
-    len: u64,
-    now: Micros,
-) -> Result<(), ArrivalFault>
+fn give(rt: &impl Abort, core: &mut LinkCore<'_>, len: u64, now: Micros) -> Result<(), ArrivalFault>
     ensures { core.new.ended ≡ core.old.ended }
 {
     assert!(rt; core.has_room());
@@ -81,12 +76,18 @@ fn latency_waits_writes_and_closes(rt: HostRuntime) -> Result<(), Fail> {
     assert_eq!(rt; core.latest(), at(0));
     assert_eq!(rt; give(&rt, &mut core, 2, at(0)), Ok(()));
     assert_eq!(rt; ask(&rt, &mut core, at(0)), Act::WaitUntil(at(1000)));
-    assert_eq!(rt; ask(&rt, &mut core, at(1000)), Act::Write(slice(0, 2, 1000)));
+    assert_eq!(rt;
+        ask(&rt, &mut core, at(1000)),
+        Act::Write(slice(0, 2, 1000))
+    );
     assert_eq!(rt; ask(&rt, &mut core, at(1000)), Act::WaitForInput);
     assert_eq!(rt; core.ending(), None);
     end(&rt, &mut core, at(1500));
     assert_eq!(rt; core.latest(), at(1500));
-    assert_eq!(rt; ask(&rt, &mut core, at(1500)), Act::End(Ending::Closed(at(1500))));
+    assert_eq!(rt;
+        ask(&rt, &mut core, at(1500)),
+        Act::End(Ending::Closed(at(1500)))
+    );
     assert_eq!(rt; core.ending(), Some(Ending::Closed(at(1500))));
     Ok(())
 }
@@ -98,11 +99,23 @@ fn a_reset_comes_at_its_deadline(rt: HostRuntime) -> Result<(), Fail> {
     push(&rt, &mut chain, "reset_peer:timeout=20");
     let mut core = LinkCore::new(rt.alloc(), compile(&chain, &words), &words)?;
     assert_eq!(rt; ask(&rt, &mut core, at(5)), Act::WaitUntil(at(20000)));
-    assert_eq!(rt; give(&rt, &mut core, 0, at(19999)), Err(ArrivalFault::EmptyPiece));
+    assert_eq!(rt;
+        give(&rt, &mut core, 0, at(19999)),
+        Err(ArrivalFault::EmptyPiece)
+    );
     assert_eq!(rt; give(&rt, &mut core, 1, at(19999)), Ok(()));
-    assert_eq!(rt; ask(&rt, &mut core, at(20000)), Act::Write(slice(0, 1, 19999)));
-    assert_eq!(rt; ask(&rt, &mut core, at(20000)), Act::End(Ending::Reset(at(20000))));
-    assert_eq!(rt; give(&rt, &mut core, 1, at(20001)), Err(ArrivalFault::AfterEnd));
+    assert_eq!(rt;
+        ask(&rt, &mut core, at(20000)),
+        Act::Write(slice(0, 1, 19999))
+    );
+    assert_eq!(rt;
+        ask(&rt, &mut core, at(20000)),
+        Act::End(Ending::Reset(at(20000)))
+    );
+    assert_eq!(rt;
+        give(&rt, &mut core, 1, at(20001)),
+        Err(ArrivalFault::AfterEnd)
+    );
     Ok(())
 }
 
