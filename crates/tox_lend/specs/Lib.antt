@@ -1,2 +1,4 @@
 pub mod Run
 pub mod Lent
+pub mod Window
+pub mod WindowInside

@@ -1,8 +1,12 @@
-//! Pieces of arrived bytes, and exact slices lent from them without a copy.
+//! Pieces of arrived bytes, exact slices lent from them without a copy, and windows of neighbouring pieces.
 #![tactic(auto)]
 
 mod lent;
 mod piece;
+#[cfg(test)]
+mod tests;
+mod window;
 
 pub use lent::Lent;
 pub use piece::Piece;
+pub use window::Window;

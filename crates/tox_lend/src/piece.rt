@@ -19,7 +19,8 @@ impl Model for Piece {
 }
 
 impl Piece {
-    ghost use Rattle.tox_lend.specs.Run.{LiesIn};
+    ghost use Rattle.std.specs.Prelude.{◌≡◌, nat_le};
+    ghost use Rattle.tox_lend.specs.Run.{LiesIn, stop_of};
     ghost use Rattle.tox_lend.specs.Lent.{IsExactSlice};
 
     /// The bytes at the positions of the span, as a slice that leaves at `instant`.
@@ -34,5 +35,12 @@ impl Piece {
             instant,
             bytes: &self.bytes[first..end],
         }
+    }
+
+    /// Whether its last byte is before this position.
+    pub(crate) fn ends_by(&self, position: u64) -> bool
+        ensures { result ≡ nat_le (stop_of self.now) position }
+    {
+        self.start <= position && self.bytes.len() as u64 <= position - self.start
     }
 }
