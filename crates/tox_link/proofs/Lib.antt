@@ -5,3 +5,4 @@ pub mod ActLemmas
 pub mod Sent
 pub mod Logs
 pub mod StepLemmas
+pub mod HeldLemmas

@@ -6,3 +6,4 @@ pub mod Messages
 pub mod Events
 pub mod Log
 pub mod Carried
+pub mod Held

@@ -13,6 +13,7 @@ mod steps;
 #[cfg(test)]
 mod tests;
 mod waiting;
+mod writing;
 
 pub use act::Act;
 pub use clock::Clock;
