@@ -1,6 +1,6 @@
 -- Bytes that are written from the pieces of a window, one part after the other.
-use Rattle.std.proofs.Common.{◌≡◌, ℕ, ◌+◌, ◌-◌, ◌<◌, ◌≤◌, Bool, true, false, cond, inl, inr, List, [], ◌∷◌, ◌++◌, length, length-drop, length-take-le, take, drop, Option, Some, None, refl, ap, ◌∙◌, sym, subst, append_assoc, append-nil, arith}
-use Rattle.std.specs.Prelude.{find, nat_lt, nat_le, ◌&&◌}
+use Rattle.std.proofs.Common.{◌≡◌, ℕ, ◌+◌, ◌-◌, ◌<◌, ◌≤◌, cond, inl, inr, List, [], ◌∷◌, ◌++◌, length, length-drop, length-take-le, take, drop, Option, Some, None, refl, ap, ◌∙◌, sym, subst, append_assoc, arith}
+use Rattle.std.specs.Prelude.{find, nat_lt, ◌&&◌}
 use Rattle.std.specs.Io.KnownBytes.{append_known}
 use Rattle.std.proofs.lemmas.Bool.{cases_lt, le-leb, lt-ltb, le-ltb}
 use Rattle.std.proofs.lemmas.List.{drop-take, drop-drop, take-take}

@@ -1,12 +1,12 @@
 -- A log that grows by one event.
-use Rattle.std.proofs.Common.{◌≡◌, ℕ, ◌+◌, ◌-◌, ◌<◌, ◌≤◌, ◌⊎◌, inl, inr, List, [], ◌∷◌, ◌++◌, length, take, Option, Some, None, replicate, refl, ap, sym, ◌∙◌, subst, append_assoc, append-nil, add_assoc, add-zero, length-append, arith}
+use Rattle.std.proofs.Common.{◌≡◌, ℕ, ◌+◌, ◌<◌, ◌≤◌, ◌⊎◌, inl, inr, List, [], ◌∷◌, ◌++◌, length, take, Option, Some, None, replicate, refl, ap, sym, ◌∙◌, subst, append_assoc, append-nil, add_assoc, add-zero, length-append, arith}
 use Rattle.std.proofs.lemmas.List.{take-append-le, take_all, length-replicate}
 use Rattle.std.proofs.lemmas.Bool.{cases_lt}
 use Rattle.tox_time.specs.declared.slice.Slice.{Slice}
 use Rattle.tox_time.specs.declared.item.Item.{Item}
 use Rattle.tox_time.specs.declared.item.Item.TheVariants.{Chunk, Closed, Reset, Quiet}
 use Rattle.tox_time.specs.Stream.{IsStreamFrom, span_len}
-use Rattle.tox_time.specs.Table.{table, slices_table}
+use Rattle.tox_time.specs.Table.{slices_table}
 use Rattle.tox_link.specs.declared.notes.LinkEvent.{LinkEvent}
 use Rattle.tox_link.specs.declared.notes.LinkEvent.TheVariants.{Piece, SourceEnd, Wrote}
 use Rattle.tox_link.specs.Events.{with_events}

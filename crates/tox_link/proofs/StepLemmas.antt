@@ -1,13 +1,12 @@
 -- The steps of a link that is carried.
-use Rattle.std.proofs.Common.{◌≡◌, ℕ, ◌+◌, ◌-◌, ◌<◌, ◌≤◌, ◌⊎◌, inl, inr, List, [], ◌∷◌, ◌++◌, length, take, replicate, Option, Some, None, refl, ap, sym, ◌∙◌, subst, append_assoc, append-nil, zero-add, arith}
+use Rattle.std.proofs.Common.{◌≡◌, ℕ, ◌+◌, ◌<◌, ◌≤◌, inl, inr, List, [], ◌∷◌, ◌++◌, replicate, refl, ap, sym, ◌∙◌, subst, append_assoc, append-nil, zero-add, arith}
 use Rattle.std.proofs.Math.Seq.{take-nil}
 use Rattle.tox_time.specs.declared.slice.Slice.{Slice}
 use Rattle.tox_time.specs.declared.item.Item.{Item}
-use Rattle.tox_time.specs.declared.item.Item.TheVariants.{Chunk, Closed, Reset, Quiet}
-use Rattle.tox_time.specs.declared.ending.Ending.{Ending}
+use Rattle.tox_time.specs.declared.item.Item.TheVariants.{Chunk, Closed, Quiet}
 use Rattle.tox_time.specs.Stream.{IsStream, IsStreamFrom, span_len}
 use Rattle.tox_time.specs.Time.{IsInstant}
-use Rattle.tox_time.specs.Table.{table, slices_table, ending, final_of, SameResult}
+use Rattle.tox_time.specs.Table.{table, slices_table, ending}
 use Rattle.tox_plan.proofs.Deliveries.{slices_table-append}
 use Rattle.tox_link.specs.declared.act.Act.{Act}
 use Rattle.tox_link.specs.declared.act.Act.TheVariants.{Write, WaitUntil, WaitForInput, End}
@@ -15,8 +14,8 @@ use Rattle.tox_link.specs.declared.notes.LinkEvent.{LinkEvent}
 use Rattle.tox_link.specs.declared.notes.LinkEvent.TheVariants.{Piece, SourceEnd, Wrote}
 use Rattle.tox_link.specs.Core.{CoreView, TakesSlice, LeavesOutput, remaining_output, core_position}
 use Rattle.tox_link.specs.Acts.{After}
-use Rattle.tox_link.specs.Log.{heard, heard_from, said, heard_bytes, reading_of, IsDue, Agrees, IsFaithful, IsGapless}
-use Rattle.tox_link.specs.Carried.{Carried, KeepsCarried, IsBy, noted_of}
+use Rattle.tox_link.specs.Log.{heard_from, said, heard_bytes, Agrees, IsGapless}
+use Rattle.tox_link.specs.Carried.{Carried, KeepsCarried, noted_of}
 use Rattle.tox_link.proofs.Logs.{stream-earlier, heard-piece, heard-end, heard-wrote, said-append, heard_bytes-append, gapless-append, by-later, by-append, faithful-append}
 
 -- what stands now agrees with the plan

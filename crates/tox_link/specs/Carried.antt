@@ -1,16 +1,14 @@
 -- A link that is carried: its log beside its core.
 use Rattle.std.specs.Prelude.{◌≡◌, ℕ, ◌≤◌, ◌⊎◌, List, [], ◌∷◌, ◌++◌}
 use Rattle.tox_time.specs.declared.item.Item.{Item}
-use Rattle.tox_time.specs.declared.ending.Ending.{Ending}
-use Rattle.tox_time.specs.declared.ending.Ending.TheVariants.{StillOpen, Closed as ClosedAt, Reset as ResetAt}
 use Rattle.tox_time.specs.Stream.{IsStream, IsStreamFrom}
-use Rattle.tox_time.specs.Table.{SameResult, table, slices_table, ending}
+use Rattle.tox_time.specs.Table.{table, slices_table, ending}
 use Rattle.tox_link.specs.declared.act.Act.{Act}
 use Rattle.tox_link.specs.declared.act.Act.TheVariants.{Write, WaitUntil, WaitForInput, End}
 use Rattle.tox_link.specs.declared.notes.LinkEvent.{LinkEvent}
 use Rattle.tox_link.specs.declared.notes.LinkEvent.TheVariants.{Wrote}
 use Rattle.tox_link.specs.Core.{CoreView, remaining_output, core_position}
-use Rattle.tox_link.specs.Log.{heard, heard_from, heard_bytes, said, reading_of, IsFaithful, IsGapless}
+use Rattle.tox_link.specs.Log.{heard_from, heard_bytes, said, reading_of, IsFaithful, IsGapless}
 
 -- no reading is above this one
 abbrev pub IsBy : ℕ → List LinkEvent → Type 0

@@ -127,7 +127,8 @@ pub struct ReadingOf<S> {
 }
 
 impl<S: Source> Promise<Reading<S>> for ReadingOf<S> {
-    ghost kept_by = { λ promise reading. SameProducer promise.sender.value reading.sender × ReadsFrom (S.remaining promise.reader.value) promise.reads (sent reading.sender) reading.end (S.remaining reading.reader) (S.failed reading.reader) };
+    ghost kept_by = { λ promise reading. SameProducer promise.sender.value reading.sender
+        × ReadsFrom (S.remaining promise.reader.value) promise.reads (sent reading.sender) reading.end (S.remaining reading.reader) (S.failed reading.reader) };
 }
 
 /// The reader's thread.
@@ -149,7 +150,8 @@ pub fn start_reader<
 ) -> Option<ReaderThread<S>>
     requires working { S.failed reader ≡ false }
     requires fresh { sent sender ≡ [] }
-    ensures { IfSome result (λ thread. (thread.promise.reader.value ≡ reader) × (thread.promise.sender.value ≡ sender) × (thread.promise.reads ≡ reads)) }
+    ensures { IfSome result (λ thread. (thread.promise.reader.value ≡ reader)
+        × (thread.promise.sender.value ≡ sender) × (thread.promise.reads ≡ reads)) }
 {
     let promise = ReadingOf {
         reader: Snapshot::of(&reader),
@@ -162,7 +164,8 @@ pub fn start_reader<
         promise,
         move || -> Reading<S>
             requires { (S.failed reader ≡ false) × (sent sender ≡ []) }
-            ensures { SameProducer sender result.sender × ReadsFrom (S.remaining reader) reads (sent result.sender) result.end (S.remaining result.reader) (S.failed result.reader) }
+            ensures { SameProducer sender result.sender
+                × ReadsFrom (S.remaining reader) reads (sent result.sender) result.end (S.remaining result.reader) (S.failed result.reader) }
         { read_all(&rt_there, alloc, reader, sender, reads, &parkers, &*gate) },
     )
     .ok()
@@ -176,7 +179,8 @@ pub fn join_reader<R: Threads, S: Source + Drop>(
 ) -> (S, ReadEnd)
     requires pair { IsPair thread.promise.sender.value receiver.old }
     ensures received { received receiver.new ≡ received receiver.old }
-    ensures sent { (left : List OneMessage) × ReadsFrom (S.remaining thread.promise.reader.value) thread.promise.reads (received receiver.new ++ left) result.1 (S.remaining result.0) (S.failed result.0) }
+    ensures sent { (left : List OneMessage)
+        × ReadsFrom (S.remaining thread.promise.reader.value) thread.promise.reads (received receiver.new ++ left) result.1 (S.remaining result.0) (S.failed result.0) }
 {
     let Reading {
         reader,

@@ -1,4 +1,4 @@
-//! The steps of a link: a piece, the source's end and a reading of the clock reach its core and its notes.
+//! The steps of a link: a piece, the source's end or a reading of the clock reaches the core.
 ghost use Rattle.std.specs.Prelude.{◌≡◌, ◌+◌, ◌<◌, ◌≤◌, ◌^◌, ◌⊎◌, List, false, true, None, IsSome, OnOk, OnErr};
 ghost use Rattle.tox_link.specs.Events.{with_events};
 ghost use Rattle.tox_link.specs.Core.{core_ending, core_position, kept_count, KeepsCore};
@@ -24,8 +24,11 @@ pub(crate) fn take_piece<C: Clock, N: Notes>(
     requires read { (core.old.latest ≡ 0) ⊎ C.told clock.now core.old.latest }
     requires goes_on { (core.old.ended ≡ false) × (core_ending core.old ≡ None) }
     requires fits { (0 < len) × (core.old.bytes + len ≤ 2 ^ 40) }
-    ensures counts { (core.new.bytes ≡ core.old.bytes + len) × (core.new.ended ≡ false) × (core_position core.new ≡ core_position core.old) }
-    ensures carried { OnOk result ((more : List OneEvent) × (N.events notes.new ≡ with_events (N.events notes.old) more) × KeepsCarried (C.told clock.now) core.old more core.new) }
+    ensures counts { (core.new.bytes ≡ core.old.bytes + len) × (core.new.ended ≡ false)
+        × (core_position core.new ≡ core_position core.old) }
+    ensures carried { OnOk result ((more : List OneEvent)
+        × (N.events notes.new ≡ with_events (N.events notes.old) more)
+        × KeepsCarried (C.told clock.now) core.old more core.new) }
     ensures err { OnErr result (N.events notes.new ≡ N.events notes.old) }
 {
     let now = reading(clock, core.latest());
@@ -44,8 +47,11 @@ pub(crate) fn take_end<C: Clock, N: Notes>(
 ) -> Result<(), AllocError>
     requires first { core.old.ended ≡ false }
     requires read { (core.old.latest ≡ 0) ⊎ C.told clock.now core.old.latest }
-    ensures counts { (core.new.bytes ≡ core.old.bytes) × (core.new.ended ≡ true) × (core_position core.new ≡ core_position core.old) }
-    ensures carried { OnOk result ((more : List OneEvent) × (N.events notes.new ≡ with_events (N.events notes.old) more) × KeepsCarried (C.told clock.now) core.old more core.new) }
+    ensures counts { (core.new.bytes ≡ core.old.bytes) × (core.new.ended ≡ true)
+        × (core_position core.new ≡ core_position core.old) }
+    ensures carried { OnOk result ((more : List OneEvent)
+        × (N.events notes.new ≡ with_events (N.events notes.old) more)
+        × KeepsCarried (C.told clock.now) core.old more core.new) }
     ensures err { OnErr result (N.events notes.new ≡ N.events notes.old) }
 {
     let now = reading(clock, core.latest());

@@ -7,11 +7,14 @@ ghost use Rattle.tox_link.specs.Held.{AreOf, HoldsSpan};
 use tox_lend::Window;
 use tox_time::{Micros, Sink, Slice, Span};
 
-/// Writes all bytes, or returns how many were written before a fault. A write that takes nothing is a fault.
+/// Writes all bytes, or returns how many were written before a fault.
+/// A write that takes nothing is a fault.
 fn write_all<W: Sink>(writer: &mut W, bytes: &[u8]) -> Result<(), usize>
     requires { W.failed writer.old ≡ false }
-    ensures ok { OnOk result ((W.written writer.new ≡ append_known (W.written writer.old) bytes.now) × (W.failed writer.new ≡ false)) }
-    ensures err { IfErr result (λ n. (n ≤ length bytes.now) × (W.written writer.new ≡ append_known (W.written writer.old) (take n bytes.now))) }
+    ensures ok { OnOk result ((W.written writer.new
+        ≡ append_known (W.written writer.old) bytes.now) × (W.failed writer.new ≡ false)) }
+    ensures err { IfErr result (λ n. (n ≤ length bytes.now)
+        × (W.written writer.new ≡ append_known (W.written writer.old) (take n bytes.now))) }
 {
     let mut done = 0;
     while done < bytes.len() {
@@ -23,13 +26,14 @@ fn write_all<W: Sink>(writer: &mut W, bytes: &[u8]) -> Result<(), usize>
     Ok(())
 }
 
-/// The bytes of a span from its start to its stop or to the end of the first piece that holds them: at least one.
+/// The first bytes of a span, as far as one piece holds them: at least one.
 fn front_of<'a>(window: &'a Window, span: &Span, instant: Micros) -> &'a [u8]
     requires held { HoldsSpan window.now span.now }
     requires some { span.now.start < span.now.stop }
     ensures some { 0 < length result.now }
     ensures few { span.now.start + length result.now ≤ span.now.stop }
-    ensures bytes { (heard : List ℕ) → AreOf heard window.now.held → result.now ≡ take (length result.now) (drop span.now.start heard) }
+    ensures bytes { (heard : List ℕ) → AreOf heard window.now.held
+        → result.now ≡ take (length result.now) (drop span.now.start heard) }
 {
     let Some(piece) = window.piece(span.start) else {
         unreachable!()
@@ -52,10 +56,14 @@ pub(crate) fn write_slice<W: Sink>(
 ) -> Result<(), u64>
     requires working { W.failed writer.old ≡ false }
     requires held { HoldsSpan window.now slice.now.span }
-    ensures ok { OnOk result ((base : Option (List ℕ)) (heard : List ℕ) → AreOf heard window.now.held → W.written writer.old ≡ append_known base (take slice.now.span.start heard)
+    ensures ok { OnOk result ((base : Option (List ℕ)) (heard : List ℕ)
+        → AreOf heard window.now.held → W.written writer.old
+        ≡ append_known base (take slice.now.span.start heard)
         → W.written writer.new ≡ append_known base (take slice.now.span.stop heard)) }
     ensures working { OnOk result (W.failed writer.new ≡ false) }
-    ensures err { IfErr result (λ n. (base : Option (List ℕ)) (heard : List ℕ) → AreOf heard window.now.held → W.written writer.old ≡ append_known base (take slice.now.span.start heard)
+    ensures err { IfErr result (λ n. (base : Option (List ℕ)) (heard : List ℕ)
+        → AreOf heard window.now.held → W.written writer.old
+        ≡ append_known base (take slice.now.span.start heard)
         → W.written writer.new ≡ append_known base (take (slice.now.span.start + n) heard)) }
     ensures few { IfErr result (λ n. n ≤ span_len slice.now.span) }
 {

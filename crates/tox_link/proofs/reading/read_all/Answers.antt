@@ -1,5 +1,4 @@
 -- The end comes behind the pieces.
-use Rattle.std.proofs.Common.{sym}
 use Rattle.rtrb.specs.Ring.{sent}
 use Rattle.tox_link.proofs.Sent.{sent_end}
 use Rattle.tox_link.proofs.reading.read_all.Goals as goal

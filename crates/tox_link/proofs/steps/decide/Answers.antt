@@ -1,5 +1,5 @@
 -- An answer is one step of the link.
-use Rattle.std.proofs.Common.{◌≡◌, ◌≤◌, arith}
+use Rattle.std.proofs.Common.{arith}
 use Rattle.tox_link.proofs.StepLemmas.{act-carried}
 use Rattle.tox_link.proofs.steps.decide.Goals as goal
 

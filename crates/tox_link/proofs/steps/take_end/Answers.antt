@@ -1,8 +1,6 @@
 -- The source's end is one more event, or none where the ending is known.
-use Rattle.std.proofs.Common.{◌≡◌, ◌≤◌, [], ◌∷◌, List, sym, ◌∙◌, arith}
-use Rattle.tox_time.specs.declared.item.Item.{Item}
+use Rattle.std.proofs.Common.{[], ◌∷◌, sym, ◌∙◌, arith}
 use Rattle.tox_time.specs.declared.item.Item.TheVariants.{Closed}
-use Rattle.tox_link.specs.Core.{remaining_output}
 use Rattle.tox_link.specs.declared.notes.LinkEvent.TheVariants.{SourceEnd}
 use Rattle.tox_link.proofs.Logs.{events-none}
 use Rattle.tox_link.proofs.Looks.{same-of}

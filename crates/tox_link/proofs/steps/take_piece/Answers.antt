@@ -1,5 +1,5 @@
 -- A piece is one more event.
-use Rattle.std.proofs.Common.{◌≡◌, ◌≤◌, ◌<◌, [], ◌∷◌, ap, arith}
+use Rattle.std.proofs.Common.{[], ◌∷◌, ap, arith}
 use Rattle.tox_link.specs.Core.{CoreView, core_position}
 use Rattle.tox_link.specs.declared.notes.LinkEvent.TheVariants.{Piece}
 use Rattle.tox_link.proofs.StepLemmas.{piece-carried}

@@ -1,7 +1,7 @@
 -- The piece at the span's start has its bytes.
-use Rattle.std.proofs.Common.{◌≡◌, ◌+◌, ◌-◌, ◌<◌, ◌≤◌, length, take, drop, ap, sym, ◌∙◌, arith, rules}
-use Rattle.tox_lend.specs.Run.{Run, stop_of}
-use Rattle.tox_link.proofs.HeldLemmas.{Holds, IsFront, found-holds, never-none, front-part}
+use Rattle.std.proofs.Common.{length, ap, arith}
+use Rattle.tox_lend.specs.Run.{Run}
+use Rattle.tox_link.proofs.HeldLemmas.{IsFront, found-holds, never-none, front-part}
 use Rattle.tox_link.proofs.writing.front_of.Goals as goal
 
 pub unreachable-requires : goal.unreachable-requires

@@ -1,5 +1,5 @@
 -- A write appends the next bytes.
-use Rattle.std.proofs.Common.{rules, ◌≡◌, ◌-◌, ◌<◌, length, take, drop, length-drop, false, arith}
+use Rattle.std.proofs.Common.{rules, ◌≡◌, ◌-◌, length, take, drop, length-drop, arith}
 use Rattle.std.proofs.lemmas.List.{take_all}
 use Rattle.tox_link.proofs.HeldLemmas.{written_more}
 use Rattle.tox_link.proofs.writing.write_all.Goals as goal
