@@ -1,25 +1,18 @@
 -- What a link core answers, by what is left.
-use Rattle.std.proofs.Common.{◌≡◌, ℕ, zero, suc, ◌+◌, ◌<◌, ◌≤◌, Bool, true, false, List, [], ◌∷◌, ◌++◌, length, append_assoc, replicate, Option, Some, None, refl, ap, ◌∙◌, sym, subst, arith, if◌then◌else◌}
-use Rattle.std.specs.Prelude.{IsSome, IfSome, nat_le, slice_get}
-use Rattle.std.proofs.lemmas.Bool.{leb-true, leb-false}
-use Rattle.tox_time.specs.declared.slice.Slice.{Slice}
+use Rattle.std.proofs.Common.{◌≡◌, ℕ, ◌<◌, ◌≤◌, true, List, [], ◌∷◌, ◌++◌, length, append_assoc, Some, None, refl, ap, ◌∙◌, sym, subst, arith, if◌then◌else◌}
+use Rattle.std.specs.Prelude.{IsSome, slice_get}
 use Rattle.tox_time.specs.declared.item.Item.{Item}
 use Rattle.tox_time.specs.declared.item.Item.TheVariants.{Chunk, Closed, Reset, Quiet}
 use Rattle.tox_time.specs.declared.ending.Ending.{Ending}
-use Rattle.tox_time.specs.declared.ending.Ending.TheVariants.{StillOpen, Closed as ClosedAt, Reset as ResetAt}
-use Rattle.tox_time.specs.Stream.{IsStreamFrom, span_len}
-use Rattle.tox_time.specs.Table.{SameResult, final_of, table, ending}
+use Rattle.tox_time.specs.Stream.{IsStreamFrom}
+use Rattle.tox_time.specs.Table.{final_of, table}
 use Rattle.tox_compile.specs.Meaning.{deadline_of}
 use Rattle.tox_plan.specs.Levels.{ops_of}
-use Rattle.tox_plan.specs.RunnerView.{RunnerView, HasNoChunk, to_come, found_chunk, known_ending}
+use Rattle.tox_plan.specs.RunnerView.{HasNoChunk, to_come, found_chunk, known_ending}
 use Rattle.tox_plan.proofs.RunnerLemmas.{final-no_chunk}
-use Rattle.tox_link.specs.declared.act.Act.{Act}
-use Rattle.tox_link.specs.declared.act.Act.TheVariants.{Write, WaitUntil, WaitForInput, End}
 use Rattle.tox_link.specs.declared.waiting.WaitingPiece.{WaitingPiece}
-use Rattle.tox_link.specs.Core.{CoreView, TakesSlice, LeavesOutput, KeepsCore, Looked, IsEmptied, Settled, remaining_output, arrivals_from, end_or, next_instant, core_ending, ending_behind, core_deadline, core_position, start_of, kept_count}
-use Rattle.tox_link.specs.CoreKept.{IsCore, IsFoundSlice}
-use Rattle.tox_link.specs.Acts.{After, Answered, IsSliceAct, idle_act, end_act, wait_act}
-use Rattle.tox_link.proofs.Looks.{same-refl, same-of, same-both}
+use Rattle.tox_link.specs.Core.{CoreView, KeepsCore, Looked, IsEmptied, Settled, remaining_output, arrivals_from, end_or, next_instant, core_ending, ending_behind, core_deadline}
+use Rattle.tox_link.proofs.Looks.{same-of}
 
 no_chunk-table : (items : List Item) → HasNoChunk items → table items ≡ []
 no_chunk-table [] none = refl

@@ -1,9 +1,8 @@
 -- A link core before and after a piece or the source's end.
-use Rattle.std.proofs.Common.{◌≡◌, ℕ, ◌+◌, ◌<◌, ◌≤◌, ◌^◌, Bool, true, false, List, [], ◌∷◌, ◌++◌, length, length-append, Option, Some, None, refl, ap, ◌∙◌, sym, subst, arith, ◌⊎◌, inl, inr}
-use Rattle.std.specs.Prelude.{is_some, IsSome, IfSome}
+use Rattle.std.proofs.Common.{◌≡◌, ℕ, ◌+◌, ◌<◌, ◌≤◌, ◌^◌, true, false, List, [], ◌∷◌, ◌++◌, length-append, Option, Some, None, refl, ap, ◌∙◌, sym, subst, arith, ◌⊎◌, inl, inr}
+use Rattle.std.specs.Prelude.{IsSome, IfSome}
 use Rattle.tox_time.specs.declared.slice.Slice.{Slice}
 use Rattle.tox_time.specs.declared.item.Item.{Item}
-use Rattle.tox_time.specs.declared.ending.Ending.{Ending}
 use Rattle.tox_plan.specs.RunnerView.{RunnerView, to_come, found_chunk}
 use Rattle.tox_link.specs.declared.waiting.WaitingPiece.{WaitingPiece}
 use Rattle.tox_link.specs.Core.{CoreView, kept_count, remaining_output, arrivals_from, end_or}

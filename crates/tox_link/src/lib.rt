@@ -2,10 +2,22 @@
 #![tactic(auto)]
 
 mod act;
+mod clock;
+mod hangup;
 mod link_core;
+mod message;
+mod notes;
+mod parking;
+mod reading;
+mod steps;
 #[cfg(test)]
 mod tests;
 mod waiting;
+mod writing;
 
 pub use act::Act;
+pub use clock::Clock;
+pub use hangup::{Ends, Hangup};
 pub use link_core::LinkCore;
+pub use message::ReadEnd;
+pub use notes::{LinkEvent, Notes};

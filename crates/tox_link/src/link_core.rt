@@ -55,9 +55,13 @@ impl<'w> Model for LinkCore<'w> {
 impl<'w> LinkCore<'w> {
     /// A core of the plan. Nothing has arrived yet, and its last instant is 0.
     pub fn new(alloc: Global, plan: Plan, words: &'w Words) -> Result<LinkCore<'w>, AllocError>
-        ensures meaning { IfOk result (λ core. (items : List OneItem) → IsStream items → remaining_output core items ≡ means plan words.now items) }
-        ensures start { IfOk result (λ core. (core.waiting ≡ []) × (core.runner.idle ≡ true) × (core.ended ≡ false) × (core.bytes ≡ 0) × (core.latest ≡ 0) × (core_position core ≡ 0)) }
-        ensures plan { IfOk result (λ core. (ops_of core.runner.levels ≡ plan.ops) × (core.runner.words ≡ words.now)) }
+        ensures meaning { IfOk result (λ core. (items : List OneItem) → IsStream items
+            → remaining_output core items ≡ means plan words.now items) }
+        ensures start { IfOk result (λ core. (core.waiting ≡ []) × (core.runner.idle ≡ true)
+            × (core.ended ≡ false) × (core.bytes ≡ 0) × (core.latest ≡ 0)
+            × (core_position core ≡ 0)) }
+        ensures plan { IfOk result (λ core. (ops_of core.runner.levels ≡ plan.ops)
+            × (core.runner.words ≡ words.now)) }
     {
         let waiting = VecDeque::with_capacity(alloc, MAX_PIECES)?;
         let deadline = plan.deadline();
@@ -90,7 +94,8 @@ impl<'w> LinkCore<'w> {
     /// The link's ending, once it is known and no piece is kept. Nothing else is then to come.
     pub fn ending(&self) -> Option<Ending>
         ensures value { result ≡ core_ending self.now }
-        ensures only { IfSome result (λ last. (items : List OneItem) → remaining_output self.now items ≡ final_of last ∷ []) }
+        ensures only { IfSome result (λ last. (items : List OneItem)
+            → remaining_output self.now items ≡ final_of last ∷ []) }
     {
         if self.waiting.is_empty() {
             self.runner.ending()
@@ -106,9 +111,13 @@ impl<'w> LinkCore<'w> {
     pub fn on_piece(&mut self, len: u64, instant: Micros) -> Result<(), ArrivalFault>
         requires room { kept_count self.old < 1024 }
         requires later { self.old.latest ≤ instant }
-        ensures answer { result ≡ answer_of (piece_fault self.old.bytes self.old.latest (self.old.ended || is_some (core_ending self.old)) len instant) }
-        ensures taken { OnOk result (self.new ≡ record self.old { waiting = self.old.waiting ++ record { len = len; instant = instant } ∷ []; bytes = self.old.bytes + len; latest = instant }) }
-        ensures output { OnOk result ((items : List OneItem) → remaining_output self.new items ≡ remaining_output self.old (Chunk (record { start = self.old.bytes; stop = self.old.bytes + len }) instant ∷ items)) }
+        ensures answer { result
+            ≡ answer_of (piece_fault self.old.bytes self.old.latest (self.old.ended || is_some (core_ending self.old)) len instant) }
+        ensures taken { OnOk result (self.new
+            ≡ record self.old { waiting = self.old.waiting ++ record { len = len; instant = instant } ∷ []; bytes = self.old.bytes + len; latest = instant }) }
+        ensures output { OnOk result ((items : List OneItem)
+            → remaining_output self.new items
+            ≡ remaining_output self.old (Chunk (record { start = self.old.bytes; stop = self.old.bytes + len }) instant ∷ items)) }
         ensures err { OnErr result (self.new ≡ self.old) }
     {
         if len == 0 {
@@ -131,9 +140,12 @@ impl<'w> LinkCore<'w> {
     pub fn on_end(&mut self, end: Micros)
         requires first { self.old.ended ≡ false }
         requires later { self.old.latest ≤ end }
-        ensures output { (items : List OneItem) → remaining_output self.new items ≡ remaining_output self.old (Closed end ∷ []) }
+        ensures output { (items : List OneItem)
+            → remaining_output self.new items ≡ remaining_output self.old (Closed end ∷ []) }
         ensures ended { (self.new.ended ≡ true) × (self.new.latest ≡ end) }
-        ensures kept { (KeepsCore (record self.old { ended = true }) self.new) × (self.new.waiting ≡ self.old.waiting) × (core_position self.new ≡ core_position self.old) }
+        ensures kept { (KeepsCore (record self.old { ended = true }) self.new)
+            × (self.new.waiting ≡ self.old.waiting)
+            × (core_position self.new ≡ core_position self.old) }
         ensures at_once { kept_count self.old ≡ 0 → IsSome (core_ending self.new) }
     {
         self.ended = true;
@@ -148,12 +160,16 @@ impl<'w> LinkCore<'w> {
     /// What to do at `now`. Drops the pieces that bring no further slice.
     pub fn on_clock(&mut self, now: Micros) -> Act
         requires { self.old.latest ≤ now }
-        ensures slice { (t : ℕ) → next_instant (remaining_output self.old (Quiet ∷ [])) ≡ Some t → IsSliceAct t now result }
+        ensures slice { (t : ℕ) → next_instant (remaining_output self.old (Quiet ∷ [])) ≡ Some t
+            → IsSliceAct t now result }
         ensures idle { next_instant (remaining_output self.old (Quiet ∷ [])) ≡ None
             → result ≡ idle_act self.old.ended now (core_deadline self.old) (core_ending self.new) }
-        ensures ended { next_instant (remaining_output self.old (Quiet ∷ [])) ≡ None → self.old.ended ≡ true → IsSome (core_ending self.new) }
-        ensures dropped { next_instant (remaining_output self.old (Quiet ∷ [])) ≡ None → kept_count self.new ≡ 0 }
-        ensures deadline { (d : ℕ) → next_instant (remaining_output self.old (Quiet ∷ [])) ≡ None → core_deadline self.old ≡ Some d → d ≤ now
+        ensures ended { next_instant (remaining_output self.old (Quiet ∷ [])) ≡ None
+            → self.old.ended ≡ true → IsSome (core_ending self.new) }
+        ensures dropped { next_instant (remaining_output self.old (Quiet ∷ [])) ≡ None
+            → kept_count self.new ≡ 0 }
+        ensures deadline { (d : ℕ) → next_instant (remaining_output self.old (Quiet ∷ [])) ≡ None
+            → core_deadline self.old ≡ Some d → d ≤ now
             → IsSome (core_ending self.new) }
         ensures output { After self.old now result self.new }
         ensures kept { KeepsCore self.old self.new }
@@ -184,7 +200,8 @@ impl<'w> LinkCore<'w> {
     fn look(&mut self)
         ensures looked { Looked self.old self.new }
         ensures emptied { self.new.found ≡ None → IsEmptied self.new }
-        ensures known { (last : _) → core_ending self.old ≡ Some last → core_ending self.new ≡ Some last }
+        ensures known { (last : _) → core_ending self.old ≡ Some last
+            → core_ending self.new ≡ Some last }
     {
         if self.found.is_some() {
             return;
@@ -202,7 +219,8 @@ impl<'w> LinkCore<'w> {
         requires { self.old.found ≡ None }
         ensures looked { Looked self.old self.new }
         ensures drained { self.new.found ≡ None → IsDrained self.new }
-        ensures known { (last : _) → core_ending self.old ≡ Some last → core_ending self.new ≡ Some last }
+        ensures known { (last : _) → core_ending self.old ≡ Some last
+            → core_ending self.new ≡ Some last }
     {
         if self.runner.is_idle() {
             return;
@@ -233,7 +251,8 @@ impl<'w> LinkCore<'w> {
     fn act_without_slice(&mut self, now: Micros) -> Act
         requires emptied { IsEmptied self.old }
         requires latest { self.old.latest ≡ now }
-        ensures act { result ≡ idle_act self.old.ended now (core_deadline self.old) (core_ending self.new) }
+        ensures act { result
+            ≡ idle_act self.old.ended now (core_deadline self.old) (core_ending self.new) }
         ensures settled { Settled self.old self.new now }
         ensures none { next_instant (remaining_output self.old (Quiet ∷ [])) ≡ None }
     {

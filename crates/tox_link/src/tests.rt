@@ -1,5 +1,5 @@
 //! A link core call by call, and beside `deliver` on schedules drawn at random.
-ghost use Rattle.std.specs.Prelude.{◌<◌};
+ghost use Rattle.std.specs.Prelude.{◌≡◌, ◌<◌, false};
 
 use crate::{Act, LinkCore};
 use rand_pcg::Lcg64Xsh32;
@@ -43,22 +43,51 @@ fn push(rt: &impl Abort, chain: &mut Chain, text: &str) {
     assert!(rt; chain.push(toxic, toxicity).is_ok());
 }
 
+/// What the core answers at an instant.
+fn ask(rt: &impl Abort, core: &mut LinkCore<'_>, now: Micros) -> Act
+    ensures { core.new.ended ≡ core.old.ended }
+{
+    assert!(rt; core.latest() <= now);
+    core.on_clock(now)
+}
+
+/// Whether the core takes a piece.
+fn give(rt: &impl Abort, core: &mut LinkCore<'_>, len: u64, now: Micros) -> Result<(), ArrivalFault>
+    ensures { core.new.ended ≡ core.old.ended }
+{
+    assert!(rt; core.has_room());
+    assert!(rt; core.latest() <= now);
+    core.on_piece(len, now)
+}
+
+fn end(rt: &impl Abort, core: &mut LinkCore<'_>, now: Micros)
+    requires { core.old.ended ≡ false }
+{
+    assert!(rt; core.latest() <= now);
+    core.on_end(now);
+}
+
 #[test]
 fn latency_waits_writes_and_closes(rt: HostRuntime) -> Result<(), Fail> {
     let words = Words::from_list(rt.alloc(), &[0])?;
     let mut chain = Chain::new();
     push(&rt, &mut chain, "latency:latency=1");
     let mut core = LinkCore::new(rt.alloc(), compile(&chain, &words), &words)?;
-    assert!(rt; core.has_room());
-    assert_eq!(rt; core.on_piece(2, at(0)), Ok(()));
-    assert_eq!(rt; core.on_clock(at(0)), Act::WaitUntil(at(1000)));
-    assert!(rt; core.latest() <= at(1000));
-    assert_eq!(rt; core.on_clock(at(1000)), Act::Write(slice(0, 2, 1000)));
-    assert_eq!(rt; core.on_clock(at(1000)), Act::WaitForInput);
+    assert_eq!(rt; core.latest(), at(0));
+    assert_eq!(rt; give(&rt, &mut core, 2, at(0)), Ok(()));
+    assert_eq!(rt; ask(&rt, &mut core, at(0)), Act::WaitUntil(at(1000)));
+    assert_eq!(rt;
+        ask(&rt, &mut core, at(1000)),
+        Act::Write(slice(0, 2, 1000))
+    );
+    assert_eq!(rt; ask(&rt, &mut core, at(1000)), Act::WaitForInput);
     assert_eq!(rt; core.ending(), None);
-    core.on_end(at(1500));
+    end(&rt, &mut core, at(1500));
     assert_eq!(rt; core.latest(), at(1500));
-    assert_eq!(rt; core.on_clock(at(1500)), Act::End(Ending::Closed(at(1500))));
+    assert_eq!(rt;
+        ask(&rt, &mut core, at(1500)),
+        Act::End(Ending::Closed(at(1500)))
+    );
     assert_eq!(rt; core.ending(), Some(Ending::Closed(at(1500))));
     Ok(())
 }
@@ -69,15 +98,24 @@ fn a_reset_comes_at_its_deadline(rt: HostRuntime) -> Result<(), Fail> {
     let mut chain = Chain::new();
     push(&rt, &mut chain, "reset_peer:timeout=20");
     let mut core = LinkCore::new(rt.alloc(), compile(&chain, &words), &words)?;
-    assert_eq!(rt; core.on_clock(at(5)), Act::WaitUntil(at(20000)));
-    assert_eq!(rt; core.on_piece(0, at(19999)), Err(ArrivalFault::EmptyPiece));
-    assert_eq!(rt; core.on_piece(1, at(19999)), Ok(()));
-    assert_eq!(rt; core.on_clock(at(20000)), Act::Write(slice(0, 1, 19999)));
+    assert_eq!(rt; ask(&rt, &mut core, at(5)), Act::WaitUntil(at(20000)));
     assert_eq!(rt;
-        core.on_clock(at(20000)),
+        give(&rt, &mut core, 0, at(19999)),
+        Err(ArrivalFault::EmptyPiece)
+    );
+    assert_eq!(rt; give(&rt, &mut core, 1, at(19999)), Ok(()));
+    assert_eq!(rt;
+        ask(&rt, &mut core, at(20000)),
+        Act::Write(slice(0, 1, 19999))
+    );
+    assert_eq!(rt;
+        ask(&rt, &mut core, at(20000)),
         Act::End(Ending::Reset(at(20000)))
     );
-    assert_eq!(rt; core.on_piece(1, at(20001)), Err(ArrivalFault::AfterEnd));
+    assert_eq!(rt;
+        give(&rt, &mut core, 1, at(20001)),
+        Err(ArrivalFault::AfterEnd)
+    );
     Ok(())
 }
 
@@ -113,15 +151,21 @@ struct Run<'w> {
     arrivals: Arrivals,
     slices: SliceList,
     ended: bool,
+    ghost same: { ended ≡ core.ended },
 }
 
 impl<'w> Run<'w> {
     /// One drawn event at `now`: a piece, the source's end, or nothing.
-    fn hear(&mut self, generator: &mut Lcg64Xsh32, now: Micros) -> Result<(), Fail> {
+    fn hear(
+        &mut self,
+        rt: &impl Abort,
+        generator: &mut Lcg64Xsh32,
+        now: Micros,
+    ) -> Result<(), Fail> {
         match below(generator, 12) {
             0..8 if self.core.has_room() => {
                 let len = u64::from(1 + below(generator, 60));
-                if self.core.on_piece(len, now).is_ok() {
+                if give(rt, &mut self.core, len, now).is_ok() {
                     self.arrivals.push(len, now)?;
                 }
             }
@@ -129,6 +173,7 @@ impl<'w> Run<'w> {
                 if self.core.ending().is_none() {
                     self.arrivals.eof(now)?;
                 }
+                assert!(rt; self.core.latest() <= now);
                 self.core.on_end(now);
                 self.ended = true;
             }
@@ -140,7 +185,7 @@ impl<'w> Run<'w> {
     /// Asks the core at `now` until it writes nothing more.
     fn write(&mut self, rt: &impl Abort, now: Micros) -> Result<Act, AllocError> {
         for _ in 0..1000 {
-            match self.core.on_clock(now) {
+            match ask(rt, &mut self.core, now) {
                 Act::Write(slice) => {
                     assert!(rt; slice.instant <= now);
                     self.slices.push(slice)?;
@@ -190,7 +235,7 @@ fn schedules_write_what_is_delivered(rt: HostRuntime) -> Result<(), Fail> {
         let mut now = Micros::ZERO;
         for _ in 0..below(generator, 30) {
             now = now.after(u64::from(below(generator, 1500)));
-            run.hear(generator, now)?;
+            run.hear(&rt, generator, now)?;
             if below(generator, 3) == 0 {
                 run.write(&rt, now)?;
             }

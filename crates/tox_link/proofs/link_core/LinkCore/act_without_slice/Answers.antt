@@ -1,5 +1,5 @@
 -- Nothing is left once the source's end was handed on.
-use Rattle.std.proofs.Common.{◌≡◌, [], ◌∷◌, ap, sym, subst, ◌∙◌}
+use Rattle.std.proofs.Common.{[], ◌∷◌, ap, sym, ◌∙◌}
 use Rattle.tox_time.specs.declared.item.Item.TheVariants.{Quiet}
 use Rattle.tox_link.specs.Core.{next_instant}
 use Rattle.tox_link.proofs.ActLemmas.{emptied-instant}

@@ -1,5 +1,5 @@
 -- Past the deadline nothing changes.
-use Rattle.std.proofs.Common.{◌≡◌, ap, sym, subst, ◌∙◌, rules}
+use Rattle.std.proofs.Common.{ap, sym, subst, ◌∙◌, rules}
 use Rattle.tox_link.specs.Core.{CoreView, IsEmptied, Settled}
 use Rattle.tox_link.specs.CoreInside.{core_view}
 use Rattle.tox_link.proofs.ActLemmas.{after_quiet, settled-quiet, unknown-runner}

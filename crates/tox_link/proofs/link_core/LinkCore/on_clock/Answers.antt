@@ -1,5 +1,5 @@
 -- A look at a later instant, and then an answer.
-use Rattle.std.proofs.Common.{◌≡◌, ◌≤◌, ap, sym, subst, ◌∙◌}
+use Rattle.std.proofs.Common.{◌≤◌, sym, subst}
 use Rattle.tox_link.specs.Core.{CoreView, KeepsCore}
 use Rattle.tox_link.specs.CoreInside.{core_view}
 use Rattle.tox_link.proofs.CoreLemmas.{IsCore-later}

@@ -1,7 +1,6 @@
 -- An accepted piece waits behind the others.
-use Rattle.std.proofs.Common.{◌≡◌, ◌+◌, ◌<◌, ◌≤◌, ◌^◌, false, List, ◌∷◌, ap, sym, subst, ◌∙◌, arith}
-use Rattle.tox_time.specs.declared.item.Item.{Item}
-use Rattle.tox_link.specs.Core.{CoreView, kept_count, remaining_output}
+use Rattle.std.proofs.Common.{◌≡◌, ◌<◌, ◌≤◌, ◌∷◌, sym, subst, arith}
+use Rattle.tox_link.specs.Core.{kept_count, remaining_output}
 use Rattle.tox_link.specs.CoreInside.{core_view}
 use Rattle.tox_link.proofs.WaitingLemmas.{chunk_from}
 use Rattle.tox_link.proofs.CoreLemmas.{after_piece, IsCore-after_piece, output-after_piece}

@@ -1,0 +1,29 @@
+//! What happens on a link, and who is told.
+ghost use Rattle.std.specs.Prelude.{◌≡◌, List, [], ◌∷◌, Option, OnOk, OnErr};
+ghost use Rattle.tox_link.specs.Events.{with_events};
+ghost use Rattle.tox_link.specs.declared.notes.LinkEvent.{LinkEvent as OneEvent};
+
+use std::alloc::AllocError;
+use tox_time::{Micros, Slice};
+
+/// One event of a link.
+#[derive(Clone, Copy, Debug, PartialEq, Eq)]
+pub enum LinkEvent {
+    /// A piece of so many bytes was taken at this instant.
+    Piece(u64, Micros),
+    /// The source's end was taken at this instant.
+    SourceEnd(Micros),
+    /// The slice was written after this reading of the clock.
+    Wrote(Slice, Micros),
+}
+
+/// Who is told of a link's events.
+pub trait Notes {
+    /// The events so far, if they are told.
+    ghost events: { Self → Option (List OneEvent) };
+
+    /// Notes one more event. An `Err` changes nothing.
+    fn note(&mut self, event: LinkEvent) -> Result<(), AllocError>
+        ensures noted { OnOk result (events self.new ≡ with_events (events self.old) (event ∷ [])) }
+        ensures refused { OnErr result (events self.new ≡ events self.old) };
+}

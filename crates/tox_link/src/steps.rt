@@ -1,0 +1,78 @@
+//! The steps of a link: a piece, the source's end or a reading of the clock reaches the core.
+ghost use Rattle.std.specs.Prelude.{◌≡◌, ◌+◌, ◌<◌, ◌≤◌, ◌^◌, ◌⊎◌, List, false, true, None, IsSome, OnOk, OnErr};
+ghost use Rattle.tox_link.specs.Events.{with_events};
+ghost use Rattle.tox_link.specs.Core.{core_ending, core_position, kept_count, KeepsCore};
+ghost use Rattle.tox_link.specs.Acts.{Answered};
+ghost use Rattle.tox_link.specs.Carried.{KeepsCarried, noted_of};
+ghost use Rattle.tox_link.specs.declared.notes.LinkEvent.{LinkEvent as OneEvent};
+
+use crate::act::Act;
+use crate::clock::{Clock, reading};
+use crate::link_core::LinkCore;
+use crate::notes::{LinkEvent, Notes};
+use std::alloc::AllocError;
+use tox_time::Micros;
+
+/// A nonempty piece arrives, and is stamped with the greatest reading so far.
+pub(crate) fn take_piece<C: Clock, N: Notes>(
+    core: &mut LinkCore<'_>,
+    clock: &C,
+    notes: &mut N,
+    len: u64,
+) -> Result<(), AllocError>
+    requires room { kept_count core.old < 1024 }
+    requires read { (core.old.latest ≡ 0) ⊎ C.told clock.now core.old.latest }
+    requires goes_on { (core.old.ended ≡ false) × (core_ending core.old ≡ None) }
+    requires fits { (0 < len) × (core.old.bytes + len ≤ 2 ^ 40) }
+    ensures counts { (core.new.bytes ≡ core.old.bytes + len) × (core.new.ended ≡ false)
+        × (core_position core.new ≡ core_position core.old) }
+    ensures carried { OnOk result ((more : List OneEvent)
+        × (N.events notes.new ≡ with_events (N.events notes.old) more)
+        × KeepsCarried (C.told clock.now) core.old more core.new) }
+    ensures err { OnErr result (N.events notes.new ≡ N.events notes.old) }
+{
+    let now = reading(clock, core.latest());
+    let Ok(()) = core.on_piece(len, now) else {
+        unreachable!()
+    };
+    notes.note(LinkEvent::Piece(len, now))?;
+    Ok(())
+}
+
+/// The source's end arrives. It is noted unless the ending is known.
+pub(crate) fn take_end<C: Clock, N: Notes>(
+    core: &mut LinkCore<'_>,
+    clock: &C,
+    notes: &mut N,
+) -> Result<(), AllocError>
+    requires first { core.old.ended ≡ false }
+    requires read { (core.old.latest ≡ 0) ⊎ C.told clock.now core.old.latest }
+    ensures counts { (core.new.bytes ≡ core.old.bytes) × (core.new.ended ≡ true)
+        × (core_position core.new ≡ core_position core.old) }
+    ensures carried { OnOk result ((more : List OneEvent)
+        × (N.events notes.new ≡ with_events (N.events notes.old) more)
+        × KeepsCarried (C.told clock.now) core.old more core.new) }
+    ensures err { OnErr result (N.events notes.new ≡ N.events notes.old) }
+{
+    let now = reading(clock, core.latest());
+    let known = core.ending();
+    core.on_end(now);
+    match known {
+        Some(_) => Ok(()),
+        None => {
+            notes.note(LinkEvent::SourceEnd(now))?;
+            Ok(())
+        }
+    }
+}
+
+/// Asks the core at the greatest reading so far. Returns its answer and that reading.
+pub(crate) fn decide<C: Clock>(core: &mut LinkCore<'_>, clock: &C) -> (Act, Micros)
+    requires { (core.old.latest ≡ 0) ⊎ C.told clock.now core.old.latest }
+    ensures told { C.told clock.now result.1 × (core.old.latest ≤ result.1) }
+    ensures answered { Answered core.old core.new result.1 result.0 }
+    ensures carried { KeepsCarried (C.told clock.now) core.old (noted_of result.0 result.1) core.new }
+{
+    let now = reading(clock, core.latest());
+    (core.on_clock(now), now)
+}
