@@ -9,7 +9,7 @@ use Rattle.tox_time.specs.Table.{final_of, table}
 use Rattle.tox_compile.specs.Meaning.{deadline_of}
 use Rattle.tox_plan.specs.Levels.{ops_of}
 use Rattle.tox_plan.specs.RunnerView.{HasNoChunk, to_come, found_chunk, known_ending}
-use Rattle.tox_plan.proofs.RunnerLemmas.{final-no_chunk}
+use Rattle.tox_plan.proofs.RunnerOutput.{final-no_chunk}
 use Rattle.tox_link.specs.declared.waiting.WaitingPiece.{WaitingPiece}
 use Rattle.tox_link.specs.Core.{CoreView, KeepsCore, Looked, IsEmptied, Settled, remaining_output, arrivals_from, end_or, next_instant, core_ending, ending_behind, core_deadline}
 use Rattle.tox_link.proofs.Looks.{same-of}

@@ -16,7 +16,7 @@ use Rattle.tox_plan.specs.Cuts.{IsCut, IsWithin, BeginsApart}
 use Rattle.tox_plan.specs.RunnerView.{RunnerView, HasNoChunk, to_come, found_chunk, next_piece, offer_answer}
 use Rattle.tox_plan.specs.Delivering.{PreservesOutput}
 use Rattle.tox_plan.proofs.Deliveries.{goes-cut}
-use Rattle.tox_plan.proofs.RunnerLemmas.{to_come-ended, final-no_chunk}
+use Rattle.tox_plan.proofs.RunnerOutput.{to_come-ended, final-no_chunk}
 use Rattle.tox_link.specs.declared.waiting.WaitingPiece.{WaitingPiece}
 use Rattle.tox_link.specs.Core.{CoreView, remaining_output, arrivals_from, end_or, Looked, core_position, start_of, IsDrained}
 use Rattle.tox_link.specs.CoreKept.{IsCore, IsOver, IsFoundSlice, AreTimely, arrived_by, total_len}
