@@ -6,6 +6,7 @@ mod fault;
 mod files;
 mod pick_request;
 mod reading;
+mod second_pass;
 mod setup;
 mod stages;
 mod toxics;

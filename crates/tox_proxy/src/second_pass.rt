@@ -1,0 +1,101 @@
+//! The second pass over an arrivals text: each data line becomes a piece, and its slices are printed at once.
+ghost use Rattle.std.specs.Prelude.{◌≡◌, ◌+◌, ◌<◌, ◌≤◌, ◌^◌, List, [], ◌∷◌, length, false, true, vec_capacity, IfOk, OnOk};
+ghost use Rattle.tox_time.specs.declared.item.Item.{Item as OneItem};
+ghost use Rattle.tox_time.specs.Table.{ending};
+ghost use Rattle.tox_lend.specs.Run.{stop_of};
+ghost use Rattle.tox_plan.specs.Running.{to_come};
+ghost use Rattle.tox_plan.specs.Slices.{IsOffered};
+ghost use Rattle.tox_text.specs.ArrivalsText.{Arrived};
+ghost use Rattle.tox_text.specs.Pieces.{chunk_of};
+ghost use Rattle.tox_proxy.specs.SecondPass.{HasTaken, IsNextFor, IsPieceOf, PrintsDownTo, chunk_at, text_left};
+
+use tox_lend::{Piece, Window};
+use tox_plan::Runner;
+use tox_text::{Buffer, print_lent};
+use tox_time::{EndFault, Micros, Sink};
+
+/// Prints a line for each slice of the offered piece.
+pub(crate) fn print_cuts<W: Sink>(
+    runner: &mut Runner<'_>,
+    buffer: &mut Buffer,
+    writer: &mut W,
+    piece: &Piece,
+) -> Result<(), EndFault>
+    requires working { W.failed writer.old ≡ false }
+    requires offered { IsOffered runner.old piece.now }
+    requires fits { stop_of piece.now < 2 ^ 64 }
+    ensures prints { (arrived : Arrived) (items : List OneItem) → IsPieceOf arrived piece.now
+        → PrintsDownTo result (W.written writer.old) buffer.old (W.written writer.new) buffer.new
+        (W.failed writer.new) (text_left arrived runner.old items) (text_left arrived runner.new items) }
+    ensures endings { OnOk result ((items : List OneItem) → ending (to_come runner.new items) ≡ ending (to_come runner.old items)) }
+    ensures kept { OnOk result ((runner.new.idle ≡ true) × (runner.new.piece ≡ runner.old.piece) × (runner.new.latest ≡ runner.old.latest)) }
+{
+    while let Some(slice) = runner.next_cut() {
+        print_lent(buffer, writer, &piece.lend(slice.span, slice.instant))?;
+    }
+    Ok(())
+}
+
+/// Offers a piece, and prints a line for each slice that it gives.
+fn print_piece<W: Sink>(
+    runner: &mut Runner<'_>,
+    buffer: &mut Buffer,
+    writer: &mut W,
+    piece: &Piece,
+) -> Result<(), EndFault>
+    requires working { W.failed writer.old ≡ false }
+    requires idle { runner.old.idle ≡ true }
+    requires few { stop_of piece.now ≤ 2 ^ 40 }
+    requires follows { IsNextFor runner.old (chunk_of piece.now) }
+    ensures prints { (arrived : Arrived) (items : List OneItem) → IsPieceOf arrived piece.now
+        → PrintsDownTo result (W.written writer.old) buffer.old (W.written writer.new) buffer.new
+        (W.failed writer.new) (text_left arrived runner.old (chunk_of piece.now ∷ items)) (text_left arrived runner.new items) }
+    ensures endings { OnOk result ((items : List OneItem) → ending (to_come runner.new items) ≡ ending (to_come runner.old (chunk_of piece.now ∷ items))) }
+    ensures idle { OnOk result (runner.new.idle ≡ true) }
+    ensures stands { OnOk result (HasTaken runner.new (chunk_of piece.now)) }
+{
+    if runner
+        .offer(piece.bytes.len() as u64, piece.instant)
+        .is_ok()
+    {
+        print_cuts(runner, buffer, writer, piece)?;
+    }
+    Ok(())
+}
+
+/// Prints what the piece of a data line gives. Its bytes are handed back for the next line.
+fn print_data<W: Sink>(
+    runner: &mut Runner<'_>,
+    window: &mut Window,
+    buffer: &mut Buffer,
+    writer: &mut W,
+    instant: Micros,
+    bytes: Vec<u8>,
+) -> Result<Vec<u8>, EndFault>
+    requires working { W.failed writer.old ≡ false }
+    requires idle { runner.old.idle ≡ true }
+    requires empty { (window.old.held ≡ []) × (window.old.room ≡ 1) }
+    requires some { 0 < length bytes.items }
+    requires few { window.old.stop + length bytes.items ≤ 2 ^ 40 }
+    requires follows { IsNextFor runner.old (chunk_at window.old.stop (length bytes.items) instant) }
+    ensures prints { (arrived : Arrived) (items : List OneItem) → IsPieceOf arrived (record { start = window.old.stop; bytes = bytes.items; instant = instant; room = vec_capacity bytes })
+        → PrintsDownTo result (W.written writer.old) buffer.old (W.written writer.new) buffer.new
+        (W.failed writer.new) (text_left arrived runner.old (chunk_at window.old.stop (length bytes.items) instant ∷ items)) (text_left arrived runner.new items) }
+    ensures endings { OnOk result ((items : List OneItem) → ending (to_come runner.new items)
+        ≡ ending (to_come runner.old (chunk_at window.old.stop (length bytes.items) instant ∷ items))) }
+    ensures idle { OnOk result (runner.new.idle ≡ true) }
+    ensures stands { OnOk result (HasTaken runner.new (chunk_at window.old.stop (length bytes.items) instant)) }
+    ensures window { OnOk result (window.new ≡ record { held = []; room = 1; stop = window.old.stop + length bytes.items }) }
+    ensures room { IfOk result (λ spare. vec_capacity spare ≡ vec_capacity bytes) }
+{
+    let start = window.stop();
+    window.add(Piece {
+        start,
+        bytes,
+        instant,
+    });
+    let piece = window.piece(start).unwrap();
+    print_piece(runner, buffer, writer, piece)?;
+    let piece = window.take_first().unwrap();
+    Ok(piece.bytes)
+}
