@@ -9,7 +9,7 @@ use Rattle.tox_time.specs.Stream.{latest_from}
 use Rattle.tox_time.specs.Table.{table}
 use Rattle.tox_lend.specs.Run.{Run, stop_of}
 use Rattle.tox_plan.specs.Delivering.{MayFollow, StandsAt, StandsBehind}
-use Rattle.tox_plan.specs.Running.{Running, to_come}
+use Rattle.tox_plan.specs.Running.{Running, no_piece, to_come}
 use Rattle.tox_text.specs.ArrivalsText.{Arrived}
 use Rattle.tox_text.specs.ResultText.{Delivered, arrival_of, delivered_at, lines_text}
 use Rattle.tox_text.specs.Writing.{AppendsFront, Passes}
@@ -51,3 +51,9 @@ pub record IsNextFor (runner : Running) (item : Item) : Type 0 where
 pub record HasTaken (runner : Running) (item : Item) : Type 0 where
   pub latest : (since : ℕ) → runner.latest ≤ latest_from since (item ∷ [])
   pub stands : runner.ending ≡ None → StandsBehind runner item
+
+-- nothing was offered yet
+pub record IsFresh (runner : Running) : Type 0 where
+  pub idle : runner.idle ≡ true
+  pub piece : runner.piece ≡ no_piece
+  pub latest : runner.latest ≡ 0

@@ -1,17 +1,20 @@
 //! The second pass over an arrivals text: each data line becomes a piece, and its slices are printed at once.
-ghost use Rattle.std.specs.Prelude.{◌≡◌, ◌+◌, ◌<◌, ◌≤◌, ◌^◌, List, [], ◌∷◌, length, false, true, vec_capacity, IfOk, OnOk};
+ghost use Rattle.std.specs.Prelude.{◌≡◌, ◌+◌, ◌<◌, ◌≤◌, ◌^◌, List, [], ◌∷◌, length, false, true, vec_capacity, IfOk, Ok, OnOk};
 ghost use Rattle.tox_time.specs.declared.item.Item.{Item as OneItem};
+ghost use Rattle.tox_time.specs.declared.item.Item.TheVariants.{Quiet};
+ghost use Rattle.tox_time.specs.Arrivals.{arrival_list};
 ghost use Rattle.tox_time.specs.Table.{ending};
 ghost use Rattle.tox_lend.specs.Run.{stop_of};
 ghost use Rattle.tox_plan.specs.Running.{to_come};
 ghost use Rattle.tox_plan.specs.Slices.{IsOffered};
-ghost use Rattle.tox_text.specs.ArrivalsText.{Arrived};
+ghost use Rattle.tox_text.specs.ArrivalsText.{Arrived, arrivals_of};
+ghost use Rattle.tox_text.specs.Checked.{IsChecked};
 ghost use Rattle.tox_text.specs.Pieces.{chunk_of};
-ghost use Rattle.tox_proxy.specs.SecondPass.{HasTaken, IsNextFor, IsPieceOf, PrintsDownTo, chunk_at, text_left};
+ghost use Rattle.tox_proxy.specs.SecondPass.{HasTaken, IsFresh, IsNextFor, IsPieceOf, PrintsDownTo, chunk_at, text_left};
 
 use tox_lend::{Piece, Window};
 use tox_plan::Runner;
-use tox_text::{Buffer, print_lent};
+use tox_text::{Buffer, Event, decode_into, first_line, line_of, print_lent};
 use tox_time::{EndFault, Micros, Sink};
 
 /// Prints a line for each slice of the offered piece.
@@ -98,4 +101,49 @@ fn print_data<W: Sink>(
     print_piece(runner, buffer, writer, piece)?;
     let piece = window.take_first().unwrap();
     Ok(piece.bytes)
+}
+
+/// Prints the lines of all pieces of a text without faults, by a vector that has room for the bytes of each line.
+fn print_lines<W: Sink>(
+    runner: &mut Runner<'_>,
+    window: &mut Window,
+    buffer: &mut Buffer,
+    writer: &mut W,
+    text: &[u8],
+    spare: Vec<u8>,
+) -> Result<(), EndFault>
+    requires working { W.failed writer.old ≡ false }
+    requires fresh { IsFresh runner.old }
+    requires empty { window.old ≡ record { held = []; room = 1; stop = 0 } }
+    requires checked { IsChecked text.now (vec_capacity spare) }
+    ensures prints {
+        (arrived : Arrived) → arrivals_of text.now ≡ Ok arrived
+        → PrintsDownTo result (W.written writer.old) buffer.old (W.written writer.new) buffer.new
+        (W.failed writer.new) (text_left arrived runner.old (arrival_list arrived.items)) (text_left arrived runner.new (Quiet ∷ []))
+    }
+    ensures endings {
+        OnOk result ((arrived : Arrived) → arrivals_of text.now ≡ Ok arrived
+        → ending (to_come runner.new (Quiet ∷ [])) ≡ ending (to_come runner.old (arrival_list arrived.items)))
+    }
+    ensures idle { OnOk result (runner.new.idle ≡ true) }
+{
+    let mut bytes = spare;
+    let mut left = Some(text);
+    while let Some(rest) = left {
+        let (line, others) = first_line(rest);
+        left = others;
+        let Some(said) = line_of(line) else {
+            continue;
+        };
+        match said.event {
+            Event::Data(digits) => {
+                decode_into(&mut bytes, digits);
+                bytes = print_data(runner, window, buffer, writer, said.instant, bytes)?;
+            }
+            Event::Eof => {
+                runner.finish(said.instant);
+            }
+        }
+    }
+    Ok(())
 }
