@@ -6,7 +6,9 @@ use Rattle.tox_time.specs.declared.item.Item.{Item}
 use Rattle.tox_time.specs.declared.item.Item.TheVariants.{Chunk, Closed, Reset, Quiet}
 use Rattle.tox_time.specs.declared.slice.Slice.{Slice}
 use Rattle.tox_time.specs.Stream.{span_len}
-use Rattle.tox_time.specs.Table.{ending, slices_table, table}
+use Rattle.tox_time.specs.declared.ending.Ending.{Ending}
+use Rattle.tox_time.specs.declared.ending.Ending.TheVariants.{StillOpen, Closed as ClosedAt, Reset as ResetAt}
+use Rattle.tox_time.specs.Table.{ending, final_of, slices_table, table}
 use Rattle.tox_lend.specs.Run.{LiesIn, Run, bytes_at, stop_of}
 use Rattle.tox_lend.specs.Lent.{IsExactSlice}
 use Rattle.tox_lend.specs.declared.lent.Lent.{Lent}
@@ -118,3 +120,22 @@ text_left-same arrived old new xs ys position comes =
 
 pub PassesDownTo-from : (old new : Option (List ℕ)) (waited waiting text other left : List ℕ) → text ≡ other → PassesDownTo old waited new waiting text left → PassesDownTo old waited new waiting other left
 PassesDownTo-from old new waited waiting text other left same passed = subst (λ whole. PassesDownTo old waited new waiting whole left) same passed
+
+-- two parts passed
+pub PassesDownTo-both : (first old new : Option (List ℕ)) (x y z text middle left : List ℕ) → PassesDownTo first x old y text middle → PassesDownTo old y new z middle left → PassesDownTo first x new z text left
+PassesDownTo-both first old new x y z text middle left before after = PassesDownTo-then first old new x y z text middle after.printed left before after.whole after.passed
+
+-- and where the second broke off, a front of the text is written
+pub AppendsFront-both : (first old new : Option (List ℕ)) (x y text middle : List ℕ) → PassesDownTo first x old y text middle → AppendsFront old new (y ++ middle) → AppendsFront first new (x ++ text)
+AppendsFront-both first old new x y text middle before front = AppendsFront-broken first old new x y text middle middle [] before (append-nil middle) front
+
+-- where the ending alone is to come no line is left, and it is the ending
+pub ended_text : (arrived : Arrived) (runner : Running) (last : Ending) → to_come runner (Quiet ∷ []) ≡ final_of last ∷ [] → text_left arrived runner (Quiet ∷ []) ≡ []
+ended_text arrived runner StillOpen is = ap (λ items. lines_text (delivered_from arrived runner.position (table items))) is
+ended_text arrived runner (ClosedAt t) is = ap (λ items. lines_text (delivered_from arrived runner.position (table items))) is
+ended_text arrived runner (ResetAt t) is = ap (λ items. lines_text (delivered_from arrived runner.position (table items))) is
+
+pub ended_ending : (runner : Running) (last : Ending) → to_come runner (Quiet ∷ []) ≡ final_of last ∷ [] → last ≡ ending (to_come runner (Quiet ∷ []))
+ended_ending runner StillOpen is = sym (ap ending is)
+ended_ending runner (ClosedAt t) is = sym (ap ending is)
+ended_ending runner (ResetAt t) is = sym (ap ending is)

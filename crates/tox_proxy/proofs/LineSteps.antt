@@ -1,5 +1,5 @@
 -- A text on its way through a runner: what arrived before the next line, and what is left.
-use Rattle.std.proofs.Common.{◌≡◌, ◌≢◌, ℕ, ◌+◌, ◌-◌, ◌*◌, ◌<◌, ◌≤◌, ◌^◌, true, slice_index, append_assoc, List, [], ◌∷◌, ◌++◌, length, None, Some, Ok, refl, ap, sym, ◌∙◌, subst, arith, append-nil, length-append}
+use Rattle.std.proofs.Common.{◌≡◌, ◌≢◌, ℕ, ◌+◌, ◌-◌, ◌*◌, ◌<◌, ◌≤◌, ◌^◌, true, slice_index, append_assoc, List, [], ◌∷◌, ◌++◌, ◌==◌, length, Bool, false, None, Some, Result, Ok, Err, rules, tests, refl, ap, sym, ◌∙◌, subst, arith, append-nil, length-append}
 use Rattle.tox_time.specs.Steps.{◌>>=◌}
 use Rattle.tox_time.specs.declared.item.Item.{Item}
 use Rattle.tox_time.specs.declared.item.Item.TheVariants.{Chunk, Closed}
@@ -7,7 +7,11 @@ use Rattle.tox_time.specs.Stream.{IsStreamFrom, arrived as count_of, latest, has
 use Rattle.tox_time.specs.declared.ending.Ending.{Ending}
 use Rattle.tox_time.specs.declared.span.Span.{Span}
 use Rattle.tox_text.specs.ResultText.{arrival_of}
-use Rattle.tox_text.proofs.CountLemmas.{accepted_piece}
+use Rattle.tox_text.proofs.CountLemmas.{accepted_piece, with_line-read}
+use Rattle.std.specs.Prelude.{IsOk, option_map}
+use Rattle.std.specs.Result.{result_ok}
+use Rattle.hex.specs.Hex.{decode_of}
+use Rattle.hex.specs.declared.error.FromHexError.{FromHexError}
 use Rattle.tox_time.specs.Arrivals.{arrival_list, next_chunk, push_fault, eof_fault}
 use Rattle.tox_time.proofs.StreamLemmas.{arrived-append}
 use Rattle.tox_lend.specs.Run.{Run}
@@ -154,3 +158,23 @@ at_end arrived n line lines runner window later t is on =
         ahead = ahead_next runner new (Closed t) left.later ahead latest (λ none. absurd (let both : None ≡ Some final = sym none ∙ ended in cc));
       };
     }
+
+-- the digits of a data line are pairs
+pub pairs_there : (arrived : Arrived) (n : ℕ) (line : List ℕ) (lines : List (List ℕ)) (runner : Running) (window : Pieces) (later : List Item) (t : ℕ) (digits : List ℕ)
+    → line_of line ≡ option_map (arrival t) (result_ok (decode_of digits)) → 0 < length line → IsUnderWay arrived n (line ∷ lines) runner window later → IsOk (decode_of digits)
+pairs_there arrived n line lines runner window later t digits says some on = by (decode_of digits) refl
+  where
+    by : (read : Result (List ℕ) FromHexError) → decode_of digits ≡ read → IsOk (decode_of digits)
+    by (Ok bytes) is = rw is refl
+    by (Err fault) is =
+        let went = step (with_line n on.before line) (with_lines (n + 1) lines) arrived on.rest in
+        let none : line_of line ≡ None = says ∙ ap (λ r. option_map (arrival t) (result_ok r)) is in
+        let filled : (length line == 0) ≡ false = search (rules, tests) in
+        let bad = sym (with_line-read n on.before line None filled none) ∙ went.1 in
+        absurd (cc)
+
+-- nothing is left behind the last line
+pub none_left : (arrived : Arrived) (n : ℕ) (runner : Running) (window : Pieces) (later : List Item) → IsUnderWay arrived n [] runner window later → later ≡ []
+none_left arrived n runner window later on =
+    let same : on.before ≡ arrived = let rest = on.rest in cc in
+    cancel on.before.items later [] (on.items ∙ sym (ap (λ a. a.items) same) ∙ sym (append-nil on.before.items))

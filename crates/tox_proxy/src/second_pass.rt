@@ -1,5 +1,5 @@
 //! The second pass over an arrivals text: each data line becomes a piece, and its slices are printed at once.
-ghost use Rattle.std.specs.Prelude.{◌≡◌, ◌+◌, ◌<◌, ◌≤◌, ◌^◌, List, [], ◌∷◌, length, false, true, vec_capacity, IfOk, Ok, OnOk};
+ghost use Rattle.std.specs.Prelude.{◌≡◌, ◌+◌, ◌<◌, ◌≤◌, ◌^◌, List, [], ◌∷◌, ◌++◌, length, false, true, vec_capacity, IfOk, Ok, OnOk};
 ghost use Rattle.tox_time.specs.declared.item.Item.{Item as OneItem};
 ghost use Rattle.tox_time.specs.declared.item.Item.TheVariants.{Quiet};
 ghost use Rattle.tox_time.specs.Arrivals.{arrival_list};
@@ -10,11 +10,13 @@ ghost use Rattle.tox_plan.specs.Slices.{IsOffered};
 ghost use Rattle.tox_text.specs.ArrivalsText.{Arrived, arrivals_of};
 ghost use Rattle.tox_text.specs.Checked.{IsChecked};
 ghost use Rattle.tox_text.specs.Pieces.{chunk_of};
+ghost use Rattle.tox_text.specs.ResultText.{ending_line};
+ghost use Rattle.tox_text.specs.Writing.{Prints};
 ghost use Rattle.tox_proxy.specs.SecondPass.{HasTaken, IsFresh, IsNextFor, IsPieceOf, PrintsDownTo, chunk_at, text_left};
 
 use tox_lend::{Piece, Window};
 use tox_plan::Runner;
-use tox_text::{Buffer, Event, decode_into, first_line, line_of, print_lent};
+use tox_text::{Buffer, Event, decode_into, first_line, line_of, print_ending, print_lent};
 use tox_time::{EndFault, Micros, Sink};
 
 /// Prints a line for each slice of the offered piece.
@@ -146,4 +148,29 @@ fn print_lines<W: Sink>(
         }
     }
     Ok(())
+}
+
+/// Prints the lines of all pieces, and then that of the ending.
+fn print_text<W: Sink>(
+    runner: &mut Runner<'_>,
+    window: &mut Window,
+    buffer: &mut Buffer,
+    writer: &mut W,
+    text: &[u8],
+    spare: Vec<u8>,
+) -> Result<(), EndFault>
+    requires working { W.failed writer.old ≡ false }
+    requires fresh { IsFresh runner.old }
+    requires empty { window.old ≡ record { held = []; room = 1; stop = 0 } }
+    requires checked { IsChecked text.now (vec_capacity spare) }
+    ensures {
+        (arrived : Arrived) → arrivals_of text.now ≡ Ok arrived
+        → Prints result (W.written writer.old) buffer.old (W.written writer.new) buffer.new (W.failed writer.new)
+        (text_left arrived runner.old (arrival_list arrived.items)
+        ++ ending_line (ending (to_come runner.old (arrival_list arrived.items))))
+    }
+{
+    print_lines(runner, window, buffer, writer, text, spare)?;
+    let ending = runner.quiet();
+    print_ending(buffer, writer, &ending)
 }
