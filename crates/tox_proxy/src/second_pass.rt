@@ -11,13 +11,17 @@ ghost use Rattle.tox_text.specs.ArrivalsText.{Arrived, arrivals_of};
 ghost use Rattle.tox_text.specs.Checked.{IsChecked};
 ghost use Rattle.tox_text.specs.Pieces.{chunk_of};
 ghost use Rattle.tox_text.specs.ResultText.{ending_line};
-ghost use Rattle.tox_text.specs.Writing.{Prints};
+ghost use Rattle.tox_text.specs.Writing.{Prints, Writes};
+ghost use Rattle.tox_proxy.specs.DryRun.{flow_text};
 ghost use Rattle.tox_proxy.specs.SecondPass.{HasTaken, IsFresh, IsNextFor, IsPieceOf, PrintsDownTo, chunk_at, text_left};
 
+use tox_compile::compile;
+use tox_defs::Chain;
 use tox_lend::{Piece, Window};
 use tox_plan::Runner;
 use tox_text::{Buffer, Event, decode_into, first_line, line_of, print_ending, print_lent};
 use tox_time::{EndFault, Micros, Sink};
+use tox_words::Words;
 
 /// Prints a line for each slice of the offered piece.
 pub(crate) fn print_cuts<W: Sink>(
@@ -118,15 +122,11 @@ fn print_lines<W: Sink>(
     requires fresh { IsFresh runner.old }
     requires empty { window.old ≡ record { held = []; room = 1; stop = 0 } }
     requires checked { IsChecked text.now (vec_capacity spare) }
-    ensures prints {
-        (arrived : Arrived) → arrivals_of text.now ≡ Ok arrived
+    ensures prints { (arrived : Arrived) → arrivals_of text.now ≡ Ok arrived
         → PrintsDownTo result (W.written writer.old) buffer.old (W.written writer.new) buffer.new
-        (W.failed writer.new) (text_left arrived runner.old (arrival_list arrived.items)) (text_left arrived runner.new (Quiet ∷ []))
-    }
-    ensures endings {
-        OnOk result ((arrived : Arrived) → arrivals_of text.now ≡ Ok arrived
-        → ending (to_come runner.new (Quiet ∷ [])) ≡ ending (to_come runner.old (arrival_list arrived.items)))
-    }
+        (W.failed writer.new) (text_left arrived runner.old (arrival_list arrived.items)) (text_left arrived runner.new (Quiet ∷ [])) }
+    ensures endings { OnOk result ((arrived : Arrived) → arrivals_of text.now ≡ Ok arrived
+        → ending (to_come runner.new (Quiet ∷ [])) ≡ ending (to_come runner.old (arrival_list arrived.items))) }
     ensures idle { OnOk result (runner.new.idle ≡ true) }
 {
     let mut bytes = spare;
@@ -163,14 +163,34 @@ fn print_text<W: Sink>(
     requires fresh { IsFresh runner.old }
     requires empty { window.old ≡ record { held = []; room = 1; stop = 0 } }
     requires checked { IsChecked text.now (vec_capacity spare) }
-    ensures {
-        (arrived : Arrived) → arrivals_of text.now ≡ Ok arrived
+    ensures { (arrived : Arrived) → arrivals_of text.now ≡ Ok arrived
         → Prints result (W.written writer.old) buffer.old (W.written writer.new) buffer.new (W.failed writer.new)
         (text_left arrived runner.old (arrival_list arrived.items)
-        ++ ending_line (ending (to_come runner.old (arrival_list arrived.items))))
-    }
+        ++ ending_line (ending (to_come runner.old (arrival_list arrived.items)))) }
 {
     print_lines(runner, window, buffer, writer, text, spare)?;
     let ending = runner.quiet();
     print_ending(buffer, writer, &ending)
+}
+
+/// Writes the result text of a text without faults, by the plan of a chain.
+pub(crate) fn write_flow<W: Sink>(
+    window: &mut Window,
+    writer: &mut W,
+    text: &[u8],
+    spare: Vec<u8>,
+    chain: &Chain,
+    words: &Words,
+) -> Result<(), EndFault>
+    requires working { W.failed writer.old ≡ false }
+    requires empty { window.old ≡ record { held = []; room = 1; stop = 0 } }
+    requires checked { IsChecked text.now (vec_capacity spare) }
+    ensures { (arrived : Arrived) → arrivals_of text.now ≡ Ok arrived
+        → Writes result (W.written writer.old) (W.written writer.new) (W.failed writer.new)
+        (flow_text chain.now words.now arrived) }
+{
+    let mut runner = Runner::new(compile(chain, words), words);
+    let mut buffer = Buffer::new();
+    print_text(&mut runner, window, &mut buffer, writer, text, spare)?;
+    buffer.flush(writer)
 }

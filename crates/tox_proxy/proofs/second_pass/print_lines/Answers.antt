@@ -77,7 +77,7 @@ returns-in_err-bytes-in-Data-clause-prints g c =
     let is : line_of line ≡ Some (arrival t bytes) = sym c.in-Some-line_of.ensures.says ∙ ap (event_seen t) c.in-Data.is ∙ ap (λ r. option_map (arrival t) (result_ok r)) c.decode_into.ensures.decoded in
     let at : IsAtData on.arrived on.number others c.loop-left.runner c.loop-left.window on.later t bytes = at_data on.arrived on.number line others c.loop-left.runner c.loop-left.window on.later t bytes on.arrivals is way in
     let before : PassesDownTo (g.W.Sink.written c.args.writer.now) c.args.buffer.now (g.W.Sink.written c.loop-left.writer) c.loop-left.buffer (text_left on.arrived c.args.runner.now (arrival_list on.arrived.items))
-        (text_left on.arrived c.loop-left.runner (chunk_at c.loop-left.window.stop (length bytes) t ∷ arrival_list at.others))
+    (text_left on.arrived c.loop-left.runner (chunk_at c.loop-left.window.stop (length bytes) t ∷ arrival_list at.others))
     = subst (λ later. PassesDownTo (g.W.Sink.written c.args.writer.now) c.args.buffer.now (g.W.Sink.written c.loop-left.writer) c.loop-left.buffer (text_left on.arrived c.args.runner.now (arrival_list on.arrived.items)) (text_left on.arrived c.loop-left.runner (arrival_list later))) at.is on.printed in
     let exit = err_from_is_err_and c.from_residual.result c.from_residual.ensures.1 in
     let front = c.in_err-bytes-in-Data.ensures.prints on.arrived (arrival_list at.others) (at.of (vec_capacity c.decode_into.new.bytes)) in
@@ -85,7 +85,7 @@ returns-in_err-bytes-in-Data-clause-prints g c =
     let same : on.arrived ≡ arrived = (let both = sym on.spelled ∙ spelled in cc) in
     rw exit.1 (
       subst (λ a. AppendsFront (g.W.Sink.written c.args.writer.now) (g.W.Sink.written c.print_data.new.writer) (c.args.buffer.now ++ text_left a c.args.runner.now (arrival_list a.items))) same
-      (AppendsFront-both _ _ _ _ _ _ _ before front.0),
+          (AppendsFront-both _ _ _ _ _ _ _ before front.0),
       front.1,
     )
 
@@ -102,7 +102,7 @@ loop-left-preserved-in-Data g c =
     let is : line_of line ≡ Some (arrival t bytes) = sym c.in-Some-line_of.ensures.says ∙ ap (event_seen t) c.in-Data.is ∙ ap (λ r. option_map (arrival t) (result_ok r)) c.decode_into.ensures.decoded in
     let at : IsAtData on.arrived on.number others c.loop-left.runner c.loop-left.window on.later t bytes = at_data on.arrived on.number line others c.loop-left.runner c.loop-left.window on.later t bytes on.arrivals is way in
     let before : PassesDownTo (g.W.Sink.written c.args.writer.now) c.args.buffer.now (g.W.Sink.written c.loop-left.writer) c.loop-left.buffer (text_left on.arrived c.args.runner.now (arrival_list on.arrived.items))
-        (text_left on.arrived c.loop-left.runner (chunk_at c.loop-left.window.stop (length bytes) t ∷ arrival_list at.others))
+    (text_left on.arrived c.loop-left.runner (chunk_at c.loop-left.window.stop (length bytes) t ∷ arrival_list at.others))
     = subst (λ later. PassesDownTo (g.W.Sink.written c.args.writer.now) c.args.buffer.now (g.W.Sink.written c.loop-left.writer) c.loop-left.buffer (text_left on.arrived c.args.runner.now (arrival_list on.arrived.items)) (text_left on.arrived c.loop-left.runner (arrival_list later))) at.is on.printed in
     let done = c.in_ok-bytes-in-Data.ensures in
     let printed = done.prints on.arrived (arrival_list at.others) (at.of (vec_capacity c.decode_into.new.bytes)) in
@@ -143,7 +143,7 @@ loop-left-preserved g c =
     let new = c.finish.new.self in
     let last : arrival_list on.later ≡ Closed t ∷ [] = ap arrival_list (at.is ∙ ap (λ xs. Closed t ∷ xs) at.last) in
     let comes : to_come new (arrival_list at.others) ≡ to_come c.loop-left.runner (arrival_list on.later) =
-        (search rules) ∙ sym c.finish.ensures.last ∙ ap (to_come c.loop-left.runner) (sym last) in
+    (search rules) ∙ sym c.finish.ensures.last ∙ ap (to_come c.loop-left.runner) (sym last) in
     record {
       working = on.working;
       arrived = on.arrived;
@@ -165,9 +165,11 @@ returns-clause-prints g c =
     let way : IsUnderWay on.arrived on.number [] c.loop-left.runner c.loop-left.window on.later = subst (λ lines. IsUnderWay on.arrived on.number lines c.loop-left.runner c.loop-left.window on.later) empty on.under_way in
     let none = none_left on.arrived on.number c.loop-left.runner c.loop-left.window on.later way in
     λ arrived spelled.
-    let same : on.arrived ≡ arrived = (let both = sym on.spelled ∙ spelled in cc) in
-    (subst (λ a. PassesDownTo (g.W.Sink.written c.args.writer.now) c.args.buffer.now (g.W.Sink.written c.loop-left.writer) c.loop-left.buffer (text_left a c.args.runner.now (arrival_list a.items)) (text_left a c.loop-left.runner (Quiet ∷ []))) same
-    (subst (λ later. PassesDownTo (g.W.Sink.written c.args.writer.now) c.args.buffer.now (g.W.Sink.written c.loop-left.writer) c.loop-left.buffer (text_left on.arrived c.args.runner.now (arrival_list on.arrived.items)) (text_left on.arrived c.loop-left.runner (arrival_list later))) none on.printed), on.working)
+    let same : on.arrived ≡ arrived = (let both = sym on.spelled ∙ spelled in cc) in (
+      subst (λ a. PassesDownTo (g.W.Sink.written c.args.writer.now) c.args.buffer.now (g.W.Sink.written c.loop-left.writer) c.loop-left.buffer (text_left a c.args.runner.now (arrival_list a.items)) (text_left a c.loop-left.runner (Quiet ∷ []))) same
+          (subst (λ later. PassesDownTo (g.W.Sink.written c.args.writer.now) c.args.buffer.now (g.W.Sink.written c.loop-left.writer) c.loop-left.buffer (text_left on.arrived c.args.runner.now (arrival_list on.arrived.items)) (text_left on.arrived c.loop-left.runner (arrival_list later))) none on.printed),
+      on.working,
+    )
 
 pub returns-clause-endings : goal.returns-clause-endings
 returns-clause-endings g c =
