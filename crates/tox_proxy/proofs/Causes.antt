@@ -1,5 +1,5 @@
 -- The faults that an arrivals text can have.
-use Rattle.std.proofs.Common.{◌≡◌, ◌≢◌, ℕ, ◌+◌, Bool, true, false, List, [], ◌∷◌, length, ◌==◌, Option, Some, None, Result, Ok, Err, if◌then◌else◌, subst}
+use Rattle.std.proofs.Common.{◌≡◌, ◌≢◌, ℕ, ◌+◌, Bool, true, false, List, [], ◌∷◌, length, ◌==◌, Option, Some, None, Result, Ok, Err, if◌then◌else◌, subst, refl}
 use Rattle.tox_time.specs.Steps.{◌>>=◌}
 use Rattle.tox_time.specs.declared.arrivals.ArrivalFault.{ArrivalFault}
 use Rattle.tox_time.specs.Arrivals.{push_fault, eof_fault}
@@ -7,6 +7,8 @@ use Rattle.tox_text.specs.declared.fault.DryFault.{DryFault}
 use Rattle.tox_text.specs.declared.fault.DryFault.TheVariants.{OutOfMemory, BadLine, TooLong, ReadFault, WriteFault, Arrival}
 use Rattle.tox_text.specs.ArrivalsText.{Arrived, arrivals_of, lines_of, nothing, unless_refused, with_end, with_line, with_lines, with_piece, with_read}
 use Rattle.tox_text.specs.Line.{Line, arrival, end, line_of}
+use Rattle.tox_defs.specs.Chain.{Toxics}
+use Rattle.tox_proxy.specs.DryRun.{Leaves}
 use Rattle.tox_proxy.specs.Reading.{HasCause, IsRead}
 
 -- a fault, where there is one, is of a line
@@ -55,3 +57,12 @@ HasCause-spelled before after read_failed write_failed text TooLong read first =
 HasCause-spelled before after read_failed write_failed text ReadFault read first = absurd (subst IsOfLine (first (λ same. cc)) (of_line_arrivals text))
 HasCause-spelled before after read_failed write_failed text WriteFault read first = absurd (subst IsOfLine (first (λ same. cc)) (of_line_arrivals text))
 HasCause-spelled before after read_failed write_failed text (Arrival refused n) read first = record { text = text; read = read; first = first (λ same. cc) }
+
+-- a fault of a text leaves nothing written
+pub Leaves-spelled : (chain : Toxics) (words : List ℕ) (before after old : Option (List ℕ)) (text : List ℕ) (fault : DryFault) → arrivals_of text ≡ Err fault → Leaves chain words before after old old fault
+Leaves-spelled chain words before after old text OutOfMemory is = refl
+Leaves-spelled chain words before after old text (BadLine n) is = refl
+Leaves-spelled chain words before after old text TooLong is = refl
+Leaves-spelled chain words before after old text ReadFault is = refl
+Leaves-spelled chain words before after old text WriteFault is = absurd (subst IsOfLine is (of_line_arrivals text))
+Leaves-spelled chain words before after old text (Arrival refused n) is = refl

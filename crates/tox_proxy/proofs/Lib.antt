@@ -1,2 +1,5 @@
 mod ReadLemmas
 mod Causes
+mod CutLemmas
+mod TextTurns
+mod LineSteps

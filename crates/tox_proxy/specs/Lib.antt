@@ -1,4 +1,5 @@
 pub mod Reading
+pub mod SecondPass
 pub mod DryRun
 pub mod StagesRun
 pub mod Toxics

@@ -11,10 +11,11 @@ ghost use Rattle.tox_text.specs.Writing.{Prints, Writes};
 ghost use Rattle.tox_text.specs.declared.fault.DryFault.TheVariants.{WriteFault};
 
 use crate::reading::read_input;
+use crate::second_pass::write_flow;
 use std::alloc::Global;
 use tox_defs::Chain;
-use tox_plan::deliver;
-use tox_text::{ArrivedText, Buffer, DryFault, print_ending, print_slices};
+use tox_lend::Window;
+use tox_text::{ArrivedText, Buffer, DryFault, check_arrivals, print_ending, print_slices};
 use tox_time::{EndFault, Outcome, Sink, Source};
 use tox_words::Words;
 
@@ -40,11 +41,15 @@ pub fn dry_run<R: Source, W: Sink>(
     ensures left { IfErr result (Leaves chain.now words.now (R.remaining reader.old) (R.remaining reader.new) (W.written writer.old) (W.written writer.new)) }
     ensures most { TakesAtMost (16_777_216 + 1) (R.remaining reader.old) (R.remaining reader.new) }
 {
-    let arrived = read_arrivals(alloc, reader)?;
-    let Ok(outcome) = deliver(alloc, chain, words, arrived.arrivals()) else {
+    let text = read_input(alloc, reader)?;
+    let longest = check_arrivals(&text)?;
+    let Ok(spare) = Vec::with_capacity(alloc, longest) else {
         return Err(DryFault::OutOfMemory);
     };
-    if write_result(&mut Buffer::new(), writer, &arrived, &outcome).is_err() {
+    let Ok(mut window) = Window::new(alloc, 1) else {
+        return Err(DryFault::OutOfMemory);
+    };
+    if write_flow(&mut window, writer, &text, spare, chain, words).is_err() {
         return Err(DryFault::WriteFault);
     }
     Ok(())

@@ -7,6 +7,7 @@ mod files;
 mod named_files;
 mod pick_request;
 mod reading;
+mod second_pass;
 mod setup;
 mod stages;
 mod toxics;

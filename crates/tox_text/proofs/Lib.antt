@@ -15,3 +15,4 @@ pub mod ShortParts
 pub mod Writes
 pub mod CountLemmas
 pub mod FirstLines
+pub mod PieceRuns

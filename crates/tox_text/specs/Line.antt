@@ -1,5 +1,5 @@
 -- One line of the arrivals text: `<micros> data <hex>` or `<micros> eof`.
-use Rattle.std.specs.Prelude.{ℕ, ◌+◌, ◌==◌, List, take, drop, codes, position, Option, Some, None, option_map, option_and_then, if◌then◌else◌}
+use Rattle.std.specs.Prelude.{ℕ, ◌+◌, ◌==◌, List, length, take, drop, codes, position, Option, Some, None, option_map, option_and_then, if◌then◌else◌}
 use Rattle.std.specs.Str.{bytes_eq}
 use Rattle.std.specs.Result.{result_ok}
 use Rattle.hex.specs.Hex.{decode_of}
@@ -50,3 +50,8 @@ event_seen t Eof = Some (end t)
 abbrev pub line_seen : Option code.Line → Option Line
 line_seen None = None
 line_seen (Some line) = event_seen line.instant line.event
+
+-- how many digits the code keeps of a line
+abbrev pub digit_count : kinds.Event → ℕ
+digit_count (Data digits) = length digits.now
+digit_count Eof = 0

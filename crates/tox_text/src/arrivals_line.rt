@@ -1,9 +1,9 @@
 //! One line of the arrivals text, in its parts.
-ghost use Rattle.std.specs.Prelude.{◌≡◌, ◌==◌, ◌*◌, ◌≤◌, length, is_ok, option_map, position, vec_capacity, IsOk};
+ghost use Rattle.std.specs.Prelude.{◌≡◌, ◌==◌, ◌*◌, ◌<◌, ◌≤◌, length, is_ok, option_map, position, vec_capacity, IfSome, IsOk};
 ghost use Rattle.std.specs.Char.{is_ascii_digit};
 ghost use Rattle.std.specs.List.{list_all};
 ghost use Rattle.hex.specs.Hex.{decode_of, is_hex_digit};
-ghost use Rattle.tox_text.specs.Line.{cut_at, instant_of, line_of, line_seen};
+ghost use Rattle.tox_text.specs.Line.{cut_at, digit_count, instant_of, line_of, line_seen};
 
 use std::str;
 use tox_time::Micros;
@@ -28,7 +28,8 @@ pub enum Event<'a> {
 
 /// The parts of a line, or None if it isn't a line of the arrivals text whatever the digits are.
 pub fn line_of<'a>(text: &'a [u8]) -> Option<Line<'a>>
-    ensures { line_seen result ≡ line_of text.now }
+    ensures says { line_seen result ≡ line_of text.now }
+    ensures shorter { IfSome result (λ line. digit_count line.event < length text.now) }
 {
     let (time, event) = cut_at(text, b' ')?;
     let instant = instant_of(time)?;
@@ -71,7 +72,8 @@ pub fn decode_into(bytes: &mut Vec<u8>, digits: &[u8])
 
 /// The parts round the first such byte.
 fn cut_at(text: &[u8], separator: u8) -> Option<(&[u8], &[u8])>
-    ensures { option_map (λ parts. (parts.0.now, parts.1.now)) result ≡ cut_at separator text.now }
+    ensures cut { option_map (λ parts. (parts.0.now, parts.1.now)) result ≡ cut_at separator text.now }
+    ensures shorter { IfSome result (λ parts. length parts.1.now < length text.now) }
 {
     let Some(place) = place_of(text, separator) else {
         return None;

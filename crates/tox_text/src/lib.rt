@@ -20,6 +20,6 @@ pub use buffer::Buffer;
 pub use fault::{DryFault, WriteFault};
 pub use pick_text::{PrintPickFault, print_pick};
 pub use plan_text::print_plan;
-pub use result_line::print_ending;
+pub use result_line::{print_ending, print_lent};
 pub use result_text::print_slices;
 pub use text_lines::first_line;

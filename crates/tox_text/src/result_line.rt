@@ -26,7 +26,12 @@ pub(crate) fn print_slice<W: Sink>(
     print_lent(buffer, writer, &piece.lend(slice.span, slice.instant))
 }
 
-fn print_lent<W: Sink>(buffer: &mut Buffer, writer: &mut W, lent: &Lent<'_>) -> Result<(), EndFault>
+/// Prints the line of a lent slice.
+pub fn print_lent<W: Sink>(
+    buffer: &mut Buffer,
+    writer: &mut W,
+    lent: &Lent<'_>,
+) -> Result<(), EndFault>
     requires working { W.failed writer.old ≡ false }
     requires fits { lent.now.start + length lent.now.bytes.now < 2 ^ 64 }
     ensures { Prints result (W.written writer.old) buffer.old (W.written writer.new) buffer.new (W.failed writer.new) (bytes_line lent.now.instant lent.now.start lent.now.bytes.now) }
