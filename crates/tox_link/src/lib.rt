@@ -10,8 +10,6 @@ mod notes;
 mod parking;
 mod reading;
 mod steps;
-#[cfg(test)]
-mod tests;
 mod waiting;
 mod writing;
 

@@ -1,7 +1,6 @@
 //! Files by name: of the runtime, or in memory.
-ghost use Rattle.std.specs.Prelude.{◌≡◌, ◌<◌, ◌≤◌, List, ℕ, Option, None, Some, option_map, option_copied, IfOk, IfErr};
-ghost use Rattle.std.specs.List.{find};
-ghost use Rattle.tox_proxy.specs.Files.{KnownFile, IsFileFault, IsFileOf, file_named, is_file_named};
+ghost use Rattle.std.specs.Prelude.{◌≡◌, List, ℕ, None, Some, option_map, IfOk, IfErr};
+ghost use Rattle.tox_proxy.specs.Files.{KnownFile, IsFileFault, IsFileOf, file_named};
 
 use crate::files::{FileFault, read_file};
 use crate::reading::MAX_INPUT;
@@ -49,7 +48,7 @@ impl<'f> NamedFiles for MemoryFiles<'f> {
     ghost known = { λ memory name. Some (file_named name memory.files.now) };
 
     fn read<'a>(&self, alloc: Global, name: &'a str) -> Result<Vec<u8>, FileFault<'a>> {
-        let Some(bytes) = self.find(name) else {
+        let Some(bytes) = file_named(self.files, name) else {
             return Err(FileFault::Unreadable(name));
         };
         if bytes.len() > MAX_INPUT {
@@ -62,16 +61,15 @@ impl<'f> NamedFiles for MemoryFiles<'f> {
     }
 }
 
-impl<'f> MemoryFiles<'f> {
-    /// The bytes of the first file of this name.
-    fn find(&self, name: &str) -> Option<&'f [u8]>
-        ensures { option_map (λ bytes. bytes.now) result ≡ file_named name.now self.now.files.now }
-    {
-        for (file, bytes) in self.files {
-            if *file == name {
-                return Some(bytes);
-            }
-        }
-        None
+/// The bytes of the first of these files that has the name.
+fn file_named<'f>(files: &'f [(&'f str, &'f [u8])], name: &str) -> Option<&'f [u8]>
+    ensures { option_map (λ bytes. bytes.now) result ≡ file_named name.now files.now }
+{
+    let Some(((file, bytes), others)) = files.split_first() else {
+        return None;
+    };
+    if *file == name {
+        return Some(bytes);
     }
+    file_named(others, name)
 }

@@ -256,6 +256,28 @@ fn a_long_piece_is_cut(rt: HostRuntime) -> Result<(), Fail> {
 }
 
 #[test]
+fn five_thousand_lines_are_run(rt: HostRuntime) -> Result<(), Fail> {
+    let words = Words::from_list(rt.alloc(), &[0])?;
+    let chain = chain_of(&rt, &["latency:latency=1"]);
+    let mut read = String::new(rt.alloc());
+    let mut want = String::new(rt.alloc());
+    for line in 0..5000u64 {
+        let stop = line + 1;
+        let micros = 1000 + line;
+        write!(read, "{line} data 61\n")?;
+        write!(want, "{micros} {line}..{stop} 61\n")?;
+    }
+    want.push_str("open\n")?;
+    let bytes = read.as_bytes().to_vec(rt.alloc())?;
+    let mut reader = MemorySource::new(bytes, 4096, None);
+    let mut writer = MemorySink::new(rt.alloc(), 200_000, 4096, None)?;
+    let answer = dry_run(rt.alloc(), &mut reader, &mut writer, &chain, &words);
+    assert_eq!(rt; answer, Ok(()));
+    assert!(rt; writer.bytes() == want.as_bytes());
+    Ok(())
+}
+
+#[test]
 fn each_read_may_fail(rt: HostRuntime) -> Result<(), Fail> {
     let words = Words::from_list(rt.alloc(), &[0])?;
     for call in 1..=7 {

@@ -1,7 +1,6 @@
 //! A link core call by call, and beside `deliver` on schedules drawn at random.
 ghost use Rattle.std.specs.Prelude.{◌≡◌, ◌<◌, false};
 
-use crate::{Act, LinkCore};
 use rand_pcg::Lcg64Xsh32;
 use rand_pcg::rand_core::utils::NextWord;
 use std::alloc::{AllocError, Global};
@@ -9,6 +8,7 @@ use std::process::Abort;
 use std::test::Fail;
 use tox_compile::compile;
 use tox_defs::{Chain, read_short};
+use tox_link::{Act, LinkCore};
 use tox_plan::deliver;
 use tox_time::{ArrivalFault, Arrivals, Ending, Micros, Slice, SliceList, Span};
 use tox_words::Words;

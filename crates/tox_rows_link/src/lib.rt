@@ -1,0 +1,5 @@
+//! Tests of live links.
+#![tactic(auto)]
+
+#[cfg(test)]
+mod cores;
