@@ -3,7 +3,7 @@ ghost use Rattle.std.specs.Prelude.{◌≡◌, ◌+◌, ◌<◌, ◌≤◌, ◌^
 ghost use Rattle.tox_time.specs.declared.item.Item.{Item as OneItem};
 ghost use Rattle.tox_time.specs.declared.item.Item.TheVariants.{Quiet};
 ghost use Rattle.tox_time.specs.Arrivals.{arrival_list};
-ghost use Rattle.tox_time.specs.Table.{ending};
+ghost use Rattle.tox_time.specs.Table.{ending, final_of};
 ghost use Rattle.tox_lend.specs.Run.{stop_of};
 ghost use Rattle.tox_plan.specs.RunnerView.{to_come};
 ghost use Rattle.tox_plan.specs.Slices.{IsOffered};
@@ -20,7 +20,7 @@ use tox_defs::Chain;
 use tox_lend::{Piece, Window};
 use tox_plan::Runner;
 use tox_text::{Buffer, Event, decode_into, first_line, line_of, print_ending, print_lent};
-use tox_time::{EndFault, Micros, Sink};
+use tox_time::{EndFault, Ending, Micros, Sink};
 use tox_words::Words;
 
 /// Prints a line for each slice of the offered piece.
@@ -169,8 +169,19 @@ fn print_text<W: Sink>(
         ++ ending_line (ending (to_come runner.old (arrival_list arrived.items)))) }
 {
     print_lines(runner, window, buffer, writer, text, spare)?;
-    let ending = runner.quiet();
+    let ending = ending_of(runner);
     print_ending(buffer, writer, &ending)
+}
+
+/// How the link ends behind the last piece. If the source hasn't ended it stays quiet.
+fn ending_of(runner: &mut Runner<'_>) -> Ending
+    requires { runner.old.idle ≡ true }
+    ensures { to_come runner.old (Quiet ∷ []) ≡ final_of result ∷ [] }
+{
+    match runner.ending() {
+        Some(ending) => ending,
+        None => runner.quiet(),
+    }
 }
 
 /// Writes the result text of a text without faults, by the plan of a chain.

@@ -19,9 +19,9 @@ pub returns : goal.returns
 returns g c =
     λ arrived spelled.
     let done = c.in_ok-print_lines.ensures.prints arrived spelled in
-    let none = ended_text arrived c.print_lines.new.runner c.quiet-ending.result c.quiet-ending.ensures.last in
-    let ends = ended_ending c.print_lines.new.runner c.quiet-ending.result c.quiet-ending.ensures.last ∙ c.in_ok-print_lines.ensures.endings arrived spelled in
+    let none = ended_text arrived c.print_lines.new.runner c.ending_of-ending.result c.ending_of-ending.ensures in
+    let ends = ended_ending c.print_lines.new.runner c.ending_of-ending.result c.ending_of-ending.ensures ∙ c.in_ok-print_lines.ensures.endings arrived spelled in
     let line = ap ending_line ends in
     let whole = sym (append-nil done.0.printed) ∙ ap (λ rest. done.0.printed ++ rest) (sym none) ∙ done.0.whole in
-    Prints-as c.print_ending.result _ _ _ _ _ _ _ (ap (λ text. text ++ ending_line c.quiet-ending.result) whole ∙ ap (λ last. text_left arrived c.args.runner.now (arrival_list arrived.items) ++ last) line)
+    Prints-as c.print_ending.result _ _ _ _ _ _ _ (ap (λ text. text ++ ending_line c.ending_of-ending.result) whole ∙ ap (λ last. text_left arrived c.args.runner.now (arrival_list arrived.items) ++ last) line)
     (Prints-then c.print_ending.result _ _ _ _ _ _ _ _ _ done.0.passed c.print_ending.ensures)
