@@ -1,4 +1,6 @@
 //! Running stages beside the compiled plan.
+ghost use Rattle.std.specs.Prelude.{◌≤◌};
+
 use crate::gates::{Log, Meeting, Open};
 use std::process::Abort;
 use std::sync::Wait;
@@ -82,12 +84,15 @@ fn a_text_runs_in_threads(rt: HostRuntime) -> Result<(), Fail> {
     Ok(())
 }
 
-/// What `stages_run` writes for two latencies over rings of one item.
+/// What `stages_run` writes for two latencies over rings of `cap` items.
 fn run_at<R: Threads + Wait + Sync + AllocGlobal + Abort>(
     rt: &R,
     read: &str,
+    cap: usize,
     gate: &impl Gate,
-) -> Result<String, Fail> {
+) -> Result<String, Fail>
+    requires { (1 ≤ cap) × (cap ≤ 1024) }
+{
     let words = Words::from_list(rt.alloc(), &[0])?;
     let chain = chain_of("latency:latency=1 latency:latency=2").expect(rt, "short forms");
     let mut reader = MemorySource::new(read.as_bytes().to_vec(rt.alloc())?, 64, None);
@@ -99,7 +104,7 @@ fn run_at<R: Threads + Wait + Sync + AllocGlobal + Abort>(
         &mut writer,
         &chain,
         &words,
-        1,
+        cap,
         gate,
     )?;
     Ok(String::from_utf8_lossy(rt.alloc(), writer.bytes())?)
@@ -108,7 +113,7 @@ fn run_at<R: Threads + Wait + Sync + AllocGlobal + Abort>(
 #[test]
 fn workers_of_a_text_meet(rt: HostRuntime) -> Result<(), Fail> {
     let gate = Meeting::new(1);
-    let written = run_at(&rt, "0 data 61\n0 data 62\n", &gate)?;
+    let written = run_at(&rt, "0 data 61\n0 data 62\n", 1, &gate)?;
     assert!(rt; !gate.missed.load(Ordering::SeqCst));
     assert_eq!(rt; written.as_str(), "3000 0..1 61\n3000 1..2 62\nopen\n");
     Ok(())
@@ -117,10 +122,26 @@ fn workers_of_a_text_meet(rt: HostRuntime) -> Result<(), Fail> {
 #[test]
 fn workers_of_a_text_have_rings_of_their_own(rt: HostRuntime) -> Result<(), Fail> {
     let gate = Log::new();
-    let written = run_at(&rt, "0 data 61\n0 data 62\n0 data 63\n0 data 64\n", &gate)?;
+    let written = run_at(
+        &rt,
+        "0 data 61\n0 data 62\n0 data 63\n0 data 64\n",
+        1,
+        &gate,
+    )?;
     gate.check(&rt);
     let want = "3000 0..1 61\n3000 1..2 62\n3000 2..3 63\n3000 3..4 64\nopen\n";
     assert_eq!(rt; written.as_str(), want);
+    Ok(())
+}
+
+/// Stage 0 reaches its fifth item while stage 1 has its first in hand, since the ring between them has room for three.
+#[test]
+fn rings_of_a_text_have_their_room(rt: HostRuntime) -> Result<(), Fail> {
+    let gate = Meeting::new(4);
+    let read = "0 data 61\n0 data 62\n0 data 63\n0 data 64\n0 data 65\n";
+    let written = run_at(&rt, read, 3, &gate)?;
+    assert!(rt; !gate.missed.load(Ordering::SeqCst));
+    assert!(rt; written.as_str().ends_with("3000 4..5 65\nopen\n"));
     Ok(())
 }
 
