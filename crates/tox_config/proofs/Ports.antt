@@ -1,33 +1,15 @@
--- What `parse` and the last colon tell of a port.
-use Rattle.std.proofs.Common.{◌≡◌, ℕ, ◌+◌, ◌-◌, ◌<◌, ◌≤◌, ◌≢◌, true, false, not, List, length, drop, get_or, Result, arith, rules, refl, sym, ap, ◌∙◌, length-drop}
-use Rattle.std.specs.Char.{is_ascii_digit}
-use Rattle.std.specs.List.{after_last, list_all, list_any, suffix_len}
-use Rattle.std.specs.Result.{is_ok}
+-- What the last colon tells of a port.
+use Rattle.std.proofs.Common.{◌≡◌, ℕ, ◌+◌, ◌-◌, ◌<◌, ◌≤◌, ◌≢◌, true, false, not, List, length, drop, get_or, arith, refl, sym, ap, ◌∙◌, length-drop}
+use Rattle.std.specs.List.{after_last, list_any, suffix_len}
 use Rattle.std.specs.Str.{NoCharPasses}
-use Rattle.std.specs.Str.Parse.{ParsesUnsigned, digits_value}
 use Rattle.std.specs.Str.Pattern.{HasCharAt}
 use Rattle.std.proofs.lemmas.Bool.Decides.{nat_tests}
 use Rattle.std.proofs.lemmas.List.{get_or-drop, get_or_default}
 use Rattle.std.proofs.lemmas.List.Folds.{list_any_at, list_any_none}
 use Rattle.std.proofs.lemmas.List.Sums.{suffix_len_is}
-use Rattle.std.proofs.lemmas.Result.{OkIff-decides}
-use Rattle.std.proofs.lemmas.Str.Parse.{IsNumeralModel, numerals_by_value, parse_digits}
 use Rattle.std.proofs.lemmas.Str.Pattern.{NoCharPasses-char}
-use Rattle.tox_config.specs.Address.{ends_in_port, is_colon, is_port}
-
--- each byte is a decimal digit
-abbrev AreDigits : List ℕ → Type 0
-AreDigits text = list_all is_ascii_digit text ≡ true
-
--- which is std's word for a text of digits
-numerals : IsNumeralModel AreDigits (digits_value 10)
-numerals = numerals_by_value AreDigits (search rules)
-
--- of at most 5 digits `parse` at 16 bits accepts the ports
-pub is_ok-parse_port : {E : Type 0} (text : List ℕ) (r : Result ℕ E) → ParsesUnsigned 16 10 text r → list_all is_ascii_digit text ≡ true → length text ≤ 5 → is_ok r ≡ is_port text
-is_ok-parse_port text r parsed digits short =
-    let decided = OkIff-decides r _ _ (parse_digits numerals 16 text r parsed digits) in
-    grind (arith, nat_tests, decided, digits)
+use Rattle.tox_time.specs.Text.{is_colon}
+use Rattle.tox_config.specs.Address.{ends_in_port, is_port}
 
 -- a byte that is no colon
 is_colon-other : (byte : ℕ) → byte ≢ 58 → is_colon byte ≡ false

@@ -6,7 +6,8 @@ use Rattle.serde_json.specs.View.{items_view, view}
 use Rattle.serde_json.specs.declared.value.Value.{Value}
 use Rattle.serde_json.specs.Data.{Items, no_items, item}
 use Rattle.tox_config.specs.Entry.{put}
-use Rattle.tox_config.specs.Proxy.{Proxy, ◌>>=◌, proxy_of}
+use Rattle.tox_config.specs.Proxy.{Proxy, proxy_of}
+use Rattle.tox_time.specs.Steps.{◌>>=◌}
 use Rattle.tox_config.specs.Populate.{entries_of, front_of, most_names, populated, with_first}
 use Rattle.tox_config.specs.declared.fault.ConfigFault.{ConfigFault}
 use Rattle.tox_config.specs.declared.fault.ConfigFault.TheVariants.{TooMany}

@@ -35,7 +35,8 @@ last_named p others = fold (λ last q. if is_named p.name q then q else last) p 
 -- one entry per name: the last proxy of the name, in the place of the first
 abbrev pub entries_of : List Proxy → List Proxy
 entries_of [] = []
-entries_of (p ∷ others) = last_named p others ∷ filter (λ q. not (is_named p.name q)) (entries_of others)
+entries_of (p ∷ others) =
+    last_named p others ∷ filter (λ q. not (is_named p.name q)) (entries_of others)
 
 -- the names of some proxies, each once
 abbrev pub names_of : List Proxy → List (List ℕ)

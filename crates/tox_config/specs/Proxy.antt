@@ -2,7 +2,9 @@
 use Rattle.std.specs.Prelude.{ℕ, Bool, true, List, [], ◌∷◌, codes, Option, Some, None, option_and_then, Result, Ok, Err, ok_or, if◌then◌else◌}
 use Rattle.serde_json.specs.Data.{Data, null}
 use Rattle.serde_json.specs.Find.{as_bool, as_object, as_str, get}
-use Rattle.tox_config.specs.Address.{is_address, is_sized}
+use Rattle.tox_time.specs.Steps.{◌>>=◌}
+use Rattle.tox_time.specs.Text.{is_sized, passing}
+use Rattle.tox_config.specs.Address.{is_address}
 use Rattle.tox_config.specs.declared.fault.ConfigFault.{ConfigFault}
 use Rattle.tox_config.specs.declared.fault.ConfigFault.TheVariants.{NotObject, Name, Listen, Upstream, Enabled}
 
@@ -13,17 +15,14 @@ pub record Proxy : Type 0 where
   pub upstream : List ℕ
   pub enabled : Bool
 
--- a text, where it passes a test
-abbrev pub passing : (List ℕ → Bool) → List ℕ → Option (List ℕ)
-passing test text = if test text then Some text else None
-
 -- the name of an object: a text of 1 to 255 bytes
 abbrev pub name_of : Data → Option (List ℕ)
-name_of d = option_and_then (passing is_sized) (option_and_then as_str (get (codes "name") d))
+name_of d = option_and_then (passing (is_sized 255)) (option_and_then as_str (get (codes "name") d))
 
 -- the upstream of an object: an address
 abbrev pub upstream_of : Data → Option (List ℕ)
-upstream_of d = option_and_then (passing is_address) (option_and_then as_str (get (codes "upstream") d))
+upstream_of d =
+    option_and_then (passing is_address) (option_and_then as_str (get (codes "upstream") d))
 
 -- where a proxy listens that says nothing of it
 abbrev pub default_listen : List ℕ
@@ -53,12 +52,6 @@ enabled_in (Some d) = as_bool d
 -- whether the proxy of an object is enabled
 abbrev pub enabled_of : Data → Option Bool
 enabled_of d = enabled_in (get (codes "enabled") d)
-
--- the ? of a result
-infixl 10 ◌>>=◌
-abbrev pub ◌>>=◌ : {A B : Type 0} → Result A ConfigFault → (A → Result B ConfigFault) → Result B ConfigFault
-Ok x >>= f = f x
-Err fault >>= f = Err fault
 
 -- the proxy of the value at a place, or the first of its faults
 abbrev pub proxy_of : ℕ → Data → Result Proxy ConfigFault

@@ -1,25 +1,22 @@
 //! Addresses: a host, which may be empty, a colon and a port.
 ghost use Rattle.std.specs.Prelude.{◌≡◌};
-ghost use Rattle.std.specs.Char.{is_ascii_digit, is_ascii_graphic};
+ghost use Rattle.std.specs.Char.{is_ascii_graphic};
 ghost use Rattle.std.specs.List.{list_all};
-ghost use Rattle.tox_config.specs.Address.{ends_in_port, is_address, is_port, is_sized};
+ghost use Rattle.tox_config.specs.Address.{ends_in_port, is_address, is_port};
 
-const MAX_TEXT_LEN: usize = 255;
+use tox_time::{decimal, is_sized};
 
+/// The most bytes of a name and of an address.
+pub(crate) const MAX_TEXT_LEN: usize = 255;
+
+/// The most digits of a port.
 const MAX_PORT_LEN: usize = 5;
-
-/// Whether a text has 1 to 255 bytes.
-pub(crate) fn is_sized(text: &str) -> bool
-    ensures { result ≡ is_sized text.now }
-{
-    !text.is_empty() && text.len() <= MAX_TEXT_LEN
-}
 
 /// Whether a text is an address: 1 to 255 visible bytes, with a port behind the last colon.
 pub(crate) fn is_address(text: &str) -> bool
     ensures { result ≡ is_address text.now }
 {
-    is_sized(text) && all_visible(text) && ends_in_port(text)
+    is_sized(text, MAX_TEXT_LEN) && all_visible(text) && ends_in_port(text)
 }
 
 /// Whether each byte is from 0x21 to 0x7E.
@@ -43,13 +40,5 @@ fn ends_in_port(text: &str) -> bool
 fn is_port(text: &str) -> bool
     ensures { result ≡ is_port text.now }
 {
-    // `parse` would accept a leading plus.
-    all_digits(text) && text.len() <= MAX_PORT_LEN && text.parse::<u16>().is_ok()
-}
-
-/// Whether each byte is a decimal digit.
-fn all_digits(text: &str) -> bool
-    ensures { result ≡ list_all is_ascii_digit text.now }
-{
-    text.bytes().all(|byte| byte.is_ascii_digit())
+    decimal(text, MAX_PORT_LEN, u64::from(u16::MAX)).is_some()
 }

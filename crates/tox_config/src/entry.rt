@@ -4,11 +4,12 @@ ghost use Rattle.serde_json.specs.View.{view};
 ghost use Rattle.tox_config.specs.Proxy.{enabled_of, listen_of, listen_text, name_of, proxy_of, upstream_of};
 ghost use Rattle.tox_config.specs.Entry.{entry_view};
 
-use crate::address::{is_address, is_sized};
+use crate::address::{MAX_TEXT_LEN, is_address};
 use crate::fault::ConfigFault;
 use crate::proxy::ProxyDef;
 use serde_json::Value;
 use std::alloc::{AllocError, Global};
+use tox_time::is_sized;
 
 const DEFAULT_LISTEN: &str = "localhost:0";
 
@@ -24,7 +25,8 @@ pub(crate) struct Entry<'a> {
 impl<'a> Entry<'a> {
     /// The proxy of the value at a place, or the first of its faults.
     pub(crate) fn read(value: &'a Value, place: usize) -> Result<Entry<'a>, ConfigFault>
-        ensures ok { IfOk result (λ entry. proxy_of place (view value.now) ≡ Ok (entry_view entry)) }
+        ensures ok { IfOk result
+            (λ entry. proxy_of place (view value.now) ≡ Ok (entry_view entry)) }
         ensures err { IfErr result (λ fault. proxy_of place (view value.now) ≡ Err fault) }
     {
         if !value.is_object() {
@@ -60,7 +62,7 @@ fn name_of(value: &Value) -> Option<&str>
     ensures { option_map (λ name. name.now) result ≡ name_of (view value.now) }
 {
     let name = value.get("name")?.as_str()?;
-    if is_sized(name) { Some(name) } else { None }
+    if is_sized(name, MAX_TEXT_LEN) { Some(name) } else { None }
 }
 
 /// Where the proxy listens, where that is an address or left to the default.

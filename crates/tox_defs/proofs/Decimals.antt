@@ -7,7 +7,7 @@ use Rattle.std.proofs.lemmas.Bool.{and_parts}
 use Rattle.std.proofs.lemmas.Bool.Decides.{nat_tests}
 use Rattle.std.proofs.lemmas.Fmt.{decimal_nonempty, digits_decimal, digits_value-decimal, length-decimal-le}
 use Rattle.std.proofs.lemmas.Grind.{common_steps}
-use Rattle.tox_words.proofs.Numbers.{ascii_digits}
+use Rattle.tox_time.proofs.Numbers.{ascii_digits}
 use Rattle.tox_defs.proofs.Cuts.{lacks}
 use Rattle.tox_defs.specs.Pairs.{number_of}
 

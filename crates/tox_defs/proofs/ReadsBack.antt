@@ -7,7 +7,8 @@ use Rattle.tox_defs.proofs.Cuts.{after_first-front, before_first-front, lacks, p
 use Rattle.tox_defs.specs.Kind.{checked, kind_of, name_of, toxic_of}
 use Rattle.tox_defs.specs.Pairs.{has_double_key, is_pair, is_word, key_of, pairs_of, value_at}
 use Rattle.tox_defs.specs.Printed.{printed_pairs, printed_short, type_of, values_of}
-use Rattle.tox_defs.specs.Short.{is_colon, is_known, pairs_in, short_of, toxicity_in, values_in, with_name, with_pairs}
+use Rattle.tox_time.specs.Text.{is_colon}
+use Rattle.tox_defs.specs.Short.{is_known, pairs_in, short_of, toxicity_in, values_in, with_name, with_pairs}
 use Rattle.tox_defs.specs.Toxic.{IsInRange}
 use Rattle.tox_defs.specs.declared.kind.Kind.{Kind}
 use Rattle.tox_defs.specs.declared.kind.Kind.TheVariants.{Latency, Bandwidth, SlowClose, Timeout, ResetPeer, Slicer, LimitData}

@@ -25,7 +25,8 @@ toxic_giving (Bandwidth rate) words = pace_gives rate
 toxic_giving (SlowClose delay) words = slow_gives (1000 * delay)
 toxic_giving (Timeout timeout) words = mute_gives (final_of (timeout_ending timeout))
 toxic_giving (ResetPeer timeout) words = cutoff_gives (micros_of timeout)
-toxic_giving (Slicer average_size size_variation delay) words = slicer_gives average_size size_variation delay words
+toxic_giving (Slicer average_size size_variation delay) words =
+    slicer_gives average_size size_variation delay words
 toxic_giving (LimitData bytes) words = limit_gives bytes
 
 -- the reaction of a toxic, by the words of its lane
@@ -51,7 +52,9 @@ applied chain words = applied_from 0 chain.entries words
 
 -- the reactions of the toxics that a link meets, of those from a place on
 abbrev pub reactions_from : ℕ → List Entry → List ℕ → List Reaction
-reactions_from place entries words = map (λ placed. toxic_reaction placed.toxic (draw words placed.place)) (applied_from place entries words)
+reactions_from place entries words =
+    map (λ placed. toxic_reaction placed.toxic (draw words placed.place))
+    (applied_from place entries words)
 
 -- the reactions of the applied toxics, in order
 abbrev pub reactions_of : Toxics → List ℕ → List Reaction

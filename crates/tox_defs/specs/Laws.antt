@@ -20,18 +20,25 @@ toxic_flow toxic words items = flow (toxic_reaction toxic words) items
 
 -- what is promised of a toxic, of the words of its lane, and of an arrival list
 abbrev pub KeepsLaw : Toxic → (ℕ → ℕ) → List Item → Type 0
-KeepsLaw (Latency latency jitter) words items = LatencyLaw latency jitter items (toxic_flow (Latency latency jitter) words items)
-KeepsLaw (Bandwidth rate) words items = BandwidthLaw rate items (toxic_flow (Bandwidth rate) words items)
-KeepsLaw (SlowClose delay) words items = SlowCloseLaw items (toxic_flow (SlowClose delay) words items)
+KeepsLaw (Latency latency jitter) words items =
+    LatencyLaw latency jitter items (toxic_flow (Latency latency jitter) words items)
+KeepsLaw (Bandwidth rate) words items =
+    BandwidthLaw rate items (toxic_flow (Bandwidth rate) words items)
+KeepsLaw (SlowClose delay) words items =
+    SlowCloseLaw items (toxic_flow (SlowClose delay) words items)
 KeepsLaw (Timeout timeout) words items = TimeoutLaw (toxic_flow (Timeout timeout) words items)
-KeepsLaw (ResetPeer timeout) words items = ResetPeerLaw timeout (toxic_flow (ResetPeer timeout) words items)
+KeepsLaw (ResetPeer timeout) words items =
+    ResetPeerLaw timeout (toxic_flow (ResetPeer timeout) words items)
 KeepsLaw (Slicer average_size size_variation delay) words items =
-    SlicerLaw average_size size_variation items (toxic_flow (Slicer average_size size_variation delay) words items)
-KeepsLaw (LimitData bytes) words items = LimitDataLaw bytes items (toxic_flow (LimitData bytes) words items)
+    SlicerLaw average_size size_variation items
+        (toxic_flow (Slicer average_size size_variation delay) words items)
+KeepsLaw (LimitData bytes) words items =
+    LimitDataLaw bytes items (toxic_flow (LimitData bytes) words items)
 
 -- the law of a toxic, whatever the words and the arrivals
 abbrev pub HasLaw : Toxic → Type 0
-HasLaw toxic = (words : ℕ → ℕ) (items : List Item) → IsArrivalList items → KeepsLaw toxic words items
+HasLaw toxic =
+    (words : ℕ → ℕ) (items : List Item) → IsArrivalList items → KeepsLaw toxic words items
 
 -- what is given for a stream is a stream of the same bytes or fewer
 pub record IsKeptBy (items given : List Item) : Type 0 where
@@ -40,4 +47,6 @@ pub record IsKeptBy (items given : List Item) : Type 0 where
 
 -- a toxic gives streams for streams, whatever the words
 abbrev pub KeepsStreams : Toxic → Type 0
-KeepsStreams toxic = (words : ℕ → ℕ) (items : List Item) → IsStream items → IsKeptBy items (toxic_flow toxic words items)
+KeepsStreams toxic =
+    (words : ℕ → ℕ) (items : List Item) → IsStream items
+    → IsKeptBy items (toxic_flow toxic words items)

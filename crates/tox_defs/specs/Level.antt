@@ -31,12 +31,16 @@ ended_or (Some ending) ended state = ended
 -- what a level gives, if these items come after its present chunk, of which the bytes from `start` on are unread
 abbrev pub level_gives : Draws → ℕ → Level → List Item → List Item
 level_gives draws start level items =
-    ending_or level.ending (flow_from (op_reaction level.op draws) level.state (rest_of start level.stop level.instant ++ items))
+    ending_or level.ending
+        (flow_from (op_reaction level.op draws) level.state
+            (rest_of start level.stop level.instant ++ items))
 
 -- the state that its present chunk will leave
 abbrev pub level_leaves : Draws → ℕ → Level → State
 level_leaves draws start level =
-    ended_or level.ending level.state (state_from (op_reaction level.op draws) level.state (rest_of start level.stop level.instant))
+    ended_or level.ending level.state
+        (state_from (op_reaction level.op draws) level.state
+            (rest_of start level.stop level.instant))
 
 -- a level whose reader stands at `start`: each chunk, piece and byte of its state was read
 pub record IsSound (start : ℕ) (level : Level) : Type 0 where
@@ -57,7 +61,9 @@ pub record IsNextPiece (draws : Draws) (start : ℕ) (old new : Level) (piece : 
   pub stop : new.stop ≡ old.stop
   pub instant : new.instant ≡ old.instant
   pub sound : IsSound piece.span.stop new
-  pub gives : (items : List Item) → level_gives draws start old items ≡ as_chunk piece ∷ level_gives draws piece.span.stop new items
+  pub gives : (items : List Item)
+      → level_gives draws start old items
+      ≡ as_chunk piece ∷ level_gives draws piece.span.stop new items
   pub leaves : level_leaves draws start old ≡ level_leaves draws piece.span.stop new
 
 -- the level gives its ending and nothing else

@@ -19,24 +19,28 @@ rest_of start stop instant =
     if nat_lt start stop then Chunk (record { start = start; stop = stop }) instant ∷ [] else []
 
 -- what comes for these items is `given`, and then what comes for the later items from the later state
-pub record Continues (reaction : Reaction) (state : State) (items : List Item) (given : List Item) (later_state : State) (later_items : List Item) : Type 0 where
+pub record Continues (reaction : Reaction) (state : State) (items : List Item) (given : List Item)
+    (later_state : State) (later_items : List Item) : Type 0 where
   pub gives : flow_from reaction state items ≡ given ++ flow_from reaction later_state later_items
   pub leaves : state_from reaction state items ≡ state_from reaction later_state later_items
 
 -- the state after a piece of a rest that stops at `stop`: the chunk counts with its last piece
 abbrev pub after_piece_of : ℕ → State → Slice → State
-after_piece_of stop state piece = if piece.span.stop == stop then with_chunk (with_piece state piece) else with_piece state piece
+after_piece_of stop state piece =
+    if piece.span.stop == stop then with_chunk (with_piece state piece) else with_piece state piece
 
 -- the look found what comes first for the rest, and items behind it
 abbrev pub Finds : Reaction → State → Slice → List Item → Look → Type 0
 Finds reaction state rest items (Piece piece) =
     Continues reaction state (as_chunk rest ∷ items) (as_chunk piece ∷ [])
-    (after_piece_of rest.span.stop state piece) (rest_of piece.span.stop rest.span.stop rest.instant ++ items)
+    (after_piece_of rest.span.stop state piece)
+        (rest_of piece.span.stop rest.span.stop rest.instant ++ items)
 Finds reaction state rest items (LastPiece piece ending) =
     Continues reaction state (as_chunk rest ∷ items) (as_chunk piece ∷ final_of ending ∷ [])
     (with_ending (with_chunk (with_piece state piece)) ending) items
 Finds reaction state rest items (Ended ending) =
-    Continues reaction state (as_chunk rest ∷ items) (final_of ending ∷ []) (with_ending (with_chunk state) ending) items
+    Continues reaction state (as_chunk rest ∷ items) (final_of ending ∷ [])
+        (with_ending (with_chunk state) ending) items
 
 -- the piece begins where the rest does, isn't empty and lies in the rest
 pub record IsFront (rest piece : Slice) : Type 0 where

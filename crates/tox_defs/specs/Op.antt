@@ -25,7 +25,8 @@ op_giving (Pace rate) draws = pace_gives rate
 op_giving (Slow millis) draws = slow_gives (1000 * millis)
 op_giving (Mute end) draws = mute_gives (final_of end)
 op_giving (Cutoff instant) draws = cutoff_gives instant
-op_giving (Slicing average variation micros lane) draws = slicer_gives average variation micros (draws lane)
+op_giving (Slicing average variation micros lane) draws =
+    slicer_gives average variation micros (draws lane)
 op_giving (Limit bytes) draws = limit_gives bytes
 
 -- the reaction of an operation
@@ -39,7 +40,8 @@ op_of place (Bandwidth rate) = Pace rate
 op_of place (SlowClose delay) = Slow delay
 op_of place (Timeout timeout) = Mute (timeout_ending timeout)
 op_of place (ResetPeer timeout) = Cutoff (micros_of timeout)
-op_of place (Slicer average_size size_variation delay) = Slicing average_size size_variation delay place
+op_of place (Slicer average_size size_variation delay) =
+    Slicing average_size size_variation delay place
 op_of place (LimitData bytes) = Limit bytes
 
 -- an ending whose instant is one

@@ -3,7 +3,7 @@ use Rattle.std.specs.Prelude.{ℕ, ◌&&◌, ◌||◌, ◌==◌, Bool, List, len
 use Rattle.std.specs.Char.{is_ascii_lowercase}
 use Rattle.std.specs.List.{after_first, before_first, find, list_all, list_any, slice_split}
 use Rattle.std.specs.Str.{bytes_eq}
-use Rattle.tox_words.specs.Decimal.{decimal_value}
+use Rattle.tox_time.specs.Text.{decimal_value}
 
 -- one of a to z and _
 abbrev pub is_word_byte : ℕ → Bool

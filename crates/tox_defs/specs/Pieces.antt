@@ -11,7 +11,8 @@ abbrev pub cut : (ℕ → ℕ) → ℕ → ℕ → ℕ → ℕ → List Span
 cut size number start zero most = []
 cut size number start (suc left) zero = []
 cut size number start (suc left) (suc most) =
-    record { start = start; stop = start + min (size number) (suc left) } ∷ cut size (number + 1) (start + min (size number) (suc left)) (suc left - size number) most
+    record { start = start; stop = start + min (size number) (suc left) }
+    ∷ cut size (number + 1) (start + min (size number) (suc left)) (suc left - size number) most
 
 -- the pieces of a span, numbered from one on
 abbrev pub pieces_of : (ℕ → ℕ) → ℕ → Span → List Span
@@ -21,7 +22,8 @@ pieces_of size number span = cut size number span.start (span_len span) (span_le
 abbrev pub leave : (ℕ → ℕ) → ℕ → ℕ → List Span → List Item
 leave wait since t [] = []
 leave wait since t (span ∷ spans) =
-    Chunk span (plus (max since t) (wait (span_len span))) ∷ leave wait (plus (max since t) (wait (span_len span))) t spans
+    Chunk span (plus (max since t) (wait (span_len span)))
+    ∷ leave wait (plus (max since t) (wait (span_len span))) t spans
 
 -- the first bytes of a span, so many or what there is
 abbrev pub first_span : ℕ → Span → Span

@@ -36,7 +36,8 @@ printed_pair pair = pair.0 ++ codes "=" ++ decimal pair.1
 abbrev pub printed_pairs : Toxic → ℕ → List (List ℕ)
 printed_pairs toxic toxicity =
     map printed_pair
-    (zip (attributes_of (type_of toxic) ++ codes "toxicity" ∷ []) (values_of toxic ++ toxicity ∷ []))
+    (zip (attributes_of (type_of toxic) ++ codes "toxicity" ∷ [])
+        (values_of toxic ++ toxicity ∷ []))
 
 -- the type, a colon, and the pairs parted by commas
 abbrev pub printed_short : Toxic → ℕ → List ℕ

@@ -75,21 +75,25 @@ Giving = State → Item → List Item
 
 -- the reaction that gives this, and counts what was taken and given
 abbrev pub counted : Giving → Reaction
-counted giving state item = record { state = state_after state item (giving state item); given = giving state item }
+counted giving state item =
+    record { state = state_after state item (giving state item); given = giving state item }
 
 -- who has given a final takes items and gives none, and its state stays
 abbrev pub react : Reaction → Reaction
-react reaction state item = if state.done then record { state = state; given = [] } else reaction state item
+react reaction state item =
+    if state.done then record { state = state; given = [] } else reaction state item
 
 -- what is given for a list, from a state on
 abbrev pub flow_from : Reaction → State → List Item → List Item
 flow_from reaction state [] = []
-flow_from reaction state (item ∷ items) = (react reaction state item).given ++ flow_from reaction (react reaction state item).state items
+flow_from reaction state (item ∷ items) =
+    (react reaction state item).given ++ flow_from reaction (react reaction state item).state items
 
 -- the state that a list leaves
 abbrev pub state_from : Reaction → State → List Item → State
 state_from reaction state [] = state
-state_from reaction state (item ∷ items) = state_from reaction (react reaction state item).state items
+state_from reaction state (item ∷ items) =
+    state_from reaction (react reaction state item).state items
 
 -- the flow of a list: what is given for it, from the first state on
 abbrev pub flow : Reaction → List Item → List Item

@@ -1,7 +1,8 @@
 -- Short forms: the toxic and the toxicity that a text names, or its first fault.
-use Rattle.std.specs.Prelude.{ℕ, ◌&&◌, ◌||◌, ◌==◌, Bool, not, List, [], map, codes, Option, Some, None, is_some, unwrap_or, Result, Ok, Err, nat_lt, position, if◌then◌else◌}
+use Rattle.std.specs.Prelude.{ℕ, ◌&&◌, ◌||◌, Bool, not, List, [], map, codes, Option, Some, None, is_some, unwrap_or, Result, Ok, Err, nat_lt, position, if◌then◌else◌}
 use Rattle.std.specs.List.{after_first, before_first, list_all, list_any}
 use Rattle.std.specs.Str.{bytes_eq}
+use Rattle.tox_time.specs.Text.{is_colon}
 use Rattle.tox_defs.specs.Kind.{attributes_of, checked, kind_of, toxic_of}
 use Rattle.tox_defs.specs.Pairs.{has_double_key, is_pair, is_word, key_of, pairs_of, value_at}
 use Rattle.tox_defs.specs.declared.kind.Kind.{Kind}
@@ -14,7 +15,8 @@ use Rattle.tox_defs.specs.declared.fault.ToxicFault.TheVariants.{UnknownType, Un
 -- whether a key may stand at a type
 abbrev pub is_known : Kind → List ℕ → Bool
 is_known kind key =
-    bytes_eq key (codes "toxicity") || list_any (λ attribute. bytes_eq attribute key) (attributes_of kind)
+    bytes_eq key (codes "toxicity")
+        || list_any (λ attribute. bytes_eq attribute key) (attributes_of kind)
 
 -- the values of a type's attributes, in order, where an absent one is 0
 abbrev pub values_in : Kind → List (List ℕ) → List ℕ
@@ -34,7 +36,8 @@ abbrev pub with_pairs : Kind → List (List ℕ) → Result (Toxic × ℕ) Short
 with_pairs kind pairs =
     if has_double_key pairs then Err short.DoubleKey
     else if nat_lt 1000 (toxicity_in pairs) then Err (short.Toxic ToxicityNotThousandths)
-    else if not (list_all (λ pair. is_known kind (key_of pair)) pairs) then Err (short.Toxic UnknownAttribute)
+    else if not (list_all (λ pair. is_known kind (key_of pair)) pairs)
+        then Err (short.Toxic UnknownAttribute)
     else with_toxicity (toxicity_in pairs) (checked (toxic_of kind (values_in kind pairs)))
 
 -- the same, where there may be no such type
@@ -42,13 +45,10 @@ abbrev pub with_kind : Option Kind → List (List ℕ) → Result (Toxic × ℕ)
 with_kind None pairs = Err (short.Toxic UnknownType)
 with_kind (Some kind) pairs = with_pairs kind pairs
 
--- the sign between a type and its pairs
-abbrev pub is_colon : ℕ → Bool
-is_colon byte = byte == 58
-
 -- the pairs behind the colon; none where there is no colon
 abbrev pub pairs_in : List ℕ → List (List ℕ)
-pairs_in text = if is_some (position is_colon text) then pairs_of (after_first is_colon text) else []
+pairs_in text =
+    if is_some (position is_colon text) then pairs_of (after_first is_colon text) else []
 
 -- the toxic of a type's name with these pairs, or the first fault
 abbrev pub with_name : List ℕ → List (List ℕ) → Result (Toxic × ℕ) ShortFault

@@ -19,7 +19,8 @@ pub record Staged : Type 0 where
 
 -- a stage that was given nothing yet
 abbrev pub first_stage : Op → List ℕ → Staged
-first_stage op words = record { op = op; words = words; state = first_state; pending = []; place = first_position }
+first_stage op words =
+    record { op = op; words = words; state = first_state; pending = []; place = first_position }
 
 -- how a stage reacts to an item
 abbrev pub reaction_of : Staged → Reaction
@@ -37,5 +38,6 @@ taken stage item = record {
 
 -- the first item that is still to emit leaves the stage, if there is one
 abbrev pub MatchEmitted : Staged → Staged → Option Item → Type 0
-MatchEmitted old new (Some item) = (old.pending ≡ item ∷ new.pending) × (new ≡ record old { pending = new.pending })
+MatchEmitted old new (Some item) =
+    (old.pending ≡ item ∷ new.pending) × (new ≡ record old { pending = new.pending })
 MatchEmitted old new None = (old.pending ≡ []) × (new ≡ old)

@@ -27,6 +27,7 @@ pub record IsKept (stage : Inside) : Type 0 where
   pub within : stage.start ≤ stage.level.stop
   pub few : stage.level.stop ≤ 2 ^ 40
   pub counted : stage.level.state.done ≡ false → IsCounted stage.start stage.level.state
-  pub running : stage.start < stage.level.stop → stage.level.ending ≡ None → stage.level.state.done ≡ false
+  pub running : stage.start < stage.level.stop → stage.level.ending ≡ None
+      → stage.level.state.done ≡ false
   pub heard : stage.start < stage.level.stop → is_mute stage.level.op ≡ false
   pub operation : IsOp stage.level.op

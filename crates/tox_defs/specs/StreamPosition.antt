@@ -10,7 +10,9 @@ first_position = record { position = 0; latest = 0; ended = false }
 
 -- whether an item that comes before the final goes on with the stream
 abbrev pub goes_on : StreamPosition → Item → Bool
-goes_on place (Chunk span t) = nat_le place.latest t && (span.start == place.position) && nat_lt span.start span.stop && nat_le span.stop (2 ^ 40)
+goes_on place (Chunk span t) =
+    nat_le place.latest t && (span.start == place.position) && nat_lt span.start span.stop
+    && nat_le span.stop (2 ^ 40)
 goes_on place (Closed t) = nat_le place.latest t
 goes_on place (Reset t) = nat_le place.latest t
 goes_on place Quiet = true
@@ -21,10 +23,12 @@ fits place item = not place.ended && goes_on place item
 
 -- the place behind an item
 abbrev pub position_after : StreamPosition → Item → StreamPosition
-position_after place (Chunk span t) = record { position = span.stop; latest = t; ended = place.ended }
+position_after place (Chunk span t) =
+    record { position = span.stop; latest = t; ended = place.ended }
 position_after place (Closed t) = record { position = place.position; latest = t; ended = true }
 position_after place (Reset t) = record { position = place.position; latest = t; ended = true }
-position_after place Quiet = record { position = place.position; latest = place.latest; ended = true }
+position_after place Quiet =
+    record { position = place.position; latest = place.latest; ended = true }
 
 -- each item goes on with those before it
 abbrev pub AllFit : StreamPosition → List Item → Type 0

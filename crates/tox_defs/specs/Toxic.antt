@@ -24,7 +24,8 @@ is_within (LimitData bytes) = is_limit_data_within bytes
 
 -- whether sizes vary by their average or more
 abbrev pub is_varied_too_much : Toxic → Bool
-is_varied_too_much (Slicer average_size size_variation delay) = is_slicer_varied_too_much average_size size_variation
+is_varied_too_much (Slicer average_size size_variation delay) =
+    is_slicer_varied_too_much average_size size_variation
 is_varied_too_much toxic = false
 
 -- why a toxic is refused

@@ -16,7 +16,8 @@ start_of stop (piece ∷ pieces) = piece.start
 -- nonempty pieces without gaps, the last of which stops at this position
 abbrev pub JoinUpTo : ℕ → List Run → Type 0
 JoinUpTo stop [] = Unit {0}
-JoinUpTo stop (piece ∷ pieces) = (0 < length piece.bytes) × (stop_of piece ≡ start_of stop pieces) × JoinUpTo stop pieces
+JoinUpTo stop (piece ∷ pieces) =
+    (0 < length piece.bytes) × (stop_of piece ≡ start_of stop pieces) × JoinUpTo stop pieces
 
 -- whether a piece has a position
 abbrev pub has_position : ℕ → Run → Bool

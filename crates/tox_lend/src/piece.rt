@@ -17,7 +17,12 @@ impl Model for Piece {
 
     ghost use Rattle.std.specs.Prelude.{vec_capacity};
 
-    ghost view = { λ p. record { start = p.start; bytes = p.bytes.items; instant = p.instant; room = vec_capacity p.bytes } };
+    ghost view = { λ p. record {
+        start = p.start;
+        bytes = p.bytes.items;
+        instant = p.instant;
+        room = vec_capacity p.bytes;
+    } };
 }
 
 impl Piece {

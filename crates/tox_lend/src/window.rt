@@ -66,7 +66,8 @@ impl Window {
         requires some { 0 < length piece.bytes }
         requires starts { piece.start ≡ self.old.stop }
         requires fits { stop_of piece < 2 ^ 64 }
-        ensures { self.new ≡ record self.old { held = self.old.held ++ piece ∷ []; stop = stop_of piece } }
+        ensures { self.new
+            ≡ record self.old { held = self.old.held ++ piece ∷ []; stop = stop_of piece } }
     {
         self.stop = piece.start + piece.bytes.len() as u64;
         self.held.push_back_reserved(piece);
@@ -74,7 +75,9 @@ impl Window {
 
     /// Gives up each piece that ends at or before a position, and no other.
     pub fn drop_before(&mut self, position: u64)
-        ensures { self.new ≡ record self.old { held = filter (λ piece. nat_lt position (stop_of piece)) self.old.held } }
+        ensures { self.new
+            ≡ record self.old {
+                held = filter (λ piece. nat_lt position (stop_of piece)) self.old.held } }
     {
         while let Some(piece) = self.held.front() {
             if !piece.ends_by(position) {
@@ -106,7 +109,8 @@ impl Window {
     /// How many pieces end at or before a position. They are the first ones.
     fn ended_by(&self, position: u64) -> usize
         ensures few { result ≤ length self.now.held }
-        ensures ended { IsPartitionPoint (λ piece. nat_le (stop_of piece) position ≡ true) (λ piece. nat_le (stop_of piece) position ≡ false) self.now.held result }
+        ensures ended { IsPartitionPoint (λ piece. nat_le (stop_of piece) position ≡ true)
+            (λ piece. nat_le (stop_of piece) position ≡ false) self.now.held result }
     {
         self.held.partition_point(|piece| piece.ends_by(position))
     }

@@ -13,12 +13,15 @@ with_queue n k items = slice_set n.queues k items
 
 -- the queues with one more item at the end of queue k, if that has room
 abbrev pub entered : ℕ → NetworkState → ℕ → Item → Option (List (List Item))
-entered cap n k item = if nat_lt (length (queue n k)) cap then Some (with_queue n k (queue n k ++ item ∷ [])) else None
+entered cap n k item =
+    if nat_lt (length (queue n k)) cap then Some (with_queue n k (queue n k ++ item ∷ [])) else None
 
 -- the first of these arrivals enters queue 0
 abbrev pub arrive : ℕ → NetworkState → List Item → Option NetworkState
 arrive cap n [] = None
-arrive cap n (item ∷ rest) = option_and_then (λ queues. Some (record n { arrivals = rest; queues = queues })) (entered cap n 0 item)
+arrive cap n (item ∷ rest) =
+    option_and_then (λ queues. Some (record n { arrivals = rest; queues = queues }))
+        (entered cap n 0 item)
 
 -- a stage that reacted to an item
 abbrev pub reacted : StageState → Item → StageState
@@ -30,7 +33,11 @@ reacted stage item = record {
 
 -- stage k with nothing left to put takes the first of these items
 abbrev pub take_first : NetworkState → ℕ → StageState → List Item → List Item → Option NetworkState
-take_first n k stage [] (item ∷ rest) = Some (record n { queues = with_queue n k rest; stages = slice_set n.stages k (reacted stage item) })
+take_first n k stage [] (item ∷ rest) =
+    Some (record n {
+      queues = with_queue n k rest;
+      stages = slice_set n.stages k (reacted stage item);
+    })
 take_first n k stage [] [] = None
 take_first n k stage (given ∷ more) items = None
 
@@ -43,7 +50,12 @@ take_at n k None = None
 abbrev pub put_first : ℕ → NetworkState → ℕ → StageState → List Item → Option NetworkState
 put_first cap n k stage [] = None
 put_first cap n k stage (item ∷ rest) =
-    option_and_then (λ queues. Some (record n { queues = queues; stages = slice_set n.stages k (record stage { unsent = rest }) })) (entered cap n (k + 1) item)
+    option_and_then
+        (λ queues. Some (record n {
+          queues = queues;
+          stages = slice_set n.stages k (record stage { unsent = rest });
+        }))
+        (entered cap n (k + 1) item)
 
 -- stage k, where there is one, puts the first item that it gave
 abbrev pub put_at : ℕ → NetworkState → ℕ → Option StageState → Option NetworkState
@@ -53,7 +65,11 @@ put_at cap n k None = None
 -- the first of these items of the last queue is delivered
 abbrev pub deliver : NetworkState → List Item → Option NetworkState
 deliver n [] = None
-deliver n (item ∷ rest) = Some (record n { queues = with_queue n (length n.stages) rest; delivered = n.delivered ++ item ∷ [] })
+deliver n (item ∷ rest) =
+    Some (record n {
+      queues = with_queue n (length n.stages) rest;
+      delivered = n.delivered ++ item ∷ [];
+    })
 
 -- the network after a move, or None where the move is not possible
 abbrev pub after : ℕ → NetworkState → Move → Option NetworkState

@@ -24,7 +24,8 @@ pub record NetworkView : Type 0 where
 
 -- a stage without its place in the stream
 abbrev pub stage_of : Staged → StageState
-stage_of stage = record { reaction = reaction_of stage; state = stage.state; unsent = stage.pending }
+stage_of stage =
+    record { reaction = reaction_of stage; state = stage.state; unsent = stage.pending }
 
 -- the stage of an applied toxic that was given nothing yet
 abbrev pub placed_stage : List ℕ → Placed → Staged
@@ -40,7 +41,8 @@ state_of network = record {
 }
 
 -- no move was made yet
-pub record IsStart (chain : Toxics) (words : List ℕ) (items : List Item) (room : ℕ) (network : NetworkView) : Type 0 where
+pub record IsStart (chain : Toxics) (words : List ℕ) (items : List Item) (room : ℕ)
+    (network : NetworkView) : Type 0 where
   pub state : state_of network ≡ start (reactions_of chain words) items
   pub cap : network.cap ≡ room
   pub arrived : network.arrived ≡ items
@@ -59,7 +61,8 @@ pub record IsStep (move : Move) (old new : NetworkView) : Type 0 where
 -- the next item to be delivered is a chunk
 abbrev pub HasChunkFirst : NetworkView → Type 0
 HasChunkFirst network =
-    (item : Item) × (rest : List Item) × (queue (state_of network) (length network.stages) ≡ item ∷ rest) × (is_final item ≡ false)
+    (item : Item) × (rest : List Item)
+        × (queue (state_of network) (length network.stages) ≡ item ∷ rest) × (is_final item ≡ false)
 
 -- what every move keeps
 pub record IsSound (network : NetworkView) : Type 0 where
@@ -67,8 +70,10 @@ pub record IsSound (network : NetworkView) : Type 0 where
   -- a queue before each stage and one behind the last
   pub shaped : length network.queues ≡ length network.stages + 1
   -- each stage may take what comes to it
-  pub fits : (k : ℕ) (stage : Staged) → slice_get network.stages k ≡ Some stage → AllFit stage.place (coming (state_of network) k)
+  pub fits : (k : ℕ) (stage : Staged) → slice_get network.stages k ≡ Some stage
+      → AllFit stage.place (coming (state_of network) k)
   -- what was delivered and will be is a stream
   pub whole : IsStream (still (state_of network))
-  pub few : network.steps + moves_left (state_of network) ≤ most_moves (length network.stages) network.arrived
+  pub few : network.steps + moves_left (state_of network)
+      ≤ most_moves (length network.stages) network.arrived
   pub small : most_moves (length network.stages) network.arrived < 2 ^ 64

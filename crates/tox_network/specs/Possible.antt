@@ -13,7 +13,8 @@ if_any (item ∷ items) move other = Some move
 -- the last of the moves before stage k that finds an item
 abbrev pub possible_before : NetworkState → ℕ → Option Move
 possible_before n zero = if_any n.arrivals Arrive None
-possible_before n (suc k) = if_any (unsent_at n k) (Put k) (if_any (queue n k) (Take k) (possible_before n k))
+possible_before n (suc k) =
+    if_any (unsent_at n k) (Put k) (if_any (queue n k) (Take k) (possible_before n k))
 
 -- of all moves the last that finds an item: nothing lies behind it, so it has room
 abbrev pub possible : NetworkState → Option Move

@@ -14,15 +14,23 @@ use Rattle.tox_network.specs.Rings.{Ring, PassOn, IsRunOf}
 pub record HasRunLaws (chain : Toxics) (words : List ℕ) (items : List Item) : Type 0 where
   -- the eventual delivery is the chain's flow at every moment, so what is delivered is a prefix of it
   pub still : OfEveryRun chain words items (λ moves n. still n ≡ chain_flow chain words items)
-  pub prefix : OfEveryRun chain words items (λ moves n. IsPrefix n.delivered (chain_flow chain words items))
+  pub prefix : OfEveryRun chain words items
+      (λ moves n. IsPrefix n.delivered (chain_flow chain words items))
   -- no queue ever holds more items than it has room for
-  pub room : (cap : ℕ) (moves : List Move) (n : NetworkState) → 1 ≤ cap → IsRun cap (start (reactions_of chain words) items) moves n → (k : ℕ) → length (queue n k) ≤ cap
+  pub room : (cap : ℕ) (moves : List Move) (n : NetworkState) → 1 ≤ cap
+      → IsRun cap (start (reactions_of chain words) items) moves n → (k : ℕ)
+      → length (queue n k) ≤ cap
   -- no run makes more moves than that
-  pub short : OfEveryRun chain words items (λ moves n. length moves ≤ most_moves (length (reactions_of chain words)) items)
+  pub short : OfEveryRun chain words items
+      (λ moves n. length moves ≤ most_moves (length (reactions_of chain words)) items)
   -- at rest nothing waits, the whole flow is delivered, and the number of moves is the same whatever their order
   pub empty : OfEveryRest chain words items (λ moves n. IsEmpty n)
-  pub delivers : OfEveryRest chain words items (λ moves n. n.delivered ≡ chain_flow chain words items)
-  pub moves : OfEveryRest chain words items (λ moves n. length moves ≡ moves_left (start (reactions_of chain words) items))
+  pub delivers : OfEveryRest chain words items
+      (λ moves n. n.delivered ≡ chain_flow chain words items)
+  pub moves : OfEveryRest chain words items
+      (λ moves n. length moves ≡ moves_left (start (reactions_of chain words) items))
   -- some run comes to rest, and where stages pass all on over rings, what went over these is what goes through the queues of such a run
   pub rests : (cap : ℕ) → 1 ≤ cap → RestingRun cap (start (reactions_of chain words) items)
-  pub rings : (cap : ℕ) (rings : List Ring) → 1 ≤ cap → PassOn (reactions_of chain words) items rings → IsRunOf cap (reactions_of chain words) items rings
+  pub rings : (cap : ℕ) (rings : List Ring) → 1 ≤ cap
+      → PassOn (reactions_of chain words) items rings
+      → IsRunOf cap (reactions_of chain words) items rings

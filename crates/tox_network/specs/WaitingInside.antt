@@ -12,7 +12,11 @@ quiet_item true = Quiet ∷ []
 quiet_item false = []
 
 abbrev pub arriving : Inside → Arriving
-arriving w = record { arrived = arrival_list w.items.now; waiting = drop w.entered w.items.now ++ quiet_item w.quiet }
+arriving w =
+    record {
+      arrived = arrival_list w.items.now;
+      waiting = drop w.entered w.items.now ++ quiet_item w.quiet;
+    }
 
 abbrev pub IsKept : Inside → Type 0
 IsKept w = w.entered ≤ length w.items.now

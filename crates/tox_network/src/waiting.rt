@@ -41,7 +41,8 @@ fn is_open(items: &[Item]) -> bool
 impl<'a> Waiting<'a> {
     /// All arrivals wait.
     pub fn new(arrivals: &'a Arrivals) -> Waiting<'a>
-        ensures all { result ≡ record { arrived = arrival_list arrivals.now; waiting = arrival_list arrivals.now } }
+        ensures all { result
+            ≡ record { arrived = arrival_list arrivals.now; waiting = arrival_list arrivals.now } }
         ensures list { IsArrivalList (arrival_list arrivals.now) }
         ensures bound { arrived (arrival_list arrivals.now) ≤ 2 ^ 40 }
     {

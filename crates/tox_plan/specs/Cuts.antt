@@ -11,7 +11,8 @@ use Rattle.tox_plan.specs.RunnerView.{RunnerView, HasNoChunk, to_come}
 abbrev pub Reach : ℕ → ℕ → ℕ → List Slice → Type 0
 Reach start stop instant [] = start ≡ stop
 Reach start stop instant (cut ∷ cuts) =
-    (cut.span.start ≡ start) × (start < cut.span.stop) × (cut.instant ≡ instant) × Reach cut.span.stop stop instant cuts
+    (cut.span.start ≡ start) × (start < cut.span.stop) × (cut.instant ≡ instant)
+        × Reach cut.span.stop stop instant cuts
 
 -- the slice lies in the piece
 pub record IsWithin (piece slice : Slice) : Type 0 where
@@ -57,4 +58,5 @@ BeginsApart instant (Quiet ∷ items) = HasNoChunk items
 -- a slice of this instant can't be longer: the piece is over, or the next chunk leaves at another instant, whatever arrives later
 abbrev pub EndsHere : ℕ → RunnerView → Type 0
 EndsHere instant runner =
-    (runner.position ≡ runner.piece.span.stop) ⊎ ((items : List Item) → BeginsApart instant (to_come runner items))
+    (runner.position ≡ runner.piece.span.stop)
+        ⊎ ((items : List Item) → BeginsApart instant (to_come runner items))

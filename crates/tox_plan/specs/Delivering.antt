@@ -8,7 +8,9 @@ use Rattle.tox_plan.specs.RunnerView.{RunnerView, to_come}
 
 -- the item may come after this piece
 abbrev pub MayFollow : Slice → Item → Type 0
-MayFollow piece (Chunk span t) = (span.start ≡ piece.span.stop) × (span.start < span.stop) × (span.stop ≤ 2 ^ 40) × (piece.instant ≤ t)
+MayFollow piece (Chunk span t) =
+    (span.start ≡ piece.span.stop) × (span.start < span.stop) × (span.stop ≤ 2 ^ 40)
+    × (piece.instant ≤ t)
 MayFollow piece (Closed t) = piece.instant ≤ t
 MayFollow piece (Reset t) = ⊥
 MayFollow piece Quiet = Unit {0}
@@ -32,8 +34,10 @@ StandsBehind runner (Reset t) = Unit {0}
 StandsBehind runner Quiet = ⊥
 
 -- slices that were given, and what is then still to come, come to the same as before
-pub record PreservesOutput (old : RunnerView) (given : List Slice) (olds : List Item) (new : RunnerView) (more : List Slice) (news : List Item) : Type 0 where
-  pub tables : slices_table given ++ table (to_come old olds) ≡ slices_table more ++ table (to_come new news)
+pub record PreservesOutput (old : RunnerView) (given : List Slice) (olds : List Item)
+    (new : RunnerView) (more : List Slice) (news : List Item) : Type 0 where
+  pub tables : slices_table given ++ table (to_come old olds)
+      ≡ slices_table more ++ table (to_come new news)
   pub endings : ending (to_come old olds) ≡ ending (to_come new news)
 
 -- where the last slice stops

@@ -9,19 +9,25 @@ use Rattle.tox_compile.specs.Meaning.{Ops, means}
 use Rattle.tox_plan.specs.RunnerView.{RunnerView, to_come}
 
 -- the slices that were given of the offered pieces, and what is still to come, are the plan's meaning, whatever comes later
-pub record HasGiven (plan : Ops) (offered : List Item) (given : List Slice) (runner : RunnerView) : Type 0 where
-  pub tables : (items : List Item) → IsStream (offered ++ items) → slices_table given ++ table (to_come runner items) ≡ table (means plan runner.words (offered ++ items))
-  pub endings : (items : List Item) → IsStream (offered ++ items) → ending (to_come runner items) ≡ ending (means plan runner.words (offered ++ items))
+pub record HasGiven (plan : Ops) (offered : List Item) (given : List Slice)
+    (runner : RunnerView) : Type 0 where
+  pub tables : (items : List Item) → IsStream (offered ++ items)
+      → slices_table given ++ table (to_come runner items)
+      ≡ table (means plan runner.words (offered ++ items))
+  pub endings : (items : List Item) → IsStream (offered ++ items)
+      → ending (to_come runner items) ≡ ending (means plan runner.words (offered ++ items))
 
 -- a call that took these pieces and gave these slices
 abbrev pub GoesOn : RunnerView → List Item → List Slice → RunnerView → Type 0
 GoesOn old pieces slices new =
-    (plan : Ops) (offered : List Item) (given : List Slice) → HasGiven plan offered given old → HasGiven plan (offered ++ pieces) (given ++ slices) new
+    (plan : Ops) (offered : List Item) (given : List Slice) → HasGiven plan offered given old
+        → HasGiven plan (offered ++ pieces) (given ++ slices) new
 
 -- no later piece and no final takes back what was given
 abbrev pub IsLasting : Ops → List ℕ → List Item → List Slice → Type 0
 IsLasting plan words offered given =
-    (items : List Item) → IsStream (offered ++ items) → IsPrefix (slices_table given) (table (means plan words (offered ++ items)))
+    (items : List Item) → IsStream (offered ++ items)
+        → IsPrefix (slices_table given) (table (means plan words (offered ++ items)))
 
 -- no byte of these instants leaves as early as that
 abbrev pub AreAfter : ℕ → List ℕ → Type 0
@@ -31,4 +37,5 @@ AreAfter instant (t ∷ ts) = (instant < t) × AreAfter instant ts
 -- all that the offered pieces bring was given
 abbrev pub IsWhole : Ops → List ℕ → List Item → List Slice → Type 0
 IsWhole plan words offered given =
-    IsStream (offered ++ Quiet ∷ []) → slices_table given ≡ table (means plan words (offered ++ Quiet ∷ []))
+    IsStream (offered ++ Quiet ∷ [])
+        → slices_table given ≡ table (means plan words (offered ++ Quiet ∷ []))

@@ -22,7 +22,8 @@ ending_at_start op = None
 
 -- the level of an operation that was given nothing yet
 abbrev pub level_at_start : Op → Level
-level_at_start op = record { op = op; state = first_state; stop = 0; instant = 0; ending = ending_at_start op }
+level_at_start op =
+    record { op = op; state = first_state; stop = 0; instant = 0; ending = ending_at_start op }
 
 -- the levels of a plan's operations, the last operation first
 abbrev pub levels_at_start : List Op → List Level
@@ -69,18 +70,23 @@ AreRead start (level ∷ levels) source = (level.stop ≡ start) × AreRead leve
 -- no level has a rest or an ending, and the source's piece is used up
 abbrev pub AreDrained : ℕ → List Level → Slice → Type 0
 AreDrained start [] source = source.span.stop ≡ start
-AreDrained start (level ∷ levels) source = (level.stop ≡ start) × (level.ending ≡ None) × AreDrained level.stop levels source
+AreDrained start (level ∷ levels) source =
+    (level.stop ≡ start) × (level.ending ≡ None) × AreDrained level.stop levels source
 
 -- the piece is the next of what is to come, and the rest is to come after it
-pub record IsNext (words : List ℕ) (start : ℕ) (old new : List Level) (source piece : Slice) : Type 0 where
+pub record IsNext (words : List ℕ) (start : ℕ) (old new : List Level)
+    (source piece : Slice) : Type 0 where
   pub begins : piece.span.start ≡ start
   pub some : start < piece.span.stop
   pub nested : AreNested piece.span.stop new source
-  pub gives : (items : List Item) → to_come_from words start old source items ≡ as_chunk piece ∷ to_come_from words piece.span.stop new source items
+  pub gives : (items : List Item)
+      → to_come_from words start old source items
+      ≡ as_chunk piece ∷ to_come_from words piece.span.stop new source items
 
 -- this ending is to come and nothing else, whatever the source gives
 abbrev pub OnlyEnds : List ℕ → ℕ → List Level → Slice → Ending → Type 0
-OnlyEnds words start levels source ending = (items : List Item) → to_come_from words start levels source items ≡ final_of ending ∷ []
+OnlyEnds words start levels source ending =
+    (items : List Item) → to_come_from words start levels source items ≡ final_of ending ∷ []
 
 -- some level's ending is known
 abbrev pub HaveEnded : List Level → Type 0
@@ -92,13 +98,15 @@ abbrev pub AreOpenUnless : Bool → List Level → Type 0
 AreOpenUnless ended levels = ended ≡ false → HaveEnded levels → ⊥
 
 -- a pull brought the ending, which some level keeps
-pub record IsTheEnd (words : List ℕ) (start : ℕ) (old new : List Level) (source : Slice) (ending : Ending) : Type 0 where
+pub record IsTheEnd (words : List ℕ) (start : ℕ) (old new : List Level) (source : Slice)
+    (ending : Ending) : Type 0 where
   pub only : OnlyEnds words start old source ending
   pub kept : HaveEnded new
 
 -- a piece, if one comes, begins where the reader stands
 abbrev pub IsFrom : ℕ → Pulled → Type 0
-IsFrom start (Piece piece) = (piece.span.start ≡ start) × (start < piece.span.stop) × (piece.span.stop ≤ 2 ^ 40)
+IsFrom start (Piece piece) =
+    (piece.span.start ≡ start) × (start < piece.span.stop) × (piece.span.stop ≤ 2 ^ 40)
 IsFrom start (End ending) = Unit {0}
 IsFrom start Nothing = Unit {0}
 

@@ -46,7 +46,10 @@ reader_at position (Some cut) = cut.span.stop
 -- the remaining output, if these items follow the offered pieces
 abbrev pub to_come : RunnerView → List Item → List Item
 to_come runner items =
-    ending_or runner.ending (found_chunk runner.lookahead ++ to_come_from runner.words (reader_at runner.position runner.lookahead) runner.levels runner.piece items)
+    ending_or runner.ending
+        (found_chunk runner.lookahead
+        ++ to_come_from runner.words (reader_at runner.position runner.lookahead)
+            runner.levels runner.piece items)
 
 -- the ending that an idle runner knows
 abbrev pub known_ending : RunnerView → Option Ending
@@ -74,7 +77,8 @@ round_due read None round = if read then 0 else round
 -- A runner that may have to look has a round in hand.
 abbrev pub AreCounted : RunnerView → Type 0
 AreCounted runner =
-    round_due runner.drained runner.lookahead (length runner.levels) + runner.turns ≤ length runner.levels * (runner.cuts + runner.pieces)
+    round_due runner.drained runner.lookahead (length runner.levels) + runner.turns
+        ≤ length runner.levels * (runner.cuts + runner.pieces)
 
 -- a found cut begins where the next slice does, and comes before any ending
 pub record IsFound (runner : RunnerView) (cut : Slice) : Type 0 where
@@ -85,8 +89,10 @@ pub record IsFound (runner : RunnerView) (cut : Slice) : Type 0 where
 
 -- what holds of every runner
 pub record IsRunning (runner : RunnerView) : Type 0 where
-  pub nested : runner.ending ≡ None → AreNested (reader_at runner.position runner.lookahead) runner.levels runner.piece
-  pub drained : runner.drained ≡ true → runner.ending ≡ None → AreDrained (reader_at runner.position runner.lookahead) runner.levels runner.piece
+  pub nested : runner.ending ≡ None
+      → AreNested (reader_at runner.position runner.lookahead) runner.levels runner.piece
+  pub drained : runner.drained ≡ true → runner.ending ≡ None
+      → AreDrained (reader_at runner.position runner.lookahead) runner.levels runner.piece
   pub found : IfSome runner.lookahead (IsFound runner)
   pub unended : AreOpenUnless runner.ended runner.levels
   pub ended : IsSome runner.ending → runner.drained ≡ true
@@ -118,4 +124,5 @@ answer_of (Some fault) = Err fault
 
 -- what an offer of a piece is answered
 abbrev pub offer_answer : RunnerView → ℕ → ℕ → Result (Unit {0}) ArrivalFault
-offer_answer runner len instant = answer_of (piece_fault runner.piece.span.stop runner.latest (is_some runner.ending) len instant)
+offer_answer runner len instant =
+    answer_of (piece_fault runner.piece.span.stop runner.latest (is_some runner.ending) len instant)

@@ -20,9 +20,15 @@ use tox_words::Words;
 
 /// Takes all slices of the offered piece.
 fn take_cuts(runner: &mut Runner, slices: &mut SliceList) -> Result<(), AllocError>
-    ensures goes { OnOk result ((items : List OneItem) → PreservesOutput runner.old slices.old items runner.new slices.new items) }
-    ensures idle { OnOk result ((runner.new.idle ≡ true) × (runner.new.piece ≡ runner.old.piece) × (runner.new.latest ≡ runner.old.latest)) }
-    ensures neighbours { OnOk result ((items : List OneItem) → Any (LiesInChunk runner.old.piece.span) items → AreNeighbours items 0 slices.old → stop_from 0 slices.old ≡ runner.old.position
+    ensures goes { OnOk result
+        ((items : List OneItem)
+        → PreservesOutput runner.old slices.old items runner.new slices.new items) }
+    ensures idle { OnOk result
+        ((runner.new.idle ≡ true) × (runner.new.piece ≡ runner.old.piece)
+        × (runner.new.latest ≡ runner.old.latest)) }
+    ensures neighbours { OnOk result
+        ((items : List OneItem) → Any (LiesInChunk runner.old.piece.span) items
+        → AreNeighbours items 0 slices.old → stop_from 0 slices.old ≡ runner.old.position
         → AreNeighbours items 0 slices.new × (stop_from 0 slices.new ≡ runner.new.position)) }
 {
     while let Some(slice) = runner.next_cut() {
@@ -34,12 +40,20 @@ fn take_cuts(runner: &mut Runner, slices: &mut SliceList) -> Result<(), AllocErr
 /// Gives the runner the next arrival, and takes the slices that it makes of it.
 fn take_item(runner: &mut Runner, slices: &mut SliceList, item: &Item) -> Result<(), AllocError>
     requires idle { runner.old.idle ≡ true }
-    requires follows { (last : OneSlice) × MayFollow last item.now × (runner.old.latest ≤ last.instant) × (runner.old.ending ≡ None → StandsAt runner.old last) }
-    ensures goes { OnOk result ((items : List OneItem) → EndsAt item.now items → PreservesOutput runner.old slices.old (arrival_list (item.now ∷ items)) runner.new slices.new (arrival_list items)) }
+    requires follows { (last : OneSlice) × MayFollow last item.now
+        × (runner.old.latest ≤ last.instant)
+        × (runner.old.ending ≡ None → StandsAt runner.old last) }
+    ensures goes { OnOk result
+        ((items : List OneItem) → EndsAt item.now items
+        → PreservesOutput runner.old slices.old
+        (arrival_list (item.now ∷ items)) runner.new slices.new (arrival_list items)) }
     ensures idle { OnOk result (runner.new.idle ≡ true) }
-    ensures latest { OnOk result (runner.new.latest ≤ latest_from runner.old.latest (item.now ∷ [])) }
+    ensures latest { OnOk result
+        (runner.new.latest ≤ latest_from runner.old.latest (item.now ∷ [])) }
     ensures stands { OnOk result (runner.new.ending ≡ None → StandsBehind runner.new item.now) }
-    ensures neighbours { OnOk result ((items : List OneItem) → Any (λ other. other ≡ item.now) items → AreNeighbours items 0 slices.old → stop_from 0 slices.old ≡ runner.old.position
+    ensures neighbours { OnOk result
+        ((items : List OneItem) → Any (λ other. other ≡ item.now) items
+        → AreNeighbours items 0 slices.old → stop_from 0 slices.old ≡ runner.old.position
         → AreNeighbours items 0 slices.new × (stop_from 0 slices.new ≡ runner.new.position)) }
 {
     match item {
@@ -68,7 +82,8 @@ fn deliver_plan(
 ) -> Result<Outcome, AllocError>
     ensures stream { IfOk result (λ _. IsStream (arrival_list arrivals.now)) }
     ensures flow { IfOk result (IsOutcomeOf (means plan words.now (arrival_list arrivals.now))) }
-    ensures neighbours { IfOk result (λ outcome. AreNeighbours (arrival_list arrivals.now) 0 outcome.slices) }
+    ensures neighbours { IfOk result
+        (λ outcome. AreNeighbours (arrival_list arrivals.now) 0 outcome.slices) }
 {
     let mut runner = Runner::new(plan, words);
     let mut slices = SliceList::new(alloc);
@@ -89,9 +104,13 @@ pub fn deliver(
     words: &Words,
     arrivals: &Arrivals,
 ) -> Result<Outcome, AllocError>
-    ensures flow { IfOk result (IsOutcomeOf (chain_flow chain.now words.now (arrival_list arrivals.now))) }
-    ensures neighbours { IfOk result (λ outcome. AreNeighbours (arrival_list arrivals.now) 0 outcome.slices) }
-    ensures every_run { IfOk result (λ outcome. OfEveryRest chain.now words.now (arrival_list arrivals.now) (λ moves network. IsOutcomeOf network.delivered outcome)) }
+    ensures flow { IfOk result
+        (IsOutcomeOf (chain_flow chain.now words.now (arrival_list arrivals.now))) }
+    ensures neighbours { IfOk result
+        (λ outcome. AreNeighbours (arrival_list arrivals.now) 0 outcome.slices) }
+    ensures every_run { IfOk result
+        (λ outcome. OfEveryRest chain.now words.now (arrival_list arrivals.now)
+        (λ moves network. IsOutcomeOf network.delivered outcome)) }
 {
     deliver_plan(alloc, compile(chain, words), words, arrivals)
 }

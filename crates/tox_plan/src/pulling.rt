@@ -67,7 +67,8 @@ pub(crate) fn pull(
     ensures turns { looks.new.turns ≤ looks.old.turns + length levels.old }
     ensures more { looks.old.turns ≤ looks.new.turns }
     ensures looked { 0 < length levels.old → looks.old.turns < looks.new.turns }
-    ensures ended { AreOpenUnless looks.old.ended levels.old → AreOpenUnless looks.new.ended levels.new }
+    ensures ended { AreOpenUnless looks.old.ended levels.old
+        → AreOpenUnless looks.new.ended levels.new }
 {
     let read = count_read(levels, start);
     let (read, unread) = levels.split_at_mut(read);
@@ -79,7 +80,9 @@ pub(crate) fn pull(
 /// How many of the first levels have nothing left, where their reader stands at `start`.
 fn count_read(levels: &[Level], start: u64) -> usize
     ensures most { result ≤ length levels.now }
-    ensures read { (source : OneSlice) → AreNested start levels.now source → All (IsRead start) (take result levels.now) × AreNested start (drop result levels.now) source }
+    ensures read { (source : OneSlice) → AreNested start levels.now source
+        → All (IsRead start) (take result levels.now)
+        × AreNested start (drop result levels.now) source }
     ensures unread { BeginsUnread start (drop result levels.now) }
 {
     match levels.split_first() {
@@ -107,7 +110,8 @@ fn pull_nearest(
     ensures turns { looks.new.turns ≤ looks.old.turns + length levels.old }
     ensures more { looks.old.turns ≤ looks.new.turns }
     ensures looked { 0 < length levels.old → looks.old.turns < looks.new.turns }
-    ensures ended { AreOpenUnless looks.old.ended levels.old → AreOpenUnless looks.new.ended levels.new }
+    ensures ended { AreOpenUnless looks.old.ended levels.old
+        → AreOpenUnless looks.new.ended levels.new }
 {
     let Some((level, _upstream)) = levels.split_first_mut() else {
         return pull_source(start, source);
@@ -124,11 +128,13 @@ fn pass(levels: &mut [Level], start: u64, pulled: &mut Pulled, words: &Words, lo
     requires read { All (IsRead start) levels.old }
     requires from { IsFrom start pulled.old }
     requires room { looks.old.turns + length levels.old < 2 ^ 64 }
-    ensures pulled { (source : OneSlice) (old new : List OneLevel) → MatchPulled words.now start old new source pulled.old
+    ensures pulled { (source : OneSlice) (old new : List OneLevel)
+        → MatchPulled words.now start old new source pulled.old
         → MatchPulled words.now start (levels.old ++ old) (levels.new ++ new) source pulled.new }
     ensures ops { ops_of levels.new ≡ ops_of levels.old }
     ensures turns { looks.new.turns ≡ looks.old.turns + length levels.old }
-    ensures ended { (upstream : List OneLevel) → AreOpenUnless looks.old.ended upstream → AreOpenUnless looks.new.ended (levels.new ++ upstream) }
+    ensures ended { (upstream : List OneLevel) → AreOpenUnless looks.old.ended upstream
+        → AreOpenUnless looks.new.ended (levels.new ++ upstream) }
 {
     if let Some((level, downstream)) = levels.split_last_mut() {
         pass_one(level, start, pulled, words, looks);
@@ -147,12 +153,14 @@ fn pass_one(
     requires read { IsRead start level.old }
     requires from { IsFrom start pulled.old }
     requires room { looks.old.turns + 1 < 2 ^ 64 }
-    ensures pulled { (source : OneSlice) (old new : List OneLevel) → MatchPulled words.now start old new source pulled.old
+    ensures pulled { (source : OneSlice) (old new : List OneLevel)
+        → MatchPulled words.now start old new source pulled.old
         → MatchPulled words.now start (level.old ∷ old) (level.new ∷ new) source pulled.new }
     ensures from { IsFrom start pulled.new }
     ensures op { level.new.op ≡ level.old.op }
     ensures turns { looks.new.turns ≡ looks.old.turns + 1 }
-    ensures ended { (upstream : List OneLevel) → AreOpenUnless looks.old.ended upstream → AreOpenUnless looks.new.ended (level.new ∷ upstream) }
+    ensures ended { (upstream : List OneLevel) → AreOpenUnless looks.old.ended upstream
+        → AreOpenUnless looks.new.ended (level.new ∷ upstream) }
 {
     looks.turns += 1;
     match *pulled {
@@ -177,7 +185,8 @@ fn advance(level: &mut Level, start: u64, words: &Words, looks: &mut PullStats) 
     ensures from { IsFrom start result }
     ensures op { level.new.op ≡ level.old.op }
     ensures turns { looks.new.turns ≡ looks.old.turns }
-    ensures ended { (upstream : List OneLevel) → AreOpenUnless looks.old.ended upstream → AreOpenUnless looks.new.ended (level.new ∷ upstream) }
+    ensures ended { (upstream : List OneLevel) → AreOpenUnless looks.old.ended upstream
+        → AreOpenUnless looks.new.ended (level.new ∷ upstream) }
 {
     let advanced = level.advance(start, words);
     looks.ended |= level.ending.is_some();

@@ -57,9 +57,12 @@ impl<'w> Model for Runner<'w> {
 impl<'w> Runner<'w> {
     /// A runner of the plan. Nothing was offered yet.
     pub fn new(plan: Plan, words: &'w Words) -> Runner<'w>
-        ensures to_come { (items : List OneItem) → IsStream items → to_come result items ≡ means plan words.now items }
-        ensures start { (result.idle ≡ true) × (result.finished ≡ false) × (result.position ≡ 0) × (result.piece ≡ no_piece) × (result.latest ≡ 0) × (result.words ≡ words.now) }
-        ensures counters { (result.turns ≡ 0) × (result.cuts ≡ 0) × (result.pieces ≡ 0) × (length result.levels ≡ length plan.ops) }
+        ensures to_come { (items : List OneItem) → IsStream items
+            → to_come result items ≡ means plan words.now items }
+        ensures start { (result.idle ≡ true) × (result.finished ≡ false) × (result.position ≡ 0)
+            × (result.piece ≡ no_piece) × (result.latest ≡ 0) × (result.words ≡ words.now) }
+        ensures counters { (result.turns ≡ 0) × (result.cuts ≡ 0) × (result.pieces ≡ 0)
+            × (length result.levels ≡ length plan.ops) }
         ensures levels { result.levels ≡ levels_at_start plan.ops }
         ensures ops { ops_of result.levels ≡ plan.ops }
         ensures given { HasGiven plan [] [] result }
@@ -105,12 +108,22 @@ impl<'w> Runner<'w> {
     pub fn offer(&mut self, len: u64, instant: Micros) -> Result<(), ArrivalFault>
         requires { self.old.idle ≡ true }
         ensures answer { result ≡ offer_answer self.old len instant }
-        ensures offered { OnOk result ((self.new.idle ≡ false) × (self.new.position ≡ self.old.position) × (self.new.piece ≡ next_piece self.old len instant) × (self.new.latest ≡ instant)) }
+        ensures offered { OnOk result
+            ((self.new.idle ≡ false) × (self.new.position ≡ self.old.position)
+            × (self.new.piece ≡ next_piece self.old len instant) × (self.new.latest ≡ instant)) }
         ensures unread { OnOk result (self.new.position ≡ self.new.piece.span.start) }
-        ensures to_come { OnOk result ((items : List OneItem) → to_come self.new items ≡ to_come self.old (as_chunk (next_piece self.old len instant) ∷ items)) }
-        ensures counters { OnOk result ((self.new.turns ≡ self.old.turns) × (self.new.cuts ≡ self.old.cuts) × (self.new.pieces ≡ self.old.pieces + 1)) }
-        ensures kept { OnOk result ((self.new.words ≡ self.old.words) × (self.new.finished ≡ self.old.finished) × (self.new.ending ≡ self.old.ending) × (self.new.levels ≡ self.old.levels)) }
-        ensures given { OnOk result (GoesOn self.old (as_chunk (next_piece self.old len instant) ∷ []) [] self.new) }
+        ensures to_come { OnOk result
+            ((items : List OneItem)
+            → to_come self.new items
+            ≡ to_come self.old (as_chunk (next_piece self.old len instant) ∷ items)) }
+        ensures counters { OnOk result
+            ((self.new.turns ≡ self.old.turns) × (self.new.cuts ≡ self.old.cuts)
+            × (self.new.pieces ≡ self.old.pieces + 1)) }
+        ensures kept { OnOk result
+            ((self.new.words ≡ self.old.words) × (self.new.finished ≡ self.old.finished)
+            × (self.new.ending ≡ self.old.ending) × (self.new.levels ≡ self.old.levels)) }
+        ensures given { OnOk result
+            (GoesOn self.old (as_chunk (next_piece self.old len instant) ∷ []) [] self.new) }
         ensures err { OnErr result (self.new ≡ self.old) }
     {
         if instant < self.latest {
@@ -144,19 +157,35 @@ impl<'w> Runner<'w> {
     /// the runner is then idle. Looks at each operation at most once for each cut that it gives, and once more.
     pub fn next_cut(&mut self) -> Option<Slice>
         ensures some { IfSome result (IsCut self.old self.new) }
-        ensures place { IfSome result (λ slice. (slice.span.start ≡ self.old.position) × (self.new.position ≡ slice.span.stop) × (self.new.idle ≡ false)) }
-        ensures apart { IfSome result (λ slice. BeginsApart slice.instant (to_come self.new (Quiet ∷ []))) }
+        ensures place { IfSome result
+            (λ slice. (slice.span.start ≡ self.old.position) × (self.new.position ≡ slice.span.stop)
+            × (self.new.idle ≡ false)) }
+        ensures apart { IfSome result
+            (λ slice. BeginsApart slice.instant (to_come self.new (Quiet ∷ []))) }
         ensures ends { IfSome result (λ slice. EndsHere slice.instant self.new) }
         ensures none { IsNone result ↔ HasNoChunk (to_come self.old (Quiet ∷ [])) }
-        ensures idle { IfNone result ((self.new.idle ≡ true) × (self.new.position ≡ self.old.position) × (self.new.cuts ≡ self.old.cuts) × ((items : List OneItem) → to_come self.new items ≡ to_come self.old items)) }
-        ensures kept { (self.new.words ≡ self.old.words) × (self.new.finished ≡ self.old.finished) × (self.new.piece ≡ self.old.piece) × (self.new.latest ≡ self.old.latest) × (self.new.pieces ≡ self.old.pieces) × (length self.new.levels ≡ length self.old.levels) }
+        ensures idle { IfNone result
+            ((self.new.idle ≡ true) × (self.new.position ≡ self.old.position)
+            × (self.new.cuts ≡ self.old.cuts)
+            × ((items : List OneItem) → to_come self.new items ≡ to_come self.old items)) }
+        ensures kept { (self.new.words ≡ self.old.words) × (self.new.finished ≡ self.old.finished)
+            × (self.new.piece ≡ self.old.piece) × (self.new.latest ≡ self.old.latest)
+            × (self.new.pieces ≡ self.old.pieces)
+            × (length self.new.levels ≡ length self.old.levels) }
         ensures ops { ops_of self.new.levels ≡ ops_of self.old.levels }
-        ensures turns { self.new.turns + length self.old.levels * self.old.cuts ≤ self.old.turns + length self.old.levels * (self.new.cuts + 1) }
-        ensures given { MatchOption result (GoesOn self.old [] [] self.new) (λ slice. GoesOn self.old [] (slice ∷ []) self.new) }
-        ensures lasting { (plan : Ops) (offered : List OneItem) (given : List OneSlice) → HasGiven plan offered given self.new → IsLasting plan self.new.words offered given }
-        ensures later { IfSome result (λ slice. (plan : Ops) (offered : List OneItem) (given : List OneSlice) → IsPlan plan → IsStream (offered ++ Quiet ∷ []) → HasGiven plan offered given self.old
+        ensures turns { self.new.turns + length self.old.levels * self.old.cuts
+            ≤ self.old.turns + length self.old.levels * (self.new.cuts + 1) }
+        ensures given { MatchOption result (GoesOn self.old [] [] self.new)
+            (λ slice. GoesOn self.old [] (slice ∷ []) self.new) }
+        ensures lasting { (plan : Ops) (offered : List OneItem) (given : List OneSlice)
+            → HasGiven plan offered given self.new → IsLasting plan self.new.words offered given }
+        ensures later { IfSome result
+            (λ slice. (plan : Ops) (offered : List OneItem) (given : List OneSlice) → IsPlan plan
+            → IsStream (offered ++ Quiet ∷ []) → HasGiven plan offered given self.old
             → AreAfter slice.instant (table (to_come self.new (Quiet ∷ [])))) }
-        ensures whole { IfNone result ((plan : Ops) (offered : List OneItem) (given : List OneSlice) → HasGiven plan offered given self.old → IsWhole plan self.old.words offered given) }
+        ensures whole { IfNone result
+            ((plan : Ops) (offered : List OneItem) (given : List OneSlice)
+            → HasGiven plan offered given self.old → IsWhole plan self.old.words offered given) }
     {
         let mut slice = self.cut()?;
         while let Some(stop) = self.cut_at(&slice.instant) {
@@ -167,9 +196,13 @@ impl<'w> Runner<'w> {
 
     /// The next cut by itself. Where none is left the runner is then idle.
     fn cut(&mut self) -> Option<Slice>
-        ensures some { IfSome result (λ cut. IsOneCut self.old self.new cut × (self.new.idle ≡ false)) }
+        ensures some { IfSome result
+            (λ cut. IsOneCut self.old self.new cut × (self.new.idle ≡ false)) }
         ensures none { IsNone result ↔ HasNoChunk (to_come self.old (Quiet ∷ [])) }
-        ensures idle { IfNone result ((self.new.idle ≡ true) × (self.new.position ≡ self.old.position) × (self.new.cuts ≡ self.old.cuts) × ((items : List OneItem) → to_come self.new items ≡ to_come self.old items)) }
+        ensures idle { IfNone result
+            ((self.new.idle ≡ true) × (self.new.position ≡ self.old.position)
+            × (self.new.cuts ≡ self.old.cuts)
+            × ((items : List OneItem) → to_come self.new items ≡ to_come self.old items)) }
         ensures turns { self.new.turns ≤ self.old.turns + length self.old.levels }
         ensures kept { KeepsOffers self.old self.new }
     {
@@ -184,8 +217,13 @@ impl<'w> Runner<'w> {
 
     /// Where the next cut stops, if it leaves at this instant; it is then given.
     fn cut_at(&mut self, instant: &Micros) -> Option<u64>
-        ensures some { IfSome result (λ stop. IsOneCut self.old self.new (record { span = record { start = self.old.position; stop = stop }; instant = instant.now })) }
-        ensures none { IfNone result (((items : List OneItem) → to_come self.new items ≡ to_come self.old items) × (self.new.position ≡ self.old.position) × (self.new.cuts ≡ self.old.cuts) × BeginsApart instant.now (to_come self.new (Quiet ∷ []))) }
+        ensures some { IfSome result
+            (λ stop. IsOneCut self.old self.new
+            (record { span = record { start = self.old.position; stop = stop }; instant = instant.now })) }
+        ensures none { IfNone result
+            (((items : List OneItem) → to_come self.new items ≡ to_come self.old items)
+            × (self.new.position ≡ self.old.position) × (self.new.cuts ≡ self.old.cuts)
+            × BeginsApart instant.now (to_come self.new (Quiet ∷ []))) }
         ensures ends { IfNone result (EndsHere instant.now self.new) }
         ensures idle { self.new.idle ≡ self.old.idle }
         ensures turns { self.new.turns ≤ self.old.turns + length self.old.levels }
@@ -216,7 +254,8 @@ impl<'w> Runner<'w> {
     fn look(&mut self)
         ensures found { IsNone self.new.lookahead → self.new.drained ≡ true }
         ensures to_come { (items : List OneItem) → to_come self.new items ≡ to_come self.old items }
-        ensures same { (self.new.position ≡ self.old.position) × (self.new.cuts ≡ self.old.cuts) × (self.new.idle ≡ self.old.idle) }
+        ensures same { (self.new.position ≡ self.old.position) × (self.new.cuts ≡ self.old.cuts)
+            × (self.new.idle ≡ self.old.idle) }
         ensures turns { self.new.turns ≤ self.old.turns + length self.old.levels }
         ensures kept { KeepsOffers self.old self.new }
     {
@@ -247,7 +286,8 @@ impl<'w> Runner<'w> {
         requires idle { self.old.idle ≡ true }
         requires later { self.old.latest ≤ end }
         ensures last { to_come self.old (Closed end ∷ []) ≡ final_of result ∷ [] }
-        ensures ended { self.new ≡ record self.old { ending = Some result; finished = true; latest = end } }
+        ensures ended { self.new
+            ≡ record self.old { ending = Some result; finished = true; latest = end } }
     {
         let ending = self.end_with(&Ending::Closed(end));
         self.latest = end;
@@ -260,7 +300,9 @@ impl<'w> Runner<'w> {
         requires { self.old.idle ≡ true }
         ensures last { to_come self.old (Quiet ∷ []) ≡ final_of result ∷ [] }
         ensures ended { self.new ≡ record self.old { ending = Some result; finished = true } }
-        ensures deadline { (d position since : ℕ) (items : List OneItem) → deadline_of (ops_of self.old.levels) ≡ Some d → d ≤ since → IsStreamFrom position since items
+        ensures deadline { (d position since : ℕ) (items : List OneItem)
+            → deadline_of (ops_of self.old.levels) ≡ Some d → d ≤ since
+            → IsStreamFrom position since items
             → to_come self.old items ≡ final_of result ∷ [] }
     {
         self.end_with(&Ending::StillOpen)
@@ -270,7 +312,9 @@ impl<'w> Runner<'w> {
         requires { self.old.idle ≡ true }
         ensures last { to_come self.old (final_of ending.now ∷ []) ≡ final_of result ∷ [] }
         ensures ended { self.new ≡ record self.old { ending = Some result; finished = true } }
-        ensures deadline { (d position since : ℕ) (items : List OneItem) → deadline_of (ops_of self.old.levels) ≡ Some d → d ≤ since → IsStreamFrom position since items
+        ensures deadline { (d position since : ℕ) (items : List OneItem)
+            → deadline_of (ops_of self.old.levels) ≡ Some d → d ≤ since
+            → IsStreamFrom position since items
             → to_come self.old items ≡ to_come self.old (Quiet ∷ []) }
     {
         self.finished = true;
@@ -286,8 +330,10 @@ impl<'w> Runner<'w> {
     /// final: even where nothing more arrives, that final is still to come. Nothing else is then to come.
     pub fn ending(&self) -> Option<Ending>
         ensures value { result ≡ known_ending self.now }
-        ensures known { IsSome result ↔ ((self.now.idle ≡ true) × ((self.now.finished ≡ true) ⊎ (to_come self.now [] ≢ []))) }
-        ensures only { IfSome result (λ ending. (items : List OneItem) → to_come self.now items ≡ final_of ending ∷ []) }
+        ensures known { IsSome result
+            ↔ ((self.now.idle ≡ true) × ((self.now.finished ≡ true) ⊎ (to_come self.now [] ≢ []))) }
+        ensures only { IfSome result
+            (λ ending. (items : List OneItem) → to_come self.now items ≡ final_of ending ∷ []) }
     {
         if self.idle { self.ending } else { None }
     }

@@ -35,5 +35,6 @@ values_in kind attributes = all_some (map (value_in attributes) (attributes_of k
 -- the toxic of a type with these attributes, or why there is none
 abbrev pub toxic_with : Kind → Option Data → Result Toxic ToxicFault
 toxic_with kind attributes =
-    if are_known kind attributes then ok_or (values_in kind attributes) OutOfRange >>= (λ values. checked (toxic_of kind values))
+    if are_known kind attributes
+    then ok_or (values_in kind attributes) OutOfRange >>= (λ values. checked (toxic_of kind values))
     else Err UnknownAttribute

@@ -27,12 +27,15 @@ has_name name chains = is_among chains.upstream.names name || is_among chains.do
 
 -- one more toxic on a stream
 abbrev pub pushed : Stream → Entry → List ℕ → Chains → Chains
-pushed Upstream entry name chains = record chains { upstream = with_toxic entry name chains.upstream }
-pushed Downstream entry name chains = record chains { downstream = with_toxic entry name chains.downstream }
+pushed Upstream entry name chains =
+    record chains { upstream = with_toxic entry name chains.upstream }
+pushed Downstream entry name chains =
+    record chains { downstream = with_toxic entry name chains.downstream }
 
 -- one more toxic at a location, unless its name stands already or its stream is full
 abbrev pub put_toxic : Location → NamedToxic → Chains → Result Chains ScriptFault
 put_toxic at toxic chains =
     if has_name toxic.name chains then Err (DoubleName at)
-    else if nat_le max_toxics (length (on toxic.stream chains).chain.entries) then Err (TooManyToxics at)
+    else if nat_le max_toxics (length (on toxic.stream chains).chain.entries)
+        then Err (TooManyToxics at)
     else Ok (pushed toxic.stream toxic.entry toxic.name chains)

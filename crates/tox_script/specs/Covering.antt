@@ -15,7 +15,8 @@ is_up_to conn (Some last) = nat_le conn last
 
 -- whether a rule covers a connection of a proxy
 abbrev pub covers : List ℕ → ℕ → Rule → Bool
-covers proxy conn rule = bytes_eq rule.proxy proxy && nat_le rule.first conn && is_up_to conn rule.last
+covers proxy conn rule =
+    bytes_eq rule.proxy proxy && nat_le rule.first conn && is_up_to conn rule.last
 
 -- the first rule of a script that covers a connection of a proxy
 abbrev pub covering : List ℕ → ℕ → Rules → Option Rule

@@ -1,28 +1,22 @@
 -- What stands in a script's tables, over the values that `toml` reads: texts, whole numbers, tables and keys.
-use Rattle.std.specs.Prelude.{ℕ, ◌&&◌, Bool, true, ℤ, pos, negsuc, List, [], ◌∷◌, length, nat_lt, nat_le, Option, Some, None, is_some, option_and_then, option_map, unwrap_or, Result, Ok, Err, ok_or, if◌then◌else◌}
+use Rattle.std.specs.Prelude.{ℕ, ◌&&◌, Bool, true, ℤ, pos, negsuc, List, [], ◌∷◌, nat_le, Option, Some, None, is_some, option_and_then, option_map, unwrap_or, Result, Ok, Err, ok_or, if◌then◌else◌}
 use Rattle.std.specs.List.{list_all, list_any}
 use Rattle.std.specs.Str.{bytes_eq}
 use Rattle.toml.specs.Data.{Data, table, Items, no_items, item, Members, no_members, member, as_array, as_integer, as_str, as_table}
 use Rattle.tox_time.specs.Steps.{◌>>=◌}
+use Rattle.tox_time.specs.Text.{is_sized, passing}
 use Rattle.tox_script.specs.declared.fault.Field.{Field}
 use Rattle.tox_script.specs.declared.fault.Field.TheVariants.{Unknown}
-
--- a value, where it passes a test
-abbrev pub passing : {A : Type 0} → (A → Bool) → A → Option A
-passing test x = if test x then Some x else None
 
 -- a field that must stand
 abbrev pub needed : {A : Type 0} → Field → (Data → Option A) → Option Data → Result A Field
 needed field read value = ok_or (option_and_then read value) field
 
 -- a field that may be absent
-abbrev pub optional : {A : Type 0} → Field → (Data → Option A) → Option Data → Result (Option A) Field
+abbrev pub optional : {A : Type 0} → Field → (Data → Option A) → Option Data
+    → Result (Option A) Field
 optional field read None = Ok None
 optional field read (Some d) = ok_or (option_map Some (read d)) field
-
--- whether a text has 1 to so many bytes
-abbrev pub is_sized : ℕ → List ℕ → Bool
-is_sized most text = nat_lt 0 (length text) && nat_le (length text) most
 
 -- a text of 1 to so many bytes
 abbrev pub sized_text : ℕ → Data → Option (List ℕ)

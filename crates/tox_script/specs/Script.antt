@@ -20,7 +20,8 @@ document_rules d = do
 -- earlier rules and those of the tables behind them, or the first fault
 abbrev pub rules_from : List Rule → Items → Result (List Rule) ScriptFault
 rules_from earlier no_items = Ok earlier
-rules_from earlier (item d ds) = rule_of (length earlier + 1) d >>= (λ rule. rules_from (earlier ++ rule ∷ []) ds)
+rules_from earlier (item d ds) =
+    rule_of (length earlier + 1) d >>= (λ rule. rules_from (earlier ++ rule ∷ []) ds)
 
 -- the document of bytes that are TOML in UTF-8
 abbrev pub toml_of : List ℕ → Option Data

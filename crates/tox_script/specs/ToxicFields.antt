@@ -5,7 +5,8 @@ use Rattle.std.specs.List.{list_all}
 use Rattle.toml.specs.Data.{Data, as_str, get}
 use Rattle.tox_time.specs.declared.stream.Stream.{Stream}
 use Rattle.tox_time.specs.declared.stream.Stream.TheVariants.{Downstream}
-use Rattle.tox_script.specs.Fields.{is_table, needed, optional, passing, sized_text, unless_unknown}
+use Rattle.tox_time.specs.Text.{passing}
+use Rattle.tox_script.specs.Fields.{is_table, needed, optional, sized_text, unless_unknown}
 use Rattle.tox_time.specs.Steps.{◌>>=◌}
 use Rattle.tox_time.specs.StreamName.{stream_named}
 use Rattle.tox_script.specs.declared.fault.Field.{Field}
@@ -58,4 +59,10 @@ toxic_fields d = do
   attributes ← attributes_of d
   unless_unknown
       (codes "name" ∷ codes "type" ∷ codes "stream" ∷ codes "toxicity" ∷ codes "attributes" ∷ []) d
-      (record { name = name; type_name = type_name; stream = stream; toxicity = get (codes "toxicity") d; attributes = attributes })
+      (record {
+        name = name;
+        type_name = type_name;
+        stream = stream;
+        toxicity = get (codes "toxicity") d;
+        attributes = attributes;
+      })

@@ -49,7 +49,8 @@ chain_on stream toxics = record {
 
 -- the chains of both streams
 abbrev pub chains_of : List NamedToxic → Chains
-chains_of toxics = record { upstream = chain_on Upstream toxics; downstream = chain_on Downstream toxics }
+chains_of toxics =
+    record { upstream = chain_on Upstream toxics; downstream = chain_on Downstream toxics }
 
 -- the chains of the toxics of a rule's tables
 abbrev pub read_chains : ℕ → Items → Result Chains ScriptFault

@@ -24,7 +24,8 @@ abbrev pub toxic_view : LentToxic → NamedToxic
 toxic_view toxic = record {
   stream = toxic.stream;
   entry = toxic.entry;
-  name = unwrap_or (option_map (λ name. name.now) toxic.told_name) (default_name toxic.kind toxic.stream);
+  name = unwrap_or (option_map (λ name. name.now) toxic.told_name)
+      (default_name toxic.kind toxic.stream);
 }
 
 -- the fields that a rule's lent ones stand for

@@ -11,7 +11,8 @@ use tox_defs::{Kind, MAX_ATTRIBUTES, Toxic, ToxicFault};
 
 /// The toxic of a type with a table of attributes, where an absent one is 0.
 pub(crate) fn toxic_with(kind: Kind, attributes: Option<&Value>) -> Result<Toxic, ToxicFault>
-    ensures value { result ≡ toxic_with kind (option_map (λ table. view table.now) attributes.entry) }
+    ensures value { result
+        ≡ toxic_with kind (option_map (λ table. view table.now) attributes.entry) }
     ensures in_range { IfOk result IsInRange }
 {
     if !are_known(kind, attributes) {
@@ -23,7 +24,8 @@ pub(crate) fn toxic_with(kind: Kind, attributes: Option<&Value>) -> Result<Toxic
 
 /// The values of the type's attributes in order, where each is a whole number.
 fn values_in(kind: Kind, attributes: Option<&Value>) -> Option<ArrayVec<u64, MAX_ATTRIBUTES>>
-    ensures { option_map (λ values. values.items) result ≡ values_in kind (option_map (λ table. view table.now) attributes.entry) }
+    ensures { option_map (λ values. values.items) result
+        ≡ values_in kind (option_map (λ table. view table.now) attributes.entry) }
 {
     let mut values = ArrayVec::new();
     for key in kind.attributes() {

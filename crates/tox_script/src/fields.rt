@@ -7,17 +7,14 @@ ghost use Rattle.tox_script.specs.Fields.{all_tables, has_only, is_among, member
 
 use crate::fault::Field;
 use toml::{Table, Value};
+use tox_time::is_sized;
 
 /// A text of 1 to `most` bytes.
 pub(crate) fn sized_text(value: &Value, most: usize) -> Option<&str>
     ensures { option_map (λ text. text.now) result ≡ sized_text most (view value.now) }
 {
     let text = value.as_str()?;
-    if !text.is_empty() && text.len() <= most {
-        Some(text)
-    } else {
-        None
-    }
+    if is_sized(text, most) { Some(text) } else { None }
 }
 
 /// A whole number from 0 on.
@@ -87,7 +84,8 @@ pub(crate) fn has_only(table: &Value, keys: &[&str]) -> bool
 
 fn all_among(members: &Table, keys: &[&str]) -> bool
     ensures { result
-        ≡ list_all (is_among (map (λ key. key.now) keys.now)) (member_keys (table_view members.now)) }
+        ≡ list_all (is_among (map (λ key. key.now) keys.now))
+        (member_keys (table_view members.now)) }
 {
     members.keys().all(|key| is_among(key.as_str(), keys))
 }

@@ -29,7 +29,8 @@ impl<'a> NamedToxic<'a> {
     /// The toxic that fields stand for: refused where there is no such type, the toxicity is not in thousandths, and as
     /// by its attributes.
     pub(crate) fn of(fields: &ToxicFields<'a>) -> Result<NamedToxic<'a>, ToxicFault>
-        ensures ok { IfOk result (λ toxic. named_toxic (fields_view fields.now) ≡ Ok (toxic_view toxic)) }
+        ensures ok { IfOk result
+            (λ toxic. named_toxic (fields_view fields.now) ≡ Ok (toxic_view toxic)) }
         ensures err { IfErr result (λ fault. named_toxic (fields_view fields.now) ≡ Err fault) }
         ensures fits { IfOk result (λ toxic. IsEntry toxic.entry) }
     {

@@ -23,7 +23,8 @@ pub(crate) struct RuleFields<'a> {
 impl<'a> RuleFields<'a> {
     /// The fields, or the first that isn't as it must be.
     pub(crate) fn read(table: &'a Value) -> Result<RuleFields<'a>, Field>
-        ensures ok { IfOk result (λ fields. rule_fields (view table.now) ≡ Ok (rule_fields_view fields)) }
+        ensures ok { IfOk result
+            (λ fields. rule_fields (view table.now) ≡ Ok (rule_fields_view fields)) }
         ensures err { IfErr result (λ field. rule_fields (view table.now) ≡ Err field) }
     {
         let proxy = proxy_of(table)?;

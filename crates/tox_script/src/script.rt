@@ -47,7 +47,8 @@ impl Script {
 
     /// The names of the toxics that a connection of a proxy meets on a stream, in the chain's order.
     pub fn names(&self, proxy: &str, conn: u64, stream: Stream) -> &[String]
-        ensures value { map string_bytes result.now ≡ (toxics_for proxy.now conn stream self.now).names }
+        ensures value { map string_bytes result.now
+            ≡ (toxics_for proxy.now conn stream self.now).names }
         ensures one_each { length result.now
             ≡ length (toxics_for proxy.now conn stream self.now).chain.entries }
     {
@@ -65,7 +66,8 @@ impl Script {
 
     /// The first rule that covers a connection of a proxy.
     fn covering(&self, proxy: &str, conn: u64) -> Option<&Rule>
-        ensures { option_map (λ rule. rule_view rule.now) result ≡ covering proxy.now conn self.now }
+        ensures { option_map (λ rule. rule_view rule.now) result
+            ≡ covering proxy.now conn self.now }
     {
         self.rules.iter().find(|rule| rule.covers(proxy, conn))
     }
@@ -101,7 +103,8 @@ pub fn read_script(alloc: Global, bytes: &[u8]) -> Result<Script, ScriptFault>
 /// The document, as a table.
 fn read_toml(alloc: Global, bytes: &[u8]) -> Result<Value, ScriptFault>
     ensures ok { IfOk result (λ document. toml_of bytes.now ≡ Some (view document)) }
-    ensures err { IfErr result (λ fault. fault ≢ OutOfMemory → (fault ≡ NotToml) × (toml_of bytes.now ≡ None)) }
+    ensures err { IfErr result
+        (λ fault. fault ≢ OutOfMemory → (fault ≡ NotToml) × (toml_of bytes.now ≡ None)) }
     ensures memory { result ≡ Err OutOfMemory → IsTrue (is_utf8 bytes.now) }
 {
     let Ok(text) = str::from_utf8(bytes) else {
@@ -116,7 +119,8 @@ fn read_toml(alloc: Global, bytes: &[u8]) -> Result<Value, ScriptFault>
 
 /// The tables of the rules.
 fn document_rules(document: &Value) -> Result<&[Value], Field>
-    ensures ok { IfOk result (λ tables. document_rules (view document.now) ≡ Ok (items_view tables.now)) }
+    ensures ok { IfOk result
+        (λ tables. document_rules (view document.now) ≡ Ok (items_view tables.now)) }
     ensures err { IfErr result (λ field. document_rules (view document.now) ≡ Err field) }
 {
     let tables = tables_of(document, "rule", Field::Rule)?;
@@ -128,7 +132,8 @@ fn document_rules(document: &Value) -> Result<&[Value], Field>
 
 /// The rules of some tables, or the first fault.
 fn read_rules(alloc: Global, tables: &[Value]) -> Result<Vec<Rule>, ScriptFault>
-    ensures ok { IfOk result (λ rules. rules_from [] (items_view tables.now) ≡ Ok (map rule_view rules.items)) }
+    ensures ok { IfOk result
+        (λ rules. rules_from [] (items_view tables.now) ≡ Ok (map rule_view rules.items)) }
     ensures err { IfErr result (λ fault. fault ≢ OutOfMemory
         → rules_from [] (items_view tables.now) ≡ Err fault) }
 {

@@ -24,7 +24,8 @@ pub(crate) struct ToxicFields<'a> {
 impl<'a> ToxicFields<'a> {
     /// The fields, or the first that isn't as it must be.
     pub(crate) fn read(table: &'a Value) -> Result<ToxicFields<'a>, Field>
-        ensures ok { IfOk result (λ fields. toxic_fields (view table.now) ≡ Ok (fields_view fields)) }
+        ensures ok { IfOk result
+            (λ fields. toxic_fields (view table.now) ≡ Ok (fields_view fields)) }
         ensures err { IfErr result (λ field. toxic_fields (view table.now) ≡ Err field) }
     {
         let name = name_of(table)?;

@@ -28,4 +28,5 @@ pub record PassesOn (reactions : List Reaction) (received delivered : List Item)
 
 -- where the first items of a stream were received, these are the whole stream, and it was passed on
 abbrev pub Delivers : List Reaction → List Item → List Item → Type 0
-Delivers reactions received delivered = BeginsStream received → PassesOn reactions received delivered
+Delivers reactions received delivered =
+    BeginsStream received → PassesOn reactions received delivered

@@ -9,7 +9,8 @@ use Rattle.tox_defs.specs.declared.toxic.Toxic.{Toxic}
 use Rattle.tox_stages.specs.declared.worker.SendsFlowOf.{SendsFlowOf}
 
 -- the worker of this toxic, which draws from this lane, takes from the first of these consumers, and sends to the ring of the second, out of which nothing came yet
-pub record IsWorkerOf (promise : SendsFlowOf) (toxic : Toxic) (lane : ℕ) (words : List ℕ) (consumer next : Consumer Item Global AnyItems) : Type 0 where
+pub record IsWorkerOf (promise : SendsFlowOf) (toxic : Toxic) (lane : ℕ) (words : List ℕ)
+    (consumer next : Consumer Item Global AnyItems) : Type 0 where
   pub same_toxic : promise.toxic ≡ toxic
   pub same_lane : promise.lane ≡ lane
   pub same_words : promise.words.now ≡ words

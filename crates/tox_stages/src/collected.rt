@@ -41,7 +41,8 @@ impl Collected {
     /// Keeps an item, unless out of memory now or before.
     pub(crate) fn keep(&mut self, item: Item)
         requires { self.old.ended ≡ false }
-        ensures kept { (items : List OneItem) → Collects self.old items → Collects self.new (items ++ item ∷ []) }
+        ensures kept { (items : List OneItem) → Collects self.old items
+            → Collects self.new (items ++ item ∷ []) }
     {
         self.ended = item.is_final();
         if !self.refused {
@@ -52,7 +53,9 @@ impl Collected {
     /// What came, up to its final.
     pub(crate) fn into_outcome(self) -> Result<Outcome, AllocError>
         requires { self.ended ≡ true }
-        ensures { IfOk result (λ outcome. (items : List OneItem) → Collects self items → shown outcome.slices (Some outcome.ending) ≡ items) }
+        ensures { IfOk result
+            (λ outcome. (items : List OneItem) → Collects self items
+            → shown outcome.slices (Some outcome.ending) ≡ items) }
     {
         let Collected {
             delivered,

@@ -53,7 +53,8 @@ fn start<'s, E: 's, R: Threads + Wait + Sync, G: Gate>(
     requires in_range { IsInRange toxic }
     requires lane { lane < 16 }
     requires fresh { received consumer ≡ [] }
-    ensures { IfOk result (λ started. IsWorkerOf started.0.promise toxic lane pipeline.now.words.now consumer started.1) }
+    ensures { IfOk result
+        (λ started. IsWorkerOf started.0.promise toxic lane pipeline.now.words.now consumer started.1) }
 {
     let Ok((producer, next)) = RingBuffer::new(pipeline.alloc, pipeline.cap) else {
         return Err(StageFault::OutOfMemory);
@@ -71,10 +72,12 @@ fn start<'s, E: 's, R: Threads + Wait + Sync, G: Gate>(
     let worker = scope.spawn_with(
         promise,
         move || -> Ends
-            requires { IsInRange toxic × (lane < 16) × (received consumer ≡ []) × (sent producer ≡ []) }
+            requires { IsInRange toxic × (lane < 16) × (received consumer ≡ [])
+                × (sent producer ≡ []) }
             ensures consumer { SameConsumer consumer result.consumer }
             ensures producer { SameProducer producer result.producer }
-            ensures flow { SendsFlow (toxic_reaction toxic (draw words.entry.now lane)) (received result.consumer) (sent result.producer) }
+            ensures flow { SendsFlow (toxic_reaction toxic (draw words.entry.now lane))
+                (received result.consumer) (sent result.producer) }
         {
             work(
                 rt,
@@ -115,7 +118,9 @@ fn level<'s, E: 's, R: Threads + Wait + Sync, G: Gate>(
     ensures consumer { IfOk result (λ ended. SameConsumer consumer ended.0) }
     ensures stream { IfOk result (λ _. IsLinkStream (arrival_list pipeline.now.arrivals.now)) }
     ensures sent { IfOk result (λ _. sent first.new ≡ arrival_list pipeline.now.arrivals.now) }
-    ensures delivered { IfOk result (λ ended. Delivers (reactions_from lane entries.now pipeline.now.words.now) (received ended.0) (shown ended.1.slices (Some ended.1.ending))) }
+    ensures delivered { IfOk result
+        (λ ended. Delivers (reactions_from lane entries.now pipeline.now.words.now)
+        (received ended.0) (shown ended.1.slices (Some ended.1.ending))) }
 {
     let rt = pipeline.rt;
     let Some((entry, rest)) = entries.split_first() else {
@@ -173,18 +178,26 @@ pub fn run_stages<R: Threads + Wait + Sync, G: Gate>(
 ) -> Result<Outcome, StageFault>
     requires some { 1 ≤ cap }
     requires most { cap ≤ 1024 }
-    ensures flow { IfOk result (IsOutcomeOf (chain_flow chain.now words.now (arrival_list arrivals.now))) }
-    ensures neighbours { IfOk result (λ outcome. AreNeighbours (arrival_list arrivals.now) 0 outcome.slices) }
-    ensures network { IfOk result (IsNetworkAtRest cap chain.now words.now (arrival_list arrivals.now)) }
+    ensures flow { IfOk result
+        (IsOutcomeOf (chain_flow chain.now words.now (arrival_list arrivals.now))) }
+    ensures neighbours { IfOk result
+        (λ outcome. AreNeighbours (arrival_list arrivals.now) 0 outcome.slices) }
+    ensures network { IfOk result
+        (IsNetworkAtRest cap chain.now words.now (arrival_list arrivals.now)) }
 {
     thread::scope(
         thread::scope_env(),
         rt,
         |scope| -> Result<Outcome, StageFault>
             requires { 1 ≤ cap }
-            ensures flow { IfOk result (IsOutcomeOf (chain_flow chain.entry.now words.entry.now (arrival_list arrivals.entry.now))) }
-            ensures neighbours { IfOk result (λ outcome. AreNeighbours (arrival_list arrivals.entry.now) 0 outcome.slices) }
-            ensures network { IfOk result (IsNetworkAtRest cap chain.entry.now words.entry.now (arrival_list arrivals.entry.now)) }
+            ensures flow { IfOk result
+                (IsOutcomeOf
+                (chain_flow chain.entry.now words.entry.now (arrival_list arrivals.entry.now))) }
+            ensures neighbours { IfOk result
+                (λ outcome. AreNeighbours (arrival_list arrivals.entry.now) 0 outcome.slices) }
+            ensures network { IfOk result
+                (IsNetworkAtRest cap chain.entry.now words.entry.now
+                (arrival_list arrivals.entry.now)) }
         {
             let Ok((mut first, consumer)) = RingBuffer::new(alloc, cap) else {
                 return Err(StageFault::OutOfMemory);

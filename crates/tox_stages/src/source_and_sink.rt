@@ -56,7 +56,8 @@ pub(crate) fn feed_and_drain<R: Wait>(
     ensures consumer { IfOk result (λ ended. SameConsumer consumer ended.0) }
     ensures stream { IsLinkStream (arrival_list arrivals.now) }
     ensures sent { IfOk result (λ _. sent first.new ≡ arrival_list arrivals.now) }
-    ensures delivered { IfOk result (λ ended. Delivers [] (received ended.0) (shown ended.1.slices (Some ended.1.ending))) }
+    ensures delivered { IfOk result
+        (λ ended. Delivers [] (received ended.0) (shown ended.1.slices (Some ended.1.ending))) }
 {
     let mut waiting = Waiting::new(arrivals);
     let mut consumer = consumer;

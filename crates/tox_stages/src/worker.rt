@@ -33,7 +33,11 @@ pub(crate) struct SendsFlowOf<'w> {
 }
 
 impl<'w> Promise<Ends> for SendsFlowOf<'w> {
-    ghost kept_by = { λ promise ends. SameConsumer promise.consumer.value ends.consumer × SameProducer promise.producer.value ends.producer × SendsFlow (toxic_reaction promise.toxic (draw promise.words.now promise.lane)) (received ends.consumer) (sent ends.producer) };
+    ghost kept_by = { λ promise ends.
+        SameConsumer promise.consumer.value ends.consumer
+        × SameProducer promise.producer.value ends.producer
+        × SendsFlow (toxic_reaction promise.toxic (draw promise.words.now promise.lane))
+        (received ends.consumer) (sent ends.producer) };
 }
 
 /// Sends all that the stage has to emit.
@@ -65,7 +69,8 @@ pub(crate) fn work<R: Wait, G: Gate>(
     requires fresh { (received consumer ≡ []) × (sent producer ≡ []) }
     ensures consumer { SameConsumer consumer result.consumer }
     ensures producer { SameProducer producer result.producer }
-    ensures flow { SendsFlow (toxic_reaction toxic (draw words.now lane)) (received result.consumer) (sent result.producer) }
+    ensures flow { SendsFlow (toxic_reaction toxic (draw words.now lane)) (received result.consumer)
+        (sent result.producer) }
 {
     let mut stage = Stage::new(toxic, lane, words);
     let mut consumer = consumer;

@@ -11,8 +11,8 @@ use Rattle.std.proofs.lemmas.Result.{OkIff-at_err}
 use Rattle.std.proofs.lemmas.Str.{IsUtf8-from_ascii}
 use Rattle.std.proofs.lemmas.Str.Parse.{parse_digits, digits_value_short}
 use Rattle.tox_time.specs.Time.{horizon}
-use Rattle.tox_words.specs.Decimal.{decimal_value}
-use Rattle.tox_words.proofs.Numbers.{ascii_digits}
+use Rattle.tox_time.specs.Text.{decimal_value}
+use Rattle.tox_time.proofs.Numbers.{ascii_digits}
 
 digit_below : (c : ℕ) → is_ascii_digit c ≡ true → c < 128
 digit_below c digit = search (rules, tests)

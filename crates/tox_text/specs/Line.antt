@@ -4,7 +4,7 @@ use Rattle.std.specs.Str.{bytes_eq}
 use Rattle.std.specs.Result.{result_ok}
 use Rattle.hex.specs.Hex.{decode_of}
 use Rattle.tox_time.specs.Time.{horizon}
-use Rattle.tox_words.specs.Decimal.{decimal_value}
+use Rattle.tox_time.specs.Text.{decimal_value}
 use Rattle.tox_text.specs.declared.arrivals_line.Line as code
 use Rattle.tox_text.specs.declared.arrivals_line.Event as kinds
 use Rattle.tox_text.specs.declared.arrivals_line.Event.TheVariants.{Data, Eof}

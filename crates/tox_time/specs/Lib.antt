@@ -7,4 +7,5 @@ pub mod ArrivalsInside
 pub mod Ends
 pub mod MemoryEnds
 pub mod Steps
+pub mod Text
 pub mod StreamName

@@ -73,8 +73,10 @@ impl Arrivals {
     pub fn push(&mut self, len: u64, instant: Micros) -> Result<(), ArrivalFault>
         ensures ok { OnOk result (self.new ≡ self.old ++ next_chunk self.old len instant ∷ []) }
         ensures accepted { OnOk result (push_fault self.old len instant ≡ None) }
-        ensures fault { IfErr result (λ e. e ≢ ArrivalFault.OutOfMemory → push_fault self.old len instant ≡ Some e) }
-        ensures memory_last { result ≡ Err ArrivalFault.OutOfMemory → push_fault self.old len instant ≡ None }
+        ensures fault { IfErr result
+            (λ e. e ≢ ArrivalFault.OutOfMemory → push_fault self.old len instant ≡ Some e) }
+        ensures memory_last { result ≡ Err ArrivalFault.OutOfMemory
+            → push_fault self.old len instant ≡ None }
         ensures err { OnErr result (self.new ≡ self.old) }
     {
         if instant < self.latest {
@@ -108,8 +110,10 @@ impl Arrivals {
     pub fn eof(&mut self, instant: Micros) -> Result<(), ArrivalFault>
         ensures ok { OnOk result (self.new ≡ self.old ++ Item.Closed instant ∷ []) }
         ensures accepted { OnOk result (eof_fault self.old instant ≡ None) }
-        ensures fault { IfErr result (λ e. e ≢ ArrivalFault.OutOfMemory → eof_fault self.old instant ≡ Some e) }
-        ensures memory_last { result ≡ Err ArrivalFault.OutOfMemory → eof_fault self.old instant ≡ None }
+        ensures fault { IfErr result
+            (λ e. e ≢ ArrivalFault.OutOfMemory → eof_fault self.old instant ≡ Some e) }
+        ensures memory_last { result ≡ Err ArrivalFault.OutOfMemory
+            → eof_fault self.old instant ≡ None }
         ensures err { OnErr result (self.new ≡ self.old) }
     {
         if instant < self.latest {

@@ -23,8 +23,10 @@ pub trait Source {
     fn read(&mut self, buffer: &mut [u8]) -> Result<usize, EndFault>
         requires { failed self.old ≡ false }
         ensures count { IfOk result (λ n. n ≤ length buffer.new) }
-        ensures bytes { IfOk result (λ n. remaining self.old ≡ prepend_known (take n buffer.new) (remaining self.new)) }
-        ensures end { IfOk result (λ n. n ≡ 0 → 0 < length buffer.new → IsAtEnd (remaining self.new)) }
+        ensures bytes { IfOk result
+            (λ n. remaining self.old ≡ prepend_known (take n buffer.new) (remaining self.new)) }
+        ensures end { IfOk result
+            (λ n. n ≡ 0 → 0 < length buffer.new → IsAtEnd (remaining self.new)) }
         ensures working { OnOk result (failed self.new ≡ false) }
         ensures fault { OnErr result (failed self.new ≡ true) }
         ensures kept { OnErr result (remaining self.new ≡ remaining self.old) };
@@ -43,7 +45,8 @@ pub trait Sink {
     fn write(&mut self, bytes: &[u8]) -> Result<usize, EndFault>
         requires { failed self.old ≡ false }
         ensures count { IfOk result (λ n. n ≤ length bytes.now) }
-        ensures bytes { IfOk result (λ n. written self.new ≡ append_known (written self.old) (take n bytes.now)) }
+        ensures bytes { IfOk result
+            (λ n. written self.new ≡ append_known (written self.old) (take n bytes.now)) }
         ensures working { IfOk result (λ n. failed self.new ≡ takes_nothing n bytes.now) }
         ensures fault { OnErr result (failed self.new ≡ true) }
         ensures kept { OnErr result (written self.new ≡ written self.old) };

@@ -15,6 +15,7 @@ mod real;
 mod slice;
 mod span;
 mod stream;
+mod text;
 
 pub use arrivals::{ArrivalFault, Arrivals};
 pub use ending::Ending;
@@ -29,3 +30,4 @@ pub use real::Real;
 pub use slice::{Slice, SliceList};
 pub use span::{MAX_BYTES, Span};
 pub use stream::Stream;
+pub use text::{decimal, is_sized};

@@ -25,7 +25,13 @@ impl Model for MemorySink {
 
     ghost Value = { Taking };
 
-    ghost view = { λ s. record { bytes = take s.filled s.room.items; room = length s.room.items - s.filled; most = s.most; calls = record { made = s.calls; failing = s.failing_call }; failed = s.failed } };
+    ghost view = { λ s. record {
+        bytes = take s.filled s.room.items;
+        room = length s.room.items - s.filled;
+        most = s.most;
+        calls = record { made = s.calls; failing = s.failing_call };
+        failed = s.failed;
+    } };
 
     ghost invariant = { λ s. (s.filled ≤ length s.room.items) × (0 < s.most) };
 }
@@ -39,7 +45,13 @@ impl MemorySink {
         failing_call: Option<u64>,
     ) -> Result<Self, AllocError>
         requires { 0 < most }
-        ensures { IfOk result (λ s. s ≡ record { bytes = []; room = room; most = most; calls = record { made = 0; failing = failing_call }; failed = false }) }
+        ensures { IfOk result (λ s. s ≡ record {
+            bytes = [];
+            room = room;
+            most = most;
+            calls = record { made = 0; failing = failing_call };
+            failed = false;
+        }) }
     {
         Ok(MemorySink {
             room: vec![in alloc; 0; room]?,
@@ -66,12 +78,16 @@ impl Sink for MemorySink {
 
     fn write(&mut self, bytes: &[u8]) -> Result<usize, EndFault>
         ensures fails { IsErr result ↔ FailsNext self.old.calls }
-        ensures count { IfOk result (λ n. n ≡ min (min self.old.room self.old.most) (length bytes.now)) }
+        ensures count { IfOk result
+            (λ n. n ≡ min (min self.old.room self.old.most) (length bytes.now)) }
         ensures bytes { IfOk result (λ n. self.new.bytes ≡ self.old.bytes ++ take n bytes.now) }
         ensures room { IfOk result (λ n. self.new.room ≡ self.old.room - n) }
         ensures working { IfOk result (λ n. self.new.failed ≡ takes_nothing n bytes.now) }
-        ensures fault { OnErr result ((self.new.failed ≡ true) × (self.new.bytes ≡ self.old.bytes) × (self.new.room ≡ self.old.room)) }
-        ensures conduct { (self.new.most ≡ self.old.most) × (self.new.calls ≡ one_more self.old.calls) }
+        ensures fault { OnErr result
+            ((self.new.failed ≡ true) × (self.new.bytes ≡ self.old.bytes)
+            × (self.new.room ≡ self.old.room)) }
+        ensures conduct { (self.new.most ≡ self.old.most)
+            × (self.new.calls ≡ one_more self.old.calls) }
     {
         self.calls = self.calls.saturating_add(1);
         if self.failing_call == Some(self.calls) {

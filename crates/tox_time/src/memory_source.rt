@@ -23,7 +23,12 @@ impl Model for MemorySource {
 
     ghost Value = { Giving };
 
-    ghost view = { λ s. record { bytes = drop s.next s.bytes.items; most = s.most; calls = record { made = s.calls; failing = s.failing_call }; failed = s.failed } };
+    ghost view = { λ s. record {
+        bytes = drop s.next s.bytes.items;
+        most = s.most;
+        calls = record { made = s.calls; failing = s.failing_call };
+        failed = s.failed;
+    } };
 
     ghost invariant = { λ s. (s.next ≤ length s.bytes.items) × (0 < s.most) };
 }
@@ -32,7 +37,12 @@ impl MemorySource {
     /// Gives these bytes, at most `most` of them in a call, and fails at the call of this number, counted from 1.
     pub fn new(bytes: Vec<u8>, most: usize, failing_call: Option<u64>) -> Self
         requires { 0 < most }
-        ensures { result ≡ record { bytes = bytes.items; most = most; calls = record { made = 0; failing = failing_call }; failed = false } }
+        ensures { result ≡ record {
+            bytes = bytes.items;
+            most = most;
+            calls = record { made = 0; failing = failing_call };
+            failed = false;
+        } }
     {
         MemorySource {
             bytes,
@@ -52,13 +62,17 @@ impl Source for MemorySource {
 
     fn read(&mut self, buffer: &mut [u8]) -> Result<usize, EndFault>
         ensures fails { IsErr result ↔ FailsNext self.old.calls }
-        ensures count { IfOk result (λ n. n ≡ min (min (length self.old.bytes) self.old.most) (length buffer.new)) }
+        ensures count { IfOk result
+            (λ n. n ≡ min (min (length self.old.bytes) self.old.most) (length buffer.new)) }
         ensures bytes { IfOk result (λ n. self.old.bytes ≡ take n buffer.new ++ self.new.bytes) }
         ensures rest { IfOk result (λ n. drop n buffer.new ≡ drop n buffer.old) }
         ensures end { IfOk result (λ n. n ≡ 0 → 0 < length buffer.new → self.new.bytes ≡ []) }
         ensures working { OnOk result (self.new.failed ≡ false) }
-        ensures fault { OnErr result ((self.new.failed ≡ true) × (self.new.bytes ≡ self.old.bytes) × (buffer.new ≡ buffer.old)) }
-        ensures conduct { (self.new.most ≡ self.old.most) × (self.new.calls ≡ one_more self.old.calls) }
+        ensures fault { OnErr result
+            ((self.new.failed ≡ true) × (self.new.bytes ≡ self.old.bytes)
+            × (buffer.new ≡ buffer.old)) }
+        ensures conduct { (self.new.most ≡ self.old.most)
+            × (self.new.calls ≡ one_more self.old.calls) }
     {
         self.calls = self.calls.saturating_add(1);
         if self.failing_call == Some(self.calls) {

@@ -34,7 +34,8 @@ impl<R: Read> Source for Real<R> {
     // If the reader tells its own bytes, these are passed on as they are.
     fn read(&mut self, buffer: &mut [u8]) -> Result<usize, EndFault>
         ensures count { IfOk result (λ n. n ≤ length buffer.new) }
-        ensures inner { ReadConsumes (R.remaining self.old.inner) (R.remaining self.new.inner) result buffer.new }
+        ensures inner { ReadConsumes (R.remaining self.old.inner)
+            (R.remaining self.new.inner) result buffer.new }
         ensures working { OnOk result (self.new.failed ≡ self.old.failed) }
         ensures fault { OnErr result (self.new.failed ≡ true) }
     {
@@ -56,7 +57,8 @@ impl<W: Write> Sink for Real<W> {
     // The writer takes the bytes as they are.
     fn write(&mut self, bytes: &[u8]) -> Result<usize, EndFault>
         ensures count { IfOk result (λ n. n ≤ length bytes.now) }
-        ensures inner { WriteAppends (W.contents self.old.inner) (W.contents self.new.inner) result bytes.now }
+        ensures inner { WriteAppends (W.contents self.old.inner)
+            (W.contents self.new.inner) result bytes.now }
         ensures working { IfOk result (λ n. self.new.failed ≡ takes_nothing n bytes.now) }
         ensures fault { OnErr result (self.new.failed ≡ true) }
     {

@@ -1,4 +1,3 @@
 mod Turns
-pub mod Numbers
 mod Outputs
 mod Texts

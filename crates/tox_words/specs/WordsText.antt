@@ -2,7 +2,7 @@
 use Rattle.std.specs.Prelude.{ℕ, ◌==◌, List, [], ◌∷◌, Option, is_none, Result, Err}
 use Rattle.std.specs.List.{filter_map, position, slice_split}
 use Rattle.std.specs.Option.{option_map_or}
-use Rattle.tox_words.specs.Decimal.{decimal_value}
+use Rattle.tox_time.specs.Text.{decimal_value}
 use Rattle.tox_words.specs.Table.{table_of}
 use Rattle.tox_words.specs.declared.fault.WordsFault.{WordsFault}
 use Rattle.tox_words.specs.declared.fault.WordsFault.TheVariants.{NoWords, BadWord}

@@ -1,10 +1,9 @@
 //! Words written as a text: decimal numbers, parted by commas.
 ghost use Rattle.std.specs.Prelude.{◌≡◌, IfOk, length};
-ghost use Rattle.std.specs.Char.{is_ascii_digit};
-ghost use Rattle.std.specs.List.{list_all};
 ghost use Rattle.tox_words.specs.WordsText.{bad_place, parts_of, word_of, words_of};
 
 use std::alloc::{AllocError, Global};
+use tox_time::decimal;
 
 /// How many digits a word may have.
 const MAX_DIGITS: usize = 10;
@@ -35,14 +34,6 @@ pub(crate) fn words_of(alloc: Global, text: &str, count: usize) -> Result<Vec<u3
 fn word_of(part: &str) -> Option<u32>
     ensures { result ≡ word_of part.now }
 {
-    if part.len() > MAX_DIGITS || !are_digits(part) {
-        return None;
-    }
-    part.parse().ok()
-}
-
-fn are_digits(part: &str) -> bool
-    ensures { result ≡ list_all is_ascii_digit part.now }
-{
-    part.bytes().all(|byte| byte.is_ascii_digit())
+    let word = decimal(part, MAX_DIGITS, u64::from(u32::MAX))?;
+    u32::try_from(word).ok()
 }

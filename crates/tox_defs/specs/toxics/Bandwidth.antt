@@ -26,7 +26,8 @@ is_bandwidth_within rate = is_up_to_million rate
 
 -- pieces of 100 rate bytes, at `rate` bytes a millisecond
 abbrev pub pace_gives : ℕ → Giving
-pace_gives rate state (Chunk span t) = leave (λ n. div_ceil (1000 * n) rate) state.previous t (pieces_of (λ _. 100 * rate) 0 span)
+pace_gives rate state (Chunk span t) =
+    leave (λ n. div_ceil (1000 * n) rate) state.previous t (pieces_of (λ _. 100 * rate) 0 span)
 pace_gives rate state item = in_order state.previous item ∷ []
 
 -- the instant of the first arrival
@@ -37,4 +38,5 @@ first_instant items = 0
 -- the law: the n-th byte, from 0, doesn't leave before n + 1 bytes could have passed since the first arrival
 abbrev pub BandwidthLaw : ℕ → List Item → List Item → Type 0
 BandwidthLaw rate items given =
-    (n : ℕ) → n < length (table given) → plus (first_instant items) (div_ceil (1000 * (n + 1)) rate) ≤ slice_index (table given) n
+    (n : ℕ) → n < length (table given)
+        → plus (first_instant items) (div_ceil (1000 * (n + 1)) rate) ≤ slice_index (table given) n

@@ -27,16 +27,19 @@ is_latency_within latency jitter = is_within_hour latency && is_within_hour jitt
 
 -- each chunk leaves later by the wait of its number
 abbrev pub delay_gives : (ℕ → ℕ) → Giving
-delay_gives wait state (Chunk span t) = Chunk span (max state.previous (plus t (wait state.chunks))) ∷ []
+delay_gives wait state (Chunk span t) =
+    Chunk span (max state.previous (plus t (wait state.chunks))) ∷ []
 delay_gives wait state item = in_order state.previous item ∷ []
 
 -- what a latency gives, by the words of its lane: the wait of each chunk is drawn
 abbrev pub latency_gives : ℕ → ℕ → (ℕ → ℕ) → Giving
-latency_gives latency jitter words = delay_gives (λ chunk. 1000 * varied latency jitter (words (1 + chunk)))
+latency_gives latency jitter words =
+    delay_gives (λ chunk. 1000 * varied latency jitter (words (1 + chunk)))
 
 -- what its operation gives: a fixed part is added to the drawn one
 abbrev pub delay_op_gives : ℕ → ℕ → ℕ → (ℕ → ℕ) → Giving
-delay_op_gives fixed latency jitter words = delay_gives (λ chunk. 1000 * (fixed + varied latency jitter (words (1 + chunk))))
+delay_op_gives fixed latency jitter words =
+    delay_gives (λ chunk. 1000 * (fixed + varied latency jitter (words (1 + chunk))))
 
 -- its operation: without jitter the fixed part has all, and nothing is drawn
 abbrev pub delay_of : ℕ → ℕ → ℕ → Op

@@ -29,7 +29,9 @@ first_bytes (suc n) span t = Chunk (record { start = span.start; stop = span.sta
 -- so many bytes in all, and then a close
 abbrev pub limit_gives : ℕ → Giving
 limit_gives bytes state (Chunk span t) =
-    if nat_lt (span_len span) (bytes - state.passed) then Chunk span t ∷ [] else (first_bytes (bytes - state.passed) span t ++ (Closed t ∷ []))
+    if nat_lt (span_len span) (bytes - state.passed)
+    then Chunk span t ∷ []
+    else (first_bytes (bytes - state.passed) span t ++ (Closed t ∷ []))
 limit_gives bytes state item = item ∷ []
 
 -- the law: so many bytes pass, or all that came

@@ -29,12 +29,14 @@ is_slicer_varied_too_much average_size size_variation = nat_le average_size size
 
 -- pieces of the sizes of their numbers, each so many microseconds after the one before
 abbrev pub slicing_gives : (ℕ → ℕ) → ℕ → Giving
-slicing_gives size micros state (Chunk span t) = leave (λ _. micros) state.previous t (pieces_of size state.pieces span)
+slicing_gives size micros state (Chunk span t) =
+    leave (λ _. micros) state.previous t (pieces_of size state.pieces span)
 slicing_gives size micros state item = in_order state.previous item ∷ []
 
 -- what a slicer gives, by the words of its lane: the size of each piece is drawn
 abbrev pub slicer_gives : ℕ → ℕ → ℕ → (ℕ → ℕ) → Giving
-slicer_gives average_size size_variation delay words = slicing_gives (λ piece. varied average_size size_variation (words (1 + piece))) delay
+slicer_gives average_size size_variation delay words =
+    slicing_gives (λ piece. varied average_size size_variation (words (1 + piece))) delay
 
 -- some chunk stops here
 abbrev pub StopsAt : ℕ → List Item → Type 0
@@ -44,9 +46,11 @@ StopsAt stop (item ∷ items) = StopsAt stop items
 
 -- a piece has at most so many bytes, and at least so many unless it is the last of its arrival
 abbrev pub IsSized : List Item → ℕ → ℕ → Item → Type 0
-IsSized arrivals least most (Chunk span t) = (span_len span ≤ most) × ((least ≤ span_len span) ⊎ StopsAt span.stop arrivals)
+IsSized arrivals least most (Chunk span t) =
+    (span_len span ≤ most) × ((least ≤ span_len span) ⊎ StopsAt span.stop arrivals)
 IsSized arrivals least most item = Unit {0}
 
 -- the law: each piece is near the average size, or the last of its arrival
 abbrev pub SlicerLaw : ℕ → ℕ → List Item → List Item → Type 0
-SlicerLaw average_size size_variation items given = All (IsSized items (average_size - size_variation) (average_size + size_variation)) given
+SlicerLaw average_size size_variation items given =
+    All (IsSized items (average_size - size_variation) (average_size + size_variation)) given

@@ -1,11 +1,11 @@
 //! The pairs of a short form: `key=value`, parted by commas.
 ghost use Rattle.std.specs.Prelude.{◌≡◌, option_map, count_by};
-ghost use Rattle.std.specs.Char.{is_ascii_digit};
 ghost use Rattle.std.specs.List.{after_first, before_first, find, list_all};
 ghost use Rattle.tox_defs.specs.Pairs.{has_double_key, has_key, is_equals, is_pair, is_word, is_word_byte, key_of, number_of, pairs_of, value_at, value_of};
 ghost use Rattle.tox_defs.specs.Short.{is_known};
 
 use crate::kind::Kind;
+use tox_time::decimal;
 
 /// The most digits of a value.
 const MAX_DIGITS: usize = 18;
@@ -60,16 +60,7 @@ fn cut(pair: &str) -> (&str, &str)
 fn number_of(text: &str) -> Option<u64>
     ensures { result ≡ number_of text.now }
 {
-    if text.len() > MAX_DIGITS || !are_digits(text) {
-        return None;
-    }
-    text.parse().ok()
-}
-
-fn are_digits(text: &str) -> bool
-    ensures { result ≡ list_all is_ascii_digit text.now }
-{
-    text.bytes().all(|byte| byte.is_ascii_digit())
+    decimal(text, MAX_DIGITS, u64::MAX)
 }
 
 /// Whether a key is given twice or more.
