@@ -1,5 +1,5 @@
 -- The toxics of a rule so far, by their streams.
-use Rattle.std.specs.Prelude.{ℕ, ◌||◌, Bool, List, length, nat_le, Result, Ok, Err, if◌then◌else◌}
+use Rattle.std.specs.Prelude.{ℕ, ◌||◌, Bool, List, length, nat_le, Result}
 use Rattle.tox_time.specs.declared.stream.Stream.{Stream}
 use Rattle.tox_time.specs.declared.stream.Stream.TheVariants.{Upstream, Downstream}
 use Rattle.tox_defs.specs.declared.chain.Entry.{Entry}
@@ -7,10 +7,10 @@ use Rattle.tox_defs.specs.Chain.{max_toxics}
 use Rattle.tox_script.specs.Fields.{is_among}
 use Rattle.tox_script.specs.NamedChain.{NamedToxics, nothing, with_toxic}
 use Rattle.tox_script.specs.Toxic.{NamedToxic}
+use Rattle.tox_script.specs.Toxics.{unless_refused}
 use Rattle.tox_script.specs.declared.chains.Chains.{Chains}
 use Rattle.tox_script.specs.declared.fault.Location.{Location}
 use Rattle.tox_script.specs.declared.fault.ScriptFault.{ScriptFault}
-use Rattle.tox_script.specs.declared.fault.ScriptFault.TheVariants.{DoubleName, TooManyToxics}
 
 -- no toxic
 abbrev pub no_chains : Chains
@@ -32,10 +32,10 @@ pushed Upstream entry name chains =
 pushed Downstream entry name chains =
     record chains { downstream = with_toxic entry name chains.downstream }
 
--- one more toxic at a location, unless its name stands already or its stream is full
+-- the chains with the toxic at a location
 abbrev pub put_toxic : Location → NamedToxic → Chains → Result Chains ScriptFault
 put_toxic at toxic chains =
-    if has_name toxic.name chains then Err (DoubleName at)
-    else if nat_le max_toxics (length (on toxic.stream chains).chain.entries)
-        then Err (TooManyToxics at)
-    else Ok (pushed toxic.stream toxic.entry toxic.name chains)
+    unless_refused at
+        (has_name toxic.name chains)
+        (nat_le max_toxics (length (on toxic.stream chains).chain.entries))
+        (pushed toxic.stream toxic.entry toxic.name chains)

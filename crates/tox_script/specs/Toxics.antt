@@ -26,12 +26,20 @@ toxic_at at d = do
 abbrev pub is_on : Stream → NamedToxic → Bool
 is_on stream toxic = same_stream stream toxic.stream
 
--- the toxic at a location behind earlier ones, unless one of them has its name or its stream is full of them
+-- one toxic more at a location, unless its name stands already or its stream is full
+abbrev pub unless_refused : {A : Type 0} → Location → Bool → Bool → A → Result A ScriptFault
+unless_refused at named full more =
+    if named then Err (DoubleName at)
+    else if full then Err (TooManyToxics at)
+    else Ok more
+
+-- earlier toxics with the toxic at a location behind them
 abbrev pub behind : Location → List NamedToxic → NamedToxic → Result (List NamedToxic) ScriptFault
 behind at earlier toxic =
-    if list_any (λ other. bytes_eq other.name toxic.name) earlier then Err (DoubleName at)
-    else if nat_le max_toxics (count_by (is_on toxic.stream) earlier) then Err (TooManyToxics at)
-    else Ok (earlier ++ toxic ∷ [])
+    unless_refused at
+        (list_any (λ other. bytes_eq other.name toxic.name) earlier)
+        (nat_le max_toxics (count_by (is_on toxic.stream) earlier))
+        (earlier ++ toxic ∷ [])
 
 -- the toxics of a rule: earlier ones and those of the tables behind them, or the first fault
 abbrev pub toxics_from : ℕ → List NamedToxic → Items → Result (List NamedToxic) ScriptFault
