@@ -1,21 +1,22 @@
 -- One toxic more: what the operations so far become stays, there are few of them, and they add little.
-use Rattle.std.proofs.Common.{◌≡◌, ℕ, zero, suc, ◌+◌, ◌*◌, ◌<◌, ◌≤◌, true, false, List, ◌∷◌, length, drop, get_or, drop-cons, add-one, arith, ap, sym, ◌∙◌, subst}
+use Rattle.std.proofs.Common.{◌≡◌, ℕ, zero, suc, ◌+◌, ◌*◌, ◌<◌, ◌≤◌, false, List, [], ◌∷◌, ◌++◌, length, map, take, get_or, arith, ap, sym, ◌∙◌, subst}
 use Rattle.std.specs.Prelude.{All, fold}
 use Rattle.std.proofs.lemmas.Bool.{and_parts, leb-true}
-use Rattle.tox_defs.specs.declared.chain.Entry.{Entry}
+use Rattle.std.proofs.lemmas.List.{map-append, take_all, take_more}
+use Rattle.std.proofs.lemmas.List.Sums.{fold-append}
+use Rattle.tox_defs.specs.declared.applied.Placed.{Placed}
 use Rattle.tox_defs.specs.declared.op.Op.{Op}
 use Rattle.tox_defs.specs.declared.toxic.Toxic.{Toxic}
 use Rattle.tox_defs.specs.declared.toxic.Toxic.TheVariants.{Latency, Bandwidth, SlowClose, Timeout, ResetPeer, Slicer, LimitData}
 use Rattle.tox_defs.specs.Toxic.{IsInRange, is_within}
 use Rattle.tox_defs.specs.Ranges.{is_within_hour}
-use Rattle.tox_defs.specs.Chain.{IsEntry}
-use Rattle.tox_defs.specs.Applied.{is_applied}
+use Rattle.tox_defs.specs.Flow.{IsPlaced}
 use Rattle.tox_defs.specs.Op.{op_of}
 use Rattle.tox_defs.proofs.OpOf.{both_tests}
+use Rattle.tox_compile.specs.Compiled.{op_of_placed}
 use Rattle.tox_compile.specs.Normal.{with_op}
 use Rattle.tox_compile.specs.NormalInside.{millis_of}
-use Rattle.tox_compile.proofs.Compiling.{ops_from, ops_from-applied, ops_from-skipped, ops_from-end}
-use Rattle.tox_compile.proofs.Sums.{AddAtMost, length-with_op, with_op_adds, still_adds}
+use Rattle.tox_compile.proofs.Sums.{AddAtMost, length-with_op, with_op_adds}
 
 -- a toxic's operation adds an hour at most
 pub millis-op_of : (place : ℕ) (toxic : Toxic) → IsInRange toxic → millis_of (op_of place toxic) ≤ 3_600_000
@@ -31,43 +32,33 @@ millis-op_of place (ResetPeer timeout) fits = omega arith
 millis-op_of place (Slicer average variation delay) fits = omega arith
 millis-op_of place (LimitData bytes) fits = omega arith
 
--- what the loop over the toxics keeps
-pub record Compiles (normal : List Op) (words : List ℕ) (entries : List Entry) (place : ℕ) (ops : List Op) : Type 0 where
-  pub becomes : fold with_op ops (ops_from place (drop place entries) words) ≡ normal
-  pub few : length ops ≤ place
-  pub sums : AddAtMost (3_600_000 * place) ops
+-- what the loop over the applied toxics keeps
+pub record Compiles (toxics : List Placed) (count : ℕ) (ops : List Op) : Type 0 where
+  pub folded : ops ≡ fold with_op [] (map op_of_placed (take count toxics))
+  pub few : length ops ≤ count
+  pub sums : AddAtMost (3_600_000 * count) ops
 
-next_entry : (place : ℕ) (entries : List Entry) (entry : Entry) (words : List ℕ) (d : Entry) → place < length entries → entry ≡ get_or entries place d
-    → ops_from place (drop place entries) words ≡ ops_from place (entry ∷ drop (place + 1) entries) words
-next_entry place entries entry words d here is =
-    ap (λ others. ops_from place others words) (drop-cons entries place d here)
-    ∙ ap (λ others. ops_from place (get_or entries place d ∷ others) words) (ap (λ n. drop n entries) (sym (add-one place)))
-    ∙ ap (λ entry. ops_from place (entry ∷ drop (place + 1) entries) words) (sym is)
-
-pub turn-applied : (normal : List Op) (words : List ℕ) (entries : List Entry) (place : ℕ) (ops : List Op) (entry d : Entry) → place < length entries → entry ≡ get_or entries place d
-    → All IsEntry entries → is_applied entry place words ≡ true → Compiles normal words entries place ops → Compiles normal words entries (place + 1) (with_op ops (op_of place entry.toxic))
-turn-applied normal words entries place ops entry d here is fits met so_far =
-    let in_range : IsEntry entry = subst IsEntry (sym is) (fits place d here) in
-    let hour = millis-op_of place entry.toxic in_range.0 in
-    let more : 3_600_000 * place + 3_600_000 ≡ 3_600_000 * (place + 1) = omega arith in
-    let most = length-with_op ops (op_of place entry.toxic) in
+-- one more toxic
+pub compiles-more : (toxics : List Placed) (count : ℕ) (ops : List Op) (toxic d : Placed) → count < length toxics → toxic ≡ get_or toxics count d
+    → All IsPlaced toxics → Compiles toxics count ops → Compiles toxics (count + 1) (with_op ops (op_of_placed toxic))
+compiles-more toxics count ops toxic d here is placed so_far =
+    let in_range : IsPlaced toxic = subst IsPlaced (sym is) (placed count d here) in
+    let hour = millis-op_of toxic.place toxic.toxic in_range.0 in
+    let more : 3_600_000 * count + 3_600_000 ≡ 3_600_000 * (count + 1) = omega arith in
+    let most = length-with_op ops (op_of_placed toxic) in
+    let before = map op_of_placed (take count toxics) in
+    let with_one : map op_of_placed (take (count + 1) toxics) ≡ before ++ op_of_placed toxic ∷ [] =
+      ap (map op_of_placed) (take_more toxics count d here ∙ ap (λ toxic. take count toxics ++ toxic ∷ []) (sym is))
+      ∙ map-append op_of_placed (take count toxics) (toxic ∷ []) in
     record {
-      becomes = sym (ap (λ others. fold with_op ops others) (next_entry place entries entry words d here is ∙ ops_from-applied place entry (drop (place + 1) entries) words met)) ∙ so_far.becomes;
+      folded = ap (λ ops. with_op ops (op_of_placed toxic)) so_far.folded
+        ∙ sym (fold-append with_op [] before (op_of_placed toxic ∷ []))
+        ∙ sym (ap (fold with_op []) with_one);
       few = omega (arith, most, so_far.few);
-      sums = subst (λ most. AddAtMost most (with_op ops (op_of place entry.toxic))) more (with_op_adds (3_600_000 * place) 3_600_000 ops (op_of place entry.toxic) so_far.sums hour);
+      sums = subst (λ most. AddAtMost most (with_op ops (op_of_placed toxic))) more (with_op_adds (3_600_000 * count) 3_600_000 ops (op_of_placed toxic) so_far.sums hour);
     }
 
-pub turn-skipped : (normal : List Op) (words : List ℕ) (entries : List Entry) (place : ℕ) (ops : List Op) (entry d : Entry) → place < length entries → entry ≡ get_or entries place d
-    → is_applied entry place words ≡ false → Compiles normal words entries place ops → Compiles normal words entries (place + 1) ops
-turn-skipped normal words entries place ops entry d here is skipped so_far =
-    let more : 3_600_000 * place + 3_600_000 ≡ 3_600_000 * (place + 1) = omega arith in
-    record {
-      becomes = sym (ap (λ others. fold with_op ops others) (next_entry place entries entry words d here is ∙ ops_from-skipped place entry (drop (place + 1) entries) words skipped)) ∙ so_far.becomes;
-      few = omega (arith, so_far.few);
-      sums = subst (λ most. AddAtMost most ops) more (still_adds (3_600_000 * place) 3_600_000 ops so_far.sums);
-    }
-
--- behind the last toxic they are what they become
-pub compiled : (normal : List Op) (words : List ℕ) (entries : List Entry) (place : ℕ) (ops : List Op) → length entries ≤ place → Compiles normal words entries place ops → ops ≡ normal
-compiled normal words entries place ops past so_far =
-    sym (ap (λ others. fold with_op ops others) (ops_from-end place entries words past)) ∙ so_far.becomes
+-- behind the last toxic the operations are those of all
+pub compiled : (toxics : List Placed) (count : ℕ) (ops : List Op) → length toxics ≤ count → Compiles toxics count ops → ops ≡ fold with_op [] (map op_of_placed toxics)
+compiled toxics count ops past so_far =
+    so_far.folded ∙ ap (λ toxics. fold with_op [] (map op_of_placed toxics)) (take_all count toxics past)

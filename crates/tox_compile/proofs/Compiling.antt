@@ -11,7 +11,8 @@ use Rattle.tox_defs.specs.Toxic.{IsInRange}
 use Rattle.tox_defs.specs.Chain.{Toxics, IsChain}
 use Rattle.tox_defs.specs.Applied.{is_applied}
 use Rattle.tox_defs.specs.Reaction.{flow_through}
-use Rattle.tox_defs.specs.Flow.{Placed, toxic_reaction, applied_from, applied, chain_flow}
+use Rattle.tox_defs.specs.declared.applied.Placed.{Placed}
+use Rattle.tox_defs.specs.Flow.{toxic_reaction, applied_from, applied, chain_flow}
 use Rattle.tox_defs.specs.Op.{IsOp, op_of}
 use Rattle.tox_defs.proofs.OpOf.{op_reaction-op_of, IsOp-op_of}
 use Rattle.tox_defs.proofs.ChainStreams.{in_range-applied}
@@ -38,19 +39,3 @@ operations-placed (placed ∷ toxics) fit =
 -- the operations of a chain are operations that a plan may have
 pub operations-applied_ops : (chain : Toxics) (words : List ℕ) → IsChain chain → All IsOp (applied_ops chain words)
 operations-applied_ops chain words fits = operations-placed (applied chain words) (in_range-applied chain words fits)
-
--- the operations of the toxics from a place on
-abbrev pub ops_from : ℕ → List Entry → List ℕ → List Op
-ops_from place entries words = map op_of_placed (applied_from place entries words)
-
-pub ops_from-applied : (place : ℕ) (entry : Entry) (entries : List Entry) (words : List ℕ) → is_applied entry place words ≡ true
-    → ops_from place (entry ∷ entries) words ≡ op_of place entry.toxic ∷ ops_from (place + 1) entries words
-ops_from-applied place entry entries words is = ap (λ met. map op_of_placed (if met then record { place = place; toxic = entry.toxic } ∷ applied_from (place + 1) entries words else applied_from (place + 1) entries words)) is
-
-pub ops_from-skipped : (place : ℕ) (entry : Entry) (entries : List Entry) (words : List ℕ) → is_applied entry place words ≡ false
-    → ops_from place (entry ∷ entries) words ≡ ops_from (place + 1) entries words
-ops_from-skipped place entry entries words is = ap (λ met. map op_of_placed (if met then record { place = place; toxic = entry.toxic } ∷ applied_from (place + 1) entries words else applied_from (place + 1) entries words)) is
-
--- no toxics are left behind the last place
-pub ops_from-end : (place : ℕ) (entries : List Entry) (words : List ℕ) → length entries ≤ place → ops_from place (drop place entries) words ≡ []
-ops_from-end place entries words past = ap (λ entries. ops_from place entries words) (drop_all place entries past)

@@ -2,7 +2,8 @@
 use Rattle.std.specs.Prelude.{ℕ, List, map}
 use Rattle.tox_defs.specs.declared.op.Op.{Op}
 use Rattle.tox_defs.specs.Chain.{Toxics}
-use Rattle.tox_defs.specs.Flow.{Placed, applied}
+use Rattle.tox_defs.specs.declared.applied.Placed.{Placed}
+use Rattle.tox_defs.specs.Flow.{applied}
 use Rattle.tox_defs.specs.Op.{op_of}
 
 -- the operation of an applied toxic, at its place in the chain as written

@@ -80,11 +80,8 @@ pub fn compile(chain: &Chain, words: &Words) -> Plan
         → means result words.now items ≡ chain_flow chain.now words.now items }
 {
     let mut ops = ArrayVec::new();
-    let entries = chain.entries();
-    for (place, entry) in entries.iter().enumerate() {
-        if entry.is_applied(place, words) {
-            add(&mut ops, &Op::of(&entry.toxic, place));
-        }
+    for placed in chain.applied(words).iter() {
+        add(&mut ops, &Op::of(&placed.toxic, placed.place));
     }
     Plan { ops }
 }

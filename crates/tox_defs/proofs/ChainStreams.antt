@@ -10,7 +10,8 @@ use Rattle.tox_defs.specs.declared.toxic.Toxic.{Toxic}
 use Rattle.tox_defs.specs.Toxic.{IsInRange}
 use Rattle.tox_defs.specs.Chain.{Toxics, IsEntry, IsChain}
 use Rattle.tox_defs.specs.Reaction.{flow_through}
-use Rattle.tox_defs.specs.Flow.{Placed, toxic_reaction, applied_from, applied, chain_flow}
+use Rattle.tox_defs.specs.declared.applied.Placed.{Placed}
+use Rattle.tox_defs.specs.Flow.{toxic_reaction, applied_from, applied, chain_flow}
 use Rattle.tox_defs.specs.Laws.{toxic_flow, IsKeptBy, KeepsStreams}
 use Rattle.tox_defs.proofs.ToxicStreams.{IsStream-toxic_flow}
 use Rattle.tox_defs.proofs.Passing.{arrived-toxic_flow}

@@ -21,3 +21,4 @@ mod Decimals
 pub mod Mapped
 mod ReadsBack
 mod WorkedCases
+mod Gathered

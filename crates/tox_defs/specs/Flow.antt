@@ -1,14 +1,16 @@
 -- What toxics and chains do to a list of items.
-use Rattle.std.specs.Prelude.{ℕ, ◌+◌, ◌*◌, List, [], ◌∷◌, map, if◌then◌else◌}
+use Rattle.std.specs.Prelude.{ℕ, ◌+◌, ◌*◌, ◌<◌, List, [], ◌∷◌, map, if◌then◌else◌}
 use Rattle.tox_time.specs.declared.item.Item.{Item}
 use Rattle.tox_time.specs.Time.{micros_of}
 use Rattle.tox_time.specs.Table.{final_of}
 use Rattle.tox_words.specs.Draw.{draw}
 use Rattle.tox_defs.specs.declared.toxic.Toxic.{Toxic}
 use Rattle.tox_defs.specs.declared.toxic.Toxic.TheVariants.{Latency, Bandwidth, SlowClose, Timeout, ResetPeer, Slicer, LimitData}
+use Rattle.tox_defs.specs.declared.applied.Placed.{Placed}
 use Rattle.tox_defs.specs.declared.chain.Entry.{Entry}
 use Rattle.tox_defs.specs.Applied.{is_applied}
 use Rattle.tox_defs.specs.Chain.{Toxics}
+use Rattle.tox_defs.specs.Toxic.{IsInRange}
 use Rattle.tox_defs.specs.Reaction.{Giving, Reaction, counted, flow_through}
 use Rattle.tox_defs.specs.toxics.Latency.{latency_gives}
 use Rattle.tox_defs.specs.toxics.Bandwidth.{pace_gives}
@@ -33,10 +35,9 @@ toxic_giving (LimitData bytes) words = limit_gives bytes
 abbrev pub toxic_reaction : Toxic → (ℕ → ℕ) → Reaction
 toxic_reaction toxic words = counted (toxic_giving toxic words)
 
--- a toxic with the place that it has in its chain as written
-pub record Placed : Type 0 where
-  pub place : ℕ
-  pub toxic : Toxic
+-- attributes in their ranges, and a place that a chain has
+abbrev pub IsPlaced : Placed → Type 0
+IsPlaced placed = IsInRange placed.toxic × (placed.place < 16)
 
 -- the toxics that a link meets, of those from a place on
 abbrev pub applied_from : ℕ → List Entry → List ℕ → List Placed

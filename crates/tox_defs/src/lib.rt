@@ -1,6 +1,7 @@
 //! What a toxic does: the seven toxics, chains of them, and one toxic at work.
 #![tactic(auto)]
 
+mod applied;
 mod chain;
 mod fault;
 mod kind;
@@ -18,6 +19,7 @@ mod toxic;
 mod toxics;
 mod varied;
 
+pub use applied::Placed;
 pub use chain::{Chain, Entry, MAX_TOXICS};
 pub use fault::{ShortFault, TooManyToxics, ToxicFault};
 pub use kind::{Kind, MAX_ATTRIBUTES};

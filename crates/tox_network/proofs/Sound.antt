@@ -12,7 +12,8 @@ use Rattle.tox_defs.specs.declared.position.StreamPosition.{StreamPosition}
 use Rattle.tox_defs.specs.Applied.{is_applied}
 use Rattle.tox_defs.specs.Chain.{Toxics, IsChain, max_toxics}
 use Rattle.tox_defs.specs.Reaction.{flow_through}
-use Rattle.tox_defs.specs.Flow.{Placed, toxic_reaction, applied_from, applied, reactions_of}
+use Rattle.tox_defs.specs.declared.applied.Placed.{Placed}
+use Rattle.tox_defs.specs.Flow.{toxic_reaction, applied_from, applied, reactions_of}
 use Rattle.tox_defs.specs.StreamPosition.{fits, first_position, position_after, AllFit}
 use Rattle.tox_defs.specs.Stage.{Staged}
 use Rattle.tox_defs.proofs.OpOf.{op_reaction-op_of}

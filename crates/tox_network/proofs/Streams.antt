@@ -9,7 +9,8 @@ use Rattle.tox_words.specs.Draw.{draw}
 use Rattle.tox_defs.specs.Toxic.{IsInRange}
 use Rattle.tox_defs.specs.Chain.{Toxics, IsChain}
 use Rattle.tox_defs.specs.Reaction.{flow_through}
-use Rattle.tox_defs.specs.Flow.{Placed, toxic_reaction, applied, reactions_of}
+use Rattle.tox_defs.specs.declared.applied.Placed.{Placed}
+use Rattle.tox_defs.specs.Flow.{toxic_reaction, applied, reactions_of}
 use Rattle.tox_defs.specs.Laws.{toxic_flow, IsKeptBy}
 use Rattle.tox_defs.proofs.ChainStreams.{toxic_keeps, in_range-applied}
 use Rattle.tox_defs.proofs.Places.{length-stream}

@@ -3,7 +3,8 @@ use Rattle.std.specs.Prelude.{◌≡◌, ℕ, ◌+◌, ◌≤◌, ◌<◌, ◌^�
 use Rattle.tox_time.specs.declared.item.Item.{Item}
 use Rattle.tox_time.specs.Stream.{IsStream, is_final}
 use Rattle.tox_defs.specs.Chain.{Toxics}
-use Rattle.tox_defs.specs.Flow.{Placed, reactions_of}
+use Rattle.tox_defs.specs.declared.applied.Placed.{Placed}
+use Rattle.tox_defs.specs.Flow.{reactions_of}
 use Rattle.tox_defs.specs.Op.{op_of}
 use Rattle.tox_defs.specs.StreamPosition.{AllFit}
 use Rattle.tox_defs.specs.Stage.{Staged, first_stage, reaction_of}

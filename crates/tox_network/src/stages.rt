@@ -18,11 +18,10 @@ pub(crate) fn first_stages<'w>(
         (λ stages. stages.items ≡ map (placed_stage words.now) (applied chain.now words.now)) }
     ensures chain { IsChain chain.now }
 {
-    let mut stages = Vec::with_capacity(alloc, chain.len())?;
-    for (place, entry) in chain.entries().iter().enumerate() {
-        if entry.is_applied(place, words) {
-            stages.push(Stage::new(entry.toxic, place, words))?;
-        }
+    let applied = chain.applied(words);
+    let mut stages = Vec::with_capacity(alloc, applied.len())?;
+    for placed in applied.iter() {
+        stages.push(Stage::new(placed.toxic, placed.place, words))?;
     }
     Ok(stages)
 }

@@ -7,7 +7,8 @@ use Rattle.tox_words.specs.Draw.{draw}
 use Rattle.tox_defs.specs.declared.chain.Entry.{Entry}
 use Rattle.tox_defs.specs.Applied.{is_applied}
 use Rattle.tox_defs.specs.Reaction.{Reaction, flow}
-use Rattle.tox_defs.specs.Flow.{Placed, toxic_reaction, applied_from, reactions_from}
+use Rattle.tox_defs.specs.declared.applied.Placed.{Placed}
+use Rattle.tox_defs.specs.Flow.{toxic_reaction, applied_from, reactions_from}
 use Rattle.tox_defs.specs.Laws.{IsKeptBy}
 use Rattle.tox_stages.specs.Passing.{IsLinkStream, SendsFlow, PassesOn, Delivers}
 use Rattle.tox_stages.proofs.Places.{whole_stream, nothing_more}

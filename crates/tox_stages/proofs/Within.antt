@@ -24,7 +24,8 @@ use Rattle.tox_defs.specs.Pieces.{cut, leave}
 use Rattle.tox_defs.specs.toxics.LimitData.{first_bytes, limit_gives}
 use Rattle.tox_defs.specs.toxics.ResetPeer.{is_before}
 use Rattle.tox_defs.specs.toxics.Timeout.{mute_gives}
-use Rattle.tox_defs.specs.Flow.{Placed, toxic_giving, toxic_reaction, applied, chain_flow}
+use Rattle.tox_defs.specs.declared.applied.Placed.{Placed}
+use Rattle.tox_defs.specs.Flow.{toxic_giving, toxic_reaction, applied, chain_flow}
 use Rattle.tox_defs.specs.toxics.Timeout.{timeout_ending}
 use Rattle.tox_defs.specs.Varied.{varied}
 use Rattle.tox_defs.specs.Laws.{toxic_flow}
