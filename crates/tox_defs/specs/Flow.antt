@@ -51,15 +51,13 @@ applied_from place (entry ∷ entries) words =
 abbrev pub applied : Toxics → List ℕ → List Placed
 applied chain words = applied_from 0 chain.entries words
 
--- the reactions of the toxics that a link meets, of those from a place on
-abbrev pub reactions_from : ℕ → List Entry → List ℕ → List Reaction
-reactions_from place entries words =
-    map (λ placed. toxic_reaction placed.toxic (draw words placed.place))
-    (applied_from place entries words)
+-- the reaction of an applied toxic, on a link with these words
+abbrev pub placed_reaction : List ℕ → Placed → Reaction
+placed_reaction words placed = toxic_reaction placed.toxic (draw words placed.place)
 
 -- the reactions of the applied toxics, in order
 abbrev pub reactions_of : Toxics → List ℕ → List Reaction
-reactions_of chain words = reactions_from 0 chain.entries words
+reactions_of chain words = map (placed_reaction words) (applied chain words)
 
 -- the flow of a chain
 abbrev pub chain_flow : Toxics → List ℕ → List Item → List Item

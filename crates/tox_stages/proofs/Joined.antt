@@ -1,14 +1,9 @@
 -- The two ends of a ring, brought together.
-use Rattle.std.proofs.Common.{◌≡◌, ℕ, ◌+◌, true, false, List, [], ◌∷◌, ◌++◌, map, refl, sym, ◌∙◌, ap, subst, arith, if◌then◌else◌}
+use Rattle.std.proofs.Common.{◌≡◌, ◌+◌, true, List, [], ◌∷◌, ◌++◌, refl, sym, ◌∙◌, ap, subst, arith}
 use Rattle.std.proofs.lemmas.List.{append-nil}
 use Rattle.tox_time.specs.declared.item.Item.{Item}
 use Rattle.tox_time.specs.Stream.{IsStream, has_final}
-use Rattle.tox_words.specs.Draw.{draw}
-use Rattle.tox_defs.specs.declared.chain.Entry.{Entry}
-use Rattle.tox_defs.specs.Applied.{is_applied}
 use Rattle.tox_defs.specs.Reaction.{Reaction, flow}
-use Rattle.tox_defs.specs.declared.applied.Placed.{Placed}
-use Rattle.tox_defs.specs.Flow.{toxic_reaction, applied_from, reactions_from}
 use Rattle.tox_defs.specs.Laws.{IsKeptBy}
 use Rattle.tox_stages.specs.Passing.{IsLinkStream, SendsFlow, PassesOn, Delivers}
 use Rattle.tox_stages.proofs.Places.{whole_stream, nothing_more}
@@ -51,19 +46,3 @@ level_up reaction reactions above sent below known delivered keeps sends ring de
       passed = (refl, refl, passes.passed);
       flowed = passes.flowed;
     }
-
--- a toxic that is met comes first
-pub reactions_from-met : (place : ℕ) (entry : Entry) (entries : List Entry) (words : List ℕ) → is_applied entry place words ≡ true
-    → reactions_from place (entry ∷ entries) words ≡ toxic_reaction entry.toxic (draw words place) ∷ reactions_from (place + 1) entries words
-reactions_from-met place entry entries words met =
-    let first : Placed = record { place = place; toxic = entry.toxic } in
-    let others : List Placed = applied_from (place + 1) entries words in
-    ap (λ b. map (λ (placed : Placed). toxic_reaction placed.toxic (draw words placed.place)) (if b then first ∷ others else others)) met
-
--- one that isn't is passed over
-pub reactions_from-unmet : (place : ℕ) (entry : Entry) (entries : List Entry) (words : List ℕ) → is_applied entry place words ≡ false
-    → reactions_from place (entry ∷ entries) words ≡ reactions_from (place + 1) entries words
-reactions_from-unmet place entry entries words unmet =
-    let first : Placed = record { place = place; toxic = entry.toxic } in
-    let others : List Placed = applied_from (place + 1) entries words in
-    ap (λ b. map (λ (placed : Placed). toxic_reaction placed.toxic (draw words placed.place)) (if b then first ∷ others else others)) unmet

@@ -1,13 +1,10 @@
 //! The chain of workers, built level by level.
-ghost use Rattle.std.specs.Prelude.{◌≡◌, ◌+◌, ◌<◌, ◌≤◌, All, [], length, Some, IfOk};
+ghost use Rattle.std.specs.Prelude.{◌≡◌, ◌+◌, ◌≤◌, All, [], length, map, Some, IfOk};
 ghost use Rattle.rtrb.specs.Ring.{sent, received, SameProducer, SameConsumer};
 ghost use Rattle.tox_time.specs.Arrivals.{arrival_list};
 ghost use Rattle.tox_time.specs.Neighbours.{AreNeighbours};
 ghost use Rattle.tox_time.specs.Table.{IsOutcomeOf};
-ghost use Rattle.tox_words.specs.Draw.{draw};
-ghost use Rattle.tox_defs.specs.Chain.{IsEntry};
-ghost use Rattle.tox_defs.specs.Flow.{chain_flow, reactions_from, toxic_reaction};
-ghost use Rattle.tox_defs.specs.Toxic.{IsInRange};
+ghost use Rattle.tox_defs.specs.Flow.{IsPlaced, chain_flow, placed_reaction};
 ghost use Rattle.tox_network.specs.Shown.{shown};
 ghost use Rattle.tox_stages.specs.AtRest.{IsNetworkAtRest};
 ghost use Rattle.tox_stages.specs.Passing.{Delivers, IsLinkStream, SendsFlow};
@@ -23,7 +20,7 @@ use std::snapshot::Snapshot;
 use std::sync::Wait;
 use std::thread;
 use std::thread::{PromisedHandle, Scope, Threads};
-use tox_defs::{Chain, Entry, Toxic};
+use tox_defs::{Chain, Placed};
 use tox_time::{Arrivals, Gate, Item, Outcome};
 use tox_words::Words;
 
@@ -46,15 +43,13 @@ fn start<'s, E: 's, R: Threads + Wait + Sync, G: Gate>(
     pipeline: &Pipeline<'s, R, G>,
     scope: &'s Scope<'s, E>,
     stage_number: usize,
-    toxic: Toxic,
-    lane: usize,
+    placed: &Placed,
     consumer: Consumer<Item>,
 ) -> Result<Started<'s>, StageFault>
-    requires in_range { IsInRange toxic }
-    requires lane { lane < 16 }
+    requires placed { IsPlaced placed.now }
     requires fresh { received consumer ≡ [] }
     ensures { IfOk result
-        (λ started. IsWorkerOf started.0.promise toxic lane pipeline.now.words.now consumer started.1) }
+        (λ started. IsWorkerOf started.0.promise placed.now pipeline.now.words.now consumer started.1) }
 {
     let Ok((producer, next)) = RingBuffer::new(pipeline.alloc, pipeline.cap) else {
         return Err(StageFault::OutOfMemory);
@@ -62,9 +57,9 @@ fn start<'s, E: 's, R: Threads + Wait + Sync, G: Gate>(
     let rt = pipeline.rt;
     let gate = pipeline.gate;
     let words = pipeline.words;
+    let placed = *placed;
     let promise = SendsFlowOf {
-        toxic,
-        lane,
+        placed,
         words,
         consumer: Snapshot::of(&consumer),
         producer: Snapshot::of(&producer),
@@ -72,19 +67,17 @@ fn start<'s, E: 's, R: Threads + Wait + Sync, G: Gate>(
     let worker = scope.spawn_with(
         promise,
         move || -> Ends
-            requires { IsInRange toxic × (lane < 16) × (received consumer ≡ [])
-                × (sent producer ≡ []) }
+            requires { IsPlaced placed × (received consumer ≡ []) × (sent producer ≡ []) }
             ensures consumer { SameConsumer consumer result.consumer }
             ensures producer { SameProducer producer result.producer }
-            ensures flow { SendsFlow (toxic_reaction toxic (draw words.entry.now lane))
+            ensures flow { SendsFlow (placed_reaction words.entry.now placed)
                 (received result.consumer) (sent result.producer) }
         {
             work(
                 rt,
                 gate,
                 stage_number,
-                toxic,
-                lane,
+                placed,
                 words,
                 consumer,
                 producer,
@@ -97,47 +90,33 @@ fn start<'s, E: 's, R: Threads + Wait + Sync, G: Gate>(
     }
 }
 
-/// The stages of the toxics from place `lane` of the chain on. Gives back the consumer of the ring before them, with
-/// what was delivered.
+/// The stages of these toxics. Gives back the consumer of the ring before them, with what was delivered.
 ///
 /// If a ring or a thread is refused nothing was sent yet. Only `Quiet` is sent then, on which each worker ends.
 fn level<'s, E: 's, R: Threads + Wait + Sync, G: Gate>(
     pipeline: &Pipeline<'s, R, G>,
     scope: &'s Scope<'s, E>,
-    entries: &[Entry],
-    lane: usize,
+    toxics: &[Placed],
     stage_number: usize,
     first: &mut Producer<Item>,
     consumer: Consumer<Item>,
 ) -> Result<(Consumer<Item>, Outcome), StageFault>
     requires fresh { (sent first.old ≡ []) × (received consumer ≡ []) }
-    requires entries { All IsEntry entries.now }
-    requires lanes { lane + length entries.now ≤ 16 }
-    requires stages { stage_number ≤ lane }
+    requires toxics { All IsPlaced toxics.now }
+    requires stages { stage_number + length toxics.now ≤ 16 }
     ensures first { SameProducer first.old first.new }
     ensures consumer { IfOk result (λ ended. SameConsumer consumer ended.0) }
     ensures stream { IfOk result (λ _. IsLinkStream (arrival_list pipeline.now.arrivals.now)) }
     ensures sent { IfOk result (λ _. sent first.new ≡ arrival_list pipeline.now.arrivals.now) }
     ensures delivered { IfOk result
-        (λ ended. Delivers (reactions_from lane entries.now pipeline.now.words.now)
+        (λ ended. Delivers (map (placed_reaction pipeline.now.words.now) toxics.now)
         (received ended.0) (shown ended.1.slices (Some ended.1.ending))) }
 {
     let rt = pipeline.rt;
-    let Some((entry, rest)) = entries.split_first() else {
+    let Some((toxic, later)) = toxics.split_first() else {
         return feed_and_drain(rt, pipeline.alloc, pipeline.arrivals, first, consumer);
     };
-    if !entry.is_applied(lane, pipeline.words) {
-        return level(
-            pipeline,
-            scope,
-            rest,
-            lane + 1,
-            stage_number,
-            first,
-            consumer,
-        );
-    }
-    let started = start(pipeline, scope, stage_number, entry.toxic, lane, consumer);
+    let started = start(pipeline, scope, stage_number, toxic, consumer);
     let (worker, next) = match started {
         Ok(started) => started,
         Err(fault) => {
@@ -145,15 +124,7 @@ fn level<'s, E: 's, R: Threads + Wait + Sync, G: Gate>(
             return Err(fault);
         }
     };
-    let below = level(
-        pipeline,
-        scope,
-        rest,
-        lane + 1,
-        stage_number + 1,
-        first,
-        next,
-    );
+    let below = level(pipeline, scope, later, stage_number + 1, first, next);
     let Ends {
         consumer,
         mut producer,
@@ -210,15 +181,9 @@ pub fn run_stages<R: Threads + Wait + Sync, G: Gate>(
                 cap,
                 gate,
             };
-            let (mut consumer, outcome) = level(
-                &pipeline,
-                scope,
-                chain.entries(),
-                0,
-                0,
-                &mut first,
-                consumer,
-            )?;
+            let toxics = chain.applied(words);
+            let (mut consumer, outcome) =
+                level(&pipeline, scope, &toxics, 0, &mut first, consumer)?;
             consumer.slots_beside(&mut first);
             Ok(outcome)
         },

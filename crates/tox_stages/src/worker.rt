@@ -1,9 +1,7 @@
 //! The worker of one stage.
-ghost use Rattle.std.specs.Prelude.{◌≡◌, ◌<◌, [], ◌++◌};
+ghost use Rattle.std.specs.Prelude.{◌≡◌, [], ◌++◌};
 ghost use Rattle.rtrb.specs.Ring.{sent, received, SameProducer, SameConsumer};
-ghost use Rattle.tox_words.specs.Draw.{draw};
-ghost use Rattle.tox_defs.specs.Toxic.{IsInRange};
-ghost use Rattle.tox_defs.specs.Flow.{toxic_reaction};
+ghost use Rattle.tox_defs.specs.Flow.{IsPlaced, placed_reaction};
 ghost use Rattle.tox_stages.specs.Passing.{SendsFlow};
 
 use crate::waiting::{pop_waiting, push_waiting};
@@ -11,7 +9,7 @@ use rtrb::{Consumer, Producer};
 use std::snapshot::Snapshot;
 use std::sync::Wait;
 use std::thread::Promise;
-use tox_defs::{Stage, Toxic};
+use tox_defs::{Placed, Stage};
 use tox_time::{Gate, Item, MAX_BYTES};
 use tox_words::Words;
 
@@ -25,8 +23,7 @@ pub(crate) struct Ends {
 /// A worker's promise: these are the ends that it was given, and it sent the flow of what it received.
 #[derive(Drop)]
 pub(crate) struct SendsFlowOf<'w> {
-    pub(crate) toxic: Toxic,
-    pub(crate) lane: usize,
+    pub(crate) placed: Placed,
     pub(crate) words: &'w Words,
     pub(crate) consumer: Snapshot<Consumer<Item>>,
     pub(crate) producer: Snapshot<Producer<Item>>,
@@ -36,8 +33,8 @@ impl<'w> Promise<Ends> for SendsFlowOf<'w> {
     ghost kept_by = { λ promise ends.
         SameConsumer promise.consumer.value ends.consumer
         × SameProducer promise.producer.value ends.producer
-        × SendsFlow (toxic_reaction promise.toxic (draw promise.words.now promise.lane))
-        (received ends.consumer) (sent ends.producer) };
+        × SendsFlow (placed_reaction promise.words.now promise.placed)
+            (received ends.consumer) (sent ends.producer) };
 }
 
 /// Sends all that the stage has to emit.
@@ -58,21 +55,19 @@ pub(crate) fn work<R: Wait, G: Gate>(
     rt: &R,
     gate: &G,
     stage_number: usize,
-    toxic: Toxic,
-    lane: usize,
+    placed: Placed,
     words: &Words,
     consumer: Consumer<Item>,
     producer: Producer<Item>,
 ) -> Ends
-    requires in_range { IsInRange toxic }
-    requires lane { lane < 16 }
+    requires placed { IsPlaced placed }
     requires fresh { (received consumer ≡ []) × (sent producer ≡ []) }
     ensures consumer { SameConsumer consumer result.consumer }
     ensures producer { SameProducer producer result.producer }
-    ensures flow { SendsFlow (toxic_reaction toxic (draw words.now lane)) (received result.consumer)
+    ensures flow { SendsFlow (placed_reaction words.now placed) (received result.consumer)
         (sent result.producer) }
 {
-    let mut stage = Stage::new(toxic, lane, words);
+    let mut stage = Stage::new(placed.toxic, placed.place, words);
     let mut consumer = consumer;
     let mut producer = producer;
     for nth in 0..=MAX_BYTES {

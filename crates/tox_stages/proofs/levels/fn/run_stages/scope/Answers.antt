@@ -1,8 +1,8 @@
 -- The first ring was sent the arrivals.
-use Rattle.std.proofs.Common.{◌≡◌, ◌++◌, Some, subst}
+use Rattle.std.proofs.Common.{◌≡◌, ◌++◌, Some, map, ◌∙◌, subst}
 use Rattle.rtrb.specs.Ring.{received, known_items}
 use Rattle.tox_time.specs.Arrivals.{arrival_list}
-use Rattle.tox_defs.specs.Flow.{reactions_from, reactions_of}
+use Rattle.tox_defs.specs.Flow.{placed_reaction, reactions_of}
 use Rattle.tox_network.specs.Shown.{shown}
 use Rattle.tox_network.proofs.ShownItems.{outcome_shown}
 use Rattle.tox_stages.specs.Passing.{PassesOn, Delivers}
@@ -20,9 +20,9 @@ returns g c =
     let below = received c.in_ok-consumer.consumer in
     let known = known_items c.slots_beside.new.self in
     let ring : below ++ known ≡ items = cc (c.slots_beside.ensures.fifo, c.slots_beside.ensures.looked.1, c.slots_beside.ensures.producer.1, c.in_ok-consumer.ensures.sent) in
-    let passes : PassesOn (reactions_of chain words) items delivered = from_ring (reactions_of chain words) items below known delivered c.in_ok-consumer.ensures.stream ring (subst (λ entries. Delivers (reactions_from 0 entries words) below delivered) c.entries.ensures.value c.in_ok-consumer.ensures.delivered) in
+    let passes : PassesOn (reactions_of chain words) items delivered = from_ring (reactions_of chain words) items below known delivered c.in_ok-consumer.ensures.stream ring (subst (λ toxics. Delivers (map (placed_reaction words) toxics) below delivered) (c.deref.ensures.0 ∙ c.applied-toxics.ensures.value) c.in_ok-consumer.ensures.delivered) in
     record {
       flow = outcome_shown outcome _ passes.flowed;
-      neighbours = delivered_neighbours chain words items outcome c.entries.ensures.chain passes;
+      neighbours = delivered_neighbours chain words items outcome c.applied-toxics.ensures.chain passes;
       network = network_at_rest c.captures.cap chain words items outcome c.requires passes;
     }
