@@ -4,7 +4,7 @@ ghost use Rattle.std.specs.Char.{is_ascii_graphic};
 ghost use Rattle.std.specs.List.{list_all};
 ghost use Rattle.tox_config.specs.Address.{ends_in_port, is_address, is_port};
 
-use tox_time::{decimal, is_sized};
+use tox_time::{is_sized, parse_decimal};
 
 /// The most bytes of a name and of an address.
 pub(crate) const MAX_TEXT_LEN: usize = 255;
@@ -40,5 +40,5 @@ fn ends_in_port(text: &str) -> bool
 fn is_port(text: &str) -> bool
     ensures { result ≡ is_port text.now }
 {
-    decimal(text, MAX_PORT_LEN, u64::from(u16::MAX)).is_some()
+    parse_decimal(text, MAX_PORT_LEN, u64::from(u16::MAX)).is_some()
 }

@@ -7,6 +7,7 @@ use Rattle.std.proofs.Math.Nat.{mul-le-mul_left}
 use Rattle.tox_time.specs.declared.item.Item.{Item}
 use Rattle.tox_time.specs.Stream.{IsStream, arrived, has_final}
 use Rattle.tox_words.specs.Draw.{draw}
+use Rattle.tox_time.proofs.StreamLemmas.{final_of_stream}
 use Rattle.tox_defs.specs.declared.chain.Entry.{Entry}
 use Rattle.tox_defs.specs.declared.position.StreamPosition.{StreamPosition}
 use Rattle.tox_defs.specs.Applied.{is_applied}
@@ -28,7 +29,7 @@ use Rattle.tox_network.proofs.Coming.{IsShaped, coming_first}
 use Rattle.tox_network.proofs.Kept.{keeps_stages, keeps_shape, keeps_still, leaves, one_less}
 use Rattle.tox_network.proofs.Starting.{start_coming, start_still, start_moves}
 use Rattle.tox_network.proofs.Resting.{rest_empty, empty_still}
-use Rattle.tox_network.proofs.Streams.{kept_by_front, few_in_front, no_final_before, final_of_stream}
+use Rattle.tox_network.proofs.Streams.{kept_by_front, few_in_front, no_final_before}
 
 pub stage_count : (network : NetworkView) → length (state_of network).stages ≡ length network.stages
 stage_count network = length-map network.stages stage_of

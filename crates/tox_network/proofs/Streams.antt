@@ -43,11 +43,3 @@ no_final_before position since (Reset t ∷ []) item rest stream = absurd (let n
 no_final_before position since (Reset t ∷ (other ∷ before)) item rest stream = absurd (let none = stream.2 in cc)
 no_final_before position since (Quiet ∷ []) item rest stream = absurd (cc)
 no_final_before position since (Quiet ∷ (other ∷ before)) item rest stream = absurd (cc)
-
--- a stream has one
-pub final_of_stream : (position since : ℕ) (items : List Item) → IsStreamFrom position since items → has_final items ≡ true
-final_of_stream position since [] stream = absurd stream
-final_of_stream position since (Chunk span t ∷ items) stream = final_of_stream span.stop t items stream.4
-final_of_stream position since (Closed t ∷ items) stream = refl
-final_of_stream position since (Reset t ∷ items) stream = refl
-final_of_stream position since (Quiet ∷ items) stream = refl

@@ -2,7 +2,9 @@
 use Rattle.std.proofs.Common.{◌≡◌, ℕ, ◌<◌, ◌≤◌, min, if◌then◌else◌, Bool, true, false, List, [], ◌∷◌, ◌++◌, Option, Some, None, refl, ap, ◌∙◌, sym, subst, arith, ◌⊎◌, inl, inr}
 use Rattle.std.specs.Prelude.{nat_lt}
 use Rattle.std.proofs.lemmas.Bool.{le-ltb, ltb-true, ltb-false}
+use Rattle.std.proofs.lemmas.Option.{same_Some}
 use Rattle.tox_time.specs.Time.{horizon}
+use Rattle.tox_time.proofs.StreamLemmas.{final_of_stream}
 use Rattle.tox_time.specs.declared.slice.Slice.{Slice}
 use Rattle.tox_time.specs.declared.item.Item.{Item}
 use Rattle.tox_time.specs.declared.item.Item.TheVariants.{Chunk, Closed, Reset, Quiet}
@@ -22,7 +24,7 @@ use Rattle.tox_defs.proofs.Levels.{rest_of-read, level_gives-running}
 use Rattle.tox_compile.specs.Meaning.{deadline_of, earlier}
 use Rattle.tox_plan.specs.Levels.{to_come_from, ops_of, AreNested, AreDrained}
 use Rattle.tox_plan.specs.RunnerView.{RunnerView, IsRunning, reader_at, to_come}
-use Rattle.tox_plan.proofs.Late.{AreLate, IsLateOp, late-stream, final-stream, late-flow, final-flow}
+use Rattle.tox_plan.proofs.Late.{AreLate, IsLateOp, late-stream, late-flow, final-flow}
 use Rattle.tox_plan.proofs.LevelLemmas.{to_come_from-read}
 use Rattle.tox_plan.proofs.RunnerOutput.{to_come-unfound, to_come-ended, idle-unfound, idle-drained}
 
@@ -67,9 +69,6 @@ late_ops-start : (ops : List Op) → AreLateOps 0 ops
 late_ops-start [] = tt
 late_ops-start (op ∷ ops) = (late-start op, late_ops-start ops)
 
-some-same : {X : Type 0} (x y : X) → Some x ≡ Some y → x ≡ y
-some-same x y same = cc
-
 earlier-some : (instant : ℕ) (other : Option ℕ) → earlier instant other ≡ None → ⊥
 earlier-some instant None none = absurd (cc)
 earlier-some instant (Some e) none = absurd (cc)
@@ -88,11 +87,11 @@ late_ops-none d (Limit bytes ∷ ops) none = (tt, late_ops-none d ops none)
 -- the earliest of a cutoff and what the other operations say
 module _ (d instant : ℕ) (ops : List Op) (others : (e : ℕ) → deadline_of ops ≡ Some e → AreLateOps e ops × HaveStop e ops) where
   first-cutoff : (other : Option ℕ) → deadline_of ops ≡ other → earlier instant other ≡ Some d → AreLateOps d (Cutoff instant ∷ ops) × HaveStop d (Cutoff instant ∷ ops)
-  first-cutoff None is first = let same : instant ≡ d = some-same instant d first in ((omega (arith, same), late_ops-none d ops is), inl same)
+  first-cutoff None is first = let same : instant ≡ d = same_Some instant d first in ((omega (arith, same), late_ops-none d ops is), inl same)
   first-cutoff (Some e) is first = by (nat_lt e instant) refl
     where
       same : min instant e ≡ d
-      same = some-same (min instant e) d first
+      same = same_Some (min instant e) d first
 
       later : AreLateOps d ops
       later = earlier-late_ops d e ops (omega (arith, same)) (others e is).0
@@ -107,7 +106,7 @@ stop-deadline d [] is = absurd (cc)
 stop-deadline d (Delay fixed latency jitter lane ∷ ops) is = let late = stop-deadline d ops is in ((tt, late.0), inr late.1)
 stop-deadline d (Pace rate ∷ ops) is = let late = stop-deadline d ops is in ((tt, late.0), inr late.1)
 stop-deadline d (Slow millis ∷ ops) is = let late = stop-deadline d ops is in ((tt, late.0), inr late.1)
-stop-deadline d (Mute ending ∷ ops) is = (subst (λ d. AreLateOps d (Mute ending ∷ ops)) (some-same 0 d is) (late_ops-start (Mute ending ∷ ops)), inl tt)
+stop-deadline d (Mute ending ∷ ops) is = (subst (λ d. AreLateOps d (Mute ending ∷ ops)) (same_Some 0 d is) (late_ops-start (Mute ending ∷ ops)), inl tt)
 stop-deadline d (Cutoff instant ∷ ops) is = first-cutoff d instant ops (λ e. stop-deadline e ops) (deadline_of ops) refl is
 stop-deadline d (Slicing average variation micros lane ∷ ops) is = let late = stop-deadline d ops is in ((tt, late.0), inr late.1)
 stop-deadline d (Limit bytes ∷ ops) is = let late = stop-deadline d ops is in ((tt, late.0), inr late.1)
@@ -206,7 +205,7 @@ module _ (runner : RunnerView) (invariant : IsRunning runner) (idle : runner.idl
       let nested : AreNested runner.position runner.levels runner.piece = subst (λ found. AreNested (reader_at runner.position found) runner.levels runner.piece) unfound (invariant.nested running) in
       to_come-unfound runner items running unfound
       ∙ same-later d runner.words runner.position runner.levels runner.piece items (Quiet ∷ []) fits nested (idle-drained runner invariant idle running) found.0 found.1
-      (record { late = late-stream d position since items from stream; final = final-stream position since items stream }) (record { late = tt; final = refl })
+      (record { late = late-stream d position since items from stream; final = final_of_stream position since items stream }) (record { late = tt; final = refl })
       ∙ sym (to_come-unfound runner (Quiet ∷ []) running unfound)
 
   pub past-deadline : (d position since : ℕ) (items : List Item) → deadline_of (ops_of runner.levels) ≡ Some d → d ≤ since → IsStreamFrom position since items

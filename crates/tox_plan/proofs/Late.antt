@@ -41,14 +41,6 @@ late-stream d position since (Closed t ∷ items) from stream = (omega (arith, f
 late-stream d position since (Reset t ∷ items) from stream = (omega (arith, from, stream.0), subst (λ items. AreLate d items) (sym stream.2) tt)
 late-stream d position since (Quiet ∷ items) from stream = subst (λ items. AreLate d items) (sym stream) tt
 
--- a stream has a final
-pub final-stream : (position since : ℕ) (items : List Item) → IsStreamFrom position since items → has_final items ≡ true
-final-stream position since [] stream = absurd stream
-final-stream position since (Chunk span t ∷ items) stream = final-stream span.stop t items stream.4
-final-stream position since (Closed t ∷ items) stream = refl
-final-stream position since (Reset t ∷ items) stream = refl
-final-stream position since (Quiet ∷ items) stream = refl
-
 late-append : (d : ℕ) (xs ys : List Item) → AreLate d xs → AreLate d ys → AreLate d (xs ++ ys)
 late-append d [] ys late others = others
 late-append d (Chunk span t ∷ xs) ys late others = (late.0, late-append d xs ys late.1 others)

@@ -1,5 +1,5 @@
 -- Lists of items that go on: what they count, and when they are streams.
-use Rattle.std.proofs.Common.{◌≡◌, ℕ, ◌+◌, false, List, [], ◌∷◌, ◌++◌, refl, arith, ap, subst, sym, ◌∙◌, append_assoc, replicate}
+use Rattle.std.proofs.Common.{◌≡◌, ℕ, ◌+◌, true, false, List, [], ◌∷◌, ◌++◌, refl, arith, ap, subst, sym, ◌∙◌, append_assoc, replicate}
 use Rattle.tox_time.specs.declared.item.Item.{Item}
 use Rattle.tox_time.specs.declared.item.Item.TheVariants.{Chunk, Closed, Reset, Quiet}
 use Rattle.tox_time.specs.Stream.{span_len, IsStreamFrom, HasReset, arrived, latest_from, has_final}
@@ -62,3 +62,11 @@ table-append (Chunk span t ∷ items) rest = ap (λ ts. replicate (span_len span
 table-append (Closed t ∷ items) rest = table-append items rest
 table-append (Reset t ∷ items) rest = table-append items rest
 table-append (Quiet ∷ items) rest = table-append items rest
+
+-- a stream has a final
+pub final_of_stream : (position since : ℕ) (items : List Item) → IsStreamFrom position since items → has_final items ≡ true
+final_of_stream position since [] stream = absurd stream
+final_of_stream position since (Chunk span t ∷ items) stream = final_of_stream span.stop t items stream.4
+final_of_stream position since (Closed t ∷ items) stream = refl
+final_of_stream position since (Reset t ∷ items) stream = refl
+final_of_stream position since (Quiet ∷ items) stream = refl

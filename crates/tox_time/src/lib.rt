@@ -30,4 +30,4 @@ pub use real::Real;
 pub use slice::{Slice, SliceList};
 pub use span::{MAX_BYTES, Span};
 pub use stream::Stream;
-pub use text::{decimal, is_sized};
+pub use text::{is_sized, parse_decimal};

@@ -12,7 +12,7 @@ pub fn is_sized(text: &str, most: usize) -> bool
 }
 
 /// The number that a text of 1 to `digits` decimal digits writes, where it is at most `greatest`.
-pub fn decimal(text: &str, digits: usize, greatest: u64) -> Option<u64>
+pub fn parse_decimal(text: &str, digits: usize, greatest: u64) -> Option<u64>
     ensures { result ≡ decimal_value digits greatest text.now }
 {
     // `parse` would accept a leading plus.

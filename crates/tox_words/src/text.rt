@@ -3,7 +3,7 @@ ghost use Rattle.std.specs.Prelude.{◌≡◌, IfOk, length};
 ghost use Rattle.tox_words.specs.WordsText.{bad_place, parts_of, word_of, words_of};
 
 use std::alloc::{AllocError, Global};
-use tox_time::decimal;
+use tox_time::parse_decimal;
 
 /// How many digits a word may have.
 const MAX_DIGITS: usize = 10;
@@ -34,6 +34,6 @@ pub(crate) fn words_of(alloc: Global, text: &str, count: usize) -> Result<Vec<u3
 fn word_of(part: &str) -> Option<u32>
     ensures { result ≡ word_of part.now }
 {
-    let word = decimal(part, MAX_DIGITS, u64::from(u32::MAX))?;
+    let word = parse_decimal(part, MAX_DIGITS, u64::from(u32::MAX))?;
     u32::try_from(word).ok()
 }

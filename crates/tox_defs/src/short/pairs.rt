@@ -5,7 +5,7 @@ ghost use Rattle.tox_defs.specs.Pairs.{has_double_key, has_key, is_equals, is_pa
 ghost use Rattle.tox_defs.specs.Short.{is_known};
 
 use crate::kind::Kind;
-use tox_time::decimal;
+use tox_time::parse_decimal;
 
 /// The most digits of a value.
 const MAX_DIGITS: usize = 18;
@@ -60,7 +60,7 @@ fn cut(pair: &str) -> (&str, &str)
 fn number_of(text: &str) -> Option<u64>
     ensures { result ≡ number_of text.now }
 {
-    decimal(text, MAX_DIGITS, u64::MAX)
+    parse_decimal(text, MAX_DIGITS, u64::MAX)
 }
 
 /// Whether a key is given twice or more.

@@ -1,7 +1,7 @@
 -- Digits that `parse` doesn't read write a number of more than 64 bits, or none.
 use Rattle.std.proofs.Common.{arith, sym}
 use Rattle.tox_time.proofs.Numbers.{decimal_unread}
-use Rattle.tox_time.proofs.text.decimal.Goals as goal
+use Rattle.tox_time.proofs.text.parse_decimal.Goals as goal
 
 pub returns-in_default : goal.returns-in_default
 returns-in_default c =
