@@ -48,12 +48,12 @@ compiles-more toxics count ops toxic d here is placed so_far =
     let most = length-with_op ops (op_of_placed toxic) in
     let before = map op_of_placed (take count toxics) in
     let with_one : map op_of_placed (take (count + 1) toxics) ≡ before ++ op_of_placed toxic ∷ [] =
-      ap (map op_of_placed) (take_more toxics count d here ∙ ap (λ toxic. take count toxics ++ toxic ∷ []) (sym is))
-      ∙ map-append op_of_placed (take count toxics) (toxic ∷ []) in
+    ap (map op_of_placed) (take_more toxics count d here ∙ ap (λ toxic. take count toxics ++ toxic ∷ []) (sym is))
+    ∙ map-append op_of_placed (take count toxics) (toxic ∷ []) in
     record {
       folded = ap (λ ops. with_op ops (op_of_placed toxic)) so_far.folded
-        ∙ sym (fold-append with_op [] before (op_of_placed toxic ∷ []))
-        ∙ sym (ap (fold with_op []) with_one);
+          ∙ sym (fold-append with_op [] before (op_of_placed toxic ∷ []))
+          ∙ sym (ap (fold with_op []) with_one);
       few = omega (arith, most, so_far.few);
       sums = subst (λ most. AddAtMost most (with_op ops (op_of_placed toxic))) more (with_op_adds (3_600_000 * count) 3_600_000 ops (op_of_placed toxic) so_far.sums hour);
     }

@@ -1,19 +1,15 @@
 -- One operation for each applied toxic means what the chain does.
-use Rattle.std.proofs.Common.{◌≡◌, ℕ, ◌+◌, ◌≤◌, true, false, List, [], ◌∷◌, map, length, drop, refl, ap, ◌∙◌, if◌then◌else◌}
+use Rattle.std.proofs.Common.{◌≡◌, ℕ, List, [], ◌∷◌, map, refl, ap, ◌∙◌}
 use Rattle.std.specs.Prelude.{All}
-use Rattle.std.proofs.lemmas.List.{drop_all}
 use Rattle.std.proofs.lemmas.List.Elements.{All-nil, All-cons, All-head, All-tail}
 use Rattle.tox_time.specs.declared.item.Item.{Item}
 use Rattle.tox_words.specs.Draw.{Draws, draw}
-use Rattle.tox_defs.specs.declared.op.Op.{Op}
-use Rattle.tox_defs.specs.declared.chain.Entry.{Entry}
 use Rattle.tox_defs.specs.Toxic.{IsInRange}
 use Rattle.tox_defs.specs.Chain.{Toxics, IsChain}
-use Rattle.tox_defs.specs.Applied.{is_applied}
 use Rattle.tox_defs.specs.Reaction.{flow_through}
 use Rattle.tox_defs.specs.declared.applied.Placed.{Placed}
-use Rattle.tox_defs.specs.Flow.{toxic_reaction, applied_from, applied, chain_flow}
-use Rattle.tox_defs.specs.Op.{IsOp, op_of}
+use Rattle.tox_defs.specs.Flow.{toxic_reaction, applied, chain_flow}
+use Rattle.tox_defs.specs.Op.{IsOp}
 use Rattle.tox_defs.proofs.OpOf.{op_reaction-op_of, IsOp-op_of}
 use Rattle.tox_defs.proofs.ChainStreams.{in_range-applied}
 use Rattle.tox_compile.specs.Compiled.{op_of_placed, applied_ops}

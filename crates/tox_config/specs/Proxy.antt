@@ -1,5 +1,5 @@
 -- The proxy that one object of a populate file gives.
-use Rattle.std.specs.Prelude.{ℕ, Bool, true, List, [], ◌∷◌, codes, Option, Some, None, option_and_then, Result, Ok, Err, ok_or, if◌then◌else◌}
+use Rattle.std.specs.Prelude.{ℕ, Bool, true, List, [], ◌∷◌, codes, Option, Some, None, option_and_then, Result, Ok, ok_or}
 use Rattle.serde_json.specs.Data.{Data, null}
 use Rattle.serde_json.specs.Find.{as_bool, as_object, as_str, get}
 use Rattle.tox_time.specs.Steps.{◌>>=◌}

@@ -62,7 +62,11 @@ fn name_of(value: &Value) -> Option<&str>
     ensures { option_map (λ name. name.now) result ≡ name_of (view value.now) }
 {
     let name = value.get("name")?.as_str()?;
-    if is_sized(name, MAX_TEXT_LEN) { Some(name) } else { None }
+    if is_sized(name, MAX_TEXT_LEN) {
+        Some(name)
+    } else {
+        None
+    }
 }
 
 /// Where the proxy listens, where that is an address or left to the default.

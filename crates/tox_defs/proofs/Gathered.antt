@@ -42,8 +42,8 @@ gathers-met chain words place met entries entry d fits same here is applies so_f
     let in_range : IsEntry entry = subst IsEntry (sym at) (fits.entries_fit place d within) in
     record {
       all = append_assoc met (at_place place entry ∷ []) later
-        ∙ sym (ap (λ others. met ++ others) (from_place place chain.entries entry d words within at ∙ ap (λ applied. if applied then at_place place entry ∷ later else later) applies))
-        ∙ so_far.all;
+          ∙ sym (ap (λ others. met ++ others) (from_place place chain.entries entry d words within at ∙ ap (λ applied. if applied then at_place place entry ∷ later else later) applies))
+          ∙ so_far.all;
       few = omega (arith, so_far.few, length-append met (at_place place entry ∷ []));
       placed = All-push IsPlaced met (at_place place entry) so_far.placed (in_range.0, omega (arith, within, fits.most));
     }

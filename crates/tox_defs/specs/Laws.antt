@@ -31,7 +31,7 @@ KeepsLaw (ResetPeer timeout) words items =
     ResetPeerLaw timeout (toxic_flow (ResetPeer timeout) words items)
 KeepsLaw (Slicer average_size size_variation delay) words items =
     SlicerLaw average_size size_variation items
-        (toxic_flow (Slicer average_size size_variation delay) words items)
+    (toxic_flow (Slicer average_size size_variation delay) words items)
 KeepsLaw (LimitData bytes) words items =
     LimitDataLaw bytes items (toxic_flow (LimitData bytes) words items)
 

@@ -32,15 +32,15 @@ ended_or (Some ending) ended state = ended
 abbrev pub level_gives : Draws → ℕ → Level → List Item → List Item
 level_gives draws start level items =
     ending_or level.ending
-        (flow_from (op_reaction level.op draws) level.state
-            (rest_of start level.stop level.instant ++ items))
+    (flow_from (op_reaction level.op draws) level.state
+    (rest_of start level.stop level.instant ++ items))
 
 -- the state that its present chunk will leave
 abbrev pub level_leaves : Draws → ℕ → Level → State
 level_leaves draws start level =
     ended_or level.ending level.state
-        (state_from (op_reaction level.op draws) level.state
-            (rest_of start level.stop level.instant))
+    (state_from (op_reaction level.op draws) level.state
+    (rest_of start level.stop level.instant))
 
 -- a level whose reader stands at `start`: each chunk, piece and byte of its state was read
 pub record IsSound (start : ℕ) (level : Level) : Type 0 where

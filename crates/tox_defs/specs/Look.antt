@@ -34,13 +34,13 @@ abbrev pub Finds : Reaction → State → Slice → List Item → Look → Type 
 Finds reaction state rest items (Piece piece) =
     Continues reaction state (as_chunk rest ∷ items) (as_chunk piece ∷ [])
     (after_piece_of rest.span.stop state piece)
-        (rest_of piece.span.stop rest.span.stop rest.instant ++ items)
+    (rest_of piece.span.stop rest.span.stop rest.instant ++ items)
 Finds reaction state rest items (LastPiece piece ending) =
     Continues reaction state (as_chunk rest ∷ items) (as_chunk piece ∷ final_of ending ∷ [])
     (with_ending (with_chunk (with_piece state piece)) ending) items
 Finds reaction state rest items (Ended ending) =
     Continues reaction state (as_chunk rest ∷ items) (final_of ending ∷ [])
-        (with_ending (with_chunk state) ending) items
+    (with_ending (with_chunk state) ending) items
 
 -- the piece begins where the rest does, isn't empty and lies in the rest
 pub record IsFront (rest piece : Slice) : Type 0 where

@@ -37,7 +37,7 @@ abbrev pub printed_pairs : Toxic → ℕ → List (List ℕ)
 printed_pairs toxic toxicity =
     map printed_pair
     (zip (attributes_of (type_of toxic) ++ codes "toxicity" ∷ [])
-        (values_of toxic ++ toxicity ∷ []))
+    (values_of toxic ++ toxicity ∷ []))
 
 -- the type, a colon, and the pairs parted by commas
 abbrev pub printed_short : Toxic → ℕ → List ℕ

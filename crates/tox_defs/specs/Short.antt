@@ -16,7 +16,7 @@ use Rattle.tox_defs.specs.declared.fault.ToxicFault.TheVariants.{UnknownType, Un
 abbrev pub is_known : Kind → List ℕ → Bool
 is_known kind key =
     bytes_eq key (codes "toxicity")
-        || list_any (λ attribute. bytes_eq attribute key) (attributes_of kind)
+    || list_any (λ attribute. bytes_eq attribute key) (attributes_of kind)
 
 -- the values of a type's attributes, in order, where an absent one is 0
 abbrev pub values_in : Kind → List (List ℕ) → List ℕ
@@ -37,7 +37,7 @@ with_pairs kind pairs =
     if has_double_key pairs then Err short.DoubleKey
     else if nat_lt 1000 (toxicity_in pairs) then Err (short.Toxic ToxicityNotThousandths)
     else if not (list_all (λ pair. is_known kind (key_of pair)) pairs)
-        then Err (short.Toxic UnknownAttribute)
+    then Err (short.Toxic UnknownAttribute)
     else with_toxicity (toxicity_in pairs) (checked (toxic_of kind (values_in kind pairs)))
 
 -- the same, where there may be no such type

@@ -21,7 +21,7 @@ abbrev pub arrive : ℕ → NetworkState → List Item → Option NetworkState
 arrive cap n [] = None
 arrive cap n (item ∷ rest) =
     option_and_then (λ queues. Some (record n { arrivals = rest; queues = queues }))
-        (entered cap n 0 item)
+    (entered cap n 0 item)
 
 -- a stage that reacted to an item
 abbrev pub reacted : StageState → Item → StageState
@@ -51,11 +51,11 @@ abbrev pub put_first : ℕ → NetworkState → ℕ → StageState → List Item
 put_first cap n k stage [] = None
 put_first cap n k stage (item ∷ rest) =
     option_and_then
-        (λ queues. Some (record n {
-          queues = queues;
-          stages = slice_set n.stages k (record stage { unsent = rest });
-        }))
-        (entered cap n (k + 1) item)
+    (λ queues. Some (record n {
+      queues = queues;
+      stages = slice_set n.stages k (record stage { unsent = rest });
+    }))
+    (entered cap n (k + 1) item)
 
 -- stage k, where there is one, puts the first item that it gave
 abbrev pub put_at : ℕ → NetworkState → ℕ → Option StageState → Option NetworkState

@@ -63,7 +63,7 @@ pub record IsStep (move : Move) (old new : NetworkView) : Type 0 where
 abbrev pub HasChunkFirst : NetworkView → Type 0
 HasChunkFirst network =
     (item : Item) × (rest : List Item)
-        × (queue (state_of network) (length network.stages) ≡ item ∷ rest) × (is_final item ≡ false)
+    × (queue (state_of network) (length network.stages) ≡ item ∷ rest) × (is_final item ≡ false)
 
 -- what every move keeps
 pub record IsSound (network : NetworkView) : Type 0 where

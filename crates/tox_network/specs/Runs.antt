@@ -25,13 +25,13 @@ IsAtRest cap n = (move : Move) → after cap n move ≡ None
 abbrev pub OfEveryRun : Toxics → List ℕ → List Item → (List Move → NetworkState → Type 0) → Type 0
 OfEveryRun chain words arrivals P =
     (cap : ℕ) (moves : List Move) (n : NetworkState) → 1 ≤ cap
-        → IsRun cap (start (reactions_of chain words) arrivals) moves n → P moves n
+    → IsRun cap (start (reactions_of chain words) arrivals) moves n → P moves n
 
 -- a fact of every such run that has come to rest
 abbrev pub OfEveryRest : Toxics → List ℕ → List Item → (List Move → NetworkState → Type 0) → Type 0
 OfEveryRest chain words arrivals P =
     (cap : ℕ) (moves : List Move) (n : NetworkState) → 1 ≤ cap
-        → IsRun cap (start (reactions_of chain words) arrivals) moves n → IsAtRest cap n → P moves n
+    → IsRun cap (start (reactions_of chain words) arrivals) moves n → IsAtRest cap n → P moves n
 
 -- a run that came to rest
 pub record RestingRun (cap : ℕ) (from : NetworkState) : Type 0 where

@@ -18,7 +18,7 @@ abbrev pub Follows : ℕ → List Move → List Move → NetworkState → Type 0
 Follows cap listed [] n = Unit {0}
 Follows cap listed (move ∷ made) n =
     (turn cap (slice_get listed 0) n ≡ Some move)
-        × ((t : NetworkState) → after cap n move ≡ Some t → Follows cap (drop 1 listed) made t)
+    × ((t : NetworkState) → after cap n move ≡ Some t → Follows cap (drop 1 listed) made t)
 
 -- some moves that follow the list lead from one network to the other
 pub record Settles (listed : List Move) (old new : NetworkView) : Type 0 where

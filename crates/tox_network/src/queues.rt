@@ -22,8 +22,7 @@ impl Model for Queues {
 
     ghost Value = { Queued };
 
-    ghost view =
-        { λ q. record { room = q.room; lists = map (λ queue. queue.items) q.queues.items } };
+    ghost view = { λ q. record { room = q.room; lists = map (λ queue. queue.items) q.queues.items } };
 
     ghost invariant = { λ q. All (λ queue. deque_capacity queue ≡ q.room) q.queues.items };
 }

@@ -12,7 +12,7 @@ abbrev pub Reach : ℕ → ℕ → ℕ → List Slice → Type 0
 Reach start stop instant [] = start ≡ stop
 Reach start stop instant (cut ∷ cuts) =
     (cut.span.start ≡ start) × (start < cut.span.stop) × (cut.instant ≡ instant)
-        × Reach cut.span.stop stop instant cuts
+    × Reach cut.span.stop stop instant cuts
 
 -- the slice lies in the piece
 pub record IsWithin (piece slice : Slice) : Type 0 where
@@ -59,4 +59,4 @@ BeginsApart instant (Quiet ∷ items) = HasNoChunk items
 abbrev pub EndsHere : ℕ → RunnerView → Type 0
 EndsHere instant runner =
     (runner.position ≡ runner.piece.span.stop)
-        ⊎ ((items : List Item) → BeginsApart instant (to_come runner items))
+    ⊎ ((items : List Item) → BeginsApart instant (to_come runner items))

@@ -21,13 +21,13 @@ pub record HasGiven (plan : Ops) (offered : List Item) (given : List Slice)
 abbrev pub GoesOn : RunnerView → List Item → List Slice → RunnerView → Type 0
 GoesOn old pieces slices new =
     (plan : Ops) (offered : List Item) (given : List Slice) → HasGiven plan offered given old
-        → HasGiven plan (offered ++ pieces) (given ++ slices) new
+    → HasGiven plan (offered ++ pieces) (given ++ slices) new
 
 -- no later piece and no final takes back what was given
 abbrev pub IsLasting : Ops → List ℕ → List Item → List Slice → Type 0
 IsLasting plan words offered given =
     (items : List Item) → IsStream (offered ++ items)
-        → IsPrefix (slices_table given) (table (means plan words (offered ++ items)))
+    → IsPrefix (slices_table given) (table (means plan words (offered ++ items)))
 
 -- no byte of these instants leaves as early as that
 abbrev pub AreAfter : ℕ → List ℕ → Type 0
@@ -38,4 +38,4 @@ AreAfter instant (t ∷ ts) = (instant < t) × AreAfter instant ts
 abbrev pub IsWhole : Ops → List ℕ → List Item → List Slice → Type 0
 IsWhole plan words offered given =
     IsStream (offered ++ Quiet ∷ [])
-        → slices_table given ≡ table (means plan words (offered ++ Quiet ∷ []))
+    → slices_table given ≡ table (means plan words (offered ++ Quiet ∷ []))

@@ -47,9 +47,9 @@ reader_at position (Some cut) = cut.span.stop
 abbrev pub to_come : RunnerView → List Item → List Item
 to_come runner items =
     ending_or runner.ending
-        (found_chunk runner.lookahead
-        ++ to_come_from runner.words (reader_at runner.position runner.lookahead)
-            runner.levels runner.piece items)
+    (found_chunk runner.lookahead
+    ++ to_come_from runner.words (reader_at runner.position runner.lookahead)
+    runner.levels runner.piece items)
 
 -- the ending that an idle runner knows
 abbrev pub known_ending : RunnerView → Option Ending
@@ -78,7 +78,7 @@ round_due read None round = if read then 0 else round
 abbrev pub AreCounted : RunnerView → Type 0
 AreCounted runner =
     round_due runner.drained runner.lookahead (length runner.levels) + runner.turns
-        ≤ length runner.levels * (runner.cuts + runner.pieces)
+    ≤ length runner.levels * (runner.cuts + runner.pieces)
 
 -- a found cut begins where the next slice does, and comes before any ending
 pub record IsFound (runner : RunnerView) (cut : Slice) : Type 0 where

@@ -1,5 +1,5 @@
 -- The first image that passes a test.
-use Rattle.std.proofs.Common.{◌≡◌, Bool, true, false, cond, List, [], ◌∷◌, Option, Some, None, Bor, map, option_map, refl, ap}
+use Rattle.std.proofs.Common.{◌≡◌, Bool, true, false, cond, List, [], ◌∷◌, Option, Some, None, Bor, map, option_map, refl}
 use Rattle.std.specs.List.{find}
 
 -- the first image that passes is that of the first element whose image does

@@ -36,6 +36,6 @@ pushed Downstream entry name chains =
 abbrev pub put_toxic : Location → NamedToxic → Chains → Result Chains ScriptFault
 put_toxic at toxic chains =
     unless_refused at
-        (has_name toxic.name chains)
-        (nat_le max_toxics (length (on toxic.stream chains).chain.entries))
-        (pushed toxic.stream toxic.entry toxic.name chains)
+    (has_name toxic.name chains)
+    (nat_le max_toxics (length (on toxic.stream chains).chain.entries))
+    (pushed toxic.stream toxic.entry toxic.name chains)

@@ -37,9 +37,9 @@ unless_refused at named full more =
 abbrev pub behind : Location → List NamedToxic → NamedToxic → Result (List NamedToxic) ScriptFault
 behind at earlier toxic =
     unless_refused at
-        (list_any (λ other. bytes_eq other.name toxic.name) earlier)
-        (nat_le max_toxics (count_by (is_on toxic.stream) earlier))
-        (earlier ++ toxic ∷ [])
+    (list_any (λ other. bytes_eq other.name toxic.name) earlier)
+    (nat_le max_toxics (count_by (is_on toxic.stream) earlier))
+    (earlier ++ toxic ∷ [])
 
 -- the toxics of a rule: earlier ones and those of the tables behind them, or the first fault
 abbrev pub toxics_from : ℕ → List NamedToxic → Items → Result (List NamedToxic) ScriptFault

@@ -14,7 +14,11 @@ pub(crate) fn sized_text(value: &Value, most: usize) -> Option<&str>
     ensures { option_map (λ text. text.now) result ≡ sized_text most (view value.now) }
 {
     let text = value.as_str()?;
-    if is_sized(text, most) { Some(text) } else { None }
+    if is_sized(text, most) {
+        Some(text)
+    } else {
+        None
+    }
 }
 
 /// A whole number from 0 on.

@@ -72,17 +72,7 @@ fn start<'s, E: 's, R: Threads + Wait + Sync, G: Gate>(
             ensures producer { SameProducer producer result.producer }
             ensures flow { SendsFlow (placed_reaction words.entry.now placed)
                 (received result.consumer) (sent result.producer) }
-        {
-            work(
-                rt,
-                gate,
-                stage_number,
-                placed,
-                words,
-                consumer,
-                producer,
-            )
-        },
+        { work(rt, gate, stage_number, placed, words, consumer, producer) },
     );
     match worker {
         Ok(worker) => Ok((worker, next)),
@@ -182,8 +172,9 @@ pub fn run_stages<R: Threads + Wait + Sync, G: Gate>(
                 gate,
             };
             let toxics = chain.applied(words);
-            let (mut consumer, outcome) =
-                level(&pipeline, scope, &toxics, 0, &mut first, consumer)?;
+            let (mut consumer, outcome) = level(
+                &pipeline, scope, &toxics, 0, &mut first, consumer,
+            )?;
             consumer.slots_beside(&mut first);
             Ok(outcome)
         },

@@ -34,7 +34,7 @@ impl<'w> Promise<Ends> for SendsFlowOf<'w> {
         SameConsumer promise.consumer.value ends.consumer
         × SameProducer promise.producer.value ends.producer
         × SendsFlow (placed_reaction promise.words.now promise.placed)
-            (received ends.consumer) (sent ends.producer) };
+        (received ends.consumer) (sent ends.producer) };
 }
 
 /// Sends all that the stage has to emit.

@@ -17,4 +17,4 @@ abbrev pub AreNeighbours : List Item → ℕ → List Slice → Type 0
 AreNeighbours items position [] = Unit {0}
 AreNeighbours items position (slice ∷ slices) =
     (slice.span.start ≡ position) × (position < slice.span.stop)
-        × (Any (LiesInChunk slice.span) items) × AreNeighbours items slice.span.stop slices
+    × (Any (LiesInChunk slice.span) items) × AreNeighbours items slice.span.stop slices

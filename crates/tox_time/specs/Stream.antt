@@ -14,7 +14,7 @@ abbrev pub IsStreamFrom : ℕ → ℕ → List Item → Type 0
 IsStreamFrom position since [] = ⊥
 IsStreamFrom position since (Chunk span t ∷ items) =
     (span.start ≡ position) × (position < span.stop) × (since ≤ t) × (IsInstant t)
-        × IsStreamFrom span.stop t items
+    × IsStreamFrom span.stop t items
 IsStreamFrom position since (Closed t ∷ items) = (since ≤ t) × (IsInstant t) × (items ≡ [])
 IsStreamFrom position since (Reset t ∷ items) = (since ≤ t) × (IsInstant t) × (items ≡ [])
 IsStreamFrom position since (Quiet ∷ items) = items ≡ []

@@ -26,11 +26,11 @@ impl Model for MemorySink {
     ghost Value = { Taking };
 
     ghost view = { λ s. record {
-        bytes = take s.filled s.room.items;
-        room = length s.room.items - s.filled;
-        most = s.most;
-        calls = record { made = s.calls; failing = s.failing_call };
-        failed = s.failed;
+      bytes = take s.filled s.room.items;
+      room = length s.room.items - s.filled;
+      most = s.most;
+      calls = record { made = s.calls; failing = s.failing_call };
+      failed = s.failed;
     } };
 
     ghost invariant = { λ s. (s.filled ≤ length s.room.items) × (0 < s.most) };
@@ -46,11 +46,11 @@ impl MemorySink {
     ) -> Result<Self, AllocError>
         requires { 0 < most }
         ensures { IfOk result (λ s. s ≡ record {
-            bytes = [];
-            room = room;
-            most = most;
-            calls = record { made = 0; failing = failing_call };
-            failed = false;
+          bytes = [];
+          room = room;
+          most = most;
+          calls = record { made = 0; failing = failing_call };
+          failed = false;
         }) }
     {
         Ok(MemorySink {

@@ -24,10 +24,10 @@ impl Model for MemorySource {
     ghost Value = { Giving };
 
     ghost view = { λ s. record {
-        bytes = drop s.next s.bytes.items;
-        most = s.most;
-        calls = record { made = s.calls; failing = s.failing_call };
-        failed = s.failed;
+      bytes = drop s.next s.bytes.items;
+      most = s.most;
+      calls = record { made = s.calls; failing = s.failing_call };
+      failed = s.failed;
     } };
 
     ghost invariant = { λ s. (s.next ≤ length s.bytes.items) × (0 < s.most) };
@@ -38,10 +38,10 @@ impl MemorySource {
     pub fn new(bytes: Vec<u8>, most: usize, failing_call: Option<u64>) -> Self
         requires { 0 < most }
         ensures { result ≡ record {
-            bytes = bytes.items;
-            most = most;
-            calls = record { made = 0; failing = failing_call };
-            failed = false;
+          bytes = bytes.items;
+          most = most;
+          calls = record { made = 0; failing = failing_call };
+          failed = false;
         } }
     {
         MemorySource {

@@ -22,7 +22,11 @@ pub fn parse_decimal(text: &str, digits: usize, greatest: u64) -> Option<u64>
     let Ok(number) = text.parse::<u64>() else {
         return None;
     };
-    if number <= greatest { Some(number) } else { None }
+    if number <= greatest {
+        Some(number)
+    } else {
+        None
+    }
 }
 
 fn are_digits(text: &str) -> bool

@@ -39,4 +39,4 @@ first_instant items = 0
 abbrev pub BandwidthLaw : ℕ → List Item → List Item → Type 0
 BandwidthLaw rate items given =
     (n : ℕ) → n < length (table given)
-        → plus (first_instant items) (div_ceil (1000 * (n + 1)) rate) ≤ slice_index (table given) n
+    → plus (first_instant items) (div_ceil (1000 * (n + 1)) rate) ≤ slice_index (table given) n

@@ -76,7 +76,7 @@ pub(crate) fn look(
     requires chunks { state.now.chunks + 1 < 2 ^ 64 }
     ensures finds { (items : List OneItem)
         → Finds (counted (delay_op_gives fixed latency jitter (draw words.now lane)))
-            state.now rest.now items result }
+        state.now rest.now items result }
     ensures front { IsFrontOf rest.now result }
 {
     let wait = u64::from(fixed) + varied(words, lane, state.chunks, latency, jitter);

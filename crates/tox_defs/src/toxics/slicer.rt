@@ -81,7 +81,7 @@ pub(crate) fn look(
     requires pieces { state.now.pieces + 1 < 2 ^ 64 }
     ensures finds { (items : List OneItem)
         → Finds (counted (slicer_gives average variation micros (draw words.now lane)))
-            state.now rest.now items result }
+        state.now rest.now items result }
     ensures front { IsFrontOf rest.now result }
 {
     Look::Piece(Slice {

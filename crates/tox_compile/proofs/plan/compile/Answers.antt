@@ -1,11 +1,10 @@
 -- At the loop's end the operations are the normal form.
-use Rattle.std.proofs.Common.{◌≡◌, List, [], ◌+◌, ◌∙◌, ap, map, sym, subst, arith, refl}
+use Rattle.std.proofs.Common.{[], ◌+◌, ◌∙◌, ap, map, sym, subst, arith, refl}
 use Rattle.std.specs.Prelude.{All, fold}
-use Rattle.tox_defs.specs.declared.op.Op.{Op}
 use Rattle.tox_defs.specs.Flow.{IsPlaced}
 use Rattle.tox_defs.specs.Op.{IsOp}
 use Rattle.tox_compile.specs.Compiled.{op_of_placed}
-use Rattle.tox_compile.specs.Normal.{normal_form, with_op}
+use Rattle.tox_compile.specs.Normal.{with_op}
 use Rattle.tox_compile.specs.Meaning.{means}
 use Rattle.tox_compile.proofs.NormalForms.{means-normal_form, operations-normal_form}
 use Rattle.tox_compile.proofs.CompileTurns.{Compiles, compiles-more, compiled}
@@ -22,7 +21,7 @@ loop-placed-preserved c =
 pub invariant_of-result : goal.invariant_of-result
 invariant_of-result c =
     let is = compiled _ _ _ c.loop-placed-test.false c.loop-placed.invariant
-      ∙ ap (λ toxics. fold with_op [] (map op_of_placed toxics)) (c.deref-placed-items.ensures.0 ∙ c.applied.ensures.value) in
+    ∙ ap (λ toxics. fold with_op [] (map op_of_placed toxics)) (c.deref-placed-items.ensures.0 ∙ c.applied.ensures.value) in
     record {
       most = omega (arith, c.loop-placed.invariant.few, c.loop-placed-test.false, c.deref-placed-items.ensures.1);
       operations = subst (λ ops. All IsOp ops) (sym is) (operations-normal_form c.args.chain.now c.args.words.now c.applied.ensures.chain);
@@ -31,5 +30,5 @@ invariant_of-result c =
 pub returns-clause-means : goal.returns-clause-means
 returns-clause-means c =
     let is = compiled _ _ _ c.loop-placed-test.false c.loop-placed.invariant
-      ∙ ap (λ toxics. fold with_op [] (map op_of_placed toxics)) (c.deref-placed-items.ensures.0 ∙ c.applied.ensures.value) in
+    ∙ ap (λ toxics. fold with_op [] (map op_of_placed toxics)) (c.deref-placed-items.ensures.0 ∙ c.applied.ensures.value) in
     λ items stream. ap (λ ops. means (record { ops = ops }) c.args.words.now items) is ∙ means-normal_form c.args.chain.now c.args.words.now items c.applied.ensures.chain stream
