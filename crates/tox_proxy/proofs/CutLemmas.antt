@@ -1,31 +1,26 @@
--- A slice that is printed is no longer left.
-use Rattle.std.proofs.Common.{◌≡◌, ◌≢◌, ℕ, zero, suc, ◌+◌, ◌-◌, ◌<◌, ◌≤◌, Bool, true, false, List, [], ◌∷◌, ◌++◌, length, replicate, Option, Result, Ok, Err, ◌⊎◌, inl, inr, refl, ap, sym, ◌∙◌, subst, arith, append_assoc}
+-- A slice that a runner gives is no longer to come.
+use Rattle.std.proofs.Common.{◌≡◌, ◌≢◌, ℕ, ◌+◌, ◌-◌, ◌<◌, ◌≤◌, ◌^◌, true, List, [], ◌∷◌, ◌++◌, length, replicate, inl, inr, refl, ap, sym, ◌∙◌, subst, arith, append_assoc, None, Some}
 use Rattle.std.proofs.lemmas.List.{append-nil}
-use Rattle.tox_time.specs.declared.ends.EndFault.{EndFault}
 use Rattle.tox_time.specs.declared.item.Item.{Item}
 use Rattle.tox_time.specs.declared.item.Item.TheVariants.{Chunk, Closed, Reset, Quiet}
 use Rattle.tox_time.specs.declared.slice.Slice.{Slice}
-use Rattle.tox_time.specs.Stream.{span_len}
+use Rattle.tox_time.specs.Stream.{latest_from, span_len}
 use Rattle.tox_time.specs.declared.ending.Ending.{Ending}
 use Rattle.tox_time.specs.declared.ending.Ending.TheVariants.{StillOpen, Closed as ClosedAt, Reset as ResetAt}
-use Rattle.tox_time.specs.Table.{ending, final_of, slices_table, table}
+use Rattle.tox_time.specs.Table.{ending, final_of, table}
 use Rattle.tox_lend.specs.Run.{LiesIn, Run, bytes_at, stop_of}
-use Rattle.tox_lend.specs.Lent.{IsExactSlice}
-use Rattle.tox_lend.specs.declared.lent.Lent.{Lent}
 use Rattle.tox_plan.specs.Cuts.{BeginsApart, EndsHere, IsCut}
 use Rattle.tox_plan.specs.RunnerView.{HasNoChunk, RunnerView, to_come}
+use Rattle.tox_plan.specs.Delivering.{MayFollow, StandsAt, StandsBehind}
 use Rattle.tox_plan.specs.Slices.{IsOffered}
-use Rattle.tox_plan.proofs.Deliveries.{goes-cut}
+use Rattle.tox_plan.proofs.Deliveries.{ahead_next, goes-cut, next_follows}
 use Rattle.tox_text.specs.ArrivalsText.{Arrived}
-use Rattle.tox_text.specs.ResultText.{arrival_of, bytes_line, lines_text}
-use Rattle.tox_text.specs.Writing.{AppendsFront, Passes, Prints}
+use Rattle.tox_text.specs.ResultText.{arrival_of, bytes_line, ending_line, lines_text}
 use Rattle.tox_text.proofs.PieceRuns.{StartAnew-behind, StartAnew-instant, lines_text-slice}
-use Rattle.tox_text.proofs.Runs.{StandsAt, StartAnew, delivered_from}
-use Rattle.tox_text.proofs.Writes.{AppendsFront-then, Passes-none, Passes-then}
-use Rattle.tox_proxy.specs.SecondPass.{IsPieceOf, PassesDownTo, PrintsDownTo, text_left}
-
-stands_whole : (arrived : Arrived) (piece : Run) → IsPieceOf arrived piece → StandsAt arrived piece.start piece.start piece.bytes
-stands_whole arrived piece of = record { of_arrival = of.of_arrival; at_place = of.at_place }
+use Rattle.tox_text.proofs.Runs.{StartAnew, delivered_from}
+use Rattle.tox_proxy.specs.RunnerSlices.{IsReady, text_to_come}
+use Rattle.tox_proxy.specs.SecondPass.{IsPieceOf}
+use Rattle.tox_proxy.proofs.PieceLines.{some_first, stands_whole}
 
 no_chunk-table : (items : List Item) → HasNoChunk items → table items ≡ []
 no_chunk-table [] none = refl
@@ -33,10 +28,6 @@ no_chunk-table (Chunk span t ∷ items) none = absurd none
 no_chunk-table (Closed t ∷ items) none = no_chunk-table items none
 no_chunk-table (Reset t ∷ items) none = no_chunk-table items none
 no_chunk-table (Quiet ∷ items) none = no_chunk-table items none
-
-some_first : (n t : ℕ) (later : List ℕ) → 0 < n → (rest : List ℕ) × (replicate n t ++ later ≡ t ∷ rest)
-some_first zero t later some = absurd (omega arith)
-some_first (suc n) t later some = (replicate n t ++ later, refl)
 
 -- what comes apart starts anew
 StartAnew-apart : (arrived : Arrived) (arrival t position : ℕ) (items : List Item) → BeginsApart t items → StartAnew arrival t (delivered_from arrived position (table items))
@@ -56,10 +47,10 @@ StartAnew-here arrived piece runner t items of stops ends = elim ends [
 ]
 
 -- the line of a slice is the next of what is left
-pub text_left-cut : (arrived : Arrived) (piece : Run) (old new : RunnerView) (slice : Slice) (items : List Item) → IsPieceOf arrived piece → IsOffered old piece → new.piece ≡ old.piece
+lines_left-cut : (arrived : Arrived) (piece : Run) (old new : RunnerView) (slice : Slice) (items : List Item) → IsPieceOf arrived piece → IsOffered old piece → new.piece ≡ old.piece
     → IsCut old new slice → slice.span.start ≡ old.position → new.position ≡ slice.span.stop → EndsHere slice.instant new
-    → bytes_line slice.instant slice.span.start (bytes_at piece slice.span) ++ text_left arrived new items ≡ text_left arrived old items
-text_left-cut arrived piece old new slice items of offered same cut starts stops ends =
+    → bytes_line slice.instant slice.span.start (bytes_at piece slice.span) ++ lines_text (delivered_from arrived new.position (table (to_come new items))) ≡ lines_text (delivered_from arrived old.position (table (to_come old items)))
+lines_left-cut arrived piece old new slice items of offered same cut starts stops ends =
     let later = table (to_come new items) in
     let part : List ℕ = replicate (span_len slice.span) slice.instant in
     let comes : table (to_come old items) ≡ part ++ later = (goes-cut old new slice [] items cut).tables ∙ ap (λ ts. ts ++ later) (append-nil part) in
@@ -72,28 +63,17 @@ text_left-cut arrived piece old new slice items of offered same cut starts stops
     ∙ lines_text-slice arrived piece slice later (stands_whole arrived piece of) lies cut.within.some anew
     ∙ ap (λ n. bytes_line slice.instant slice.span.start (bytes_at piece slice.span) ++ lines_text (delivered_from arrived n later)) (sym stops))
 
--- nothing was printed yet
-pub PassesDownTo-none : (old : Option (List ℕ)) (waited text : List ℕ) → PassesDownTo old waited old waited text text
-PassesDownTo-none old waited text = record { printed = []; passed = Passes-none old waited; whole = refl }
-
--- a part more passed
-pub PassesDownTo-then : (first old new : Option (List ℕ)) (x y z text middle line left : List ℕ) → PassesDownTo first x old y text middle → line ++ left ≡ middle → Passes old y new z line → PassesDownTo first x new z text left
-PassesDownTo-then first old new x y z text middle line left before parts passed = record {
-  printed = before.printed ++ line;
-  passed = Passes-then first old new x y z before.printed line before.passed passed;
-  whole = append_assoc before.printed line left ∙ ap (λ rest. before.printed ++ rest) parts ∙ before.whole;
-}
-
--- and where it broke off, a front of the text is written
-pub AppendsFront-broken : (first old new : Option (List ℕ)) (x y text middle line left : List ℕ) → PassesDownTo first x old y text middle → line ++ left ≡ middle → AppendsFront old new (y ++ line) → AppendsFront first new (x ++ text)
-AppendsFront-broken first old new x y text middle line left before parts front =
-    let longer : AppendsFront old new (y ++ middle) = record {
-      sent = front.sent;
-      unsent = front.unsent ++ left;
-      whole = sym (append_assoc front.sent front.unsent left) ∙ ap (λ xs. xs ++ left) front.whole ∙ append_assoc y line left ∙ ap (λ rest. y ++ rest) parts;
-      written = front.written;
-    } in
-    subst (λ whole. AppendsFront first new (x ++ whole)) before.whole (AppendsFront-then first old new x y before.printed middle before.passed longer)
+-- and so it is with the ending behind the lines
+pub text_to_come-cut : (arrived : Arrived) (piece : Run) (old new : RunnerView) (slice : Slice) (items : List Item) → IsPieceOf arrived piece → IsOffered old piece → new.piece ≡ old.piece
+    → IsCut old new slice → slice.span.start ≡ old.position → new.position ≡ slice.span.stop → EndsHere slice.instant new
+    → bytes_line slice.instant slice.span.start (bytes_at piece slice.span) ++ text_to_come arrived new items ≡ text_to_come arrived old items
+text_to_come-cut arrived piece old new slice items of offered same cut starts stops ends =
+    let last = ending_line (ending (to_come new items)) in
+    let later = lines_text (delivered_from arrived new.position (table (to_come new items))) in
+    let ending_same : ending (to_come new items) ≡ ending (to_come old items) = sym (goes-cut old new slice [] items cut).endings in
+    sym (append_assoc (bytes_line slice.instant slice.span.start (bytes_at piece slice.span)) later last)
+    ∙ ap (λ lines. lines ++ last) (lines_left-cut arrived piece old new slice items of offered same cut starts stops ends)
+    ∙ ap (λ end. lines_text (delivered_from arrived old.position (table (to_come old items))) ++ ending_line end) ending_same
 
 pub IsOffered-same : (old new : RunnerView) (piece : Run) → new.piece ≡ old.piece → IsOffered old piece → IsOffered new piece
 IsOffered-same old new piece same offered = record {
@@ -102,40 +82,35 @@ IsOffered-same old new piece same offered = record {
   arrives = ap (λ p. p.instant) same ∙ offered.arrives;
 }
 
--- the line of an exact slice
-pub line_of_lent : (piece : Run) (slice : Slice) (lent : Lent) → IsExactSlice piece slice.span slice.instant lent
-    → bytes_line lent.instant lent.start lent.bytes.now ≡ bytes_line slice.instant slice.span.start (bytes_at piece slice.span)
-line_of_lent piece slice lent exact =
-    ap (λ t. bytes_line t lent.start lent.bytes.now) exact.leaves
-    ∙ ap (λ n. bytes_line slice.instant n lent.bytes.now) exact.starts
-    ∙ ap (bytes_line slice.instant slice.span.start) exact.exact
-
-pub same-ending : (old new : RunnerView) (slice : Slice) (items : List Item) → IsCut old new slice → ending (to_come new items) ≡ ending (to_come old items)
-same-ending old new slice items cut = sym (goes-cut old new slice [] items cut).endings
-
 -- the same is left where the same is to come from the same position on
-pub text_left-same : (arrived : Arrived) (old new : RunnerView) (xs ys : List Item) → new.position ≡ old.position → to_come new ys ≡ to_come old xs → text_left arrived new ys ≡ text_left arrived old xs
-text_left-same arrived old new xs ys position comes =
-    ap (λ items. lines_text (delivered_from arrived new.position (table items))) comes ∙ ap (λ n. lines_text (delivered_from arrived n (table (to_come old xs)))) position
+pub text_to_come-same : (arrived : Arrived) (old new : RunnerView) (xs ys : List Item) → new.position ≡ old.position → to_come new ys ≡ to_come old xs → text_to_come arrived new ys ≡ text_to_come arrived old xs
+text_to_come-same arrived old new xs ys position comes =
+    ap (λ items. lines_text (delivered_from arrived new.position (table items)) ++ ending_line (ending items)) comes
+    ∙ ap (λ n. lines_text (delivered_from arrived n (table (to_come old xs))) ++ ending_line (ending (to_come old xs))) position
 
-pub PassesDownTo-from : (old new : Option (List ℕ)) (waited waiting text other left : List ℕ) → text ≡ other → PassesDownTo old waited new waiting text left → PassesDownTo old waited new waiting other left
-PassesDownTo-from old new waited waiting text other left same passed = subst (λ whole. PassesDownTo old waited new waiting whole left) same passed
+-- where the ending alone is to come it is all that is left
+pub ended_text : (arrived : Arrived) (runner : RunnerView) (items : List Item) (last : Ending) → to_come runner items ≡ final_of last ∷ [] → text_to_come arrived runner items ≡ ending_line last
+ended_text arrived runner items StillOpen is = ap (λ items. lines_text (delivered_from arrived runner.position (table items)) ++ ending_line (ending items)) is
+ended_text arrived runner items (ClosedAt t) is = ap (λ items. lines_text (delivered_from arrived runner.position (table items)) ++ ending_line (ending items)) is
+ended_text arrived runner items (ResetAt t) is = ap (λ items. lines_text (delivered_from arrived runner.position (table items)) ++ ending_line (ending items)) is
 
--- two parts passed
-pub PassesDownTo-both : (first old new : Option (List ℕ)) (x y z text middle left : List ℕ) → PassesDownTo first x old y text middle → PassesDownTo old y new z middle left → PassesDownTo first x new z text left
-PassesDownTo-both first old new x y z text middle left before after = PassesDownTo-then first old new x y z text middle after.printed left before after.whole after.passed
+-- the item may come after the piece that was offered last, at which the runner stands unless its ending is known
+pub record IsNextFor (runner : RunnerView) (item : Item) : Type 0 where
+  pub last : Slice
+  pub follows : MayFollow last item
+  pub latest : runner.latest ≤ last.instant
+  pub stands : runner.ending ≡ None → StandsAt runner last
 
--- and where the second broke off, a front of the text is written
-pub AppendsFront-both : (first old new : Option (List ℕ)) (x y text middle : List ℕ) → PassesDownTo first x old y text middle → AppendsFront old new (y ++ middle) → AppendsFront first new (x ++ text)
-AppendsFront-both first old new x y text middle before front = AppendsFront-broken first old new x y text middle middle [] before (append-nil middle) front
+-- the runner stands at the item, unless its ending is known
+pub record HasTaken (runner : RunnerView) (item : Item) : Type 0 where
+  pub latest : (since : ℕ) → runner.latest ≤ latest_from since (item ∷ [])
+  pub stands : runner.ending ≡ None → StandsBehind runner item
 
--- where the ending alone is to come no line is left, and it is the ending
-pub ended_text : (arrived : Arrived) (runner : RunnerView) (last : Ending) → to_come runner (Quiet ∷ []) ≡ final_of last ∷ [] → text_left arrived runner (Quiet ∷ []) ≡ []
-ended_text arrived runner StillOpen is = ap (λ items. lines_text (delivered_from arrived runner.position (table items))) is
-ended_text arrived runner (ClosedAt t) is = ap (λ items. lines_text (delivered_from arrived runner.position (table items))) is
-ended_text arrived runner (ResetAt t) is = ap (λ items. lines_text (delivered_from arrived runner.position (table items))) is
+pub next_for : (runner : RunnerView) (item : Item) (items : List Item) → IsReady runner (item ∷ items) → IsNextFor runner item
+next_for runner item items ready =
+    let next = next_follows runner item items ready.ahead in
+    record { last = next.0; follows = next.1; latest = next.2; stands = next.3 }
 
-pub ended_ending : (runner : RunnerView) (last : Ending) → to_come runner (Quiet ∷ []) ≡ final_of last ∷ [] → last ≡ ending (to_come runner (Quiet ∷ []))
-ended_ending runner StillOpen is = sym (ap ending is)
-ended_ending runner (ClosedAt t) is = sym (ap ending is)
-ended_ending runner (ResetAt t) is = sym (ap ending is)
+-- behind the item that was taken the others come next
+pub IsReady-next : (old new : RunnerView) (item : Item) (items : List Item) → IsReady old (item ∷ items) → new.idle ≡ true → HasTaken new item → IsReady new items
+IsReady-next old new item items ready idle taken = record { idle = idle; ahead = ahead_next old new item items ready.ahead (taken.latest old.latest) taken.stands }

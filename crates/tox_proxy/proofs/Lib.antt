@@ -1,5 +1,8 @@
 mod ReadLemmas
 mod Causes
+mod Passing
+mod PieceLines
 mod CutLemmas
+mod OutcomeLemmas
 mod TextTurns
 mod LineSteps

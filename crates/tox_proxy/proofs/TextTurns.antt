@@ -7,45 +7,14 @@ use Rattle.tox_time.specs.declared.item.Item.{Item}
 use Rattle.tox_time.specs.declared.item.Item.TheVariants.{Chunk, Closed, Reset, Quiet}
 use Rattle.tox_time.specs.declared.span.Span.{Span}
 use Rattle.tox_time.specs.Stream.{IsStreamFrom, arrived as count_of, span_len}
-use Rattle.tox_time.specs.Arrivals.{arrival_list, eof_fault, next_chunk, push_fault}
+use Rattle.tox_time.specs.Arrivals.{arrival_list, next_chunk}
+use Rattle.tox_time.specs.Neighbours.{LiesInChunk}
 use Rattle.tox_text.specs.declared.fault.DryFault.{DryFault}
 use Rattle.tox_text.specs.ArrivalsText.{Arrived, unless_refused, with_end, with_line, with_lines, with_piece, with_read}
 use Rattle.tox_text.specs.Line.{Line, arrival, end, line_of}
 use Rattle.tox_text.specs.ResultText.{arrival_of}
-use Rattle.tox_text.proofs.CountLemmas.{with_line-read}
-
--- a step that led on gave something
-pub step : {A B E : Type 0} (r : Result A E) (f : A → Result B E) (b : B) → (r >>= f) ≡ Ok b → (a : A) × (r ≡ Ok a) × (f a ≡ Ok b)
-step (Ok a) f b is = (a, refl, is)
-step (Err e) f b is = absurd (cc)
-
-filled : (line : List ℕ) (said : Line) → line_of line ≡ Some said → (length line == 0) ≡ false
-filled [] said is = absurd (cc)
-filled (x ∷ xs) said is = search (rules, tests)
-
-taken : (n : ℕ) (fault : Option ArrivalFault) (a b : Arrived) → unless_refused n fault a ≡ Ok b → (fault ≡ None) × (b ≡ a)
-taken n (Some fault) a b is = absurd (cc)
-taken n None a b is = (refl, cc)
-
--- a data line of such a text was accepted
-pub data_taken : (n : ℕ) (before next : Arrived) (t : ℕ) (bytes line : List ℕ) → line_of line ≡ Some (arrival t bytes) → with_line n before line ≡ Ok next
-    → (push_fault before.items (length bytes) t ≡ None) × (next ≡ with_piece before t bytes)
-data_taken n before next t bytes line is took =
-    taken n (push_fault before.items (length bytes) t) (with_piece before t bytes) next (sym (with_line-read n before line (Some (arrival t bytes)) (filled line (arrival t bytes) is) is) ∙ took)
-
--- and so was the end
-pub end_taken : (n : ℕ) (before next : Arrived) (t : ℕ) (line : List ℕ) → line_of line ≡ Some (end t) → with_line n before line ≡ Ok next
-    → (eof_fault before.items t ≡ None) × (next ≡ with_end before t)
-end_taken n before next t line is took =
-    taken n (eof_fault before.items t) (with_end before t) next (sym (with_line-read n before line (Some (end t)) (filled line (end t) is) is) ∙ took)
-
--- a line that is none says nothing
-pub none_taken : (n : ℕ) (before next : Arrived) (line : List ℕ) → line_of line ≡ None → with_line n before line ≡ Ok next → next ≡ before
-none_taken n before next line is took = by (length line == 0) refl
-  where
-    by : (empty : Bool) → (length line == 0) ≡ empty → next ≡ before
-    by true empty = let same : with_line n before line ≡ Ok before = ap (λ b. if b then Ok before else with_read n before (line_of line)) empty in cc
-    by false empty = let bad = sym (with_line-read n before line None empty is) ∙ took in absurd (cc)
+use Rattle.tox_proxy.specs.SecondPass.{IsEdge}
+use Rattle.tox_text.proofs.LineTurns.{data_taken, end_taken, none_taken, step}
 
 -- what a line adds
 record Adds (before next : Arrived) : Type 0 where
@@ -140,6 +109,13 @@ arrival_in position since (Closed u ∷ xs) later span t k stream within = absur
 arrival_in position since (Reset u ∷ xs) later span t k stream within = absurd (cons_nil xs later (Chunk span t) stream.2)
 arrival_in position since (Quiet ∷ xs) later span t k stream within = absurd (cons_nil xs later (Chunk span t) stream)
 
+ends_behind : (position since : ℕ) (xs later : List Item) (span : Span) (t : ℕ) → IsStreamFrom position since (arrival_list (xs ++ Chunk span t ∷ later)) → span.start < span.stop
+ends_behind position since [] later span t stream = omega (arith, stream.0, stream.1)
+ends_behind position since (Chunk s u ∷ xs) later span t stream = ends_behind s.stop u xs later span t stream.4
+ends_behind position since (Closed u ∷ xs) later span t stream = absurd (cons_nil xs later (Chunk span t) stream.2)
+ends_behind position since (Reset u ∷ xs) later span t stream = absurd (cons_nil xs later (Chunk span t) stream.2)
+ends_behind position since (Quiet ∷ xs) later span t stream = absurd (cons_nil xs later (Chunk span t) stream)
+
 -- and what stands behind it is not
 pub arrival_behind : (position since : ℕ) (xs later : List Item) (span : Span) (t : ℕ) → IsStreamFrom position since (arrival_list (xs ++ Chunk span t ∷ later))
     → span.start < arrival_of (xs ++ Chunk span t ∷ later) span.stop
@@ -150,13 +126,6 @@ arrival_behind position since (Chunk s u ∷ xs) later span t stream =
     let rest = arrival_behind s.stop u xs later span t stream.4 in
     let past = skipped s u span.stop (xs ++ Chunk span t ∷ later) (omega (arith, starts_behind s.stop u xs later span t stream.4, ends_behind s.stop u xs later span t stream.4)) in
     omega (arith, past, rest)
-  where
-    ends_behind : (position since : ℕ) (xs later : List Item) (span : Span) (t : ℕ) → IsStreamFrom position since (arrival_list (xs ++ Chunk span t ∷ later)) → span.start < span.stop
-    ends_behind position since [] later span t stream = omega (arith, stream.0, stream.1)
-    ends_behind position since (Chunk s u ∷ xs) later span t stream = ends_behind s.stop u xs later span t stream.4
-    ends_behind position since (Closed u ∷ xs) later span t stream = absurd (cons_nil xs later (Chunk span t) stream.2)
-    ends_behind position since (Reset u ∷ xs) later span t stream = absurd (cons_nil xs later (Chunk span t) stream.2)
-    ends_behind position since (Quiet ∷ xs) later span t stream = absurd (cons_nil xs later (Chunk span t) stream)
 arrival_behind position since (Closed u ∷ xs) later span t stream = absurd (cons_nil xs later (Chunk span t) stream.2)
 arrival_behind position since (Reset u ∷ xs) later span t stream = absurd (cons_nil xs later (Chunk span t) stream.2)
 arrival_behind position since (Quiet ∷ xs) later span t stream = absurd (cons_nil xs later (Chunk span t) stream)
@@ -168,3 +137,50 @@ bytes_in front part more all k whole within =
     ∙ get_or_append_left (front ++ part) more 0 (length front + k) (omega (arith, length-append front part))
     ∙ get_or-append_right front part (length front) (length front + k) 0 refl (omega arith)
     ∙ ap (λ n. get_or part n 0) (omega arith)
+
+-- what lies in an item of a stream starts no earlier than the stream
+lies_behind : (position since : ℕ) (items : List Item) (part : Span) → IsStreamFrom position since items → (k : ℕ) (d : Item) → k < length items → get_or items k d ≡ d → LiesInChunk part d → position ≤ part.start
+lies_behind position since [] part stream k d below is lies = absurd stream
+lies_behind position since (Chunk s u ∷ items) part stream zero d below is lies =
+    let here = subst (LiesInChunk part) (sym is) lies in omega (arith, here.0, stream.0)
+lies_behind position since (Chunk s u ∷ items) part stream (suc k) d below is lies =
+    omega (arith, lies_behind s.stop u items part stream.4 k d (omega (arith, below)) is lies, stream.0, stream.1)
+lies_behind position since (Closed u ∷ items) part stream zero d below is lies = absurd (subst (LiesInChunk part) (sym is) lies)
+lies_behind position since (Closed u ∷ items) part stream (suc k) d below is lies = absurd (let none = stream.2 in let few : length items ≡ 0 = ap length none in omega (arith, below, few))
+lies_behind position since (Reset u ∷ items) part stream zero d below is lies = absurd (subst (LiesInChunk part) (sym is) lies)
+lies_behind position since (Reset u ∷ items) part stream (suc k) d below is lies = absurd (let none = stream.2 in let few : length items ≡ 0 = ap length none in omega (arith, below, few))
+lies_behind position since (Quiet ∷ items) part stream zero d below is lies = absurd (subst (LiesInChunk part) (sym is) lies)
+lies_behind position since (Quiet ∷ items) part stream (suc k) d below is lies = absurd (let few : length items ≡ 0 = ap length stream in omega (arith, below, few))
+
+-- and stops within its bytes
+pub lies_within : (position since : ℕ) (items : List Item) (part : Span) → IsStreamFrom position since items → (k : ℕ) (d : Item) → k < length items → get_or items k d ≡ d → LiesInChunk part d
+    → part.stop ≤ position + count_of items
+lies_within position since [] part stream k d below is lies = absurd stream
+lies_within position since (Chunk s u ∷ items) part stream zero d below is lies =
+    let here = subst (LiesInChunk part) (sym is) lies in omega (arith, here.1, stream.0, stream.1)
+lies_within position since (Chunk s u ∷ items) part stream (suc k) d below is lies =
+    omega (arith, lies_within s.stop u items part stream.4 k d (omega (arith, below)) is lies, stream.0, stream.1)
+lies_within position since (Closed u ∷ items) part stream zero d below is lies = absurd (subst (LiesInChunk part) (sym is) lies)
+lies_within position since (Closed u ∷ items) part stream (suc k) d below is lies = absurd (let few : length items ≡ 0 = ap length stream.2 in omega (arith, below, few))
+lies_within position since (Reset u ∷ items) part stream zero d below is lies = absurd (subst (LiesInChunk part) (sym is) lies)
+lies_within position since (Reset u ∷ items) part stream (suc k) d below is lies = absurd (let few : length items ≡ 0 = ap length stream.2 in omega (arith, below, few))
+lies_within position since (Quiet ∷ items) part stream zero d below is lies = absurd (subst (LiesInChunk part) (sym is) lies)
+lies_within position since (Quiet ∷ items) part stream (suc k) d below is lies = absurd (let few : length items ≡ 0 = ap length stream in omega (arith, below, few))
+
+-- what lies in an item goes over the end of no chunk
+edge_at : (position since : ℕ) (xs later : List Item) (span : Span) (t : ℕ) → IsStreamFrom position since (arrival_list (xs ++ Chunk span t ∷ later)) → (part : Span) (k : ℕ) (d : Item)
+    → k < length (arrival_list (xs ++ Chunk span t ∷ later)) → get_or (arrival_list (xs ++ Chunk span t ∷ later)) k d ≡ d → LiesInChunk part d → part.start < span.stop → part.stop ≤ span.stop
+edge_at position since [] later span t stream part zero d below is lies before = (subst (LiesInChunk part) (sym is) lies).1
+edge_at position since [] later span t stream part (suc k) d below is lies before =
+    absurd (omega (arith, lies_behind span.stop t (arrival_list later) part stream.4 k d (omega (arith, below)) is lies, before))
+edge_at position since (Chunk s u ∷ xs) later span t stream part zero d below is lies before =
+    let here = subst (LiesInChunk part) (sym is) lies in
+    omega (arith, here.1, starts_behind s.stop u xs later span t stream.4, ends_behind s.stop u xs later span t stream.4)
+edge_at position since (Chunk s u ∷ xs) later span t stream part (suc k) d below is lies before =
+    edge_at s.stop u xs later span t stream.4 part k d (omega (arith, below)) is lies before
+edge_at position since (Closed u ∷ xs) later span t stream part k d below is lies before = absurd (cons_nil xs later (Chunk span t) stream.2)
+edge_at position since (Reset u ∷ xs) later span t stream part k d below is lies before = absurd (cons_nil xs later (Chunk span t) stream.2)
+edge_at position since (Quiet ∷ xs) later span t stream part k d below is lies before = absurd (cons_nil xs later (Chunk span t) stream)
+
+pub edge_behind : (position since : ℕ) (xs later : List Item) (span : Span) (t : ℕ) → IsStreamFrom position since (arrival_list (xs ++ Chunk span t ∷ later)) → IsEdge (arrival_list (xs ++ Chunk span t ∷ later)) span.stop
+edge_behind position since xs later span t stream part any before = edge_at position since xs later span t stream part any.0 any.1 any.2 any.3 any.4 before

@@ -1,5 +1,7 @@
 pub mod Reading
 pub mod SecondPass
+pub mod RunnerSlices
+pub mod OutcomeSlices
 pub mod DryRun
 pub mod StagesRun
 pub mod Toxics

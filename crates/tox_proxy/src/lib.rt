@@ -1,14 +1,18 @@
 //! What the program does, as library calls over readers, writers and values.
 #![tactic(auto)]
 
+mod checked_input;
 mod dry;
 mod fault;
 mod files;
 mod named_files;
+mod outcome_slices;
 mod pick_request;
 mod reading;
+mod runner_slices;
 mod second_pass;
 mod setup;
+mod slice_source;
 mod stages;
 mod toxics;
 

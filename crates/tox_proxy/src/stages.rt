@@ -1,20 +1,29 @@
 //! A run of stages in real threads: arrivals in, the result of a chain out.
-ghost use Rattle.std.specs.Prelude.{◌≡◌, ◌≢◌, ◌+◌, ◌≤◌, false, OnOk, IfErr, Err};
+ghost use Rattle.std.specs.Prelude.{◌≡◌, ◌≢◌, ◌+◌, ◌≤◌, [], false, vec_capacity, OnOk, IfErr, Ok, Err};
+ghost use Rattle.tox_time.specs.Arrivals.{arrival_list};
+ghost use Rattle.tox_time.specs.Neighbours.{AreNeighbours};
+ghost use Rattle.tox_time.specs.Table.{slices_table};
+ghost use Rattle.tox_text.specs.ArrivalsText.{Arrived, arrivals_of};
+ghost use Rattle.tox_text.specs.Checked.{IsChecked};
+ghost use Rattle.tox_text.specs.ResultText.{result_text};
+ghost use Rattle.tox_text.specs.Writing.{Writes};
 ghost use Rattle.tox_proxy.specs.DryRun.{WritesEveryRest, WritesResult};
 ghost use Rattle.tox_proxy.specs.Reading.{TakesAtMost};
 ghost use Rattle.tox_proxy.specs.StagesRun.{HasStagesCause, StagesLeave};
 ghost use Rattle.tox_text.specs.declared.fault.DryFault.TheVariants.{WriteFault};
 ghost use Rattle.tox_proxy.specs.declared.fault.StagesFault.TheVariants.{Dry};
 
-use crate::dry::{read_arrivals, write_result};
+use crate::checked_input::{CheckedInput, read_checked};
 use crate::fault::StagesFault;
+use crate::outcome_slices::OutcomeSlices;
+use crate::second_pass::{PieceRoom, write_text};
 use std::alloc::Global;
 use std::sync::Wait;
 use std::thread::Threads;
 use tox_defs::Chain;
 use tox_stages::run_stages;
-use tox_text::{Buffer, DryFault};
-use tox_time::{Gate, Sink, Source};
+use tox_text::{DryFault, list_arrivals};
+use tox_time::{EndFault, Gate, Outcome, Sink, Source};
 use tox_words::Words;
 
 /// Reads an arrivals text to its end, and writes what a chain makes of it as a result text: as
@@ -42,16 +51,37 @@ pub fn stages_run<T: Threads + Wait + Sync, R: Source, W: Sink, G: Gate>(
     ensures left { IfErr result (StagesLeave chain.now words.now (R.remaining reader.old) (R.remaining reader.new) (W.written writer.old) (W.written writer.new)) }
     ensures most { TakesAtMost (16_777_216 + 1) (R.remaining reader.old) (R.remaining reader.new) }
 {
-    let arrived = match read_arrivals(alloc, reader) {
-        Ok(arrived) => arrived,
+    let CheckedInput { text, room } = match read_checked(alloc, reader) {
+        Ok(input) => input,
         Err(fault) => return Err(StagesFault::Dry(fault)),
     };
-    let outcome = match run_stages(rt, alloc, chain, words, arrived.arrivals(), cap, gate) {
+    let Ok(arrivals) = list_arrivals(alloc, &text) else {
+        return Err(StagesFault::Dry(DryFault::OutOfMemory));
+    };
+    let outcome = match run_stages(rt, alloc, chain, words, &arrivals, cap, gate) {
         Ok(outcome) => outcome,
         Err(fault) => return Err(StagesFault::Stages(fault)),
     };
-    if write_result(&mut Buffer::new(), writer, &arrived, &outcome).is_err() {
+    if write_outcome(writer, &text, room, &outcome).is_err() {
         return Err(StagesFault::Dry(DryFault::WriteFault));
     }
     Ok(())
+}
+
+/// Writes the result text of a text without faults and of what was delivered of it.
+fn write_outcome<W: Sink>(
+    writer: &mut W,
+    text: &[u8],
+    room: PieceRoom,
+    outcome: &Outcome,
+) -> Result<(), EndFault>
+    requires working { W.failed writer.old ≡ false }
+    requires empty { room.window ≡ record { held = []; room = 1; stop = 0 } }
+    requires checked { IsChecked text.now (vec_capacity room.spare) }
+    requires neighbours { (arrived : Arrived) → arrivals_of text.now ≡ Ok arrived → AreNeighbours (arrival_list arrived.items) 0 outcome.now.slices }
+    ensures { (arrived : Arrived) → arrivals_of text.now ≡ Ok arrived
+        → Writes result (W.written writer.old) (W.written writer.new) (W.failed writer.new)
+        (result_text arrived (slices_table outcome.now.slices) outcome.now.ending) }
+{
+    write_text(&mut OutcomeSlices::new(outcome), writer, text, room)
 }

@@ -1,5 +1,5 @@
 -- What a line adds to what is counted of the lines before it.
-use Rattle.std.proofs.Common.{◌≡◌, ℕ, ◌+◌, ◌<◌, ◌≤◌, ◌^◌, ◌==◌, Bool, true, false, List, [], ◌∷◌, ◌++◌, length, nat_lt, Option, Some, None, Result, Ok, Err, ◌/◌, if◌then◌else◌, refl, ap, sym, ◌∙◌, subst, arith, rules, tests}
+use Rattle.std.proofs.Common.{◌≡◌, ℕ, ◌+◌, ◌<◌, ◌≤◌, ◌^◌, ◌==◌, Bool, true, false, List, [], ◌∷◌, length, nat_lt, Option, Some, None, Result, Ok, Err, ◌/◌, if◌then◌else◌, refl, ap, sym, ◌∙◌, arith, rules, tests}
 use Rattle.std.specs.Prelude.{is_ok, option_map}
 use Rattle.std.specs.Result.{result_ok}
 use Rattle.hex.specs.Hex.{decode_of}
@@ -8,14 +8,13 @@ use Rattle.hex.proofs.HexLemmas.{decode_of-ok}
 use Rattle.tox_time.specs.declared.arrivals.ArrivalFault.{ArrivalFault}
 use Rattle.tox_time.specs.declared.arrivals.ArrivalFault.TheVariants.{TimeBack, EmptyPiece, TooManyBytes, AfterEnd}
 use Rattle.tox_time.specs.declared.item.Item.{Item}
-use Rattle.tox_time.specs.declared.item.Item.TheVariants.{Chunk, Closed}
+use Rattle.tox_time.specs.declared.item.Item.TheVariants.{Closed}
 use Rattle.tox_time.specs.Time.{IsInstant}
-use Rattle.tox_time.specs.Stream.{arrived, latest, latest_from, has_final}
+use Rattle.tox_time.specs.Stream.{arrived, latest, has_final}
 use Rattle.tox_time.specs.Arrivals.{end_fault, eof_fault, next_chunk, piece_fault, push_fault}
 use Rattle.tox_time.proofs.ArrivalsKept.{IsArrivalList-append}
 use Rattle.tox_time.proofs.StreamLemmas.{arrived-append, has_final-append, latest_from-append}
-use Rattle.tox_text.specs.declared.fault.DryFault.{DryFault}
-use Rattle.tox_text.specs.declared.fault.DryFault.TheVariants.{Arrival, BadLine}
+use Rattle.tox_text.specs.declared.fault.DryFault.TheVariants.{Arrival}
 use Rattle.tox_text.specs.ArrivalsText.{Arrived, nothing, unless_refused, with_end, with_line, with_piece, with_read}
 use Rattle.tox_text.specs.Checked.{AreArrivals, AreShort}
 use Rattle.tox_text.specs.Counting.{Counts}

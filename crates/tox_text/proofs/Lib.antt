@@ -1,15 +1,10 @@
-pub mod ArrivedLemmas
 pub mod Digits
 pub mod HexParts
 pub mod HexPairs
 pub mod LineParts
 pub mod LineTurns
 pub mod Listed
-pub mod OpenRuns
 pub mod PickParts
-pub mod PieceLemmas
-pub mod PiecesOf
-pub mod PrintTurns
 pub mod Runs
 pub mod ShortParts
 pub mod Writes

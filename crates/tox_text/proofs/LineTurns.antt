@@ -1,24 +1,71 @@
--- One turn of the loop over the lines.
-use Rattle.std.proofs.Common.{◌≡◌, ℕ, ◌+◌, ◌<◌, List, length, drop, get_or, Ok, Err, sym, ap, ◌∙◌}
-use Rattle.std.proofs.lemmas.List.{at_drop_more}
+-- A text without faults, line by line: what each line adds to what arrived.
+use Rattle.std.proofs.Common.{◌≡◌, ℕ, ◌/◌, ◌<◌, ◌==◌, Bool, true, false, List, [], ◌∷◌, ◌++◌, length, Option, Some, None, option_map, Result, Ok, Err, if◌then◌else◌, refl, ap, sym, ◌∙◌, arith, rules, tests}
+use Rattle.std.specs.Prelude.{IsOk, is_ok}
+use Rattle.std.specs.Result.{result_ok}
+use Rattle.hex.specs.Hex.{decode_of}
+use Rattle.hex.specs.declared.error.FromHexError.{FromHexError}
+use Rattle.hex.proofs.HexLemmas.{decode_of-ok}
 use Rattle.tox_time.specs.Steps.{◌>>=◌}
-use Rattle.tox_text.specs.declared.fault.DryFault.{DryFault}
-use Rattle.tox_text.specs.ArrivalsText.{Arrived, with_line, with_lines}
+use Rattle.tox_time.specs.declared.arrivals.ArrivalFault.{ArrivalFault}
+use Rattle.tox_time.specs.Arrivals.{eof_fault, next_chunk, push_fault}
+use Rattle.tox_text.specs.ArrivalsText.{Arrived, unless_refused, with_end, with_line, with_piece, with_read}
+use Rattle.tox_text.specs.Line.{Line, arrival, end, line_of}
+use Rattle.tox_text.proofs.CountLemmas.{with_line-read}
 
-with_lines-turn : (n i : ℕ) (lines : List (List ℕ)) (arrived : Arrived) (line : List ℕ) → (i < length lines) × (line ≡ get_or lines i line)
-    → with_lines n (drop i lines) arrived ≡ (with_line n arrived line >>= with_lines (n + 1) (drop (i + 1) lines))
-with_lines-turn n i lines arrived line here =
-    at_drop_more (λ left. with_lines n left arrived) lines i line here.0
-    ∙ ap (λ text. with_line n arrived text >>= with_lines (n + 1) (drop (i + 1) lines)) (sym here.1)
+-- a step that led on gave something
+pub step : {A B E : Type 0} (r : Result A E) (f : A → Result B E) (b : B) → (r >>= f) ≡ Ok b → (a : A) × (r ≡ Ok a) × (f a ≡ Ok b)
+step (Ok a) f b is = (a, refl, is)
+step (Err e) f b is = absurd (cc)
 
--- a line that is read leaves the others
-pub with_lines-read : (n i : ℕ) (lines : List (List ℕ)) (before after : Arrived) (line : List ℕ) → (i < length lines) × (line ≡ get_or lines i line)
-    → with_line n before line ≡ Ok after → with_lines n (drop i lines) before ≡ with_lines (n + 1) (drop (i + 1) lines) after
-with_lines-read n i lines before after line here read =
-    with_lines-turn n i lines before line here ∙ ap (λ left. left >>= with_lines (n + 1) (drop (i + 1) lines)) read
+filled : (line : List ℕ) (said : Line) → line_of line ≡ Some said → (length line == 0) ≡ false
+filled [] said is = absurd (cc)
+filled (x ∷ xs) said is = search (rules, tests)
 
--- a line's fault is that of the lines
-pub with_lines-fault : (n i : ℕ) (lines : List (List ℕ)) (before : Arrived) (line : List ℕ) (fault : DryFault) → (i < length lines) × (line ≡ get_or lines i line)
-    → with_line n before line ≡ Err fault → with_lines n (drop i lines) before ≡ Err fault
-with_lines-fault n i lines before line fault here read =
-    with_lines-turn n i lines before line here ∙ ap (λ left. left >>= with_lines (n + 1) (drop (i + 1) lines)) read
+taken : (n : ℕ) (fault : Option ArrivalFault) (a b : Arrived) → unless_refused n fault a ≡ Ok b → (fault ≡ None) × (b ≡ a)
+taken n (Some fault) a b is = absurd (cc)
+taken n None a b is = (refl, cc)
+
+-- a data line of such a text was accepted
+pub data_taken : (n : ℕ) (before next : Arrived) (t : ℕ) (bytes line : List ℕ) → line_of line ≡ Some (arrival t bytes) → with_line n before line ≡ Ok next
+    → (push_fault before.items (length bytes) t ≡ None) × (next ≡ with_piece before t bytes)
+data_taken n before next t bytes line is took =
+    taken n (push_fault before.items (length bytes) t) (with_piece before t bytes) next (sym (with_line-read n before line (Some (arrival t bytes)) (filled line (arrival t bytes) is) is) ∙ took)
+
+-- and so was the end
+pub end_taken : (n : ℕ) (before next : Arrived) (t : ℕ) (line : List ℕ) → line_of line ≡ Some (end t) → with_line n before line ≡ Ok next
+    → (eof_fault before.items t ≡ None) × (next ≡ with_end before t)
+end_taken n before next t line is took =
+    taken n (eof_fault before.items t) (with_end before t) next (sym (with_line-read n before line (Some (end t)) (filled line (end t) is) is) ∙ took)
+
+-- a line that is none says nothing
+pub none_taken : (n : ℕ) (before next : Arrived) (line : List ℕ) → line_of line ≡ None → with_line n before line ≡ Ok next → next ≡ before
+none_taken n before next line is took = by (length line == 0) refl
+  where
+    by : (empty : Bool) → (length line == 0) ≡ empty → next ≡ before
+    by true empty = let same : with_line n before line ≡ Ok before = ap (λ b. if b then Ok before else with_read n before (line_of line)) empty in cc
+    by false empty = let bad = sym (with_line-read n before line None empty is) ∙ took in absurd (cc)
+
+-- the digits of such a line are pairs
+pub pairs_taken : (n : ℕ) (before next : Arrived) (t : ℕ) (digits line : List ℕ) → line_of line ≡ option_map (arrival t) (result_ok (decode_of digits)) → 0 < length line
+    → with_line n before line ≡ Ok next → IsOk (decode_of digits)
+pairs_taken n before next t digits line says some took = by (decode_of digits) refl
+  where
+    by : (read : Result (List ℕ) FromHexError) → decode_of digits ≡ read → IsOk (decode_of digits)
+    by (Ok bytes) is = rw is refl
+    by (Err fault) is =
+        let none : line_of line ≡ None = says ∙ ap (λ r. option_map (arrival t) (result_ok r)) is in
+        let filled : (length line == 0) ≡ false = search (rules, tests) in
+        let bad = sym (with_line-read n before line None filled none) ∙ took in
+        absurd (cc)
+
+-- and half as many as they are arrived
+pub chunk_taken : (n : ℕ) (before next : Arrived) (t : ℕ) (digits line : List ℕ) → line_of line ≡ option_map (arrival t) (result_ok (decode_of digits)) → 0 < length line
+    → with_line n before line ≡ Ok next → next.items ≡ before.items ++ next_chunk before.items (length digits / 2) t ∷ []
+chunk_taken n before next t digits line says some took = by (decode_of digits) refl
+  where
+    by : (read : Result (List ℕ) FromHexError) → decode_of digits ≡ read → next.items ≡ before.items ++ next_chunk before.items (length digits / 2) t ∷ []
+    by (Ok bytes) is =
+        let said : line_of line ≡ Some (arrival t bytes) = says ∙ ap (λ r. option_map (arrival t) (result_ok r)) is in
+        let half : length bytes ≡ length digits / 2 = omega (arith, (decode_of-ok digits bytes is).2) in
+        ap (λ a. a.items) (data_taken n before next t bytes line said took).1 ∙ ap (λ len. before.items ++ next_chunk before.items len t ∷ []) half
+    by (Err fault) is = absurd (let pairs = pairs_taken n before next t digits line says some took in let both = sym (ap is_ok is) ∙ pairs in cc)

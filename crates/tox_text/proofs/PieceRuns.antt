@@ -1,15 +1,16 @@
 -- The runs of one piece.
-use Rattle.std.proofs.Common.{◌≡◌, ◌≢◌, ℕ, zero, suc, ◌+◌, ◌-◌, ◌<◌, ◌≤◌, ◌==◌, ◌&&◌, Bool, true, false, List, [], ◌∷◌, ◌++◌, length, drop, get_or, slice_index, replicate, refl, ap, sym, ◌∙◌, subst, arith, rules, tests}
+use Rattle.std.proofs.Common.{◌≡◌, ◌≢◌, ℕ, ◌+◌, ◌-◌, ◌<◌, ◌==◌, ◌&&◌, Bool, true, false, List, [], ◌∷◌, ◌++◌, length, drop, slice_index, replicate, refl, ap, sym, ◌∙◌, arith, rules, tests, length-take, length-drop}
 use Rattle.std.proofs.lemmas.List.{get_or-drop, get_or-take, length-replicate}
 use Rattle.tox_time.specs.declared.span.Span.{Span}
 use Rattle.tox_time.specs.declared.slice.Slice.{Slice}
 use Rattle.tox_time.specs.Stream.{span_len}
 use Rattle.tox_lend.specs.Run.{LiesIn, Run, bytes_at}
 use Rattle.tox_text.specs.ArrivalsText.{Arrived}
-use Rattle.tox_text.specs.OpenRun.{line_from}
 use Rattle.tox_text.specs.ResultText.{arrival_of, bytes_line, lines_text}
-use Rattle.tox_text.proofs.PieceLemmas.{length-bytes_at}
-use Rattle.tox_text.proofs.Runs.{StandsAt, StartAnew, delivered_from, delivered_from-append, delivered_from-run, lines_text-run, run_from}
+use Rattle.tox_text.proofs.Runs.{StandsAt, StartAnew, delivered_from, delivered_from-append, delivered_from-run, line_from, lines_text-run, run_from}
+
+length-bytes_at : (piece : Run) (span : Span) → LiesIn span piece → length (bytes_at piece span) ≡ span_len span
+length-bytes_at piece span lies = omega (arith, lies.from_start, lies.in_order, lies.to_stop, length-take {A = ℕ}, length-drop {A = ℕ})
 
 -- the bytes at a span of a piece stand there
 pub StandsAt-within : (arrived : Arrived) (piece : Run) (span : Span) → StandsAt arrived piece.start piece.start piece.bytes → LiesIn span piece → StandsAt arrived piece.start span.start (bytes_at piece span)

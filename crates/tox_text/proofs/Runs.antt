@@ -2,7 +2,6 @@
 use Rattle.std.proofs.Common.{◌≡◌, ℕ, ◌+◌, ◌==◌, ◌&&◌, Bool, true, false, List, [], ◌∷◌, ◌++◌, length, map, replicate, slice_index, refl, arith, ap, sym, ◌∙◌, rules, tests, if◌then◌else◌, ◌<◌, suc}
 use Rattle.std.specs.List.{enumerate_from, flat_map}
 use Rattle.tox_text.specs.ArrivalsText.{Arrived}
-use Rattle.tox_text.specs.OpenRun.{line_from}
 use Rattle.tox_text.specs.ResultText.{Delivered, arrival_of, are_one_run, bytes_line, delivered_at, lines_text, onto_runs, run_line, runs_of}
 
 -- bytes of one arrival that leave at one instant, from a position on
@@ -15,13 +14,6 @@ run_from arrival t start (b ∷ bytes) =
 abbrev pub StartAnew : ℕ → ℕ → List Delivered → Type 0
 StartAnew arrival t [] = Unit {0}
 StartAnew arrival t (next ∷ others) = (arrival == next.arrival && t == next.instant) ≡ false
-
-pub run_from-append : (arrival t start : ℕ) (xs ys : List ℕ) → run_from arrival t start (xs ++ ys) ≡ run_from arrival t start xs ++ run_from arrival t (start + length xs) ys
-run_from-append arrival t start [] ys = let same : start ≡ start + 0 = omega arith in ap (λ n. run_from arrival t n ys) same
-run_from-append arrival t start (x ∷ xs) ys =
-    let same : start + 1 + length xs ≡ start + suc (length xs) = omega arith in
-    ap (λ rest. record { position = start; arrival = arrival; instant = t; value = x } ∷ rest)
-    (run_from-append arrival t (start + 1) xs ys ∙ ap (λ n. run_from arrival t (start + 1) xs ++ run_from arrival t n ys) same)
 
 values_from : (arrival t start : ℕ) (bytes : List ℕ) → map (λ byte. byte.value) (run_from arrival t start bytes) ≡ bytes
 values_from arrival t start [] = refl
@@ -57,6 +49,11 @@ runs_of-run arrival t start b (c ∷ bytes) others anew =
     let same : are_one_run first next ≡ true = search (rules, tests) in
     ap (onto_runs first) (runs_of-run arrival t (start + 1) c bytes others anew)
     ∙ onto_runs_cases first next (run_from arrival t (start + 1 + 1) bytes) (runs_of others) true same
+
+-- the line of bytes from a position on, where there are any
+abbrev pub line_from : ℕ → ℕ → List ℕ → List ℕ
+line_from t start [] = []
+line_from t start (byte ∷ bytes) = bytes_line t start (byte ∷ bytes)
 
 -- its line comes first
 pub lines_text-run : (arrival t start : ℕ) (bytes : List ℕ) (others : List Delivered) → StartAnew arrival t others
@@ -99,9 +96,3 @@ delivered_from-run arrived arrival t position (b ∷ bytes) stands =
     ap (λ found. record { position = position; arrival = found; instant = t; value = slice_index arrived.bytes position } ∷ delivered_from arrived (position + 1) (replicate (length bytes) t)) of_arrival
     ∙ ap (λ found. record { position = position; arrival = arrival; instant = t; value = found } ∷ delivered_from arrived (position + 1) (replicate (length bytes) t)) at_place
     ∙ ap (λ others. record { position = position; arrival = arrival; instant = t; value = b } ∷ others) (delivered_from-run arrived arrival t (position + 1) bytes rest)
-
--- a run of another arrival, or at another instant, starts anew
-pub StartAnew-run : (arrival t arrival' t' start : ℕ) (bytes : List ℕ) (others : List Delivered) → 0 < length bytes
-    → (arrival == arrival' && t == t') ≡ false → StartAnew arrival t (run_from arrival' t' start bytes ++ others)
-StartAnew-run arrival t arrival' t' start [] others some apart = absurd (omega arith)
-StartAnew-run arrival t arrival' t' start (b ∷ bytes) others some apart = apart

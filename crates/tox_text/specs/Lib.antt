@@ -1,14 +1,11 @@
 pub mod Line
 pub mod ArrivalsText
 pub mod Lines
-pub mod Pieces
-pub mod ArrivedInside
 pub mod Checked
 pub mod Counting
 pub mod Writing
 pub mod ResultText
 pub mod PlanText
-pub mod OpenRun
 pub mod ShortForm
 pub mod PickText
 pub mod PrintingPick

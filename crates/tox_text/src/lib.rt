@@ -3,23 +3,21 @@
 
 mod arrivals_check;
 mod arrivals_line;
-mod arrivals_text;
+mod arrivals_list;
 mod buffer;
 mod fault;
 mod pick_text;
 mod plan_text;
 mod result_line;
-mod result_text;
 mod short_form;
 mod text_lines;
 
 pub use arrivals_check::check_arrivals;
 pub use arrivals_line::{Event, Line, decode_into, line_of};
-pub use arrivals_text::ArrivedText;
+pub use arrivals_list::list_arrivals;
 pub use buffer::Buffer;
 pub use fault::{DryFault, WriteFault};
 pub use pick_text::{PrintPickFault, print_pick};
 pub use plan_text::print_plan;
 pub use result_line::{print_ending, print_lent};
-pub use result_text::print_slices;
 pub use text_lines::first_line;

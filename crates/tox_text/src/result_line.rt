@@ -1,30 +1,11 @@
 //! The lines of a result text.
 ghost use Rattle.std.specs.Prelude.{◌≡◌, ◌+◌, ◌<◌, ◌^◌, false, length};
-ghost use Rattle.tox_lend.specs.Run.{LiesIn};
-ghost use Rattle.tox_text.specs.OpenRun.{slice_line};
 ghost use Rattle.tox_text.specs.ResultText.{bytes_line, ending_line};
 ghost use Rattle.tox_text.specs.Writing.{Prints};
 
 use crate::buffer::Buffer;
-use tox_lend::{Lent, Piece};
-use tox_time::{EndFault, Ending, Sink, Slice};
-
-/// Prints the line of a slice of a piece, where it has bytes.
-pub(crate) fn print_slice<W: Sink>(
-    buffer: &mut Buffer,
-    writer: &mut W,
-    piece: &Piece,
-    slice: &Slice,
-) -> Result<(), EndFault>
-    requires working { W.failed writer.old ≡ false }
-    requires lies { LiesIn slice.now.span piece.now }
-    ensures { Prints result (W.written writer.old) buffer.old (W.written writer.new) buffer.new (W.failed writer.new) (slice_line piece.now slice.now) }
-{
-    if slice.span.start == slice.span.stop {
-        return Ok(());
-    }
-    print_lent(buffer, writer, &piece.lend(slice.span, slice.instant))
-}
+use tox_lend::Lent;
+use tox_time::{EndFault, Ending, Sink};
 
 /// Prints the line of a lent slice.
 pub fn print_lent<W: Sink>(

@@ -1,14 +1,31 @@
 -- The window's piece is the one that was added.
-use Rattle.std.proofs.Common.{◌≡◌, ◌∷◌, ◌+◌, rules, sym, subst, vec_capacity, false}
-use Rattle.tox_lend.specs.Run.{Run}
-use Rattle.tox_text.specs.Pieces.{chunk_of}
-use Rattle.tox_proxy.specs.SecondPass.{IsPieceOf, PassesDownTo, text_left}
+use Rattle.std.proofs.Common.{◌≡◌, ◌∷◌, ◌++◌, rules, subst, true, false}
+use Rattle.std.proofs.lemmas.Result.{err_from_is_err_and}
+use Rattle.tox_time.specs.Arrivals.{arrival_list}
+use Rattle.tox_lend.specs.Run.{stop_of}
+use Rattle.tox_text.specs.Writing.{AppendsFront}
+use Rattle.tox_proxy.specs.SecondPass.{IsAtPiece, PassesDownTo, chunk_of}
 use Rattle.tox_proxy.proofs.second_pass.print_data.Goals as goal
+
+pub returns-in_err-print_piece-clause-prints : goal.returns-in_err-print_piece-clause-prints
+returns-in_err-print_piece-clause-prints g c =
+    let is : c.unwrap-held.result.now ≡ c.args.piece = search rules in
+    let exit = err_from_is_err_and c.from_residual.result c.from_residual.ensures.1 in
+    λ at. rw exit.1 (
+    subst (λ p. (at : IsAtPiece (g.S.SliceSource.stands c.args.source.now) p)
+    → AppendsFront (g.W.Sink.written c.args.writer.now) (g.W.Sink.written c.print_piece.new.writer) (c.args.buffer.now ++ g.S.SliceSource.text_left c.args.source.now at.arrived (arrival_list (chunk_of p ∷ at.later)))
+    × (g.W.Sink.failed c.print_piece.new.writer ≡ true)) is c.in_err-print_piece.ensures.prints at
+    )
 
 pub returns-clause-prints : goal.returns-clause-prints
 returns-clause-prints g c =
-    λ arrived items of.
-    let piece : Run = record { start = c.args.window.now.stop; bytes = c.args.bytes.items; instant = c.args.instant; room = vec_capacity c.args.bytes } in
-    let is : c.unwrap-piece.result.now ≡ piece = search rules in
-    let printed = c.in_ok-print_piece.ensures.prints arrived items (subst (IsPieceOf arrived) (sym is) of) in
-    (subst (λ p. PassesDownTo (g.W.Sink.written c.args.writer.now) c.args.buffer.now (g.W.Sink.written c.print_piece.new.writer) c.print_piece.new.buffer (text_left arrived c.args.runner.now (chunk_of p ∷ items)) (text_left arrived c.print_piece.new.runner items)) is printed.0, printed.1)
+    let is : c.unwrap-held.result.now ≡ c.args.piece = search rules in
+    subst (λ p. (at : IsAtPiece (g.S.SliceSource.stands c.args.source.now) p)
+    → PassesDownTo (g.W.Sink.written c.args.writer.now) c.args.buffer.now (g.W.Sink.written c.print_piece.new.writer) c.print_piece.new.buffer
+    (g.S.SliceSource.text_left c.args.source.now at.arrived (arrival_list (chunk_of p ∷ at.later))) (g.S.SliceSource.text_left c.print_piece.new.self at.arrived (arrival_list at.later))
+    × (g.W.Sink.failed c.print_piece.new.writer ≡ false)) is c.in_ok-print_piece.ensures.prints
+
+pub returns-clause-stands : goal.returns-clause-stands
+returns-clause-stands g c =
+    let is : c.unwrap-held.result.now ≡ c.args.piece = search rules in
+    subst (λ p. (at : IsAtPiece (g.S.SliceSource.stands c.args.source.now) p) → g.S.SliceSource.stands c.print_piece.new.self at.arrived (stop_of p) at.later) is c.in_ok-print_piece.ensures.stands

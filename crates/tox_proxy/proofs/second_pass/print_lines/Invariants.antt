@@ -2,12 +2,10 @@
 use Rattle.std.proofs.Common.{◌≡◌, ◌+◌, ℕ, List, false, Ok, option_map, vec_capacity}
 use Rattle.tox_time.specs.declared.item.Item.{Item}
 use Rattle.tox_time.specs.Arrivals.{arrival_list}
-use Rattle.tox_time.specs.Table.{ending}
-use Rattle.tox_plan.specs.RunnerView.{to_come}
 use Rattle.tox_text.specs.ArrivalsText.{Arrived, arrivals_of}
 use Rattle.tox_text.specs.Checked.{AreArrivals, AreShort}
 use Rattle.tox_text.specs.Lines.{lines_left, size_left}
-use Rattle.tox_proxy.specs.SecondPass.{PassesDownTo, text_left}
+use Rattle.tox_proxy.specs.SecondPass.{PassesDownTo}
 use Rattle.tox_proxy.proofs.LineSteps.{IsUnderWay}
 use Rattle.tox_proxy.proofs.second_pass.print_lines.Given as goal
 
@@ -19,10 +17,10 @@ invariant-loop-left g l = record {
   arrivals : AreArrivals arrived;
   number : ℕ;
   later : List Item;
-  under_way : IsUnderWay arrived number (lines_left (option_map (λ rest. rest.now) l.left)) l.runner l.window later;
+  under_way : IsUnderWay arrived number (lines_left (option_map (λ rest. rest.now) l.left)) (g.S.SliceSource.stands l.source arrived) l.window later;
   short : AreShort (vec_capacity l.bytes) (lines_left (option_map (λ rest. rest.now) l.left));
-  printed : PassesDownTo (g.W.Sink.written l.fn.writer) l.fn.buffer (g.W.Sink.written l.writer) l.buffer (text_left arrived l.fn.runner (arrival_list arrived.items)) (text_left arrived l.runner (arrival_list later));
-  endings : ending (to_come l.runner (arrival_list later)) ≡ ending (to_come l.fn.runner (arrival_list arrived.items));
+  printed : PassesDownTo (g.W.Sink.written l.fn.writer) l.fn.buffer (g.W.Sink.written l.writer) l.buffer
+      (g.S.SliceSource.text_left l.fn.source arrived (arrival_list arrived.items)) (g.S.SliceSource.text_left l.source arrived (arrival_list later));
 }
 
 abbrev pub decreases-loop-left : goal.decreases-loop-left

@@ -1,10 +1,10 @@
 -- One line more.
-use Rattle.std.proofs.Common.{◌≡◌, ◌+◌, ◌*◌, ◌≤◌, ◌∷◌, arith, length, option_map, sym, ◌∙◌, ap, refl, subst}
-use Rattle.tox_text.specs.ArrivalsText.{lines_of, nothing, with_lines}
+use Rattle.std.proofs.Common.{◌≡◌, ◌+◌, ◌≤◌, ◌∷◌, arith, length, option_map, sym, ◌∙◌, ap, refl, subst}
+use Rattle.tox_text.specs.ArrivalsText.{nothing, with_lines}
 use Rattle.tox_time.specs.Steps.{◌>>=◌}
 use Rattle.tox_text.specs.Checked.{AreShort}
 use Rattle.tox_text.specs.Lines.{lines_left, size_left}
-use Rattle.tox_text.proofs.CountLemmas.{AreShort-longer, Counts-first}
+use Rattle.tox_text.proofs.CountLemmas.{Counts-first}
 use Rattle.tox_text.proofs.arrivals_check.check_arrivals.Goals as goal
 
 pub loop-left-init : goal.loop-left-init

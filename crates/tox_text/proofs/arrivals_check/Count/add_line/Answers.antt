@@ -1,6 +1,5 @@
 -- The line is counted, or its fault is told.
-use Rattle.std.proofs.Common.{◌≡◌, ◌/◌, ◌+◌, ◌==◌, Bool, true, false, Some, length, ap, sym, ◌∙◌, rules, subst}
-use Rattle.std.specs.Prelude.{is_ok}
+use Rattle.std.proofs.Common.{◌≡◌, ◌+◌, ◌==◌, false, Some, length, ap, sym, ◌∙◌}
 use Rattle.tox_time.specs.Arrivals.{piece_fault}
 use Rattle.tox_text.specs.Line.{arrival, end, event_seen, line_of}
 use Rattle.tox_text.proofs.CountLemmas.{data_counted, data_refused, end_counted, pairs_read}

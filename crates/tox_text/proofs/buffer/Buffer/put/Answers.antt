@@ -1,6 +1,5 @@
 -- What waited is written first.
-use Rattle.std.proofs.Common.{◌≡◌, [], arith, ◌∙◌, subst, sym}
-use Rattle.tox_text.specs.Writing.{Prints}
+use Rattle.std.proofs.Common.{◌≡◌, [], arith, ◌∙◌}
 use Rattle.tox_text.proofs.Writes.{Prints-then, Prints-written, Passes-flushed}
 use Rattle.tox_text.proofs.buffer.Buffer.put.Goals as goal
 use Rattle.tox_text.proofs.buffer.Buffer.put.Goals.{then-bytes-remaining_capacity+in_ok-flush, else-bytes-remaining_capacity}
