@@ -7,3 +7,7 @@ pub mod Events
 pub mod Log
 pub mod Carried
 pub mod Held
+pub mod Sources
+pub mod Side
+pub mod Logged
+pub mod Reports
