@@ -5,8 +5,9 @@ ghost use Rattle.tox_time.specs.Time.{IsInstant};
 ghost use Rattle.tox_text.specs.ArrivalsText.{Arrived, arrivals_of, with_line};
 ghost use Rattle.tox_text.specs.Checked.{IsChecked};
 
-use crate::arrivals_line::{Event, are_pairs, line_of};
+use crate::arrivals_line::{Event, line_of};
 use crate::fault::DryFault;
+use crate::hex_pairs::are_pairs;
 use crate::text_lines::first_line;
 use tox_time::{ArrivalFault, MAX_BYTES, Micros};
 
