@@ -47,7 +47,8 @@ pub fn line_of<'a>(text: &'a [u8]) -> Option<Line<'a>>
 
 /// The parts round the first such byte.
 fn cut_at(text: &[u8], separator: u8) -> Option<(&[u8], &[u8])>
-    ensures cut { option_map (λ parts. (parts.0.now, parts.1.now)) result ≡ cut_at separator text.now }
+    ensures cut { option_map
+        (λ parts. (parts.0.now, parts.1.now)) result ≡ cut_at separator text.now }
     ensures shorter { IfSome result (λ parts. length parts.1.now < length text.now) }
 {
     let Some(place) = place_of(text, separator) else {
