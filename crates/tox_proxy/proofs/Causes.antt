@@ -57,12 +57,3 @@ HasCause-spelled before after read_failed write_failed text TooLong read first =
 HasCause-spelled before after read_failed write_failed text ReadFault read first = absurd (subst IsOfLine (first (λ same. cc)) (of_line_arrivals text))
 HasCause-spelled before after read_failed write_failed text WriteFault read first = absurd (subst IsOfLine (first (λ same. cc)) (of_line_arrivals text))
 HasCause-spelled before after read_failed write_failed text (Arrival refused n) read first = record { text = text; read = read; first = first (λ same. cc) }
-
--- a fault of a text leaves nothing written
-pub Leaves-spelled : (chain : Toxics) (words : List ℕ) (before after old : Option (List ℕ)) (text : List ℕ) (fault : DryFault) → arrivals_of text ≡ Err fault → Leaves chain words before after old old fault
-Leaves-spelled chain words before after old text OutOfMemory is = refl
-Leaves-spelled chain words before after old text (BadLine n) is = refl
-Leaves-spelled chain words before after old text TooLong is = refl
-Leaves-spelled chain words before after old text ReadFault is = refl
-Leaves-spelled chain words before after old text WriteFault is = absurd (subst IsOfLine is (of_line_arrivals text))
-Leaves-spelled chain words before after old text (Arrival refused n) is = refl

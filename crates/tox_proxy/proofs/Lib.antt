@@ -1,5 +1,6 @@
 mod ReadLemmas
 mod Causes
+mod CheckedText
 mod Passing
 mod PieceLines
 mod CutLemmas

@@ -43,21 +43,6 @@ pub IsUnderWay-first : (arrived : Arrived) (lines : List (List ℕ)) (stands : �
     → window ≡ record { held = []; room = 1; stop = 0 } → IsUnderWay arrived 1 lines stands window arrived.items
 IsUnderWay-first arrived lines stands window rest ready empty = record { before = nothing; rest = rest; items = refl; counted = refl; window_is = empty; ready = ready }
 
--- an empty line adds nothing
-pub IsUnderWay-none : (arrived : Arrived) (n : ℕ) (line : List ℕ) (lines : List (List ℕ)) (stands : ℕ → List Item → Type 0) (window : Pieces) (later : List Item) → line_of line ≡ None
-    → IsUnderWay arrived n (line ∷ lines) stands window later → IsUnderWay arrived (n + 1) lines stands window later
-IsUnderWay-none arrived n line lines stands window later is on =
-    let went = step (with_line n on.before line) (with_lines (n + 1) lines) arrived on.rest in
-    let same = none_taken n on.before went.0 line is went.1 in
-    record {
-      before = on.before;
-      rest = subst (λ a. with_lines (n + 1) lines a ≡ Ok arrived) same went.2;
-      items = on.items;
-      counted = on.counted;
-      window_is = on.window_is;
-      ready = on.ready;
-    }
-
 -- what a data line finds, and what it leaves
 pub record IsAtData (arrived : Arrived) (n : ℕ) (lines : List (List ℕ)) (stands : ℕ → List Item → Type 0) (start : ℕ) (later : List Item) (t : ℕ) (bytes : List ℕ) : Type 1 where
   pub others : List Item

@@ -19,39 +19,6 @@ use Rattle.tox_proxy.specs.SecondPass.{IsEdge, IsPieceOf, chunk_of}
 use Rattle.tox_proxy.proofs.PieceLines.{some_first, stands_whole}
 use Rattle.tox_proxy.proofs.TextTurns.{lies_within}
 
--- the first slice alone
-pub JoinsTo-first : (stop : ℕ) (items : List Item) (position : ℕ) (first : Slice) (others : List Slice) → AreNeighbours items position (first ∷ others) → IsEdge items stop → first.span.start < stop
-    → JoinsTo stop items position (first ∷ others) first others
-JoinsTo-first stop items position first others neighbours edge before = record {
-  starts = neighbours.0;
-  some = neighbours.1;
-  within = edge first.span neighbours.2 before;
-  tables = refl;
-  neighbours = neighbours.3;
-}
-
--- one slice more
-pub JoinsTo-more : (stop : ℕ) (items : List Item) (position : ℕ) (old : List Slice) (slice next : Slice) (others : List Slice) → JoinsTo stop items position old slice (next ∷ others) → IsEdge items stop
-    → next.span.start < stop → next.instant ≡ slice.instant
-    → JoinsTo stop items position old (record { span = record { start = slice.span.start; stop = next.span.stop }; instant = slice.instant }) others
-JoinsTo-more stop items position old slice next others joined edge before same =
-    let t = slice.instant in
-    let later = slices_table others in
-    let meets = joined.neighbours.0 in
-    let further = joined.neighbours.1 in
-    let whole : span_len slice.span + span_len next.span ≡ next.span.stop - slice.span.start = omega (arith, joined.starts, joined.some, meets, further) in
-    record {
-      starts = joined.starts;
-      some = omega (arith, joined.some, further);
-      within = edge next.span joined.neighbours.2 before;
-      tables = joined.tables
-          ∙ ap (λ u. replicate (span_len slice.span) t ++ (replicate (span_len next.span) u ++ later)) same
-          ∙ sym (append_assoc (replicate (span_len slice.span) t) (replicate (span_len next.span) t) later)
-          ∙ ap (λ ts. ts ++ later) (replicate-append-replicate (span_len slice.span) (span_len next.span) t)
-          ∙ ap (λ n. replicate n t ++ later) whole;
-      neighbours = joined.neighbours.3;
-    }
-
 -- what is apart starts anew
 StartAnew-next : (arrived : Arrived) (piece : Run) (t stop : ℕ) (slices : List Slice) → IsPieceOf arrived piece → stop ≤ stop_of piece → AreNeighbours (arrival_list arrived.items) stop slices
     → IsApart (stop_of piece) t slices → StartAnew piece.start t (delivered_from arrived stop (slices_table slices))
@@ -90,13 +57,6 @@ pending_text-joined arrived piece position old slice new ending of after joined 
 pub record IsPrinting (arrived : Arrived) (piece : Run) (start : ℕ) (slices : List Slice) : Type 0 where
   pub neighbours : AreNeighbours (arrival_list arrived.items) start slices
   pub within : (slices ≡ []) ⊎ ((piece.start ≤ start) × (start ≤ stop_of piece))
-
--- at first
-pub IsPrinting-first : (arrived : Arrived) (piece : Run) (start : ℕ) (slices : List Slice) (items : List Item) → IsPending slices start arrived piece.start items → IsPrinting arrived piece start slices
-IsPrinting-first arrived piece start slices items pending = record {
-  neighbours = pending.neighbours;
-  within = elim pending.here [ inl none ↦ inl none | inr here ↦ inr (omega (arith, here), omega (arith, here)) ];
-}
 
 no_slices : (old : List Slice) (slice : Slice) (later : List ℕ) → slices_table old ≡ replicate (span_len slice.span) slice.instant ++ later → slice.span.start < slice.span.stop → old ≢ []
 no_slices old slice later tables some none =
@@ -142,11 +102,6 @@ IsPending-next arrived piece first start whole slices later pending printing beh
       | inr within ↦ inr (omega (arith, within.1, behind, printing.neighbours.0))
     ]
 
--- the source's end brings no slice
-pub IsPending-end : (arrived : Arrived) (position start t : ℕ) (slices : List Slice) (later : List Item) → IsPending slices start arrived position (Closed t ∷ later) → IsPending slices start arrived position later
-IsPending-end arrived position start t slices later pending =
-    record { neighbours = pending.neighbours; stream = pending.stream; here = pending.here; counted = pending.counted }
-
 counted_list : (items : List Item) → count_of (arrival_list items) ≡ count_of items
 counted_list [] = refl
 counted_list (Chunk span t ∷ items) = omega (arith, counted_list items)
@@ -164,7 +119,3 @@ none_pending arrived position start (slice ∷ slices) pending = elim pending.he
       let most = lies_within 0 0 (arrival_list arrived.items) slice.span pending.stream any.0 any.1 any.2 any.3 any.4 in
       absurd (omega (arith, most, counted_list arrived.items, pending.counted, here, pending.neighbours.1))
 ]
-
--- at first all slices are left
-pub IsPending-first : (arrived : Arrived) (slices : List Slice) → AreNeighbours (arrival_list arrived.items) 0 slices → IsStream (arrival_list arrived.items) → IsPending slices 0 arrived 0 arrived.items
-IsPending-first arrived slices neighbours stream = record { neighbours = neighbours; stream = stream; here = inr refl; counted = omega arith }

@@ -16,7 +16,8 @@ use Rattle.tox_text.specs.Writing.{AppendsFront}
 -- the result of what arrived, by the flow of a chain
 abbrev pub flow_text : Toxics → List ℕ → Arrived → List ℕ
 flow_text chain words arrived =
-    let flow = chain_flow chain words (arrival_list arrived.items) in result_text arrived (table flow) (ending flow)
+    let flow = chain_flow chain words (arrival_list arrived.items) in result_text arrived
+    (table flow) (ending flow)
 
 -- a text was read, and this is what it spells
 pub record ParsesInput (before after : Option (List ℕ)) (arrived : Arrived) : Type 0 where
@@ -25,25 +26,32 @@ pub record ParsesInput (before after : Option (List ℕ)) (arrived : Arrived) : 
   pub spelled : arrivals_of text ≡ Ok arrived
 
 -- the result of what the read text spells was written, and nothing else
-pub record WritesResult (chain : Toxics) (words : List ℕ) (before after old new : Option (List ℕ)) : Type 0 where
+pub record WritesResult (chain : Toxics) (words : List ℕ)
+    (before after old new : Option (List ℕ)) : Type 0 where
   pub arrived : Arrived
   pub read : ParsesInput before after arrived
   pub written : new ≡ append_known old (flow_text chain words arrived)
 
 -- the result of what every run of the chain's stage network at rest delivered of it was written
-pub record WritesEveryRest (chain : Toxics) (words : List ℕ) (before after old new : Option (List ℕ)) : Type 0 where
+pub record WritesEveryRest (chain : Toxics) (words : List ℕ)
+    (before after old new : Option (List ℕ)) : Type 0 where
   pub arrived : Arrived
   pub read : ParsesInput before after arrived
-  pub written : OfEveryRest chain words (arrival_list arrived.items) (λ moves network. new ≡ append_known old (result_text arrived (table network.delivered) (ending network.delivered)))
+  pub written : OfEveryRest chain words (arrival_list arrived.items)
+      (λ moves network.
+      new ≡ append_known old
+      (result_text arrived (table network.delivered) (ending network.delivered)))
 
 -- a front of the result was written
-pub record WritesFront (chain : Toxics) (words : List ℕ) (before after old new : Option (List ℕ)) : Type 0 where
+pub record WritesFront (chain : Toxics) (words : List ℕ)
+    (before after old new : Option (List ℕ)) : Type 0 where
   pub arrived : Arrived
   pub read : ParsesInput before after arrived
   pub front : AppendsFront old new (flow_text chain words arrived)
 
 -- what a fault leaves written: a front of the result where the writer failed, and else nothing
-abbrev pub Leaves : Toxics → List ℕ → Option (List ℕ) → Option (List ℕ) → Option (List ℕ) → Option (List ℕ) → DryFault → Type 0
+abbrev pub Leaves : Toxics → List ℕ → Option (List ℕ) → Option (List ℕ) → Option (List ℕ)
+    → Option (List ℕ) → DryFault → Type 0
 Leaves chain words before after old new OutOfMemory = new ≡ old
 Leaves chain words before after old new (BadLine n) = new ≡ old
 Leaves chain words before after old new TooLong = new ≡ old

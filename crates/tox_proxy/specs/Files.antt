@@ -21,7 +21,8 @@ IsUnreadable known = IfSome known (λ file. file ≡ None)
 
 -- the file has too many bytes
 abbrev pub IsLong : KnownFile → Type 0
-IsLong known = IfSome known (λ file. (bytes : List ℕ) × (file ≡ Some bytes) × (16777216 < length bytes))
+IsLong known =
+    IfSome known (λ file. (bytes : List ℕ) × (file ≡ Some bytes) × (16777216 < length bytes))
 
 -- why a file was not read: a fault has the file's name, unless out of memory
 abbrev pub IsFileFault : KnownFile → List ℕ → FileFault → Type 0
@@ -38,4 +39,5 @@ HasFileCause name before after failed (TooLong told) = (told.now ≡ name) × Is
 -- the bytes of the first file of a name
 abbrev pub file_named : List ℕ → List (Bor (List ℕ) × Bor (List ℕ)) → Option (List ℕ)
 file_named name [] = None
-file_named name (file ∷ files) = if bytes_eq file.0.now name then Some file.1.now else file_named name files
+file_named name (file ∷ files) =
+    if bytes_eq file.0.now name then Some file.1.now else file_named name files

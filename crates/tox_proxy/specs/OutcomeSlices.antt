@@ -15,10 +15,13 @@ use Rattle.tox_proxy.specs.SecondPass.{IsEdge}
 -- the result text of slices from a position on
 abbrev pub pending_text : Arrived → ℕ → List Slice → Ending → List ℕ
 pending_text arrived position slices ending =
-    lines_text (map (λ place. delivered_at arrived place.0 place.1) (enumerate_from position (slices_table slices))) ++ ending_line ending
+    lines_text (map
+    (λ place. delivered_at arrived place.0 place.1)
+    (enumerate_from position (slices_table slices))) ++ ending_line ending
 
 -- the slices that are left are neighbours within the arrivals; they start where the next item does, unless there is none
-pub record IsPending (slices : List Slice) (start : ℕ) (arrived : Arrived) (position : ℕ) (items : List Item) : Type 0 where
+pub record IsPending (slices : List Slice) (start : ℕ) (arrived : Arrived) (position : ℕ)
+    (items : List Item) : Type 0 where
   pub neighbours : AreNeighbours (arrival_list arrived.items) start slices
   pub stream : IsStream (arrival_list arrived.items)
   pub here : (slices ≡ []) ⊎ (start ≡ position)
@@ -35,7 +38,8 @@ IsApart stop t [] = Unit {0}
 IsApart stop t (next ∷ slices) = (stop ≤ next.span.start) ⊎ (next.instant ≢ t)
 
 -- some slices from the front that end by a position, as one slice, and the others
-pub record JoinsTo (stop : ℕ) (items : List Item) (position : ℕ) (old : List Slice) (slice : Slice) (new : List Slice) : Type 0 where
+pub record JoinsTo (stop : ℕ) (items : List Item) (position : ℕ) (old : List Slice) (slice : Slice)
+    (new : List Slice) : Type 0 where
   pub starts : slice.span.start ≡ position
   pub some : position < slice.span.stop
   pub within : slice.span.stop ≤ stop
@@ -44,5 +48,6 @@ pub record JoinsTo (stop : ℕ) (items : List Item) (position : ℕ) (old : List
 
 -- all slices from the front that start before an edge of the arrivals and leave at one instant, as one slice, and the others
 pub record IsJoined (stop : ℕ) (old : List Slice) (slice : Slice) (new : List Slice) : Type 0 where
-  pub joins : (items : List Item) (position : ℕ) → AreNeighbours items position old → IsEdge items stop → JoinsTo stop items position old slice new
+  pub joins : (items : List Item) (position : ℕ) → AreNeighbours items position old
+      → IsEdge items stop → JoinsTo stop items position old slice new
   pub apart : IsApart stop slice.instant new

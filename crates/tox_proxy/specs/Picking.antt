@@ -17,7 +17,8 @@ use Rattle.tox_proxy.specs.declared.pick_request.PickFault.{PickFault}
 use Rattle.tox_proxy.specs.declared.pick_request.PickFault.TheVariants.{BadStream, Setup, UnknownProxy, Print}
 
 -- the two files were read, and by them this text answers a question
-pub record Answers (known : List ℕ → KnownFile) (request : PickRequest) (text : List ℕ) : Type 0 where
+pub record Answers (known : List ℕ → KnownFile) (request : PickRequest)
+    (text : List ℕ) : Type 0 where
   pub stream : Stream
   pub named : stream_named request.stream.now ≡ Some stream
   pub proxies : List Proxy
@@ -28,7 +29,8 @@ pub record Answers (known : List ℕ → KnownFile) (request : PickRequest) (tex
   pub spelled : text ≡ pick_text proxy rules request.conn stream request.seed
 
 -- the answer was written, and nothing else
-pub record WritesPick (known : List ℕ → KnownFile) (request : PickRequest) (old new : Option (List ℕ)) : Type 0 where
+pub record WritesPick (known : List ℕ → KnownFile) (request : PickRequest)
+    (old new : Option (List ℕ)) : Type 0 where
   pub text : List ℕ
   pub answers : Answers known request text
   pub written : new ≡ append_known old text
@@ -41,14 +43,20 @@ pub record LacksProxy (known : List ℕ → KnownFile) (request : PickRequest) :
   pub missing : find (is_named request.proxy.now) proxies ≡ None
 
 -- the answer is known, and was not printed for this cause
-pub record StopsPrinting (known : List ℕ → KnownFile) (request : PickRequest) (old new : Option (List ℕ)) (failed : Bool) (fault : PrintPickFault) : Type 0 where
+pub record StopsPrinting (known : List ℕ → KnownFile) (request : PickRequest)
+    (old new : Option (List ℕ)) (failed : Bool) (fault : PrintPickFault) : Type 0 where
   pub text : List ℕ
   pub answers : Answers known request text
   pub left : Leaves old new failed text fault
 
 -- why a question got no answer, and what was written: nothing, but for a front of the answer where the writer has failed
-abbrev pub HasPickCause : (List ℕ → KnownFile) → PickRequest → Option (List ℕ) → Option (List ℕ) → Bool → PickFault → Type 0
-HasPickCause known request old new failed BadStream = (stream_named request.stream.now ≡ None) × (new ≡ old)
-HasPickCause known request old new failed (Setup fault) = HasSetupCause known request.config.now request.script.now fault × (new ≡ old)
-HasPickCause known request old new failed (UnknownProxy name) = (name.now ≡ request.proxy.now) × LacksProxy known request × (new ≡ old)
-HasPickCause known request old new failed (Print fault) = StopsPrinting known request old new failed fault
+abbrev pub HasPickCause : (List ℕ → KnownFile) → PickRequest → Option (List ℕ) → Option (List ℕ)
+    → Bool → PickFault → Type 0
+HasPickCause known request old new failed BadStream =
+    (stream_named request.stream.now ≡ None) × (new ≡ old)
+HasPickCause known request old new failed (Setup fault) =
+    HasSetupCause known request.config.now request.script.now fault × (new ≡ old)
+HasPickCause known request old new failed (UnknownProxy name) =
+    (name.now ≡ request.proxy.now) × LacksProxy known request × (new ≡ old)
+HasPickCause known request old new failed (Print fault) =
+    StopsPrinting known request old new failed fault

@@ -50,4 +50,5 @@ HasCause before after read_failed write_failed (BadLine n) = SpellsFault before 
 HasCause before after read_failed write_failed TooLong = IsTooLong before after
 HasCause before after read_failed write_failed ReadFault = read_failed ≡ true
 HasCause before after read_failed write_failed WriteFault = write_failed ≡ true
-HasCause before after read_failed write_failed (Arrival fault n) = SpellsFault before after (Arrival fault n)
+HasCause before after read_failed write_failed (Arrival fault n) =
+    SpellsFault before after (Arrival fault n)

@@ -11,7 +11,9 @@ use Rattle.tox_text.specs.ResultText.{delivered_at, ending_line, lines_text}
 -- the result text of what a runner still gives, if these items arrive
 abbrev pub text_to_come : Arrived → RunnerView → List Item → List ℕ
 text_to_come arrived runner items =
-    lines_text (map (λ place. delivered_at arrived place.0 place.1) (enumerate_from runner.position (table (to_come runner items))))
+    lines_text (map
+    (λ place. delivered_at arrived place.0 place.1)
+    (enumerate_from runner.position (table (to_come runner items))))
     ++ ending_line (ending (to_come runner items))
 
 -- the runner is idle, and these items may come next

@@ -13,12 +13,15 @@ use Rattle.tox_text.specs.Writing.{AppendsFront, Passes}
 
 -- no span within an item goes over this position
 abbrev pub IsEdge : List Item → ℕ → Type 0
-IsEdge items stop = (span : Span) → Any (LiesInChunk span) items → span.start < stop → span.stop ≤ stop
+IsEdge items stop =
+    (span : Span) → Any (LiesInChunk span) items → span.start < stop → span.stop ≤ stop
 
 -- the piece is one of the arrivals, with its bytes
 pub record IsPieceOf (arrived : Arrived) (piece : Run) : Type 0 where
-  pub of_arrival : (k : ℕ) → k < length piece.bytes → arrival_of arrived.items (piece.start + k) ≡ piece.start
-  pub at_place : (k : ℕ) → k < length piece.bytes → slice_index arrived.bytes (piece.start + k) ≡ slice_index piece.bytes k
+  pub of_arrival : (k : ℕ) → k < length piece.bytes
+      → arrival_of arrived.items (piece.start + k) ≡ piece.start
+  pub at_place : (k : ℕ) → k < length piece.bytes
+      → slice_index arrived.bytes (piece.start + k) ≡ slice_index piece.bytes k
   pub behind : arrival_of arrived.items (stop_of piece) ≢ piece.start
   pub edge : IsEdge (arrival_list arrived.items) (stop_of piece)
 
@@ -51,12 +54,16 @@ pub record IsBehindAll (stands : Arrived → ℕ → List Item → Type 0) : Typ
   pub behind : stands arrived position []
 
 -- the front of a text passed, and this is left of it
-pub record PassesDownTo (old : Option (List ℕ)) (waited : List ℕ) (new : Option (List ℕ)) (waiting text left : List ℕ) : Type 0 where
+pub record PassesDownTo (old : Option (List ℕ)) (waited : List ℕ) (new : Option (List ℕ))
+    (waiting text left : List ℕ) : Type 0 where
   pub printed : List ℕ
   pub passed : Passes old waited new waiting printed
   pub whole : printed ++ left ≡ text
 
 -- a text was printed but for what is left, or the writer has failed and a front of the text is written
-abbrev pub PrintsDownTo : {A : Type 0} → Result A EndFault → Option (List ℕ) → List ℕ → Option (List ℕ) → List ℕ → Bool → List ℕ → List ℕ → Type 0
-PrintsDownTo (Ok done) old waited new waiting failed text left = PassesDownTo old waited new waiting text left × (failed ≡ false)
-PrintsDownTo (Err fault) old waited new waiting failed text left = AppendsFront old new (waited ++ text) × (failed ≡ true)
+abbrev pub PrintsDownTo : {A : Type 0} → Result A EndFault → Option (List ℕ) → List ℕ
+    → Option (List ℕ) → List ℕ → Bool → List ℕ → List ℕ → Type 0
+PrintsDownTo (Ok done) old waited new waiting failed text left =
+    PassesDownTo old waited new waiting text left × (failed ≡ false)
+PrintsDownTo (Err fault) old waited new waiting failed text left =
+    AppendsFront old new (waited ++ text) × (failed ≡ true)

@@ -9,10 +9,14 @@ use Rattle.tox_proxy.specs.DryRun.{ParsesInput, Leaves}
 
 -- why a run of stages answers a fault: as a dry run, or of its stages, where the text has no fault
 abbrev pub HasStagesCause : Option (List ℕ) → Option (List ℕ) → Bool → Bool → StagesFault → Type 0
-HasStagesCause before after read_failed write_failed (Dry fault) = HasCause before after read_failed write_failed fault
-HasStagesCause before after read_failed write_failed (Stages fault) = (arrived : Arrived) × ParsesInput before after arrived
+HasStagesCause before after read_failed write_failed (Dry fault) =
+    HasCause before after read_failed write_failed fault
+HasStagesCause before after read_failed write_failed (Stages fault) =
+    (arrived : Arrived) × ParsesInput before after arrived
 
 -- what a fault leaves written: nothing after one of the stages
-abbrev pub StagesLeave : Toxics → List ℕ → Option (List ℕ) → Option (List ℕ) → Option (List ℕ) → Option (List ℕ) → StagesFault → Type 0
-StagesLeave chain words before after old new (Dry fault) = Leaves chain words before after old new fault
+abbrev pub StagesLeave : Toxics → List ℕ → Option (List ℕ) → Option (List ℕ) → Option (List ℕ)
+    → Option (List ℕ) → StagesFault → Type 0
+StagesLeave chain words before after old new (Dry fault) =
+    Leaves chain words before after old new fault
 StagesLeave chain words before after old new (Stages fault) = new ≡ old

@@ -13,7 +13,10 @@ abbrev pub with_read : ℕ → Toxics → Result (Toxic × ℕ) ShortFault → R
 with_read n chain (Err fault) = Err (Short fault n)
 with_read n chain (Ok read) =
     if nat_lt (length chain.entries) max_toxics
-    then Ok (record { entries = chain.entries ++ record { toxic = read.0; toxicity = read.1 } ∷ [] })
+    then Ok (record {
+      entries = chain.entries
+          ++ record { toxic = read.0; toxicity = read.1 } ∷ [];
+    })
     else Err (TooMany n)
 
 -- what the n-th short form leaves

@@ -22,10 +22,14 @@ pub(crate) fn read_checked<R: Source>(
     reader: &mut R,
 ) -> Result<CheckedInput, DryFault>
     requires { R.failed reader.old ≡ false }
-    ensures read { IfOk result (λ input. IsRead (R.remaining reader.old) (R.remaining reader.new) input.text.items) }
-    ensures checked { IfOk result (λ input. IsChecked input.text.items (vec_capacity input.room.spare)) }
-    ensures empty { IfOk result (λ input. input.room.window ≡ record { held = []; room = 1; stop = 0 }) }
-    ensures cause { IfErr result (HasCause (R.remaining reader.old) (R.remaining reader.new) (R.failed reader.new) false) }
+    ensures read { IfOk result
+        (λ input. IsRead (R.remaining reader.old) (R.remaining reader.new) input.text.items) }
+    ensures checked { IfOk result
+        (λ input. IsChecked input.text.items (vec_capacity input.room.spare)) }
+    ensures empty { IfOk result
+        (λ input. input.room.window ≡ record { held = []; room = 1; stop = 0 }) }
+    ensures cause { IfErr result
+        (HasCause (R.remaining reader.old) (R.remaining reader.new) (R.failed reader.new) false) }
     ensures most { TakesAtMost (16_777_216 + 1) (R.remaining reader.old) (R.remaining reader.new) }
 {
     let text = read_input(alloc, reader)?;

@@ -32,11 +32,19 @@ pub fn dry_run<R: Source, W: Sink>(
 ) -> Result<(), DryFault>
     requires reader_works { R.failed reader.old ≡ false }
     requires writer_works { W.failed writer.old ≡ false }
-    ensures ok { OnOk result (WritesResult chain.now words.now (R.remaining reader.old) (R.remaining reader.new) (W.written writer.old) (W.written writer.new)) }
-    ensures every_run { OnOk result (WritesEveryRest chain.now words.now (R.remaining reader.old) (R.remaining reader.new) (W.written writer.old) (W.written writer.new)) }
-    ensures cause { IfErr result (HasCause (R.remaining reader.old) (R.remaining reader.new) (R.failed reader.new) (W.failed writer.new)) }
+    ensures ok { OnOk result
+        (WritesResult chain.now words.now (R.remaining reader.old) (R.remaining reader.new)
+        (W.written writer.old) (W.written writer.new)) }
+    ensures every_run { OnOk result
+        (WritesEveryRest chain.now words.now (R.remaining reader.old) (R.remaining reader.new)
+        (W.written writer.old) (W.written writer.new)) }
+    ensures cause { IfErr result
+        (HasCause (R.remaining reader.old) (R.remaining reader.new) (R.failed reader.new)
+        (W.failed writer.new)) }
     ensures working { result ≢ Err WriteFault → W.failed writer.new ≡ false }
-    ensures left { IfErr result (Leaves chain.now words.now (R.remaining reader.old) (R.remaining reader.new) (W.written writer.old) (W.written writer.new)) }
+    ensures left { IfErr result
+        (Leaves chain.now words.now (R.remaining reader.old) (R.remaining reader.new)
+        (W.written writer.old) (W.written writer.new)) }
     ensures most { TakesAtMost (16_777_216 + 1) (R.remaining reader.old) (R.remaining reader.new) }
 {
     let CheckedInput { text, room } = read_checked(alloc, reader)?;

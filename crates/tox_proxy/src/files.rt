@@ -45,8 +45,11 @@ fn read_named<'a, R: Source>(
     name: &'a str,
 ) -> Result<Vec<u8>, FileFault<'a>>
     requires { R.failed reader.old ≡ false }
-    ensures ok { IfOk result (λ bytes. IsRead (R.remaining reader.old) (R.remaining reader.new) bytes.items) }
-    ensures fault { IfErr result (HasFileCause name.now (R.remaining reader.old) (R.remaining reader.new) (R.failed reader.new)) }
+    ensures ok { IfOk result
+        (λ bytes. IsRead (R.remaining reader.old) (R.remaining reader.new) bytes.items) }
+    ensures fault { IfErr result
+        (HasFileCause name.now (R.remaining reader.old) (R.remaining reader.new)
+        (R.failed reader.new)) }
 {
     match read_input(alloc, reader) {
         Ok(bytes) => Ok(bytes),

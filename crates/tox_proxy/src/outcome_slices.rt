@@ -29,9 +29,14 @@ impl<'a> OutcomeSlices<'a> {
 
     /// The next slices that start before `stop` and leave at one instant, as one.
     fn next_before(&mut self, stop: u64) -> Option<Slice>
-        ensures some { IfSome result (λ slice. IsJoined stop self.old.left.now slice self.new.left.now × (self.new.position ≡ slice.span.stop)) }
-        ensures shorter { IfSome result (λ slice. length self.new.left.now < length self.old.left.now) }
-        ensures none { IfNone result ((self.new.left.now ≡ self.old.left.now) × (self.new.position ≡ self.old.position) × StartsBehind stop self.old.left.now) }
+        ensures some { IfSome result
+            (λ slice. IsJoined stop self.old.left.now slice self.new.left.now
+            × (self.new.position ≡ slice.span.stop)) }
+        ensures shorter { IfSome result
+            (λ slice. length self.new.left.now < length self.old.left.now) }
+        ensures none { IfNone result
+            ((self.new.left.now ≡ self.old.left.now) × (self.new.position ≡ self.old.position)
+            × StartsBehind stop self.old.left.now) }
         ensures ending { self.new.ending.now ≡ self.old.ending.now }
     {
         let [first, others @ ..] = self.left else {
@@ -57,9 +62,11 @@ impl<'a> OutcomeSlices<'a> {
 impl<'a> SliceSource for OutcomeSlices<'a> {
     ghost use Rattle.tox_proxy.specs.OutcomeSlices.{IsPending, pending_text};
 
-    ghost stands = { λ source arrived position items. IsPending source.left.now source.position arrived position items };
+    ghost stands = { λ source arrived position items.
+        IsPending source.left.now source.position arrived position items };
 
-    ghost text_left = { λ source arrived items. pending_text arrived source.position source.left.now source.ending.now };
+    ghost text_left = { λ source arrived items.
+        pending_text arrived source.position source.left.now source.ending.now };
 
     fn print_piece<W: Sink>(
         &mut self,

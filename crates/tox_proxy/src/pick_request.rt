@@ -67,10 +67,16 @@ impl<'a> PickRequest<'a> {
         writer: &mut W,
     ) -> Result<(), PickFault<'a>>
         requires { W.failed writer.old ≡ false }
-        ensures ok { OnOk result (WritesPick (F.known files.now) self.now (W.written writer.old) (W.written writer.new)) }
-        ensures fault { IfErr result (HasPickCause (F.known files.now) self.now (W.written writer.old) (W.written writer.new) (W.failed writer.new)) }
-        ensures working { result ≢ Err (PickFault.Print PrintPickFault.WriteFault) → W.failed writer.new ≡ false }
-        ensures stream_first { stream_named self.now.stream.now ≡ None → result ≡ Err PickFault.BadStream }
+        ensures ok { OnOk result
+            (WritesPick (F.known files.now) self.now (W.written writer.old)
+            (W.written writer.new)) }
+        ensures fault { IfErr result
+            (HasPickCause (F.known files.now) self.now (W.written writer.old) (W.written writer.new)
+            (W.failed writer.new)) }
+        ensures working { result ≢ Err (PickFault.Print PrintPickFault.WriteFault)
+            → W.failed writer.new ≡ false }
+        ensures stream_first { stream_named self.now.stream.now ≡ None
+            → result ≡ Err PickFault.BadStream }
     {
         let Some(stream) = Stream::of_name(self.stream) else {
             return Err(PickFault::BadStream);

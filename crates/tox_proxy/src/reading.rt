@@ -24,8 +24,10 @@ pub(crate) enum InputFault {
 /// All the bytes that a reader has still to give. At most one more than [`MAX_INPUT`] are taken.
 pub(crate) fn read_input<R: Source>(alloc: Global, reader: &mut R) -> Result<Vec<u8>, InputFault>
     requires { R.failed reader.old ≡ false }
-    ensures ok { IfOk result (λ text. IsRead (R.remaining reader.old) (R.remaining reader.new) text.items) }
-    ensures fault { IfErr result (HasInputCause (R.remaining reader.old) (R.remaining reader.new) (R.failed reader.new)) }
+    ensures ok { IfOk result
+        (λ text. IsRead (R.remaining reader.old) (R.remaining reader.new) text.items) }
+    ensures fault { IfErr result
+        (HasInputCause (R.remaining reader.old) (R.remaining reader.new) (R.failed reader.new)) }
     ensures most { TakesAtMost (16_777_216 + 1) (R.remaining reader.old) (R.remaining reader.new) }
 {
     let Ok(mut block) = zeros(alloc, BLOCK) else {
@@ -48,8 +50,10 @@ fn read_by_blocks<R: Source>(
 ) -> Result<Vec<u8>, InputFault>
     requires working { R.failed reader.old ≡ false }
     requires room { 0 < length block.old }
-    ensures ok { IfOk result (λ text. IsRead (R.remaining reader.old) (R.remaining reader.new) text.items) }
-    ensures fault { IfErr result (HasInputCause (R.remaining reader.old) (R.remaining reader.new) (R.failed reader.new)) }
+    ensures ok { IfOk result
+        (λ text. IsRead (R.remaining reader.old) (R.remaining reader.new) text.items) }
+    ensures fault { IfErr result
+        (HasInputCause (R.remaining reader.old) (R.remaining reader.new) (R.failed reader.new)) }
     ensures most { TakesAtMost (16_777_216 + 1) (R.remaining reader.old) (R.remaining reader.new) }
 {
     let mut text = Vec::new(alloc);

@@ -56,8 +56,11 @@ fn print_cuts<W: Sink>(
     requires fits { stop_of piece.now < 2 ^ 64 }
     ensures prints { (arrived : Arrived) (items : List OneItem) → IsPieceOf arrived piece.now
         → PrintsDownTo result (W.written writer.old) buffer.old (W.written writer.new) buffer.new
-        (W.failed writer.new) (text_to_come arrived runner.old items) (text_to_come arrived runner.new items) }
-    ensures kept { OnOk result ((runner.new.idle ≡ true) × (runner.new.piece ≡ runner.old.piece) × (runner.new.latest ≡ runner.old.latest)) }
+        (W.failed writer.new) (text_to_come arrived runner.old items)
+        (text_to_come arrived runner.new items) }
+    ensures kept { OnOk result
+        ((runner.new.idle ≡ true) × (runner.new.piece ≡ runner.old.piece)
+        × (runner.new.latest ≡ runner.old.latest)) }
 {
     while let Some(slice) = runner.next_cut() {
         print_lent(buffer, writer, &piece.lend(slice.span, slice.instant))?;

@@ -25,7 +25,8 @@ impl PieceRoom {
     /// Room for a piece of at most so many bytes.
     pub(crate) fn new(alloc: Global, longest: usize) -> Result<PieceRoom, AllocError>
         ensures spare { IfOk result (λ room. vec_capacity room.spare ≡ longest) }
-        ensures window { IfOk result (λ room. room.window ≡ record { held = []; room = 1; stop = 0 }) }
+        ensures window { IfOk result
+            (λ room. room.window ≡ record { held = []; room = 1; stop = 0 }) }
     {
         Ok(PieceRoom {
             spare: Vec::with_capacity(alloc, longest)?,
@@ -49,12 +50,14 @@ fn print_data<S: SliceSource, W: Sink>(
     requires few { stop_of piece ≤ 2 ^ 40 }
     requires next { IsAtPiece (S.stands source.old) piece }
     ensures prints { (at : IsAtPiece (S.stands source.old) piece)
-        → PrintsDownTo result (W.written writer.old) buffer.old (W.written writer.new) buffer.new (W.failed writer.new)
+        → PrintsDownTo result (W.written writer.old) buffer.old (W.written writer.new) buffer.new
+        (W.failed writer.new)
         (S.text_left source.old at.arrived (arrival_list (chunk_of piece ∷ at.later)))
         (S.text_left source.new at.arrived (arrival_list at.later)) }
     ensures stands { OnOk result ((at : IsAtPiece (S.stands source.old) piece)
         → S.stands source.new at.arrived (stop_of piece) at.later) }
-    ensures window { OnOk result (window.new ≡ record { held = []; room = 1; stop = stop_of piece }) }
+    ensures window { OnOk result
+        (window.new ≡ record { held = []; room = 1; stop = stop_of piece }) }
     ensures room { IfOk result (λ spare. vec_capacity spare ≡ piece.room) }
 {
     let start = piece.start;
@@ -77,10 +80,12 @@ fn print_lines<S: SliceSource, W: Sink>(
     requires working { W.failed writer.old ≡ false }
     requires empty { window.old ≡ record { held = []; room = 1; stop = 0 } }
     requires checked { IsChecked text.now (vec_capacity spare) }
-    requires first { (arrived : Arrived) → arrivals_of text.now ≡ Ok arrived → S.stands source.old arrived 0 arrived.items }
+    requires first { (arrived : Arrived) → arrivals_of text.now ≡ Ok arrived
+        → S.stands source.old arrived 0 arrived.items }
     ensures prints { (arrived : Arrived) → arrivals_of text.now ≡ Ok arrived
         → PrintsDownTo result (W.written writer.old) buffer.old (W.written writer.new) buffer.new
-        (W.failed writer.new) (S.text_left source.old arrived (arrival_list arrived.items)) (S.text_left source.new arrived (Quiet ∷ [])) }
+        (W.failed writer.new) (S.text_left source.old arrived (arrival_list arrived.items))
+        (S.text_left source.new arrived (Quiet ∷ [])) }
     ensures behind { OnOk result ((arrived : Arrived) → arrivals_of text.now ≡ Ok arrived
         → (position : ℕ) × S.stands source.new arrived position []) }
 {
@@ -120,9 +125,11 @@ fn print_text<S: SliceSource, W: Sink>(
     requires working { W.failed writer.old ≡ false }
     requires empty { window.old ≡ record { held = []; room = 1; stop = 0 } }
     requires checked { IsChecked text.now (vec_capacity spare) }
-    requires first { (arrived : Arrived) → arrivals_of text.now ≡ Ok arrived → S.stands source.old arrived 0 arrived.items }
+    requires first { (arrived : Arrived) → arrivals_of text.now ≡ Ok arrived
+        → S.stands source.old arrived 0 arrived.items }
     ensures { (arrived : Arrived) → arrivals_of text.now ≡ Ok arrived
-        → Prints result (W.written writer.old) buffer.old (W.written writer.new) buffer.new (W.failed writer.new)
+        → Prints result (W.written writer.old) buffer.old (W.written writer.new) buffer.new
+        (W.failed writer.new)
         (S.text_left source.old arrived (arrival_list arrived.items)) }
 {
     print_lines(source, window, buffer, writer, text, spare)?;
@@ -140,7 +147,8 @@ pub(crate) fn write_text<S: SliceSource, W: Sink>(
     requires working { W.failed writer.old ≡ false }
     requires empty { room.window ≡ record { held = []; room = 1; stop = 0 } }
     requires checked { IsChecked text.now (vec_capacity room.spare) }
-    requires first { (arrived : Arrived) → arrivals_of text.now ≡ Ok arrived → S.stands source.old arrived 0 arrived.items }
+    requires first { (arrived : Arrived) → arrivals_of text.now ≡ Ok arrived
+        → S.stands source.old arrived 0 arrived.items }
     ensures { (arrived : Arrived) → arrivals_of text.now ≡ Ok arrived
         → Writes result (W.written writer.old) (W.written writer.new) (W.failed writer.new)
         (S.text_left source.old arrived (arrival_list arrived.items)) }

@@ -62,7 +62,8 @@ pub fn read_setup<'a, F: NamedFiles>(
     config: &'a str,
     script: &'a str,
 ) -> Result<Setup, SetupFault<'a>>
-    ensures ok { IfOk result (λ setup. IsSetUp (F.known files.now config.now) (F.known files.now script.now)
+    ensures ok { IfOk result
+        (λ setup. IsSetUp (F.known files.now config.now) (F.known files.now script.now)
         setup.proxies.items setup.script) }
     ensures fault { IfErr result (HasSetupCause (F.known files.now) config.now script.now) }
 {

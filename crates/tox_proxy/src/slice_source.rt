@@ -31,7 +31,8 @@ pub(crate) trait SliceSource {
         requires few { stop_of piece.now ≤ 2 ^ 40 }
         requires next { IsAtPiece (stands self.old) piece.now }
         ensures prints { (at : IsAtPiece (stands self.old) piece.now)
-            → PrintsDownTo result (W.written writer.old) buffer.old (W.written writer.new) buffer.new (W.failed writer.new)
+            → PrintsDownTo result (W.written writer.old) buffer.old
+            (W.written writer.new) buffer.new (W.failed writer.new)
             (text_left self.old at.arrived (arrival_list (chunk_of piece.now ∷ at.later)))
             (text_left self.new at.arrived (arrival_list at.later)) }
         ensures stands { OnOk result ((at : IsAtPiece (stands self.old) piece.now)
@@ -40,7 +41,8 @@ pub(crate) trait SliceSource {
     /// The source ended behind the last piece.
     fn end(&mut self, instant: Micros)
         requires next { IsAtEnd (stands self.old) instant }
-        ensures stands { (at : IsAtEnd (stands self.old) instant) → stands self.new at.arrived at.position at.later }
+        ensures stands { (at : IsAtEnd (stands self.old) instant)
+            → stands self.new at.arrived at.position at.later }
         ensures same { (at : IsAtEnd (stands self.old) instant)
             → text_left self.new at.arrived (arrival_list at.later)
             ≡ text_left self.old at.arrived (arrival_list (Closed instant ∷ at.later)) };
@@ -48,5 +50,6 @@ pub(crate) trait SliceSource {
     /// How the link ends behind the last item. If the source hasn't ended it stays quiet.
     fn last(&mut self) -> Ending
         requires behind { IsBehindAll (stands self.old) }
-        ensures { (at : IsBehindAll (stands self.old)) → text_left self.old at.arrived (Quiet ∷ []) ≡ ending_line result };
+        ensures { (at : IsBehindAll (stands self.old))
+            → text_left self.old at.arrived (Quiet ∷ []) ≡ ending_line result };
 }

@@ -44,11 +44,19 @@ pub fn stages_run<T: Threads + Wait + Sync, R: Source, W: Sink, G: Gate>(
     requires writer_works { W.failed writer.old ≡ false }
     requires some { 1 ≤ cap }
     requires most { cap ≤ 1024 }
-    ensures ok { OnOk result (WritesResult chain.now words.now (R.remaining reader.old) (R.remaining reader.new) (W.written writer.old) (W.written writer.new)) }
-    ensures every_run { OnOk result (WritesEveryRest chain.now words.now (R.remaining reader.old) (R.remaining reader.new) (W.written writer.old) (W.written writer.new)) }
-    ensures cause { IfErr result (HasStagesCause (R.remaining reader.old) (R.remaining reader.new) (R.failed reader.new) (W.failed writer.new)) }
+    ensures ok { OnOk result
+        (WritesResult chain.now words.now (R.remaining reader.old) (R.remaining reader.new)
+        (W.written writer.old) (W.written writer.new)) }
+    ensures every_run { OnOk result
+        (WritesEveryRest chain.now words.now (R.remaining reader.old) (R.remaining reader.new)
+        (W.written writer.old) (W.written writer.new)) }
+    ensures cause { IfErr result
+        (HasStagesCause (R.remaining reader.old) (R.remaining reader.new) (R.failed reader.new)
+        (W.failed writer.new)) }
     ensures working { result ≢ Err (Dry WriteFault) → W.failed writer.new ≡ false }
-    ensures left { IfErr result (StagesLeave chain.now words.now (R.remaining reader.old) (R.remaining reader.new) (W.written writer.old) (W.written writer.new)) }
+    ensures left { IfErr result
+        (StagesLeave chain.now words.now (R.remaining reader.old) (R.remaining reader.new)
+        (W.written writer.old) (W.written writer.new)) }
     ensures most { TakesAtMost (16_777_216 + 1) (R.remaining reader.old) (R.remaining reader.new) }
 {
     let CheckedInput { text, room } = match read_checked(alloc, reader) {
@@ -78,7 +86,8 @@ fn write_outcome<W: Sink>(
     requires working { W.failed writer.old ≡ false }
     requires empty { room.window ≡ record { held = []; room = 1; stop = 0 } }
     requires checked { IsChecked text.now (vec_capacity room.spare) }
-    requires neighbours { (arrived : Arrived) → arrivals_of text.now ≡ Ok arrived → AreNeighbours (arrival_list arrived.items) 0 outcome.now.slices }
+    requires neighbours { (arrived : Arrived) → arrivals_of text.now ≡ Ok arrived
+        → AreNeighbours (arrival_list arrived.items) 0 outcome.now.slices }
     ensures { (arrived : Arrived) → arrivals_of text.now ≡ Ok arrived
         → Writes result (W.written writer.old) (W.written writer.new) (W.failed writer.new)
         (result_text arrived (slices_table outcome.now.slices) outcome.now.ending) }

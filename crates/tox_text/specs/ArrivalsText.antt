@@ -22,7 +22,11 @@ nothing = record { items = []; bytes = [] }
 -- a piece more
 abbrev pub with_piece : Arrived → ℕ → List ℕ → Arrived
 with_piece arrived t piece =
-    record { items = arrived.items ++ next_chunk arrived.items (length piece) t ∷ []; bytes = arrived.bytes ++ piece }
+    record {
+      items = arrived.items
+          ++ next_chunk arrived.items (length piece) t ∷ [];
+      bytes = arrived.bytes ++ piece;
+    }
 
 -- the source's end
 abbrev pub with_end : Arrived → ℕ → Arrived
@@ -36,12 +40,15 @@ unless_refused n None arrived = Ok arrived
 -- what the n-th line leaves, where it is a line of the arrivals text
 abbrev pub with_read : ℕ → Arrived → Option Line → Result Arrived DryFault
 with_read n arrived None = Err (BadLine n)
-with_read n arrived (Some (arrival t piece)) = unless_refused n (push_fault arrived.items (length piece) t) (with_piece arrived t piece)
-with_read n arrived (Some (end t)) = unless_refused n (eof_fault arrived.items t) (with_end arrived t)
+with_read n arrived (Some (arrival t piece)) =
+    unless_refused n (push_fault arrived.items (length piece) t) (with_piece arrived t piece)
+with_read n arrived (Some (end t)) =
+    unless_refused n (eof_fault arrived.items t) (with_end arrived t)
 
 -- what the n-th line leaves: an empty one says nothing
 abbrev pub with_line : ℕ → Arrived → List ℕ → Result Arrived DryFault
-with_line n arrived line = if length line == 0 then Ok arrived else with_read n arrived (line_of line)
+with_line n arrived line =
+    if length line == 0 then Ok arrived else with_read n arrived (line_of line)
 
 -- what the lines leave one after the other, from the n-th on
 abbrev pub with_lines : ℕ → List (List ℕ) → Arrived → Result Arrived DryFault

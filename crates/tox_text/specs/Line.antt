@@ -21,7 +21,9 @@ first >>= next = option_and_then next first
 
 -- the parts round the first such byte
 abbrev pub cut_at : ℕ → List ℕ → Option (List ℕ × List ℕ)
-cut_at separator text = option_map (λ place. (take place text, drop (place + 1) text)) (position (λ byte. byte == separator) text)
+cut_at separator text =
+    option_map (λ place. (take place text, drop (place + 1) text))
+    (position (λ byte. byte == separator) text)
 
 -- the instant that a text writes: 1 to 16 decimal digits of value at most 10^15
 abbrev pub instant_of : List ℕ → Option ℕ
@@ -31,7 +33,8 @@ instant_of text = decimal_value 16 horizon text
 abbrev pub line_at : ℕ → List ℕ → Option Line
 line_at t text =
     if bytes_eq text (codes "eof") then Some (end t)
-    else if bytes_eq (take 5 text) (codes "data ") then option_map (arrival t) (result_ok (decode_of (drop 5 text)))
+    else if bytes_eq (take 5 text) (codes "data ")
+    then option_map (arrival t) (result_ok (decode_of (drop 5 text)))
     else None
 
 -- what a line says, or none where it is no line of the arrivals text

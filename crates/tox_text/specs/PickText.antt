@@ -19,7 +19,8 @@ enabled_word false = codes "disabled"
 -- the line of a proxy
 abbrev pub proxy_line : Proxy → List ℕ
 proxy_line proxy =
-    codes "proxy " ++ proxy.name ++ codes " listen " ++ proxy.listen ++ codes " upstream " ++ proxy.upstream ++ codes " " ++ enabled_word proxy.enabled ++ codes "\n"
+    codes "proxy " ++ proxy.name ++ codes " listen " ++ proxy.listen ++ codes " upstream "
+    ++ proxy.upstream ++ codes " " ++ enabled_word proxy.enabled ++ codes "\n"
 
 -- whether a toxic is applied
 abbrev pub applied_word : Bool → List ℕ
@@ -29,12 +30,14 @@ applied_word false = codes "skipped"
 -- the line of a named toxic at a place of its chain, under some words
 abbrev pub toxic_line : List ℕ → ℕ → Entry → List ℕ → List ℕ
 toxic_line words place entry name =
-    decimal place ++ codes " " ++ applied_word (is_applied entry place words) ++ codes " " ++ printed_short entry.toxic entry.toxicity ++ codes " " ++ name ++ codes "\n"
+    decimal place ++ codes " " ++ applied_word (is_applied entry place words) ++ codes " "
+    ++ printed_short entry.toxic entry.toxicity ++ codes " " ++ name ++ codes "\n"
 
 -- the lines of named toxics, in order
 abbrev pub toxics_text : List ℕ → List Entry → List (List ℕ) → List ℕ
 toxics_text words entries names =
-    flat_map (λ placed. toxic_line words placed.0 placed.1.0 placed.1.1) (enumerate_from 0 (zip entries names))
+    flat_map (λ placed. toxic_line words placed.0 placed.1.0 placed.1.1)
+    (enumerate_from 0 (zip entries names))
 
 -- what a numbered connection of a proxy meets on a stream, under the words of a seed
 abbrev pub pick_text : Proxy → Rules → ℕ → Stream → ℕ → List ℕ

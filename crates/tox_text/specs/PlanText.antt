@@ -7,17 +7,21 @@ use Rattle.tox_text.specs.ResultText.{ending_words}
 -- what a delay draws, where it has jitter
 abbrev pub jitter_words : ℕ → ℕ → ℕ → List ℕ
 jitter_words latency jitter lane =
-    if jitter == 0 then [] else codes " jitter " ++ decimal latency ++ codes " " ++ decimal jitter ++ codes " lane " ++ decimal lane
+    if jitter == 0 then []
+    else codes " jitter " ++ decimal latency ++ codes " " ++ decimal jitter ++ codes " lane "
+    ++ decimal lane
 
 -- the words of an operation
 abbrev pub op_words : Op → List ℕ
-op_words (Delay fixed latency jitter lane) = codes "delay " ++ decimal fixed ++ jitter_words latency jitter lane
+op_words (Delay fixed latency jitter lane) =
+    codes "delay " ++ decimal fixed ++ jitter_words latency jitter lane
 op_words (Pace rate) = codes "pace " ++ decimal rate
 op_words (Slow millis) = codes "slow " ++ decimal millis
 op_words (Limit bytes) = codes "limit " ++ decimal bytes
 op_words (Cutoff instant) = codes "cutoff " ++ decimal instant
 op_words (Slicing average variation micros lane) =
-    codes "slicing " ++ decimal average ++ codes " " ++ decimal variation ++ codes " " ++ decimal micros ++ codes " lane " ++ decimal lane
+    codes "slicing " ++ decimal average ++ codes " " ++ decimal variation ++ codes " "
+    ++ decimal micros ++ codes " lane " ++ decimal lane
 op_words (Mute ending) = codes "mute " ++ ending_words ending
 
 -- the line of an operation

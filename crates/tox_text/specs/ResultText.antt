@@ -18,7 +18,8 @@ pub record Delivered : Type 0 where
 -- where the arrival of a position starts
 abbrev pub arrival_of : List Item → ℕ → ℕ
 arrival_of [] position = position
-arrival_of (Chunk span t ∷ items) position = if nat_lt position span.stop then span.start else arrival_of items position
+arrival_of (Chunk span t ∷ items) position =
+    if nat_lt position span.stop then span.start else arrival_of items position
 arrival_of (Closed t ∷ items) position = arrival_of items position
 arrival_of (Reset t ∷ items) position = arrival_of items position
 arrival_of (Quiet ∷ items) position = arrival_of items position
@@ -30,7 +31,8 @@ delivered_at arrived position t =
 
 -- the delivered bytes, one for each instant of the table
 abbrev pub delivered : Arrived → List ℕ → List Delivered
-delivered arrived table = map (λ place. delivered_at arrived place.0 place.1) (enumerate_from 0 table)
+delivered arrived table =
+    map (λ place. delivered_at arrived place.0 place.1) (enumerate_from 0 table)
 
 -- whether two neighbours are of one run: they came in one arrival, and leave at one instant
 abbrev pub are_one_run : Delivered → Delivered → Bool
@@ -41,7 +43,8 @@ abbrev pub onto_runs : Delivered → List (List Delivered) → List (List Delive
 onto_runs first [] = (first ∷ []) ∷ []
 onto_runs first ([] ∷ runs) = (first ∷ []) ∷ runs
 onto_runs first ((next ∷ run) ∷ runs) =
-    if are_one_run first next then (first ∷ next ∷ run) ∷ runs else (first ∷ []) ∷ (next ∷ run) ∷ runs
+    if are_one_run first next then (first ∷ next ∷ run) ∷ runs
+    else (first ∷ []) ∷ (next ∷ run) ∷ runs
 
 -- the longest runs
 abbrev pub runs_of : List Delivered → List (List Delivered)
@@ -51,12 +54,14 @@ runs_of (first ∷ others) = onto_runs first (runs_of others)
 -- the line of bytes from a position on, which leave at an instant
 abbrev pub bytes_line : ℕ → ℕ → List ℕ → List ℕ
 bytes_line t start bytes =
-    decimal t ++ codes " " ++ decimal start ++ codes ".." ++ decimal (start + length bytes) ++ codes " " ++ encode_lower bytes ++ codes "\n"
+    decimal t ++ codes " " ++ decimal start ++ codes ".." ++ decimal (start + length bytes)
+    ++ codes " " ++ encode_lower bytes ++ codes "\n"
 
 -- the line of a run
 abbrev pub run_line : List Delivered → List ℕ
 run_line [] = []
-run_line (first ∷ others) = bytes_line first.instant first.position (map (λ byte. byte.value) (first ∷ others))
+run_line (first ∷ others) =
+    bytes_line first.instant first.position (map (λ byte. byte.value) (first ∷ others))
 
 -- the lines of the longest runs
 abbrev pub lines_text : List Delivered → List ℕ

@@ -5,8 +5,9 @@ ghost use Rattle.tox_time.specs.Time.{IsInstant};
 ghost use Rattle.tox_text.specs.ArrivalsText.{Arrived, arrivals_of, with_line};
 ghost use Rattle.tox_text.specs.Checked.{IsChecked};
 
-use crate::arrivals_line::{Event, are_pairs, line_of};
+use crate::arrivals_line::{Event, line_of};
 use crate::fault::DryFault;
+use crate::hex_pairs::are_pairs;
 use crate::text_lines::first_line;
 use tox_time::{ArrivalFault, MAX_BYTES, Micros};
 
@@ -49,7 +50,8 @@ impl Count {
     /// Adds what a line says.
     fn add_line(&mut self, line: &[u8], number: u64) -> Result<(), DryFault>
         ensures ok { OnOk result ((before : Arrived) → Counts self.old before
-            → (after : Arrived) × (with_line number before line.now ≡ Ok after) × Counts self.new after) }
+            → (after : Arrived) × (with_line number before line.now ≡ Ok after)
+            × Counts self.new after) }
         ensures fault { IfErr result (λ e. (before : Arrived) → Counts self.old before
             → with_line number before line.now ≡ Err e) }
     {
@@ -79,10 +81,15 @@ impl Count {
 
     /// Adds a piece of `len` bytes.
     fn add_piece(&mut self, instant: Micros, len: u64) -> Result<(), ArrivalFault>
-        ensures ok { OnOk result ((self.new.bytes ≡ self.old.bytes + len) × (self.new.latest ≡ instant) × (self.new.has_ended ≡ false)) }
-        ensures accepted { OnOk result (piece_fault self.old.bytes self.old.latest self.old.has_ended len instant ≡ None) }
+        ensures ok { OnOk result
+            ((self.new.bytes ≡ self.old.bytes + len) × (self.new.latest ≡ instant)
+            × (self.new.has_ended ≡ false)) }
+        ensures accepted { OnOk result
+            (piece_fault self.old.bytes self.old.latest self.old.has_ended len instant ≡ None) }
         ensures instant { OnOk result (IsInstant instant) }
-        ensures fault { IfErr result (λ e. piece_fault self.old.bytes self.old.latest self.old.has_ended len instant ≡ Some e) }
+        ensures fault { IfErr result
+            (λ e. piece_fault self.old.bytes self.old.latest self.old.has_ended len instant
+            ≡ Some e) }
     {
         if instant < self.latest {
             return Err(ArrivalFault::TimeBack);
@@ -103,10 +110,14 @@ impl Count {
 
     /// Adds the source's end.
     fn add_end(&mut self, instant: Micros) -> Result<(), ArrivalFault>
-        ensures ok { OnOk result ((self.new.bytes ≡ self.old.bytes) × (self.new.latest ≡ instant) × (self.new.has_ended ≡ true)) }
-        ensures accepted { OnOk result (end_fault self.old.latest self.old.has_ended instant ≡ None) }
+        ensures ok { OnOk result
+            ((self.new.bytes ≡ self.old.bytes) × (self.new.latest ≡ instant)
+            × (self.new.has_ended ≡ true)) }
+        ensures accepted { OnOk result
+            (end_fault self.old.latest self.old.has_ended instant ≡ None) }
         ensures instant { OnOk result (IsInstant instant) }
-        ensures fault { IfErr result (λ e. end_fault self.old.latest self.old.has_ended instant ≡ Some e) }
+        ensures fault { IfErr result
+            (λ e. end_fault self.old.latest self.old.has_ended instant ≡ Some e) }
     {
         if instant < self.latest {
             return Err(ArrivalFault::TimeBack);

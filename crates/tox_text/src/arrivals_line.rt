@@ -1,8 +1,7 @@
 //! One line of the arrivals text, in its parts.
-ghost use Rattle.std.specs.Prelude.{◌≡◌, ◌==◌, ◌*◌, ◌<◌, ◌≤◌, length, is_ok, option_map, position, vec_capacity, IfSome, IsOk};
+ghost use Rattle.std.specs.Prelude.{◌≡◌, ◌==◌, ◌<◌, length, option_map, position, IfSome};
 ghost use Rattle.std.specs.Char.{is_ascii_digit};
 ghost use Rattle.std.specs.List.{list_all};
-ghost use Rattle.hex.specs.Hex.{decode_of, is_hex_digit};
 ghost use Rattle.tox_text.specs.Line.{cut_at, digit_count, instant_of, line_of, line_seen};
 
 use std::str;
@@ -46,33 +45,10 @@ pub fn line_of<'a>(text: &'a [u8]) -> Option<Line<'a>>
     })
 }
 
-/// Whether these are hexadecimal digits in pairs.
-pub fn are_pairs(digits: &[u8]) -> bool
-    ensures { result ≡ is_ok (decode_of digits.now) }
-{
-    digits.len() % 2 == 0 && are_hex_digits(digits)
-}
-
-fn are_hex_digits(digits: &[u8]) -> bool
-    ensures { result ≡ list_all is_hex_digit digits.now }
-{
-    digits.iter().all(|digit| digit.is_ascii_hexdigit())
-}
-
-/// Writes the bytes of hexadecimal digits into a vector that has room for them, in place of its own.
-pub fn decode_into(bytes: &mut Vec<u8>, digits: &[u8])
-    requires pairs { IsOk (decode_of digits.now) }
-    requires room { length digits.now ≤ 2 * vec_capacity bytes.old }
-    ensures decoded { decode_of digits.now ≡ Ok bytes.new.items }
-    ensures kept { vec_capacity bytes.old ≤ vec_capacity bytes.new }
-{
-    bytes.resize(digits.len() / 2, 0).unwrap();
-    hex::decode_to_slice(digits, bytes.as_mut_slice()).unwrap();
-}
-
 /// The parts round the first such byte.
 fn cut_at(text: &[u8], separator: u8) -> Option<(&[u8], &[u8])>
-    ensures cut { option_map (λ parts. (parts.0.now, parts.1.now)) result ≡ cut_at separator text.now }
+    ensures cut { option_map
+        (λ parts. (parts.0.now, parts.1.now)) result ≡ cut_at separator text.now }
     ensures shorter { IfSome result (λ parts. length parts.1.now < length text.now) }
 {
     let Some(place) = place_of(text, separator) else {

@@ -10,7 +10,9 @@ use tox_time::Arrivals;
 /// What arrived, as a text without faults says.
 pub fn list_arrivals(alloc: Global, text: &[u8]) -> Result<Arrivals, AllocError>
     requires faultless { (arrived : Arrived) × (arrivals_of text.now ≡ Ok arrived) }
-    ensures { IfOk result (λ arrivals. (arrived : Arrived) → arrivals_of text.now ≡ Ok arrived → arrivals ≡ arrived.items) }
+    ensures { IfOk result
+        (λ arrivals. (arrived : Arrived) → arrivals_of text.now ≡ Ok arrived
+        → arrivals ≡ arrived.items) }
 {
     let mut arrivals = Arrivals::new(alloc);
     let mut left = Some(text);

@@ -68,7 +68,8 @@ impl Buffer {
     /// Writes what waits.
     pub fn flush<W: Sink>(&mut self, writer: &mut W) -> Result<(), EndFault>
         requires { W.failed writer.old ≡ false }
-        ensures writes { Writes result (W.written writer.old) (W.written writer.new) (W.failed writer.new) self.old }
+        ensures writes { Writes result (W.written writer.old) (W.written writer.new)
+            (W.failed writer.new) self.old }
         ensures empty { OnOk result (self.new ≡ []) }
     {
         write_all(writer, self.bytes.as_slice())?;
@@ -124,7 +125,8 @@ impl Buffer {
 /// Writes all the bytes.
 fn write_all<W: Sink>(writer: &mut W, bytes: &[u8]) -> Result<(), EndFault>
     requires { W.failed writer.old ≡ false }
-    ensures { Writes result (W.written writer.old) (W.written writer.new) (W.failed writer.new) bytes.now }
+    ensures { Writes result (W.written writer.old) (W.written writer.new)
+        (W.failed writer.new) bytes.now }
 {
     let mut sent = 0;
     while sent < bytes.len() {

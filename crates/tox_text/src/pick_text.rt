@@ -42,9 +42,13 @@ pub fn print_pick<W: Sink>(
     requires working { W.failed writer.old ≡ false }
     requires first { 1 ≤ conn }
     requires last { conn ≤ 1_000_000 }
-    ensures ok { OnOk result (W.written writer.new ≡ append_known (W.written writer.old) (pick_text proxy.now script.now conn stream seed)) }
+    ensures ok { OnOk result
+        (W.written writer.new
+        ≡ append_known (W.written writer.old) (pick_text proxy.now script.now conn stream seed)) }
     ensures working { result ≢ Err PrintPickFault.WriteFault → W.failed writer.new ≡ false }
-    ensures left { IfErr result (Leaves (W.written writer.old) (W.written writer.new) (W.failed writer.new) (pick_text proxy.now script.now conn stream seed)) }
+    ensures left { IfErr result
+        (Leaves (W.written writer.old) (W.written writer.new) (W.failed writer.new)
+        (pick_text proxy.now script.now conn stream seed)) }
 {
     let Ok(words) = Words::from_seed(alloc, seed, conn, stream) else {
         return Err(PrintPickFault::OutOfMemory);
@@ -87,7 +91,9 @@ fn print_lines<W: Sink>(
 ) -> Result<(), EndFault>
     requires working { W.failed writer.old ≡ false }
     requires one_each { length names.now ≡ length entries.now }
-    ensures { Prints result (W.written writer.old) buffer.old (W.written writer.new) buffer.new (W.failed writer.new) (proxy_line proxy.now ++ toxics_text words.now entries.now (map string_bytes names.now)) }
+    ensures { Prints result (W.written writer.old) buffer.old (W.written writer.new) buffer.new
+        (W.failed writer.new)
+        (proxy_line proxy.now ++ toxics_text words.now entries.now (map string_bytes names.now)) }
 {
     print_proxy(buffer, writer, proxy)?;
     print_toxics(buffer, writer, words, entries, names)
@@ -100,7 +106,8 @@ fn print_proxy<W: Sink>(
     proxy: &ProxyDef,
 ) -> Result<(), EndFault>
     requires { W.failed writer.old ≡ false }
-    ensures { Prints result (W.written writer.old) buffer.old (W.written writer.new) buffer.new (W.failed writer.new) (proxy_line proxy.now) }
+    ensures { Prints result (W.written writer.old) buffer.old (W.written writer.new) buffer.new
+        (W.failed writer.new) (proxy_line proxy.now) }
 {
     buffer.put_all(writer, &[b"proxy ", proxy.name.as_bytes(), b" listen "])?;
     buffer.put_all(writer, &[proxy.listen.as_bytes(), b" upstream "])?;
@@ -124,7 +131,8 @@ fn print_toxics<W: Sink>(
 ) -> Result<(), EndFault>
     requires working { W.failed writer.old ≡ false }
     requires one_each { length names.now ≡ length entries.now }
-    ensures { Prints result (W.written writer.old) buffer.old (W.written writer.new) buffer.new (W.failed writer.new) (toxics_text words.now entries.now (map string_bytes names.now)) }
+    ensures { Prints result (W.written writer.old) buffer.old (W.written writer.new) buffer.new
+        (W.failed writer.new) (toxics_text words.now entries.now (map string_bytes names.now)) }
 {
     for (place, entry) in entries.iter().enumerate() {
         print_toxic(buffer, writer, words, place, entry, &names[place])?;
@@ -142,7 +150,8 @@ fn print_toxic<W: Sink>(
     name: &str,
 ) -> Result<(), EndFault>
     requires { W.failed writer.old ≡ false }
-    ensures { Prints result (W.written writer.old) buffer.old (W.written writer.new) buffer.new (W.failed writer.new) (toxic_line words.now place entry.now name.now) }
+    ensures { Prints result (W.written writer.old) buffer.old (W.written writer.new) buffer.new
+        (W.failed writer.new) (toxic_line words.now place entry.now name.now) }
 {
     buffer.put_number(writer, place as u64, b" ")?;
     buffer.put_all(

@@ -15,7 +15,8 @@ pub fn print_lent<W: Sink>(
 ) -> Result<(), EndFault>
     requires working { W.failed writer.old ≡ false }
     requires fits { lent.now.start + length lent.now.bytes.now < 2 ^ 64 }
-    ensures { Prints result (W.written writer.old) buffer.old (W.written writer.new) buffer.new (W.failed writer.new) (bytes_line lent.now.instant lent.now.start lent.now.bytes.now) }
+    ensures { Prints result (W.written writer.old) buffer.old (W.written writer.new) buffer.new
+        (W.failed writer.new) (bytes_line lent.now.instant lent.now.start lent.now.bytes.now) }
 {
     let stop = lent.start + lent.bytes.len() as u64;
     buffer.put_number(writer, lent.instant.get(), b" ")?;
@@ -32,7 +33,8 @@ pub fn print_ending<W: Sink>(
     ending: &Ending,
 ) -> Result<(), EndFault>
     requires { W.failed writer.old ≡ false }
-    ensures { Prints result (W.written writer.old) buffer.old (W.written writer.new) buffer.new (W.failed writer.new) (ending_line ending.now) }
+    ensures { Prints result (W.written writer.old) buffer.old (W.written writer.new) buffer.new
+        (W.failed writer.new) (ending_line ending.now) }
 {
     match ending {
         Ending::StillOpen => buffer.put(writer, b"open\n"),

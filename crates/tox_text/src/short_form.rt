@@ -16,7 +16,8 @@ pub(crate) fn print_short<W: Sink>(
     entry: &Entry,
 ) -> Result<(), EndFault>
     requires { W.failed writer.old ≡ false }
-    ensures { Prints result (W.written writer.old) buffer.old (W.written writer.new) buffer.new (W.failed writer.new) (printed_short entry.now.toxic entry.now.toxicity) }
+    ensures { Prints result (W.written writer.old) buffer.old (W.written writer.new) buffer.new
+        (W.failed writer.new) (printed_short entry.now.toxic entry.now.toxicity) }
 {
     let kind = entry.toxic.kind();
     buffer.put_all(writer, &[kind.name().as_bytes(), b":"])?;
@@ -34,7 +35,9 @@ fn print_attributes<W: Sink>(
 ) -> Result<(), EndFault>
     requires working { W.failed writer.old ≡ false }
     requires enough { length keys.now ≤ length values.now }
-    ensures { Prints result (W.written writer.old) buffer.old (W.written writer.new) buffer.new (W.failed writer.new) (flat_map pair_before_comma (zip (map (λ key. key.now) keys.now) values.now)) }
+    ensures { Prints result (W.written writer.old) buffer.old (W.written writer.new) buffer.new
+        (W.failed writer.new)
+        (flat_map pair_before_comma (zip (map (λ key. key.now) keys.now) values.now)) }
 {
     for (place, key) in keys.iter().enumerate() {
         print_pair(buffer, writer, key, values[place])?;
@@ -49,7 +52,8 @@ fn print_pair<W: Sink>(
     value: u64,
 ) -> Result<(), EndFault>
     requires { W.failed writer.old ≡ false }
-    ensures { Prints result (W.written writer.old) buffer.old (W.written writer.new) buffer.new (W.failed writer.new) (pair_before_comma (key.now, value)) }
+    ensures { Prints result (W.written writer.old) buffer.old (W.written writer.new) buffer.new
+        (W.failed writer.new) (pair_before_comma (key.now, value)) }
 {
     buffer.put_all(writer, &[key.as_bytes(), b"="])?;
     buffer.put_number(writer, value, b",")

@@ -7,8 +7,10 @@ use memchr::memchr;
 
 /// The first line of a text without its line feed, and the text behind it. No text is behind the last line.
 pub fn first_line(text: &[u8]) -> (&[u8], Option<&[u8]>)
-    ensures lines { lines_of text.now ≡ result.0.now ∷ lines_left (option_map (λ rest. rest.now) result.1) }
-    ensures shorter { length result.0.now + size_left (option_map (λ rest. rest.now) result.1) ≤ length text.now }
+    ensures lines { lines_of text.now
+        ≡ result.0.now ∷ lines_left (option_map (λ rest. rest.now) result.1) }
+    ensures shorter { length result.0.now + size_left (option_map (λ rest. rest.now) result.1)
+        ≤ length text.now }
 {
     match memchr(b'\n', text) {
         Some(place) => (&text[..place], Some(&text[place + 1..])),
