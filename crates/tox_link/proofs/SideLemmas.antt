@@ -18,7 +18,7 @@ use Rattle.tox_link.specs.declared.writer_side.WriterSide.{WriterSide}
 use Rattle.tox_link.specs.Core.{CoreView, KeepsCore, core_ending, core_position}
 use Rattle.tox_link.specs.Held.{AreOf}
 use Rattle.tox_link.specs.Messages.{bytes_of}
-use Rattle.tox_link.specs.Side.{IsFresh, IsSound, IsDue, came}
+use Rattle.tox_link.specs.Side.{IsFresh, IsSound, GivesSlice, came}
 use Rattle.tox_link.specs.Sources.{read_end_of}
 use Rattle.tox_link.proofs.Sent.{sent_more, sent_end}
 
@@ -271,7 +271,7 @@ sound-waited side inbox core messages sound kept position =
     (record { joined = sound.joined; start = omega (arith, position, sound.start); parts = sound.parts }) refl refl
 
 -- a slice was written, and the pieces before its end are given up
-pub sound-wrote : (side : WriterSide) (window : Pieces) (slice : Slice) → IsDue side slice → window ≡ record side.window { held = past slice.span.stop side.window.held }
+pub sound-wrote : (side : WriterSide) (window : Pieces) (slice : Slice) → GivesSlice side slice → window ≡ record side.window { held = past slice.span.stop side.window.held }
     → IsSound (record side { window = window; written = slice.span.stop }) (received side.inbox.receiver)
 sound-wrote side window slice due same =
     let sound = due.sound in

@@ -59,7 +59,7 @@ pub record Comes (side : WriterSide) (message : Message) : Type 0 where
   pub allowed : Allows before message
 
 -- a sound side whose core has just given this slice to be written
-pub record IsDue (side : WriterSide) (slice : Slice) : Type 0 where
+pub record GivesSlice (side : WriterSide) (slice : Slice) : Type 0 where
   pub before : CoreView
   pub sound : IsSound (record side { core = before }) (received side.inbox.receiver)
   pub takes : TakesSlice before side.core slice

@@ -48,7 +48,8 @@ fn start<
     ensures meaning { IfOk result (λ started. (items : List OneItem) → IsStream items
         → remaining_output started.0.core items ≡ means plan words.now items) }
     ensures fresh { IfOk result (λ started. IsFresh started.0) }
-    ensures ring { IfOk result (λ started. IsPair started.1.promise.sender.value started.0.inbox.receiver) }
+    ensures ring { IfOk result (λ started.
+        IsPair started.1.promise.sender.value started.0.inbox.receiver) }
     ensures reads { IfOk result (λ started. (started.1.promise.reader.value ≡ reader)
         × (started.1.promise.reads ≡ reads)) }
     ensures err { IfErr result (λ fault. written_before fault ≡ 0) }
@@ -70,9 +71,14 @@ fn start<
 
 /// Carries one direction of a live link, until it ends.
 ///
-/// A thread reads at most `reads` times and sends what it read through a ring. The writer's side stamps each piece with
-/// the greatest reading of the clock so far, notes it, and does what a [`LinkCore`](crate::LinkCore) of the plan says.
-/// It hangs up once, and then waits for the reader's thread. A fault before that thread started hangs up nothing.
+/// A thread reads at most `reads` times and sends what it read through a ring. The writer's side stamps each
+/// piece with the greatest reading of the clock so far, notes it, and does what a
+/// [`LinkCore`](crate::LinkCore) of the plan says. It hangs up once, and then waits for the reader's thread.
+///
+/// # Errors
+///
+/// Out of memory, also for a note; the reader's thread is refused; a write fails or takes nothing. The reader is
+/// then dropped. A fault before the thread started hangs up nothing.
 pub fn carry<
     R: Threads + Wait + Copy + Send + 'static,
     S: Source + Send + Drop + 'static,
@@ -97,9 +103,11 @@ pub fn carry<
     requires writer { W.failed ends.old.writer ≡ false }
     ensures log { IfOk result (λ report. (log : List OneEvent)
         × (N.events notes.new ≡ with_events (N.events notes.old) log)
-        × Reports (means plan words.now) (C.told clock.now) log report.taken report.written report.ending (read_end_of report.source)) }
+        × Reports (means plan words.now) (C.told clock.now) log
+        report.taken report.written report.ending (read_end_of report.source)) }
     ensures bytes { IfOk result (λ report. (bytes : List ℕ)
-        × WritesFirst (S.remaining reader) (W.written ends.old.writer) (W.written ends.new.writer) bytes report.written
+        × WritesFirst (S.remaining reader) (W.written ends.old.writer) (W.written ends.new.writer)
+        bytes report.written
         × (length bytes ≡ report.taken)
         × IfSome (read_end_of report.source) (λ end.
         HandsOn (S.remaining reader) bytes end (S.remaining report.reader)
@@ -108,7 +116,8 @@ pub fn carry<
         × (N.events notes.new ≡ with_events (N.events notes.old) log)
         × IsCutOff (means plan words.now) (C.told clock.now) (written_before fault) log) }
     ensures broken_bytes { IfErr result (λ fault. (bytes : List ℕ)
-        × WritesFirst (S.remaining reader) (W.written ends.old.writer) (W.written ends.new.writer) bytes (written_before fault)) }
+        × WritesFirst (S.remaining reader) (W.written ends.old.writer) (W.written ends.new.writer)
+        bytes (written_before fault)) }
 {
     let (mut side, thread) = start(rt, alloc, reader, plan, words, reads, gate)?;
     let driven = drive(rt, &mut side, clock, notes, &mut ends.writer, &**gate);

@@ -6,7 +6,7 @@ ghost use Rattle.tox_link.specs.declared.notes.LinkEvent.{LinkEvent as OneEvent}
 ghost use Rattle.tox_link.specs.Events.{with_events};
 ghost use Rattle.tox_link.specs.Logged.{KeepsLogged, LogsFrom, CutsOff, CutsOffFrom, HasEnded};
 ghost use Rattle.tox_link.specs.Reports.{written_before};
-ghost use Rattle.tox_link.specs.Side.{IsFresh, IsSound, IsDue, came};
+ghost use Rattle.tox_link.specs.Side.{IsFresh, IsSound, GivesSlice, came};
 
 use crate::act::Act;
 use crate::clock::Clock;
@@ -27,7 +27,7 @@ fn write_next<N: Notes, W: Sink>(
     slice: &Slice,
     now: &Micros,
 ) -> Result<(), LinkFault>
-    requires due { IsDue side.old slice.now }
+    requires due { GivesSlice side.old slice.now }
     requires working { W.failed writer.old ≡ false }
     ensures same { (side.new.core ≡ side.old.core) × (side.new.inbox ≡ side.old.inbox)
         × (side.new.source ≡ side.old.source) × (side.new.ended ≡ side.old.ended) }
@@ -125,7 +125,8 @@ pub(crate) fn drive<R: Wait, C: Clock, N: Notes, W: Sink, G: Gate>(
     ensures log { OnOk result ((log : List OneEvent)
         × (N.events notes.new ≡ with_events (N.events notes.old) log)
         × LogsFrom (C.told clock.now) side.old log side.new) }
-    ensures err { IfErr result (λ fault. (written_before fault ≡ side.new.written) × (log : List OneEvent)
+    ensures err { IfErr result (λ fault. (written_before fault ≡ side.new.written)
+        × (log : List OneEvent)
         × (N.events notes.new ≡ with_events (N.events notes.old) log)
         × CutsOffFrom (C.told clock.now) side.old log side.new.written) }
 {

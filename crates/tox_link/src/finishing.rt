@@ -1,4 +1,4 @@
-//! The end of a link: its connections are ended, and the ring is emptied so that the reader's thread can end.
+//! The end of a link: it hangs up, and empties the ring so that the reader's thread can end.
 ghost use Rattle.std.specs.Prelude.{◌≡◌, List, ◌++◌};
 ghost use Rattle.rtrb.specs.Ring.{received, SameConsumer};
 ghost use Rattle.tox_link.specs.declared.message.Message.{Message as OneMessage};

@@ -25,7 +25,8 @@ impl Inbox {
     pub fn pop<G: Gate>(&mut self, gate: &G) -> Option<Message>
         ensures ring { SameConsumer self.old.receiver self.new.receiver }
         ensures some { IfSome result (λ message. (received self.new.receiver
-            ≡ received self.old.receiver ++ message ∷ []) × Allows (received self.old.receiver) message) }
+            ≡ received self.old.receiver ++ message ∷ [])
+            × Allows (received self.old.receiver) message) }
         ensures none { IfNone result (received self.new.receiver ≡ received self.old.receiver) }
     {
         let Ok(message) = self.receiver.pop() else {

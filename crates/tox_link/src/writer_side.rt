@@ -50,7 +50,8 @@ impl<'w> WriterSide<'w> {
         ensures meaning { IfOk result (λ made. (items : List OneItem) → IsStream items
             → remaining_output made.0.core items ≡ means plan words.now items) }
         ensures fresh { IfOk result (λ made. IsFresh made.0) }
-        ensures ring { IfOk result (λ made. (sent made.1 ≡ []) × (IsPair made.1 made.0.inbox.receiver)) }
+        ensures ring { IfOk result (λ made. (sent made.1 ≡ [])
+            × (IsPair made.1 made.0.inbox.receiver)) }
     {
         let core = LinkCore::new(alloc, plan, words)?;
         let window = Window::new(alloc, WINDOW_SIZE)?;
@@ -77,7 +78,8 @@ impl<'w> WriterSide<'w> {
         Ok((side, sender))
     }
 
-    /// Whether a message may be taken. A piece that comes once the ending is known is dropped, so it needs no room.
+    /// Whether a message may be taken. A piece that comes once the ending is known is dropped, so
+    /// it needs no room.
     pub fn may_take(&self) -> bool
         ensures going { IsTrue result → self.now.ended ≡ false }
         ensures core { IsTrue result → kept_count self.now.core < 1024 }

@@ -2,4 +2,8 @@
 #![tactic(auto)]
 
 #[cfg(test)]
+mod carries;
+#[cfg(test)]
 mod cores;
+#[cfg(test)]
+mod link_ends;
