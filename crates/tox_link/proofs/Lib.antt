@@ -6,3 +6,4 @@ pub mod Sent
 pub mod Logs
 pub mod StepLemmas
 pub mod HeldLemmas
+pub mod BookTotals

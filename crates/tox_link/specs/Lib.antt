@@ -7,3 +7,5 @@ pub mod Events
 pub mod Log
 pub mod Carried
 pub mod Held
+pub mod Links
+pub mod BookInside
