@@ -3,3 +3,5 @@ mod Causes
 mod CutLemmas
 mod TextTurns
 mod LineSteps
+pub mod ServeParts
+pub mod ServeLemmas
