@@ -7,3 +7,6 @@ pub mod Logs
 pub mod StepLemmas
 pub mod HeldLemmas
 pub mod BookTotals
+pub mod SideLemmas
+pub mod LoggedLemmas
+pub mod CarryLemmas

@@ -14,7 +14,7 @@ use Rattle.tox_link.specs.declared.notes.LinkEvent.{LinkEvent}
 use Rattle.tox_link.specs.declared.notes.LinkEvent.TheVariants.{Piece, SourceEnd, Wrote}
 use Rattle.tox_link.specs.Core.{CoreView, TakesSlice, LeavesOutput, remaining_output, core_position}
 use Rattle.tox_link.specs.Acts.{After}
-use Rattle.tox_link.specs.Log.{heard_from, said, heard_bytes, Agrees, IsGapless}
+use Rattle.tox_link.specs.Log.{heard_from, said, heard_bytes, Agrees, IsGapless, IsFaithful}
 use Rattle.tox_link.specs.Carried.{Carried, KeepsCarried, noted_of}
 use Rattle.tox_link.proofs.Logs.{stream-earlier, heard-piece, heard-end, heard-wrote, said-append, heard_bytes-append, gapless-append, by-later, by-append, faithful-append}
 
@@ -151,6 +151,13 @@ module _ (told : ℕ → Type 0) (old new : CoreView) (now : ℕ) (later : old.l
   act-carried WaitForInput leaves = wait-carried leaves
   act-carried (End last) leaves = wait-carried leaves
 
+-- an empty log is faithful
+pub faithful-nil : (means : List Item → List Item) (told : ℕ → Type 0) → IsFaithful means told []
+faithful-nil means told = record {
+  agrees = λ n. subst (Agrees means) (sym (take-nil n)) (record { gapless = (0, refl); prefix = (table (means (Quiet ∷ [])), refl) });
+  timely = tt;
+}
+
 -- nothing was heard yet
 pub start-carried : (means : List Item → List Item) (told : ℕ → Type 0) (core : CoreView) → core.bytes ≡ 0 → core.latest ≡ 0 → core_position core ≡ 0
     → ((items : List Item) → IsStream items → remaining_output core items ≡ means items) → Carried means told core []
@@ -158,10 +165,7 @@ start-carried means told core bytes latest position output = record {
   tables = λ rest stream. ap table (sym (output rest (from_start rest stream)));
   endings = λ rest stream. ap ending (sym (output rest (from_start rest stream)));
   stream = from_start;
-  faithful = record {
-    agrees = λ n. subst (Agrees means) (sym (take-nil n)) (record { gapless = (0, refl); prefix = (table (means (Quiet ∷ [])), refl) });
-    timely = tt;
-  };
+  faithful = faithful-nil means told;
   by = tt;
   gapless = sym position;
   bytes = sym bytes;

@@ -9,3 +9,7 @@ pub mod Carried
 pub mod Held
 pub mod Links
 pub mod BookInside
+pub mod Sources
+pub mod Side
+pub mod Logged
+pub mod Reports

@@ -1,5 +1,5 @@
 -- The log of a link: what was heard, what was said, and when a log is faithful to a plan.
-use Rattle.std.specs.Prelude.{◌≡◌, ℕ, ◌+◌, ◌<◌, ◌≤◌, List, [], ◌∷◌, take}
+use Rattle.std.specs.Prelude.{◌≡◌, ℕ, ◌+◌, ◌<◌, ◌≤◌, Bool, true, false, List, [], ◌∷◌, take}
 use Rattle.tox_time.specs.declared.slice.Slice.{Slice}
 use Rattle.tox_time.specs.declared.item.Item.{Item}
 use Rattle.tox_time.specs.declared.item.Item.TheVariants.{Chunk, Closed, Quiet}
@@ -18,6 +18,13 @@ heard_from start (Wrote slice now ∷ log) rest = heard_from start log rest
 -- the pieces, ended by the source's end, or else by `Quiet`
 abbrev pub heard : List LinkEvent → List Item
 heard log = heard_from 0 log (Quiet ∷ [])
+
+-- whether the source's end was heard
+abbrev pub has_source_end : List LinkEvent → Bool
+has_source_end [] = false
+has_source_end (Piece len instant ∷ log) = has_source_end log
+has_source_end (SourceEnd instant ∷ log) = true
+has_source_end (Wrote slice now ∷ log) = has_source_end log
 
 -- the slices that were written
 abbrev pub said : List LinkEvent → List Slice

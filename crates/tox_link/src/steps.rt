@@ -1,6 +1,7 @@
 //! The steps of a link: a piece, the source's end or a reading of the clock reaches the core.
-ghost use Rattle.std.specs.Prelude.{◌≡◌, ◌+◌, ◌<◌, ◌≤◌, ◌^◌, ◌⊎◌, List, false, true, None, IsSome, OnOk, OnErr};
+ghost use Rattle.std.specs.Prelude.{◌≡◌, ◌+◌, ◌<◌, ◌≤◌, ◌^◌, ◌⊎◌, List, false, true, None, IsSome, is_none, OnOk, OnErr};
 ghost use Rattle.tox_link.specs.Events.{with_events};
+ghost use Rattle.tox_link.specs.Log.{has_source_end};
 ghost use Rattle.tox_link.specs.Core.{core_ending, core_position, kept_count, KeepsCore};
 ghost use Rattle.tox_link.specs.Acts.{Answered};
 ghost use Rattle.tox_link.specs.Carried.{KeepsCarried, noted_of};
@@ -28,7 +29,7 @@ pub(crate) fn take_piece<C: Clock, N: Notes>(
         × (core_position core.new ≡ core_position core.old) }
     ensures carried { OnOk result ((more : List OneEvent)
         × (N.events notes.new ≡ with_events (N.events notes.old) more)
-        × KeepsCarried (C.told clock.now) core.old more core.new) }
+        × KeepsCarried (C.told clock.now) core.old more core.new × (has_source_end more ≡ false)) }
     ensures err { OnErr result (N.events notes.new ≡ N.events notes.old) }
 {
     let now = reading(clock, core.latest());
@@ -51,7 +52,8 @@ pub(crate) fn take_end<C: Clock, N: Notes>(
         × (core_position core.new ≡ core_position core.old) }
     ensures carried { OnOk result ((more : List OneEvent)
         × (N.events notes.new ≡ with_events (N.events notes.old) more)
-        × KeepsCarried (C.told clock.now) core.old more core.new) }
+        × KeepsCarried (C.told clock.now) core.old more core.new
+        × (has_source_end more ≡ is_none (core_ending core.old))) }
     ensures err { OnErr result (N.events notes.new ≡ N.events notes.old) }
 {
     let now = reading(clock, core.latest());

@@ -1,5 +1,6 @@
 -- The source's end is one more event, or none where the ending is known.
-use Rattle.std.proofs.Common.{[], ◌∷◌, sym, ◌∙◌, arith}
+use Rattle.std.proofs.Common.{[], ◌∷◌, ap, sym, ◌∙◌, arith}
+use Rattle.std.specs.Prelude.{is_none}
 use Rattle.tox_time.specs.declared.item.Item.TheVariants.{Closed}
 use Rattle.tox_link.specs.declared.notes.LinkEvent.TheVariants.{SourceEnd}
 use Rattle.tox_link.proofs.Logs.{events-none}
@@ -19,6 +20,7 @@ returns-in-Some-clause-carried g c =
             output = λ position since items later stream. same-of _ _ (told.output items ∙ only (Closed c.reading-now.result ∷ []) ∙ sym (only items));
             position = told.kept.2;
           }),
+      ap is_none (sym c.in-Some.is ∙ c.ending-known.ensures.value),
     )
 
 pub returns-in_ok-note-in-None-clause-carried : goal.returns-in_ok-note-in-None-clause-carried
@@ -28,4 +30,5 @@ returns-in_ok-note-in-None-clause-carried g c =
       c.in_ok-note-in-None.ensures.noted,
       end-carried (g.C.Clock.told c.args.clock.now) c.args.core.now c.on_end.new.self c.reading-now.result
           (omega (arith, c.reading-now.ensures.later, c.latest.ensures)) c.reading-now.ensures.bound c.reading-now.ensures.told told.ended.1 told.kept.0.bytes told.kept.2 told.output,
+      ap is_none (sym c.in-None.is ∙ c.ending-known.ensures.value),
     )

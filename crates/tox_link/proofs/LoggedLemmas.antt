@@ -1,0 +1,117 @@
+-- The log of a link that is carried, step by step.
+use Rattle.std.proofs.Common.{◌≡◌, ℕ, ◌+◌, ◌≤◌, ◌⊎◌, Bool, true, false, List, [], ◌∷◌, ◌++◌, length, length-append, replicate, None, refl, ap, ◌∙◌, sym, subst, append-nil, arith}
+use Rattle.std.specs.Prelude.{is_some, ◌||◌}
+use Rattle.std.proofs.lemmas.List.{length-replicate}
+use Rattle.tox_time.specs.declared.item.Item.{Item}
+use Rattle.tox_time.specs.declared.item.Item.TheVariants.{Quiet}
+use Rattle.tox_time.specs.declared.slice.Slice.{Slice}
+use Rattle.tox_time.specs.Stream.{IsStream, span_len}
+use Rattle.tox_time.specs.Table.{table, slices_table}
+use Rattle.tox_link.specs.declared.inbox.Inbox.{Inbox}
+use Rattle.tox_link.specs.declared.notes.LinkEvent.{LinkEvent}
+use Rattle.tox_link.specs.declared.notes.LinkEvent.TheVariants.{Piece, SourceEnd, Wrote}
+use Rattle.tox_link.specs.declared.writer_side.WriterSide.{WriterSide}
+use Rattle.tox_link.specs.declared.act.Act.{Act}
+use Rattle.tox_link.specs.declared.act.Act.TheVariants.{Write, WaitUntil, WaitForInput, End}
+use Rattle.tox_link.specs.Carried.{Carried, KeepsCarried, noted_of}
+use Rattle.tox_link.specs.Core.{CoreView, TakesSlice, remaining_output, core_position}
+use Rattle.tox_link.specs.Log.{heard, said, has_source_end}
+use Rattle.tox_link.specs.Logged.{Logged, KeepsLogged, LogsFrom, CutsOff, CutsOffFrom}
+use Rattle.tox_link.specs.Side.{IsFresh}
+use Rattle.tox_link.specs.Sources.{read_end_of}
+use Rattle.tox_link.proofs.Logs.{gapless-bytes}
+use Rattle.tox_link.proofs.StepLemmas.{start-carried}
+
+pub has_source_end-append : (log more : List LinkEvent) → has_source_end (log ++ more) ≡ (has_source_end log || has_source_end more)
+has_source_end-append [] more = refl
+has_source_end-append (Piece len instant ∷ log) more = has_source_end-append log more
+has_source_end-append (SourceEnd instant ∷ log) more = refl
+has_source_end-append (Wrote slice now ∷ log) more = has_source_end-append log more
+
+or-false : (b c : Bool) → c ≡ false → (b || c) ≡ b
+or-false true c none = refl
+or-false false c none = none
+
+or-false_left : (b c : Bool) → b ≡ false → (b || c) ≡ c
+or-false_left true c none = cc
+or-false_left false c none = refl
+
+-- events without the source's end
+pub logged-on : (told : ℕ → Type 0) (old new : WriterSide) (more : List LinkEvent) → KeepsCarried told old.core more new.core → has_source_end more ≡ false → new.source ≡ old.source → KeepsLogged told old more new
+logged-on told old new more keeps none source means log logged = record {
+  carried = keeps means log logged.carried;
+  closed = has_source_end-append log more ∙ or-false (has_source_end log) (has_source_end more) none ∙ logged.closed ∙ ap (λ source. is_some (read_end_of source)) (sym source);
+}
+
+-- the source's end, where it had not come
+pub logged-end : (told : ℕ → Type 0) (old new : WriterSide) (more : List LinkEvent) → KeepsCarried told old.core more new.core → read_end_of old.source ≡ None
+    → has_source_end more ≡ is_some (read_end_of new.source) → KeepsLogged told old more new
+logged-end told old new more keeps none told_so means log logged = record {
+  carried = keeps means log logged.carried;
+  closed = has_source_end-append log more ∙ or-false_left (has_source_end log) (has_source_end more) (logged.closed ∙ ap is_some none) ∙ told_so;
+}
+
+-- nothing was noted
+pub logged-same : (told : ℕ → Type 0) (old new : WriterSide) → new.core ≡ old.core → new.source ≡ old.source → KeepsLogged told old [] new
+logged-same told old new core source means log logged = subst (Logged means told new) (sym (append-nil log)) (record {
+  carried = subst (λ core. Carried means told core log) (sym core) logged.carried;
+  closed = logged.closed ∙ ap (λ source. is_some (read_end_of source)) (sym source);
+})
+
+-- the ring has no part in the log
+pub keeps-inbox : (told : ℕ → Type 0) (old new : WriterSide) (inbox : Inbox) (more : List LinkEvent) → KeepsLogged told (record old { inbox = inbox }) more new → KeepsLogged told old more new
+keeps-inbox told old new inbox more keeps means log logged = keeps means log (record { carried = logged.carried; closed = logged.closed })
+
+none-noted : (act : Act) (now : ℕ) → has_source_end (noted_of act now) ≡ false
+none-noted (Write slice) now = refl
+none-noted (WaitUntil t) now = refl
+none-noted WaitForInput now = refl
+none-noted (End last) now = refl
+
+-- the core answered so
+pub logged-act : (told : ℕ → Type 0) (old new : WriterSide) (core : CoreView) (act shape : Act) (now : ℕ) → KeepsCarried told old.core (noted_of act now) core → act ≡ shape → new.core ≡ core → new.source ≡ old.source
+    → KeepsLogged told old (noted_of shape now) new
+logged-act told old new core act shape now keeps is same source =
+    logged-on told old new (noted_of shape now) (subst (λ core. KeepsCarried told old.core (noted_of shape now) core) (sym same) (subst (λ act. KeepsCarried told old.core (noted_of act now) core) is keeps)) (none-noted shape now) source
+
+-- what is said is in what the plan means
+said-within : (means : List Item → List Item) (told : ℕ → Type 0) (core : CoreView) (log : List LinkEvent) → Carried means told core log
+    → length (table (means (heard log))) ≡ core_position core + length (table (remaining_output core (Quiet ∷ [])))
+said-within means told core log carried =
+    let whole = ap length (carried.tables (Quiet ∷ []) refl) in
+    let parts = length-append (slices_table (said log)) (table (remaining_output core (Quiet ∷ []))) in
+    let said_is = gapless-bytes 0 (said log) (core_position core) carried.gapless in
+    omega (arith, whole, parts, said_is)
+
+-- the link broke off before a slice
+pub cut-here : (told : ℕ → Type 0) (old : WriterSide) (written : ℕ) → written ≡ core_position old.core → CutsOff told old written
+cut-here told old written at means log logged =
+    let within = said-within means told old.core log logged.carried in
+    record { faithful = logged.carried.faithful; few = omega (arith, within, at) }
+
+-- it broke off in a slice
+pub cut-within : (told : ℕ → Type 0) (old : WriterSide) (core : CoreView) (slice : Slice) (written : ℕ) → TakesSlice old.core core slice → written ≤ slice.span.stop → CutsOff told old written
+cut-within told old core slice written takes few means log logged =
+    let within = said-within means told old.core log logged.carried in
+    let next = ap length (takes.tables (Quiet ∷ [])) in
+    let parts = length-append (replicate (span_len slice.span) slice.instant) (table (remaining_output core (Quiet ∷ []))) in
+    let part = length-replicate (span_len slice.span) slice.instant in
+    record { faithful = logged.carried.faithful; few = omega (arith, within, next, parts, part, few, takes.starts, takes.within.some) }
+
+-- nothing was heard yet
+pub logged-fresh : (means : List Item → List Item) (told : ℕ → Type 0) (side : WriterSide) → IsFresh side → ((items : List Item) → IsStream items → remaining_output side.core items ≡ means items) → Logged means told side []
+logged-fresh means told side fresh output = record {
+  carried = start-carried means told side.core fresh.bytes fresh.latest fresh.position output;
+  closed = sym (ap (λ source. is_some (read_end_of source)) fresh.source);
+}
+
+-- the last reading is the clock's
+pub logged-read : (told : ℕ → Type 0) (old new : WriterSide) (log : List LinkEvent) → IsFresh old → LogsFrom told old log new → (new.core.latest ≡ 0) ⊎ told new.core.latest
+logged-read told old new log fresh logs = (logs (remaining_output old.core) (logged-fresh (remaining_output old.core) told old fresh (λ items stream. refl))).carried.read
+
+-- two runs of events one after the other
+pub logs-on : (told : ℕ → Type 0) (first old new : WriterSide) (log more : List LinkEvent) → LogsFrom told first log old → KeepsLogged told old more new → LogsFrom told first (log ++ more) new
+logs-on told first old new log more logs keeps means start = keeps means log (logs means start)
+
+pub cuts-on : (told : ℕ → Type 0) (first old : WriterSide) (log : List LinkEvent) (written : ℕ) → LogsFrom told first log old → CutsOff told old written → CutsOffFrom told first log written
+cuts-on told first old log written logs cuts means start = cuts means log (logs means start)

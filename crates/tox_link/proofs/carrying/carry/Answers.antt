@@ -1,0 +1,87 @@
+-- What was written is the first of what the reader had to give, and the log says so.
+use Rattle.std.proofs.Common.{[], ◌++◌, length-take-le, take, ap, subst, sym, ◌∙◌}
+use Rattle.std.proofs.lemmas.Result.{err_from_is_err_and}
+use Rattle.rtrb.specs.Ring.{received}
+use Rattle.tox_compile.specs.Meaning.{means}
+use Rattle.tox_link.specs.Logged.{IsCutOff}
+use Rattle.tox_link.specs.Messages.{ReadsFrom}
+use Rattle.tox_link.specs.Reports.{WritesFirst}
+use Rattle.tox_link.specs.Side.{came}
+use Rattle.tox_link.proofs.CarryLemmas.{link-reports, cut-nothing, writes-nothing, first-bytes, writes-first, source-told, reads-same}
+use Rattle.tox_link.proofs.Logs.{events-none}
+use Rattle.tox_link.proofs.LoggedLemmas.{logged-fresh}
+use Rattle.tox_link.proofs.carrying.carry.Goals as goal
+
+pub returns-in_err-side-clause-broken : goal.returns-in_err-side-clause-broken
+returns-in_err-side-clause-broken g c =
+    let p = err_from_is_err_and c.from_residual.result c.from_residual.ensures.1 in
+    rw (p.1, p.2) ([], events-none (g.N.Notes.events c.args.notes.now), cut-nothing (means c.args.plan c.args.words.now) (g.C.Clock.told c.args.clock.now) _ c.in_err-side.ensures.err)
+
+pub returns-in_err-side-clause-broken_bytes : goal.returns-in_err-side-clause-broken_bytes
+returns-in_err-side-clause-broken_bytes g c =
+    let p = err_from_is_err_and c.from_residual.result c.from_residual.ensures.1 in
+    rw (p.1, p.2) ([], writes-nothing (g.S.Source.remaining c.args.reader) (g.W.Sink.written c.args.ends.now.writer) _ c.in_err-side.ensures.err)
+
+pub returns-in-Ok-clause-log : goal.returns-in-Ok-clause-log
+returns-in-Ok-clause-log g c =
+    let told = g.C.Clock.told c.args.clock.now in
+    let plan = means c.args.plan c.args.words.now in
+    let logs = rw c.in-Ok.is at c.drive-driven.ensures.log in
+    let over = rw c.in-Ok.is at c.drive-driven.ensures.ended in
+    let sound = rw c.in-Ok.is at c.drive-driven.ensures.ok in (
+      logs.0,
+      logs.1,
+      link-reports plan told c.drive-driven.new.side (received c.drive-driven.new.side.inbox.receiver) logs.0 c.in-Ok.ending c.stop.result
+          (logs.2 plan (logged-fresh plan told c.in_ok-side.side c.in_ok-side.ensures.fresh c.in_ok-side.ensures.meaning)) over sound (c.stop.ensures.value ∙ sound.stop),
+    )
+
+pub returns-in-Ok-clause-bytes : goal.returns-in-Ok-clause-bytes
+returns-in-Ok-clause-bytes g c =
+    let side = c.drive-driven.new.side in
+    let messages = received side.inbox.receiver in
+    let joined = c.join_reader-reader in
+    let later = received joined.new.receiver in
+    let more = c.drain.ensures.received in
+    let grown = joined.ensures.received ∙ more.1 in
+    let left = joined.ensures.sent in
+    let sound = rw c.in-Ok.is at c.drive-driven.ensures.ok in
+    let after = g.S.Source.remaining joined.result.0 in
+    let failed = g.S.Source.failed joined.result.0 in
+    let sent : ReadsFrom (g.S.Source.remaining c.args.reader) c.args.reads (later ++ left.0) joined.result.1 after failed
+    = reads-same _ _ _ _ _ _ _ _ (ap g.S.Source.remaining c.in_ok-side.ensures.reads.0) c.in_ok-side.ensures.reads.1 left.1 in
+    let first = first-bytes messages later more.0 left.0 (g.S.Source.remaining c.args.reader) after c.args.reads joined.result.1 failed grown sent in (
+      take side.core.bytes (came side),
+      writes-first (g.S.Source.remaining c.args.reader) (g.W.Sink.written c.args.ends.now.writer) (g.W.Sink.written c.drive-driven.new.writer) first.0 side messages sound first.1 c.drive-driven.ensures.written,
+      length-take-le side.core.bytes (came side) sound.few ∙ sym (c.stop.ensures.value ∙ sound.stop),
+      source-told side messages later more.0 left.0 (g.S.Source.remaining c.args.reader) after c.args.reads joined.result.1 failed sound grown sent,
+    )
+
+pub returns-clause-broken : goal.returns-clause-broken
+returns-clause-broken g c =
+    let told = g.C.Clock.told c.args.clock.now in
+    let plan = means c.args.plan c.args.words.now in
+    let err = rw c.in-Err.is at c.drive-driven.ensures.err in (
+      err.1,
+      err.2,
+      subst (λ written. IsCutOff plan told written err.1) (sym err.0) (err.3 plan (logged-fresh plan told c.in_ok-side.side c.in_ok-side.ensures.fresh c.in_ok-side.ensures.meaning)),
+    )
+
+pub returns-clause-broken_bytes : goal.returns-clause-broken_bytes
+returns-clause-broken_bytes g c =
+    let side = c.drive-driven.new.side in
+    let messages = received side.inbox.receiver in
+    let joined = c.join_reader-reader in
+    let later = received joined.new.receiver in
+    let more = c.drain.ensures.received in
+    let grown = joined.ensures.received ∙ more.1 in
+    let left = joined.ensures.sent in
+    let after = g.S.Source.remaining joined.result.0 in
+    let failed = g.S.Source.failed joined.result.0 in
+    let sent : ReadsFrom (g.S.Source.remaining c.args.reader) c.args.reads (later ++ left.0) joined.result.1 after failed
+    = reads-same _ _ _ _ _ _ _ _ (ap g.S.Source.remaining c.in_ok-side.ensures.reads.0) c.in_ok-side.ensures.reads.1 left.1 in
+    let err = rw c.in-Err.is at c.drive-driven.ensures.err in
+    let first = first-bytes messages later more.0 left.0 (g.S.Source.remaining c.args.reader) after c.args.reads joined.result.1 failed grown sent in (
+      came side,
+      subst (WritesFirst (g.S.Source.remaining c.args.reader) (g.W.Sink.written c.args.ends.now.writer) (g.W.Sink.written c.drive-driven.new.writer) (came side)) (sym err.0)
+          (record { left = first.0; gave = first.1; few = c.drive-driven.ensures.few; wrote = c.drive-driven.ensures.written }),
+    )

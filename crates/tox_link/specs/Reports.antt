@@ -1,0 +1,50 @@
+-- What a link reports.
+use Rattle.std.specs.Prelude.{◌≡◌, ℕ, ◌≤◌, List, length, take, Option, Some, None}
+use Rattle.std.specs.Io.KnownBytes.{append_known, prepend_known}
+use Rattle.tox_time.specs.declared.item.Item.{Item}
+use Rattle.tox_time.specs.declared.ending.Ending.{Ending}
+use Rattle.tox_time.specs.declared.ending.Ending.TheVariants.{StillOpen, Closed as ClosedAt}
+use Rattle.tox_time.specs.Stream.{IsStreamFrom}
+use Rattle.tox_time.specs.Table.{SameResult, table, slices_table, ending}
+use Rattle.tox_link.specs.declared.link_fault.LinkFault.{LinkFault}
+use Rattle.tox_link.specs.declared.link_fault.LinkFault.TheVariants.{OutOfMemory, SpawnRefused, WriteFault}
+use Rattle.tox_link.specs.declared.message.ReadEnd.{ReadEnd}
+use Rattle.tox_link.specs.declared.notes.LinkEvent.{LinkEvent}
+use Rattle.tox_link.specs.Log.{heard_from, heard, heard_bytes, said, IsFaithful}
+use Rattle.tox_link.specs.Logged.{IsReached}
+
+-- how many bytes were written before the fault
+abbrev pub written_before : LinkFault → ℕ
+written_before (OutOfMemory written) = written
+written_before (SpawnRefused written) = written
+written_before (WriteFault written) = written
+
+-- the source's end was heard where the link learnt in time why the reading ended, and else none
+abbrev pub HeardSo : Option ReadEnd → Ending → Type 0
+HeardSo (Some end) heard_end = (t : ℕ) × (heard_end ≡ ClosedAt t)
+HeardSo None heard_end = heard_end ≡ StillOpen
+
+-- whatever follows what was heard from an instant on, the plan means the same
+abbrev pub IsSettledFrom : (List Item → List Item) → ℕ → List LinkEvent → Type 0
+IsSettledFrom means now log = (rest : List Item) → IsStreamFrom (heard_bytes log) now rest → SameResult (means (heard_from 0 log rest)) (means (heard log))
+
+-- a link with this log took and wrote so many bytes, and ended so and with its source so:
+-- it said all that the plan means for what was heard, and the clock told an instant at or past its ending, from which on nothing changes it
+pub record Reports (means : List Item → List Item) (told : ℕ → Type 0) (log : List LinkEvent) (taken written : ℕ) (last : Ending) (source : Option ReadEnd) : Type 0 where
+  pub faithful : IsFaithful means told log
+  pub whole : slices_table (said log) ≡ table (means (heard log))
+  pub ends : ending (means (heard log)) ≡ last
+  pub took : heard_bytes log ≡ taken
+  pub wrote : length (slices_table (said log)) ≡ written
+  pub now : ℕ
+  pub says : told now
+  pub reached : IsReached now last
+  pub settled : IsSettledFrom means now log
+  pub hears : HeardSo source (ending (heard log))
+
+-- so many of these bytes were written, which are the first that there were to give
+pub record WritesFirst (given before after : Option (List ℕ)) (bytes : List ℕ) (written : ℕ) : Type 0 where
+  pub left : Option (List ℕ)
+  pub gave : given ≡ prepend_known bytes left
+  pub few : written ≤ length bytes
+  pub wrote : after ≡ append_known before (take written bytes)

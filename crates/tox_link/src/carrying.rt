@@ -1,0 +1,129 @@
+//! One direction of a live link, from its reader's thread to its writer.
+ghost use Rattle.std.specs.Prelude.{◌≡◌, ℕ, List, [], length, false, IfOk, IfErr, IfSome};
+ghost use Rattle.rtrb.specs.Ring.{sent, IsPair};
+ghost use Rattle.tox_time.specs.declared.item.Item.{Item as OneItem};
+ghost use Rattle.tox_time.specs.Stream.{IsStream};
+ghost use Rattle.tox_compile.specs.Meaning.{means};
+ghost use Rattle.tox_link.specs.declared.notes.LinkEvent.{LinkEvent as OneEvent};
+ghost use Rattle.tox_link.specs.Core.{remaining_output};
+ghost use Rattle.tox_link.specs.Events.{with_events};
+ghost use Rattle.tox_link.specs.Logged.{IsCutOff};
+ghost use Rattle.tox_link.specs.Messages.{HandsOn, EndsFor};
+ghost use Rattle.tox_link.specs.Reports.{Reports, WritesFirst, written_before};
+ghost use Rattle.tox_link.specs.Side.{IsFresh};
+ghost use Rattle.tox_link.specs.Sources.{read_end_of};
+
+use crate::clock::Clock;
+use crate::driving::drive;
+use crate::finishing::{drain, hang_up};
+use crate::hangup::{Ends, Hangup};
+use crate::link_fault::LinkFault;
+use crate::link_report::LinkReport;
+use crate::notes::Notes;
+use crate::reading::{ReaderThread, join_reader, start_reader};
+use crate::writer_side::WriterSide;
+use std::alloc::Global;
+use std::sync::{Arc, Wait};
+use std::thread::Threads;
+use tox_compile::Plan;
+use tox_time::{Gate, Sink, Source};
+use tox_words::Words;
+
+/// Starts the reader's thread of a link, with a share of the gate.
+fn start<
+    'w,
+    R: Threads + Wait + Copy + Send + 'static,
+    S: Source + Send + Drop + 'static,
+    G: Gate + Send + Drop + 'static,
+>(
+    rt: &R,
+    alloc: Global,
+    reader: S,
+    plan: Plan,
+    words: &'w Words,
+    reads: u64,
+    gate: &Arc<G>,
+) -> Result<(WriterSide<'w>, ReaderThread<S>), LinkFault>
+    requires { S.failed reader ≡ false }
+    ensures meaning { IfOk result (λ started. (items : List OneItem) → IsStream items
+        → remaining_output started.0.core items ≡ means plan words.now items) }
+    ensures fresh { IfOk result (λ started. IsFresh started.0) }
+    ensures ring { IfOk result (λ started. IsPair started.1.promise.sender.value started.0.inbox.receiver) }
+    ensures reads { IfOk result (λ started. (started.1.promise.reader.value ≡ reader)
+        × (started.1.promise.reads ≡ reads)) }
+    ensures err { IfErr result (λ fault. written_before fault ≡ 0) }
+{
+    let Ok((side, sender)) = WriterSide::new(alloc, plan, words) else {
+        return Err(LinkFault::OutOfMemory(0));
+    };
+    let Ok(parkers) = side.inbox.parkers.clone() else {
+        return Err(LinkFault::OutOfMemory(0));
+    };
+    let Ok(gate) = gate.clone() else {
+        return Err(LinkFault::OutOfMemory(0));
+    };
+    let Some(thread) = start_reader(rt, alloc, reader, sender, reads, parkers, gate) else {
+        return Err(LinkFault::SpawnRefused(0));
+    };
+    Ok((side, thread))
+}
+
+/// Carries one direction of a live link, until it ends.
+///
+/// A thread reads at most `reads` times and sends what it read through a ring. The writer's side stamps each piece with
+/// the greatest reading of the clock so far, notes it, and does what a [`LinkCore`](crate::LinkCore) of the plan says.
+/// It hangs up once, and then waits for the reader's thread. A fault before that thread started hangs up nothing.
+pub fn carry<
+    R: Threads + Wait + Copy + Send + 'static,
+    S: Source + Send + Drop + 'static,
+    W: Sink,
+    H: Hangup,
+    C: Clock,
+    N: Notes,
+    G: Gate + Send + Drop + 'static,
+>(
+    rt: &R,
+    alloc: Global,
+    reader: S,
+    ends: &mut Ends<W, H>,
+    clock: &C,
+    plan: Plan,
+    words: &Words,
+    reads: u64,
+    notes: &mut N,
+    gate: &Arc<G>,
+) -> Result<LinkReport<S>, LinkFault>
+    requires reader { S.failed reader ≡ false }
+    requires writer { W.failed ends.old.writer ≡ false }
+    ensures log { IfOk result (λ report. (log : List OneEvent)
+        × (N.events notes.new ≡ with_events (N.events notes.old) log)
+        × Reports (means plan words.now) (C.told clock.now) log report.taken report.written report.ending (read_end_of report.source)) }
+    ensures bytes { IfOk result (λ report. (bytes : List ℕ)
+        × WritesFirst (S.remaining reader) (W.written ends.old.writer) (W.written ends.new.writer) bytes report.written
+        × (length bytes ≡ report.taken)
+        × IfSome (read_end_of report.source) (λ end.
+        HandsOn (S.remaining reader) bytes end (S.remaining report.reader)
+        × EndsFor end reads (length bytes) (S.remaining report.reader) (S.failed report.reader))) }
+    ensures broken { IfErr result (λ fault. (log : List OneEvent)
+        × (N.events notes.new ≡ with_events (N.events notes.old) log)
+        × IsCutOff (means plan words.now) (C.told clock.now) (written_before fault) log) }
+    ensures broken_bytes { IfErr result (λ fault. (bytes : List ℕ)
+        × WritesFirst (S.remaining reader) (W.written ends.old.writer) (W.written ends.new.writer) bytes (written_before fault)) }
+{
+    let (mut side, thread) = start(rt, alloc, reader, plan, words, reads, gate)?;
+    let driven = drive(rt, &mut side, clock, notes, &mut ends.writer, &**gate);
+    hang_up(&mut ends.hangup, &driven, &side);
+    let ended = side.ended;
+    drain(rt, &mut side.inbox, ended, &**gate);
+    let (reader, _) = join_reader(rt, thread, &mut side.inbox.receiver);
+    match driven {
+        Ok(ending) => Ok(LinkReport {
+            taken: side.window.stop(),
+            written: side.written,
+            ending,
+            source: side.source,
+            reader,
+        }),
+        Err(fault) => Err(fault),
+    }
+}

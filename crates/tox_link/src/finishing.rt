@@ -1,0 +1,43 @@
+//! The end of a link: its connections are ended, and the ring is emptied so that the reader's thread can end.
+ghost use Rattle.std.specs.Prelude.{◌≡◌, List, ◌++◌};
+ghost use Rattle.rtrb.specs.Ring.{received, SameConsumer};
+ghost use Rattle.tox_link.specs.declared.message.Message.{Message as OneMessage};
+
+use crate::hangup::Hangup;
+use crate::inbox::Inbox;
+use crate::link_fault::LinkFault;
+use crate::message::Message;
+use crate::writer_side::WriterSide;
+use std::sync::Wait;
+use tox_time::{Ending, Gate};
+
+/// Ends the connections: as the link ended, or by a reset after a fault.
+pub(crate) fn hang_up<H: Hangup>(
+    hangup: &mut H,
+    driven: &Result<Ending, LinkFault>,
+    side: &WriterSide<'_>,
+) {
+    match driven {
+        Ok(ending) => hangup.hang_up(*ending, side.ended),
+        Err(_) => hangup.hang_up(Ending::Reset(side.core.latest()), false),
+    }
+}
+
+/// Drops what still comes, up to the source's end if that has not come.
+pub(crate) fn drain<R: Wait, G: Gate>(rt: &R, inbox: &mut Inbox, ended: bool, gate: &G)
+    ensures ring { SameConsumer inbox.old.receiver inbox.new.receiver }
+    ensures received { (more : List OneMessage)
+        × (received inbox.new.receiver ≡ received inbox.old.receiver ++ more) }
+{
+    if ended {
+        return;
+    }
+    for _ in rt.forever() {
+        match inbox.pop(gate) {
+            Some(Message::End(_)) => return,
+            Some(Message::Piece(_)) => {}
+            None => inbox.wait(rt),
+        }
+    }
+    unreachable!()
+}

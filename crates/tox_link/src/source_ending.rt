@@ -1,0 +1,36 @@
+//! How far a link's source came.
+ghost use Rattle.std.specs.Prelude.{◌≡◌, Some, IfOk};
+ghost use Rattle.tox_link.specs.Sources.{read_end_of};
+
+use crate::message::ReadEnd;
+use std::alloc::AllocError;
+
+/// How a link's source ended before the link's ending was known.
+#[derive(Clone, Copy, Debug, PartialEq, Eq)]
+pub enum SourceEnding {
+    /// The reader had nothing left.
+    Eof,
+    /// K1: a read failed.
+    ReadFault,
+    /// K3: as many reads were made as were allowed.
+    ReadsUsedUp,
+    /// K4: the reader gave more than 2^40 bytes.
+    TooManyBytes,
+    /// The link's ending was known before the source's end came.
+    NotReached,
+}
+
+impl SourceEnding {
+    /// Why the reading ended. Out of memory if the reader's thread was.
+    pub(crate) fn of(end: ReadEnd) -> Result<SourceEnding, AllocError>
+        ensures { IfOk result (λ source. read_end_of source ≡ Some end) }
+    {
+        match end {
+            ReadEnd::Eof => Ok(SourceEnding::Eof),
+            ReadEnd::ReadFault => Ok(SourceEnding::ReadFault),
+            ReadEnd::ReadsUsedUp => Ok(SourceEnding::ReadsUsedUp),
+            ReadEnd::TooManyBytes => Ok(SourceEnding::TooManyBytes),
+            ReadEnd::OutOfMemory => Err(AllocError),
+        }
+    }
+}
