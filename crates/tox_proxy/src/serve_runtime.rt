@@ -4,7 +4,7 @@ use std::sync::Wait;
 use std::thread::Threads;
 use std::time::Clock;
 
-/// Sockets, threads that may wait, and a clock.
+/// Sockets, threads that may wait, and a clock. A `main` or a test can't call what has this bound, only what writes it out.
 pub trait ServeRuntime: Net<Listener = TcpListener, Stream = TcpStream>
     + Threads
     + Wait

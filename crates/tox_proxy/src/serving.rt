@@ -11,9 +11,11 @@ use crate::serve_run::Run;
 use crate::serve_runtime::ServeRuntime;
 use std::alloc::Global;
 use std::io::Write;
-use std::sync::{Arc, Mutex};
+use std::net::{Net, TcpListener, TcpStream};
+use std::sync::{Arc, Mutex, Wait};
 use std::thread;
-use std::thread::Scope;
+use std::thread::{Scope, Threads};
+use std::time::Clock;
 use tox_config::ProxyDef;
 use tox_script::Script;
 
@@ -22,7 +24,18 @@ use tox_script::Script;
 /// and one for each proxy its totals. With `links` a proxy stops listening after so many connections.
 ///
 /// Returns once no proxy listens any more and all links have ended. A fault comes before any connection is taken.
-pub fn serve<'a, R: ServeRuntime, W: Write + Send>(
+pub fn serve<
+    'a,
+    R: Net<Listener = TcpListener, Stream = TcpStream>
+        + Threads
+        + Wait
+        + Clock
+        + Copy
+        + Send
+        + Sync
+        + 'static,
+    W: Write + Send,
+>(
     rt: &R,
     alloc: Global,
     proxies: &'a [ProxyDef],
@@ -98,7 +111,8 @@ fn start_proxy<'s, E: 's, R: ServeRuntime, W: Write + Send>(
     bound: Listening<'s>,
 ) -> bool {
     let started = scope.spawn(move || {
-        if *may_go.lock(rt) {
+        let goes = *may_go.lock(rt);
+        if goes {
             serve_proxy(rt, run, bound);
         }
     });
