@@ -6,6 +6,7 @@ pub mod Sent
 pub mod Logs
 pub mod StepLemmas
 pub mod HeldLemmas
+pub mod BookTotals
 pub mod SideLemmas
 pub mod LoggedLemmas
 pub mod CarryLemmas

@@ -7,6 +7,8 @@ pub mod Events
 pub mod Log
 pub mod Carried
 pub mod Held
+pub mod Links
+pub mod BookInside
 pub mod Sources
 pub mod Side
 pub mod Logged

@@ -2,6 +2,7 @@
 #![tactic(auto)]
 
 mod act;
+mod book;
 mod carrying;
 mod clock;
 mod driving;
@@ -15,6 +16,7 @@ mod message;
 mod notes;
 mod parking;
 mod reading;
+mod sides;
 mod source_ending;
 mod steps;
 mod taking;
@@ -23,6 +25,7 @@ mod writer_side;
 mod writing;
 
 pub use act::Act;
+pub use book::{Book, BookFault, OpenFault};
 pub use carrying::carry;
 pub use clock::Clock;
 pub use hangup::{Ends, Hangup};

@@ -7,3 +7,5 @@ mod CutLemmas
 mod OutcomeLemmas
 mod TextTurns
 mod LineSteps
+pub mod ServeParts
+pub mod ServeLemmas

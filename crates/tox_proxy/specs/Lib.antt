@@ -8,3 +8,6 @@ pub mod Toxics
 pub mod Files
 pub mod Setup
 pub mod Picking
+pub mod Serving
+pub mod LinkEnds
+pub mod ServeLines

@@ -1,18 +1,34 @@
 //! What the program does, as library calls over readers, writers and values.
 #![tactic(auto)]
 
+mod accepting;
+mod addresses;
 mod checked_input;
+mod direction;
 mod dry;
 mod fault;
 mod files;
+mod link_clock;
+mod link_end;
+mod link_thread;
+mod listening;
 mod named_files;
+mod open_gate;
 mod outcome_slices;
 mod pick_request;
+mod printing;
+mod proxy_thread;
 mod reading;
 mod runner_slices;
 mod second_pass;
+mod serve_fault;
+mod serve_lines;
+mod serve_run;
+mod serve_runtime;
+mod serving;
 mod setup;
 mod slice_source;
+mod sockets;
 mod stages;
 mod toxics;
 
@@ -20,8 +36,12 @@ pub use dry::dry_run;
 pub use fault::StagesFault;
 pub use files::{FileFault, read_file};
 pub use named_files::{MemoryFiles, NamedFiles, RealFiles};
+pub use open_gate::Open;
 pub use pick_request::{PickFault, PickRequest};
 pub use reading::MAX_INPUT;
+pub use serve_fault::ServeFault;
+pub use serve_runtime::ServeRuntime;
+pub use serving::serve;
 pub use setup::{Setup, SetupFault, find_proxy, read_setup};
 pub use stages::stages_run;
 pub use tox_text::{DryFault, PrintPickFault, WriteFault, print_pick, print_plan};

@@ -1,6 +1,7 @@
 //! The command line, as `clap` reads it.
 use crate::help;
 use crate::link::LinkArguments;
+use crate::serve::ServeArguments;
 use crate::stages::{Cap, DEFAULT_CAP, MAX_CAP};
 use clap::builder::ValueParser;
 use clap::error::ErrorKind;
@@ -20,6 +21,7 @@ pub enum Task<'a> {
     Plan(LinkArguments<'a>),
     Stages(Cap, LinkArguments<'a>),
     Pick(PickRequest<'a>),
+    Serve(ServeArguments<'a>),
 }
 
 /// Reads the command line. An error is `clap`'s own text, help too.
@@ -30,6 +32,7 @@ pub fn read<'a, S: AsStr>(alloc: Global, words: &'a [S]) -> Result<Task<'a>, Err
         Some(("plan", given)) => Ok(Task::Plan(link_of(alloc, given)?)),
         Some(("stages", given)) => Ok(Task::Stages(cap_of(given), link_of(alloc, given)?)),
         Some(("pick", given)) => pick_task(alloc, given),
+        Some(("serve", given)) => serve_task(alloc, given),
         _ => Err(toxi(alloc)?.error(ErrorKind::MissingSubcommand, "a command is required")?),
     }
 }
@@ -72,6 +75,26 @@ fn pick_of<'a>(given: &ArgMatches<'a>) -> Option<PickRequest<'a>> {
     })
 }
 
+fn serve_task<'a>(alloc: Global, given: &ArgMatches<'a>) -> Result<Task<'a>, Error> {
+    match serve_of(given) {
+        Some(arguments) => Ok(Task::Serve(arguments)),
+        None => Err(toxi(alloc)?.error(
+            ErrorKind::MissingRequiredArgument,
+            "serve needs its files and a seed",
+        )?),
+    }
+}
+
+/// What `serve` is given, where each option that it needs is there.
+fn serve_of<'a>(given: &ArgMatches<'a>) -> Option<ServeArguments<'a>> {
+    Some(ServeArguments {
+        config: given.get_str("config")?,
+        script: given.get_str("script")?,
+        seed: given.get_one::<u64>("seed")?,
+        links: given.get_one::<u64>("links"),
+    })
+}
+
 /// The room of each ring. `clap` has rejected other values.
 fn cap_of(given: &ArgMatches<'_>) -> Cap {
     Cap::new(given.get_one::<usize>("cap").unwrap_or(DEFAULT_CAP))
@@ -87,7 +110,8 @@ fn toxi<'a>(alloc: Global) -> Result<Command<'a>, AllocError> {
         .subcommand(dry(alloc)?)?
         .subcommand(plan(alloc)?)?
         .subcommand(stages(alloc)?)?
-        .subcommand(pick(alloc)?)
+        .subcommand(pick(alloc)?)?
+        .subcommand(serve(alloc)?)
 }
 
 fn dry<'a>(alloc: Global) -> Result<Command<'a>, AllocError> {
@@ -128,32 +152,60 @@ fn pick<'a>(alloc: Global) -> Result<Command<'a>, AllocError> {
         "The number of the connection, 1 to 1000000",
     )
     .value_parser(ValueParser::unsigned(1, MAX_CONNECTIONS));
-    let seed = needed(
+    Command::new(alloc, "pick")
+        .about("Prints what a numbered connection meets, from the files and the seed alone")
+        .after_help(help::PICK)
+        .arg(config_argument(alloc))?
+        .arg(script_argument(alloc))?
+        .arg(needed(alloc, "proxy", "NAME", "The proxy's name"))?
+        .arg(conn)?
+        .arg(needed(alloc, "stream", "STREAM", "upstream or downstream"))?
+        .arg(seed_argument(alloc))
+}
+
+fn serve<'a>(alloc: Global) -> Result<Command<'a>, AllocError> {
+    let links = Arg::new(alloc, "links")
+        .long("links")
+        .value_name("N")
+        .help(
+            "After how many connections each proxy stops listening, 1 to 1000000 [default: it goes on]",
+        )
+        .value_parser(ValueParser::unsigned(1, MAX_CONNECTIONS));
+    Command::new(alloc, "serve")
+        .about("Listens for each proxy, and carries its connections under their toxics")
+        .after_help(help::SERVE)
+        .arg(config_argument(alloc))?
+        .arg(script_argument(alloc))?
+        .arg(seed_argument(alloc))?
+        .arg(links)
+}
+
+fn config_argument<'a>(alloc: Global) -> Arg<'a> {
+    needed(
+        alloc,
+        "config",
+        "FILE",
+        "The populate file: the proxies, in JSON",
+    )
+}
+
+fn script_argument<'a>(alloc: Global) -> Arg<'a> {
+    needed(
+        alloc,
+        "script",
+        "FILE",
+        "The script: the toxics of connections, in TOML",
+    )
+}
+
+fn seed_argument<'a>(alloc: Global) -> Arg<'a> {
+    needed(
         alloc,
         "seed",
         "N",
         "What the random words are made from, 0 to 2^64 - 1",
     )
-    .value_parser(value_parser!(u64));
-    Command::new(alloc, "pick")
-        .about("Prints what a numbered connection meets, from the files and the seed alone")
-        .after_help(help::PICK)
-        .arg(needed(
-            alloc,
-            "config",
-            "FILE",
-            "The populate file: the proxies, in JSON",
-        ))?
-        .arg(needed(
-            alloc,
-            "script",
-            "FILE",
-            "The script: the toxics of connections, in TOML",
-        ))?
-        .arg(needed(alloc, "proxy", "NAME", "The proxy's name"))?
-        .arg(conn)?
-        .arg(needed(alloc, "stream", "STREAM", "upstream or downstream"))?
-        .arg(seed)
+    .value_parser(value_parser!(u64))
 }
 
 /// An option that must be given.

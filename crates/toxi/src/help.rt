@@ -5,7 +5,8 @@ pub const PROGRAM: &str = "\
 Example:
   printf '0 data 6162\\n50 eof\\n' | toxi dry latency:latency=100
 
-`toxi dry --help` shows each toxic and the lines of the input, `toxi pick --help` the files.
+`toxi dry --help` shows each toxic and the lines of the input, `toxi pick --help` the files, `toxi serve --help` a proxy
+under faults.
 A fault is one line on standard error, and the status is then 1.";
 
 /// Below the options of `toxi dry`.
@@ -104,3 +105,24 @@ Example, with the files above as proxies.json and script.toml:
 prints
   proxy a listen localhost:0 upstream localhost:1 enabled
   0 applied latency:latency=100,jitter=0,toxicity=1000 latency_downstream";
+
+/// Below the options of `toxi serve`.
+pub const SERVE: &str = "\
+The files are those of `toxi pick`; see `toxi pick --help`. Each enabled proxy is listened for, and each connection to it
+is carried to its upstream under the toxics that the script has for it. `toxi pick` tells them beforehand.
+
+The output has a line for each proxy that listens, one for each link that ended, and one for each proxy at its end. A
+proxy ends once it stopped listening and all its links ended:
+
+  listening <name> <address>
+  link <name> <number> up <bytes> <end> down <bytes> <end>
+  total <name> <links> up <bytes> down <bytes>
+
+The bytes are those written upstream and downstream. An end is open, closed, reset or broken: a write failed, the
+upstream wasn't reached, or memory or a thread was refused. Each line is flushed as it is written.
+
+Example, with the files of `toxi pick --help` as proxies.json and script.toml, and port 1 of localhost closed:
+  toxi serve --config proxies.json --script script.toml --seed 1 --links 1
+prints, after one connection to the port that it tells first,
+  link a 1 up 0 broken down 0 broken
+  total a 1 up 0 down 0";

@@ -8,17 +8,22 @@ mod help;
 mod link;
 mod pick;
 mod plan;
+mod serve;
 mod stages;
 
 use clap::Error;
 use clap::error::ErrorKind;
 use command_line::Task;
+use serve::ServeArguments;
 use std::env;
 use std::fmt::Display;
+use std::net::{Net, TcpListener, TcpStream};
 use std::process::ExitCode;
 use std::rt::Files;
 use std::sync::Wait;
 use std::thread::Threads;
+use std::time::Clock;
+use tox_proxy::ServeRuntime;
 
 /// The status of a command line that is refused.
 const WRONG_ARGUMENTS: u8 = 2;
@@ -38,15 +43,38 @@ fn main(rt: HostRuntime) -> ExitCode {
 }
 
 /// Does what the command line asks for.
-fn perform<R: Input + Print + Eprint + Files + AllocGlobal + Threads + Wait + Sync>(
-    rt: &R,
-    task: &Task<'_>,
-) -> ExitCode {
+fn perform<
+    R: Input
+        + Print
+        + Eprint
+        + Files
+        + AllocGlobal
+        + Net<Listener = TcpListener, Stream = TcpStream>
+        + Threads
+        + Wait
+        + Clock
+        + Copy
+        + Send
+        + Sync
+        + 'static,
+>(rt: &R, task: &Task<'_>) -> ExitCode {
     match task {
         Task::Dry(link) => tell(rt, dry::dry(rt, link)),
         Task::Plan(link) => tell(rt, plan::plan(rt, link)),
         Task::Stages(cap, link) => tell(rt, stages::stages(rt, cap, link)),
         Task::Pick(request) => tell(rt, pick::pick(rt, request)),
+        Task::Serve(arguments) => serve_files(rt, arguments),
+    }
+}
+
+/// Reads the files, and serves what they set up.
+fn serve_files<R: Print + Eprint + Files + AllocGlobal + ServeRuntime>(
+    rt: &R,
+    arguments: &ServeArguments<'_>,
+) -> ExitCode {
+    match serve::set_up(rt, arguments) {
+        Ok(setup) => tell(rt, serve::serve_proxies(rt, &setup, arguments)),
+        Err(fault) => fail(rt, &fault),
     }
 }
 

@@ -7,8 +7,8 @@ use crate::link::LinkArguments;
 use std::io;
 use std::sync::Wait;
 use std::thread::Threads;
-use tox_proxy::stages_run;
-use tox_time::{Gate, Real};
+use tox_proxy::{Open, stages_run};
+use tox_time::Real;
 
 /// The most items of a ring.
 pub const MAX_CAP: usize = 1024;
@@ -31,13 +31,6 @@ impl Cap {
             items: items.clamp(1, MAX_CAP),
         }
     }
-}
-
-/// A gate at which nobody stops.
-struct Open;
-
-impl Gate for Open {
-    fn pass(&self, _stage: usize, _nth: u64) {}
 }
 
 /// Reads the link, and then the input.

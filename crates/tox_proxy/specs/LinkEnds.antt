@@ -1,0 +1,56 @@
+-- How a served link ended, and what the book keeps of it.
+use Rattle.std.specs.Prelude.{ℕ, Bool, true, false, ◌||◌, List, Option, Some, None, Result, Ok, Err, if◌then◌else◌}
+use Rattle.tox_time.specs.declared.ending.Ending.{Ending}
+use Rattle.tox_time.specs.declared.stream.Stream.{Stream}
+use Rattle.tox_time.specs.declared.stream.Stream.TheVariants.{Upstream, Downstream}
+use Rattle.tox_link.specs.declared.sides.Link.{Link}
+use Rattle.tox_link.specs.declared.sides.Side.{Side}
+use Rattle.tox_link.specs.declared.book.BookFault.{BookFault}
+use Rattle.tox_link.specs.Links.{changed, with_bytes, with_end}
+use Rattle.tox_proxy.specs.declared.link_end.StreamEnd.{StreamEnd}
+use Rattle.tox_proxy.specs.declared.link_end.StreamEnd.TheVariants.{Ended, Failed, Refused}
+use Rattle.tox_proxy.specs.declared.link_end.Carried.{Carried}
+use Rattle.tox_proxy.specs.declared.link_end.SideEnd.{SideEnd}
+use Rattle.tox_proxy.specs.declared.link_end.LinkEnd.{LinkEnd}
+
+-- memory or a thread was refused
+abbrev pub is_refused : StreamEnd → Bool
+is_refused (Ended ending) = false
+is_refused Failed = false
+is_refused Refused = true
+
+-- how a direction ended, unless a fault broke it
+abbrev pub ending_of : StreamEnd → Option Ending
+ending_of (Ended ending) = Some ending
+ending_of Failed = None
+ending_of Refused = None
+
+abbrev pub broken_side : Carried → SideEnd
+broken_side carried = record { bytes = carried.bytes; ending = None }
+
+abbrev pub side_end : Carried → SideEnd
+side_end carried = record { bytes = carried.bytes; ending = ending_of carried.end }
+
+-- a link whose directions carried this: where either was refused, both are broken
+abbrev pub link_end : Carried → Carried → LinkEnd
+link_end upstream downstream =
+    if is_refused upstream.end || is_refused downstream.end
+    then record { upstream = broken_side upstream; downstream = broken_side downstream }
+    else record { upstream = side_end upstream; downstream = side_end downstream }
+
+-- the links as a change leaves them, which a refusal leaves as they were
+abbrev pub left_by : List Link → Result (List Link) BookFault → List Link
+left_by links (Ok changed) = changed
+left_by links (Err fault) = links
+
+-- the links after a change of this side of a link
+abbrev pub after_change : (Side → Result Side BookFault) → ℕ → Stream → List Link → List Link
+after_change change number stream links = left_by links (changed change links number stream)
+
+-- the links with the bytes of a link, and then with how its sides ended
+abbrev pub settled : ℕ → LinkEnd → List Link → List Link
+settled number end links =
+    let up = after_change (with_bytes end.upstream.bytes) number Upstream links in
+    let both = after_change (with_bytes end.downstream.bytes) number Downstream up in
+    let ended = after_change (with_end end.upstream.ending) number Upstream both in
+    after_change (with_end end.downstream.ending) number Downstream ended

@@ -1,0 +1,25 @@
+-- Why nothing is served.
+use Rattle.std.specs.Prelude.{◌≡◌, ℕ, true, List}
+use Rattle.std.specs.List.{Contains}
+use Rattle.tox_config.specs.Proxy.{Proxy}
+use Rattle.tox_proxy.specs.declared.serve_fault.ServeFault.{ServeFault}
+use Rattle.tox_proxy.specs.declared.serve_fault.ServeFault.TheVariants.{ListenRefused, SpawnRefused, OutOfMemory}
+
+-- an enabled proxy has this name
+pub record HasEnabled (proxies : List Proxy) (name : List ℕ) : Type 0 where
+  pub proxy : Proxy
+  pub listed : Contains proxies proxy
+  pub enabled : proxy.enabled ≡ true
+  pub named : proxy.name ≡ name
+
+-- why an address of a proxy wasn't bound
+abbrev pub IsListenFault : Proxy → ServeFault → Type 0
+IsListenFault proxy (ListenRefused name) = name.now ≡ proxy.name
+IsListenFault proxy SpawnRefused = ⊥
+IsListenFault proxy OutOfMemory = Unit {0}
+
+-- why nothing is served: an address that couldn't be listened at is that of an enabled proxy
+abbrev pub HasServeCause : List Proxy → ServeFault → Type 0
+HasServeCause proxies (ListenRefused name) = HasEnabled proxies name.now
+HasServeCause proxies SpawnRefused = Unit {0}
+HasServeCause proxies OutOfMemory = Unit {0}

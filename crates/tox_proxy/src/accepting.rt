@@ -1,0 +1,60 @@
+//! Taking the next connection of a listener.
+use std::io::ErrorKind;
+use std::net::{TcpListener, TcpStream};
+use std::sync::Wait;
+use std::time::{Clock, Duration};
+use std::{io, thread};
+
+/// How long a listener rests where descriptors or memory are lacking, in milliseconds.
+const SHORT_REST: u64 = 10;
+
+/// The system's codes of a momentary lack: of descriptors in this process, in the system, and of buffers.
+const LACKS: [i32; 3] = [24, 23, 105];
+
+/// The system's code of a connection that broke before it was accepted.
+const PROTOCOL_ERROR: i32 = 71;
+
+/// What to do after a failed `accept`.
+#[derive(Clone, Copy, Debug, PartialEq, Eq)]
+enum Next {
+    TryAgain,
+    Rest,
+    GiveUp,
+}
+
+/// The next connection. None where the listener fails for good.
+pub(crate) fn next_client<R: Wait + Clock>(rt: &R, listener: &TcpListener) -> Option<TcpStream> {
+    for _ in rt.forever() {
+        match listener.accept() {
+            Ok((client, _)) => return Some(client),
+            Err(error) => match after(&error) {
+                Next::TryAgain => {}
+                Next::Rest => thread::sleep(rt, Duration::from_millis(SHORT_REST)),
+                Next::GiveUp => return None,
+            },
+        }
+    }
+    unreachable!()
+}
+
+/// A connection that was gone, an interrupted call and a momentary lack are no failing listener.
+fn after(error: &io::Error) -> Next {
+    match error.kind() {
+        ErrorKind::Interrupted
+        | ErrorKind::ConnectionAborted
+        | ErrorKind::ConnectionReset
+        | ErrorKind::HostUnreachable
+        | ErrorKind::NetworkUnreachable
+        | ErrorKind::NetworkDown => Next::TryAgain,
+        ErrorKind::OutOfMemory => Next::Rest,
+        _ => after_code(error.raw_os_error()),
+    }
+}
+
+fn after_code(code: Option<i32>) -> Next {
+    match code {
+        Some(PROTOCOL_ERROR) => Next::TryAgain,
+        Some(code) if LACKS.contains(&code) => Next::Rest,
+        _ => Next::GiveUp,
+    }
+}

@@ -1,0 +1,65 @@
+//! The addresses of proxies, bound before anything is served.
+ghost use Rattle.std.specs.Prelude.{◌≡◌, true, IfErr};
+ghost use Rattle.tox_proxy.specs.Serving.{HasServeCause, IsListenFault};
+
+use crate::addresses::listen_address;
+use crate::serve_fault::ServeFault;
+use std::alloc::Global;
+use std::net::{Net, TcpListener, TcpStream};
+use tox_config::ProxyDef;
+
+/// An enabled proxy whose address is bound.
+#[derive(Drop)]
+pub(crate) struct Listening<'a> {
+    pub(crate) proxy: &'a ProxyDef,
+    pub(crate) listener: TcpListener,
+    /// The address that was bound, as it is printed.
+    pub(crate) address: String,
+}
+
+/// Binds the address of each enabled proxy, in order.
+pub(crate) fn listen_all<'a, R: Net<Listener = TcpListener, Stream = TcpStream>>(
+    rt: &R,
+    alloc: Global,
+    proxies: &'a [ProxyDef],
+) -> Result<Vec<Listening<'a>>, ServeFault<'a>>
+    ensures { IfErr result (HasServeCause proxies.now) }
+{
+    let mut listening = Vec::new(alloc);
+    for proxy in proxies {
+        if proxy.enabled {
+            let bound = listen(rt, alloc, proxy)?;
+            if listening.push(bound).is_err() {
+                return Err(ServeFault::OutOfMemory);
+            }
+        }
+    }
+    Ok(listening)
+}
+
+/// Binds the address of a proxy.
+fn listen<'a, R: Net<Listener = TcpListener, Stream = TcpStream>>(
+    rt: &R,
+    alloc: Global,
+    proxy: &'a ProxyDef,
+) -> Result<Listening<'a>, ServeFault<'a>>
+    ensures { IfErr result (IsListenFault proxy.now) }
+{
+    let Ok(address) = listen_address(alloc, &proxy.listen) else {
+        return Err(ServeFault::OutOfMemory);
+    };
+    let Ok(listener) = TcpListener::bind(rt, address.as_str()) else {
+        return Err(ServeFault::ListenRefused(&proxy.name));
+    };
+    let Ok(bound) = listener.local_addr() else {
+        return Err(ServeFault::ListenRefused(&proxy.name));
+    };
+    let Ok(address) = format!(in alloc; "{bound}") else {
+        return Err(ServeFault::OutOfMemory);
+    };
+    Ok(Listening {
+        proxy,
+        listener,
+        address,
+    })
+}

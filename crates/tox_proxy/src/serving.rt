@@ -1,0 +1,120 @@
+//! Serving proxies: sockets under the plans of a script.
+ghost use Rattle.std.specs.Prelude.{◌≡◌, All, false, IfErr, Ok};
+ghost use Rattle.tox_proxy.specs.Serving.{HasServeCause};
+
+use crate::listening::{Listening, listen_all};
+use crate::open_gate::Open;
+use crate::printing::print_listening;
+use crate::proxy_thread::serve_proxy;
+use crate::serve_fault::ServeFault;
+use crate::serve_run::Run;
+use crate::serve_runtime::ServeRuntime;
+use std::alloc::Global;
+use std::io::Write;
+use std::net::{Net, TcpListener, TcpStream};
+use std::sync::{Arc, Mutex, Wait};
+use std::thread;
+use std::thread::{Scope, Threads};
+use std::time::Clock;
+use tox_config::ProxyDef;
+use tox_script::Script;
+
+/// Serves the enabled proxies. Binds all their addresses first, and prints where each listens. Each connection that is
+/// taken meets the toxics of the script under the words of the seed and its number. A line tells how each link ended,
+/// and one for each proxy its totals. With `links` a proxy stops listening after so many connections.
+///
+/// Returns once no proxy listens any more and all links have ended. A fault comes before any connection is taken.
+pub fn serve<
+    'a,
+    R: Net<Listener = TcpListener, Stream = TcpStream>
+        + Threads
+        + Wait
+        + Clock
+        + Copy
+        + Send
+        + Sync
+        + 'static,
+    W: Write + Send,
+>(
+    rt: &R,
+    alloc: Global,
+    proxies: &'a [ProxyDef],
+    script: &Script,
+    seed: u64,
+    links: Option<u64>,
+    out: &Mutex<W>,
+) -> Result<(), ServeFault<'a>>
+    ensures nothing { All (λ proxy. proxy.enabled ≡ false) proxies.now → result ≡ Ok tt }
+    ensures fault { IfErr result (HasServeCause proxies.now) }
+{
+    if !proxies.iter().any(|proxy| proxy.enabled) {
+        return Ok(());
+    }
+    let listening = listen_all(rt, alloc, proxies)?;
+    let Ok(gate) = Arc::new(alloc, Open) else {
+        return Err(ServeFault::OutOfMemory);
+    };
+    let run = Run {
+        alloc,
+        script,
+        seed,
+        links,
+        out,
+        gate,
+    };
+    if serve_all(rt, &run, listening) {
+        Ok(())
+    } else {
+        Err(ServeFault::SpawnRefused)
+    }
+}
+
+/// Serves each proxy in a thread of its own. False if one is refused: then no connection is taken.
+fn serve_all<R: ServeRuntime, W: Write + Send>(
+    rt: &R,
+    run: &Run<'_, W>,
+    listening: Vec<Listening<'_>>,
+) -> bool {
+    let go = Mutex::new(false);
+    let may_go = &go;
+    thread::scope(thread::scope_env(), rt, |scope| {
+        // The threads wait for the lock until all of them are there.
+        let mut all_started = may_go.lock(rt);
+        print_listening(rt, run.out, &listening);
+        *all_started = start_all(rt, run, may_go, scope, listening);
+        *all_started
+    })
+}
+
+/// Starts the threads of proxies. False if one is refused.
+fn start_all<'s, E: 's, R: ServeRuntime, W: Write + Send>(
+    rt: &'s R,
+    run: &'s Run<'s, W>,
+    may_go: &'s Mutex<bool>,
+    scope: &'s Scope<'s, E>,
+    listening: Vec<Listening<'s>>,
+) -> bool {
+    for bound in listening {
+        if !start_proxy(rt, run, may_go, scope, bound) {
+            return false;
+        }
+    }
+    true
+}
+
+/// Starts the thread of a proxy, which serves it once it may go. False if the thread is refused.
+fn start_proxy<'s, E: 's, R: ServeRuntime, W: Write + Send>(
+    rt: &'s R,
+    run: &'s Run<'s, W>,
+    may_go: &'s Mutex<bool>,
+    scope: &'s Scope<'s, E>,
+    bound: Listening<'s>,
+) -> bool {
+    let started = scope.spawn(move || {
+        let goes = *may_go.lock(rt);
+        if goes {
+            serve_proxy(rt, run, bound);
+        }
+    });
+    started.is_ok()
+}

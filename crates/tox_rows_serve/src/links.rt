@@ -1,0 +1,157 @@
+//! Served links, over sockets of this machine.
+use crate::peers::{ask, echo_once};
+use std::alloc::Global;
+use std::net::{Net, TcpListener, TcpStream};
+use std::sync::{Mutex, Wait};
+use std::test::Fail;
+use std::thread::Threads;
+use std::time::{Clock, Duration};
+use std::{io, thread};
+use tox_config::{ProxyDef, read_populate};
+use tox_proxy::{ServeFault, serve};
+use tox_script::{Script, read_script};
+
+/// Three bytes pass downstream.
+const THREE_BYTES: &str = "\
+[[rule]]
+proxy = \"a\"
+first = 1
+
+[[rule.toxic]]
+type = \"limit_data\"
+attributes = { bytes = 3 }
+";
+
+/// A proxy of this name from one address to another.
+fn proxy(alloc: Global, listen: &str, upstream: &str) -> Result<Vec<ProxyDef>, Fail> {
+    let text = format!(in alloc;
+        "[{{\"name\":\"a\",\"listen\":\"{listen}\",\"upstream\":\"{upstream}\"}}]"
+    )?;
+    Ok(read_populate(alloc, text.as_bytes())?)
+}
+
+/// The address of the first line, if it is there.
+fn first_address(alloc: Global, lines: &[u8]) -> io::Result<Option<String>> {
+    let Ok(text) = str::from_utf8(lines) else {
+        return Ok(None);
+    };
+    let Some((line, _)) = text.split_once('\n') else {
+        return Ok(None);
+    };
+    match line.strip_prefix("listening a ") {
+        Some(address) => Ok(Some(address.to_string(alloc)?)),
+        None => Ok(None),
+    }
+}
+
+/// The address of the first line, once it is there.
+fn listening<R: Wait + Clock>(rt: &R, alloc: Global, out: &Mutex<Vec<u8>>) -> io::Result<String> {
+    for _ in rt.forever() {
+        thread::sleep(rt, Duration::from_millis(1));
+        let found = first_address(alloc, &out.lock(rt))?;
+        if let Some(address) = found {
+            return Ok(address);
+        }
+    }
+    unreachable!()
+}
+
+/// Answers one connection, if there is an upstream.
+fn answer(alloc: Global, upstream: Option<&TcpListener>) -> bool {
+    match upstream {
+        Some(listener) => echo_once(alloc, listener).is_ok(),
+        None => true,
+    }
+}
+
+/// What is printed behind the first line for one link, on which a client sends five bytes.
+fn served<
+    R: Net<Listener = TcpListener, Stream = TcpStream>
+        + Threads
+        + Wait
+        + Clock
+        + Copy
+        + Send
+        + Sync
+        + 'static
+        + AllocGlobal,
+>(
+    rt: &R,
+    proxies: &[ProxyDef],
+    script: &Script,
+    upstream: Option<&TcpListener>,
+) -> Result<String, Fail> {
+    let alloc = rt.alloc();
+    let out = Mutex::new(Vec::new(alloc));
+    let lines = &out;
+    thread::scope(thread::scope_env(), rt, |scope| -> io::Result<()> {
+        let server = scope.spawn(move || serve(
+            rt,
+            alloc,
+            proxies,
+            script,
+            1,
+            Some(1),
+            lines,
+        ).is_ok());
+        let Ok(server) = server else {
+            return Ok(());
+        };
+        let answers = scope.spawn(move || answer(alloc, upstream));
+        let address = listening(rt, alloc, lines)?;
+        let _ = ask(rt, alloc, &address, b"abcde");
+        server.join(rt);
+        if let Ok(answers) = answers {
+            answers.join(rt);
+        }
+        Ok(())
+    })?;
+    let bytes = out.into_inner();
+    let text = str::from_utf8(&bytes)?;
+    let Some((_, rest)) = text.split_once('\n') else {
+        return Ok(String::new(alloc));
+    };
+    Ok(rest.to_string(alloc)?)
+}
+
+#[test]
+fn a_link_is_carried_and_told(rt: HostRuntime) -> Result<(), Fail> {
+    let alloc = rt.alloc();
+    let upstream = TcpListener::bind(&rt, "127.0.0.1:0")?;
+    let address = format!(in alloc; "{}", upstream.local_addr()?)?;
+    let proxies = proxy(alloc, "127.0.0.1:0", &address)?;
+    let script = read_script(alloc, THREE_BYTES.as_bytes())?;
+    let printed = served(&rt, &proxies, &script, Some(&upstream))?;
+    assert_eq!(rt;
+        printed.as_str(),
+        "link a 1 up 5 closed down 3 closed\ntotal a 1 up 5 down 3\n"
+    );
+    Ok(())
+}
+
+#[test]
+fn an_upstream_where_nobody_listens_breaks_the_link(rt: HostRuntime) -> Result<(), Fail> {
+    let alloc = rt.alloc();
+    let proxies = proxy(alloc, "127.0.0.1:0", "127.0.0.1:1")?;
+    let script = read_script(alloc, b"")?;
+    let printed = served(&rt, &proxies, &script, None)?;
+    assert_eq!(rt;
+        printed.as_str(),
+        "link a 1 up 0 broken down 0 broken\ntotal a 1 up 0 down 0\n"
+    );
+    Ok(())
+}
+
+#[test]
+fn a_taken_port_is_refused(rt: HostRuntime) -> Result<(), Fail> {
+    let alloc = rt.alloc();
+    let taken = TcpListener::bind(&rt, "127.0.0.1:0")?;
+    let address = format!(in alloc; "{}", taken.local_addr()?)?;
+    let proxies = proxy(alloc, &address, "127.0.0.1:1")?;
+    let script = read_script(alloc, b"")?;
+    let out = Mutex::new(Vec::new(alloc));
+    let answer = serve(&rt, alloc, &proxies, &script, 1, Some(1), &out);
+    assert_eq!(rt; answer, Err(ServeFault::ListenRefused("a")));
+    assert_eq!(rt; out.into_inner().len(), 0);
+    Ok(())
+}

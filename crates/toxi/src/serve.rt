@@ -1,0 +1,48 @@
+//! `toxi serve`: proxies that listen. Each line is on standard output as it comes.
+use std::io;
+use std::rt::Files;
+use std::sync::Mutex;
+use tox_proxy::{RealFiles, ServeFault, ServeRuntime, Setup, SetupFault, read_setup, serve};
+
+/// What `serve` is given.
+#[derive(Clone, Copy, Debug)]
+pub struct ServeArguments<'a> {
+    /// The name of the populate file.
+    pub config: &'a str,
+    /// The name of the script file.
+    pub script: &'a str,
+    pub seed: u64,
+    /// After how many connections each proxy stops listening. None: it goes on.
+    pub links: Option<u64>,
+}
+
+/// Reads the populate file, and then the script.
+pub fn set_up<'a, R: Files + AllocGlobal>(
+    rt: &R,
+    arguments: &ServeArguments<'a>,
+) -> Result<Setup, SetupFault<'a>> {
+    read_setup(
+        &RealFiles::new(rt),
+        rt.alloc(),
+        arguments.config,
+        arguments.script,
+    )
+}
+
+/// Serves the proxies of the files.
+pub fn serve_proxies<'a, R: Print + AllocGlobal + ServeRuntime>(
+    rt: &R,
+    setup: &'a Setup,
+    arguments: &ServeArguments<'_>,
+) -> Result<(), ServeFault<'a>> {
+    let out = Mutex::new(io::writer(rt));
+    serve(
+        rt,
+        rt.alloc(),
+        &setup.proxies,
+        &setup.script,
+        arguments.seed,
+        arguments.links,
+        &out,
+    )
+}
