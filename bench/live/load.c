@@ -128,38 +128,46 @@ struct transfer {
 
 static void *send_all(void *argument) {
     struct transfer *transfer = argument;
-    if (!send_pattern(transfer->link, 0, transfer->bytes)) fail("send");
+    send_pattern(transfer->link, 0, transfer->bytes);
     shutdown(transfer->link, SHUT_WR);
     return NULL;
 }
 
-static void exchange(int link, long bytes) {
+/* whether all bytes came, and then the end */
+static int exchange(int link, long bytes) {
     struct transfer transfer = {link, bytes};
     pthread_t sender;
     char end;
     pthread_create(&sender, NULL, send_all, &transfer);
-    if (!receive_pattern(link, 0, bytes)) fail("a byte is wrong or missing");
-    if (recv(link, &end, 1, 0) != 0) fail("bytes after the end");
+    int whole = receive_pattern(link, 0, bytes) && recv(link, &end, 1, 0) == 0;
     pthread_join(sender, NULL);
     close(link);
+    return whole;
+}
+
+static long exchange_bytes;
+
+static void *exchange_link(void *argument) {
+    exchange((int)(long)argument, exchange_bytes);
+    return NULL;
 }
 
 static void start_thread(void *(*work)(void *), long argument) {
     pthread_t thread;
     pthread_attr_t small;
     pthread_attr_init(&small);
-    pthread_attr_setstacksize(&small, 65536);
+    pthread_attr_setstacksize(&small, 262144);
     pthread_attr_setdetachstate(&small, PTHREAD_CREATE_DETACHED);
     if (pthread_create(&thread, &small, work, (void *)argument)) fail("thread");
 }
 
-static void serve_echo(void) {
+static void serve(void *(*work)(void *)) {
     int listener = listen_anywhere();
     for (;;) {
         int link = accept(listener, NULL, NULL);
         if (link < 0) continue;
         no_delay(link);
-        start_thread(echo_link, link);
+        start_thread(work, link);
     }
 }
 
@@ -223,17 +231,14 @@ int main(int count, char **words) {
     const char *what = count > 1 ? words[1] : "";
     long n[4] = {0};
     for (int i = 0; i < 4 && i + 2 < count; i++) n[i] = atol(words[i + 2]);
-    if (!strcmp(what, "echo")) serve_echo();
+    if (!strcmp(what, "echo")) serve(echo_link);
     else if (!strcmp(what, "exchange-server")) {
-        int listener = listen_anywhere();
-        for (;;) {
-            int link = accept(listener, NULL, NULL);
-            if (link >= 0) exchange(link, n[0]);
-        }
+        exchange_bytes = n[0];
+        serve(exchange_link);
     } else if (!strcmp(what, "exchange")) {
         int link = connect_to(n[0]);
         double start = now();
-        exchange(link, n[1]);
+        if (!exchange(link, n[1])) fail("a byte is wrong or missing");
         printf("%.3f\n", now() - start);
     } else if (!strcmp(what, "ping")) ping(n[0], n[1]);
     else if (!strcmp(what, "hold")) hold(n[0], n[1], n[2]);
