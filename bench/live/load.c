@@ -3,7 +3,8 @@
  *   load echo                          an upstream that sends back what it reads; prints its port
  *   load exchange-server BYTES         an upstream that sends BYTES and reads BYTES at once; prints its port
  *   load exchange PORT BYTES           a client that does the same; prints seconds
- *   load ping PORT COUNT               one-byte round trips; prints median and 99th percentile in microseconds
+ *   load ping PORT COUNT               one-byte round trips; prints median, 99th percentile and least in microseconds
+ *   load receive PORT BYTES            reads BYTES; prints the microseconds until the last one
  *   load hold PORT LINKS SECONDS       opens links, echoes one byte over each, and then sends nothing
  *   load many PORT LINKS ROUNDS SIZE   links open at once, each echoing ROUNDS times SIZE bytes; prints how many broke
  *   load series PORT LINKS SIZE        links one after the other, each echoing SIZE bytes; prints how many broke
@@ -185,7 +186,15 @@ static void ping(int port, long count) {
         times[i] = now() - start;
     }
     qsort(times, count, sizeof *times, by_time);
-    printf("%.1f %.1f\n", times[count / 2] * 1e6, times[count * 99 / 100] * 1e6);
+    printf("%.1f %.1f %.1f\n", times[count / 2] * 1e6, times[count * 99 / 100] * 1e6, times[0] * 1e6);
+    close(link);
+}
+
+static void receive(int port, long bytes) {
+    double start = now();
+    int link = connect_to(port);
+    if (!receive_pattern(link, 0, bytes)) fail("receive");
+    printf("%.0f\n", (now() - start) * 1e6);
     close(link);
 }
 
@@ -241,6 +250,7 @@ int main(int count, char **words) {
         if (!exchange(link, n[1])) fail("a byte is wrong or missing");
         printf("%.3f\n", now() - start);
     } else if (!strcmp(what, "ping")) ping(n[0], n[1]);
+    else if (!strcmp(what, "receive")) receive(n[0], n[1]);
     else if (!strcmp(what, "hold")) hold(n[0], n[1], n[2]);
     else if (!strcmp(what, "many")) many(n[0], n[1], n[2], n[3]);
     else if (!strcmp(what, "series")) series(n[0], n[1], n[2]);

@@ -8,15 +8,12 @@ import time
 
 TICKS = os.sysconf("SC_CLK_TCK")
 PAGE = os.sysconf("SC_PAGE_SIZE")
-ZERO = """[[rule]]
-proxy = "bench"
-first = 1
-[[rule.toxic]]
-type = "latency"
-stream = "{stream}"
-name = "{stream}"
-attributes = {{ latency = 0 }}
-"""
+
+
+def rule(kind, attributes, stream="downstream"):
+    """The script of one toxic on each link."""
+    toxic = f'[[rule.toxic]]\ntype = "{kind}"\nstream = "{stream}"\nattributes = {{ {attributes} }}\n'
+    return f'[[rule]]\nproxy = "bench"\nfirst = 1\n{toxic}'
 
 
 def free_port():
@@ -73,8 +70,8 @@ def toxi(program, folder, upstream, name="toxi", script=""):
 
 
 def toxi_latency(program, folder, upstream):
-    script = ZERO.format(stream="upstream") + ZERO.format(stream="downstream").split("\n", 3)[3]
-    return toxi(program, folder, upstream, "toxi, latency 0", script)
+    both = rule("latency", "latency = 0") + rule("latency", "latency = 0", "upstream").split("first = 1\n")[1]
+    return toxi(program, folder, upstream, "toxi, latency 0", both)
 
 
 def socat(folder, upstream):
