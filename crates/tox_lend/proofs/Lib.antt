@@ -1,1 +1,1 @@
-mod WindowLemmas
+pub mod WindowLemmas

@@ -8,7 +8,7 @@ use Rattle.std.proofs.lemmas.List.Sorted.{IsNonDecreasingBy-from_all_adjacent, I
 use Rattle.tox_lend.specs.Run.{Run, stop_of}
 use Rattle.tox_lend.specs.Window.{JoinUpTo, has_position, start_of}
 
-start_of-push : (stop : ℕ) (pieces : List Run) (piece : Run) → piece.start ≡ stop → start_of (stop_of piece) (pieces ++ piece ∷ []) ≡ start_of stop pieces
+pub start_of-push : (stop : ℕ) (pieces : List Run) (piece : Run) → piece.start ≡ stop → start_of (stop_of piece) (pieces ++ piece ∷ []) ≡ start_of stop pieces
 start_of-push stop [] piece starts = starts
 start_of-push stop (first ∷ pieces) piece starts = refl
 
@@ -91,7 +91,7 @@ find_here position place pieces piece ended below is after =
     ∙ find_first position piece (drop (place + 1) pieces) after here
 
 -- pieces that start at or behind a position are kept
-kept_all : (stop position : ℕ) (pieces : List Run) → JoinUpTo stop pieces → position ≤ start_of stop pieces → filter (λ piece. nat_lt position (stop_of piece)) pieces ≡ pieces
+pub kept_all : (stop position : ℕ) (pieces : List Run) → JoinUpTo stop pieces → position ≤ start_of stop pieces → filter (λ piece. nat_lt position (stop_of piece)) pieces ≡ pieces
 kept_all stop position [] joined after = refl
 kept_all stop position (piece ∷ pieces) joined after =
     let test : nat_lt position (stop_of piece) ≡ true = search (rules, tests) in

@@ -18,10 +18,10 @@ impl Model for Piece {
     ghost use Rattle.std.specs.Prelude.{vec_capacity};
 
     ghost view = { λ p. record {
-        start = p.start;
-        bytes = p.bytes.items;
-        instant = p.instant;
-        room = vec_capacity p.bytes;
+      start = p.start;
+      bytes = p.bytes.items;
+      instant = p.instant;
+      room = vec_capacity p.bytes;
     } };
 }
 

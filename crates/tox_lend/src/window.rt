@@ -77,7 +77,8 @@ impl Window {
     pub fn drop_before(&mut self, position: u64)
         ensures { self.new
             ≡ record self.old {
-                held = filter (λ piece. nat_lt position (stop_of piece)) self.old.held } }
+              held = filter (λ piece. nat_lt position (stop_of piece)) self.old.held;
+            } }
     {
         while let Some(piece) = self.held.front() {
             if !piece.ends_by(position) {

@@ -5,6 +5,7 @@ use Rattle.std.specs.Io.KnownBytes.{append_known}
 use Rattle.std.proofs.lemmas.Bool.{cases_lt, le-leb, lt-ltb, le-ltb}
 use Rattle.std.proofs.lemmas.List.{drop-take, drop-drop, take-take}
 use Rattle.std.proofs.Math.Seq.{take-add}
+use Rattle.std.proofs.lemmas.Option.{same_Some}
 use Rattle.tox_time.specs.declared.span.Span.{Span}
 use Rattle.tox_lend.specs.Run.{Run, stop_of, bytes_at}
 use Rattle.tox_lend.specs.Window.{Pieces, JoinUpTo, start_of, has_position}
@@ -66,13 +67,10 @@ pub record Holds (position : ℕ) (pieces : List Run) (piece : Run) : Type 0 whe
   pub before_stop : position < stop_of piece
   pub part : (heard : List ℕ) → AreOf heard pieces → piece.bytes ≡ take (length piece.bytes) (drop piece.start heard)
 
-some-same : {X : Type 0} (x y : X) → Some x ≡ Some y → x ≡ y
-some-same x y same = cc
-
 pub found-holds : (window : Pieces) (span : Span) (piece : Run) → HoldsSpan window span → span.start < span.stop → Some piece ≡ find (has_position span.start) window.held → Holds span.start window.held piece
 found-holds window span piece held some found =
     let at : IsAt window.stop span.start window.held = held-at window.stop span.start window.held held.joined held.from_start (omega (arith, held.to_stop, some)) in
-    subst (Holds span.start window.held) (some-same at.piece piece (sym at.found ∙ sym found)) (record { from_start = at.from_start; before_stop = at.before_stop; part = at.part })
+    subst (Holds span.start window.held) (same_Some at.piece piece (sym at.found ∙ sym found)) (record { from_start = at.from_start; before_stop = at.before_stop; part = at.part })
 
 -- a window that holds a span finds a piece
 pub never-none : (window : Pieces) (span : Span) → HoldsSpan window span → span.start < span.stop → None ≡ find (has_position span.start) window.held → ⊥

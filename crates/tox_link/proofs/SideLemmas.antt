@@ -9,6 +9,7 @@ use Rattle.tox_lend.specs.Run.{Run, stop_of}
 use Rattle.tox_lend.specs.Window.{Pieces, JoinUpTo, start_of}
 use Rattle.rtrb.specs.Ring.{received}
 use Rattle.tox_time.specs.declared.ending.Ending.{Ending}
+use Rattle.tox_lend.proofs.WindowLemmas.{JoinUpTo-push, kept_all, start_of-push}
 use Rattle.tox_link.specs.declared.inbox.Inbox.{Inbox}
 use Rattle.tox_link.specs.declared.message.Message.{Message}
 use Rattle.tox_link.specs.declared.message.Message.TheVariants.{End}
@@ -46,14 +47,6 @@ parts-add : (heard : List ℕ) (pieces : List Run) (run : Run) → AreOf heard p
 parts-add heard [] run parts last = (last, tt)
 parts-add heard (piece ∷ pieces) run parts last = (parts.0, parts-add heard pieces run parts.1 last)
 
-start-add : (stop : ℕ) (pieces : List Run) (run : Run) → run.start ≡ stop → start_of (stop_of run) (pieces ++ run ∷ []) ≡ start_of stop pieces
-start-add stop [] run starts = starts
-start-add stop (piece ∷ pieces) run starts = refl
-
-join-add : (stop : ℕ) (pieces : List Run) (run : Run) → JoinUpTo stop pieces → run.start ≡ stop → 0 < length run.bytes → JoinUpTo (stop_of run) (pieces ++ run ∷ [])
-join-add stop [] run joined starts some = (some, refl, tt)
-join-add stop (piece ∷ pieces) run joined starts some = (joined.0, joined.1 ∙ sym (start-add stop pieces run starts), join-add stop pieces run joined.2 starts some)
-
 -- the bytes behind others are their own part
 last-part : (heard bytes : List ℕ) (start : ℕ) → start ≡ length heard → bytes ≡ take (length bytes) (drop start (heard ++ bytes))
 last-part heard bytes start at =
@@ -71,12 +64,6 @@ module _ (position : ℕ) (piece : Run) (pieces : List Run) where
   past-dropped : stop_of piece ≤ position → past position (piece ∷ pieces) ≡ past position pieces
   past-dropped ended = ap (λ test. cond test (piece ∷ past position pieces) (past position pieces)) (le-ltb position (stop_of piece) ended)
 
--- pieces that start at or behind a position stop past it
-past-all : (stop position : ℕ) (pieces : List Run) → JoinUpTo stop pieces → position ≤ start_of stop pieces → past position pieces ≡ pieces
-past-all stop position [] joined after = refl
-past-all stop position (piece ∷ pieces) joined after =
-    past-kept position piece pieces (omega (arith, joined.0, after)) ∙ ap (λ rest. piece ∷ rest) (past-all stop position pieces joined.2 (omega (arith, joined.1, after)))
-
 -- the pieces that a window holds from a position on
 pub record IsLeft (heard : List ℕ) (stop position : ℕ) (left : List Run) : Type 0 where
   pub joined : JoinUpTo stop left
@@ -88,7 +75,7 @@ past-left heard stop position [] joined from within parts = record { joined = tt
 past-left heard stop position (piece ∷ pieces) joined from within parts = elim (cases_lt position (stop_of piece)) [
   | inl inside ↦
       subst (IsLeft heard stop position)
-      (sym (past-kept position piece pieces inside ∙ ap (λ rest. piece ∷ rest) (past-all stop position pieces joined.2 (omega (arith, joined.1, inside)))))
+      (sym (past-kept position piece pieces inside ∙ ap (λ rest. piece ∷ rest) (kept_all stop position pieces joined.2 (omega (arith, joined.1, inside)))))
       (record { joined = joined; start = from; parts = parts })
   | inr ended ↦ subst (IsLeft heard stop position) (sym (past-dropped position piece pieces ended)) (past-left heard stop position pieces joined.2 (omega (arith, joined.1, ended)) within parts.1)
 ]
@@ -175,7 +162,7 @@ sound-kept old new before messages message bytes run sound going unknown came on
   written = written ∙ sound.written ∙ sym position;
   within = omega (arith, position, sound.within, counts);
   stop = stop;
-  joined = subst (λ held. JoinUpTo new.window.stop held) (sym held) (subst (λ at. JoinUpTo at (old.window.held ++ run ∷ [])) (sym stop_is) (join-add old.window.stop old.window.held run sound.joined starts run_some));
+  joined = subst (λ held. JoinUpTo new.window.stop held) (sym held) (subst (λ at. JoinUpTo at (old.window.held ++ run ∷ [])) (sym stop_is) (JoinUpTo-push old.window.stop old.window.held run sound.joined starts run_some));
   start = omega (arith, start_is, starts, sound.start, position);
   parts = subst (AreOf (bytes_of messages)) (sym held) (parts-add (bytes_of messages) old.window.held run (subst (λ heard. AreOf heard old.window.held) (sym grown) (parts-grow old.window.stop (bytes_of before) bytes old.window.held sound.joined (omega (arith, sound.stop, sound.few)) sound.parts)) last);
   few = omega (arith, all, counts, full);
@@ -214,7 +201,7 @@ sound-kept old new before messages message bytes run sound going unknown came on
         (last-part (bytes_of before) bytes run.start (omega (arith, starts, sound.stop, full)) ∙ ap (λ heard. take (length bytes) (drop run.start heard)) (sym grown))
 
     start_is : start_of new.window.stop new.window.held ≡ start_of old.window.stop old.window.held
-    start_is = ap (λ (window : Pieces). start_of window.stop window.held) window ∙ start-add old.window.stop old.window.held run starts
+    start_is = ap (λ (window : Pieces). start_of window.stop window.held) window ∙ start_of-push old.window.stop old.window.held run starts
 
 -- the source's end came
 pub sound-ended : (old new : WriterSide) (before messages : List Message) (end : ReadEnd) → IsSound old before → old.ended ≡ false → messages ≡ before ++ End end ∷ [] → new.ended ≡ true

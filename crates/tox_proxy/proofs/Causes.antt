@@ -1,5 +1,5 @@
 -- The faults that an arrivals text can have.
-use Rattle.std.proofs.Common.{◌≡◌, ◌≢◌, ℕ, ◌+◌, Bool, true, false, List, [], ◌∷◌, length, ◌==◌, Option, Some, None, Result, Ok, Err, if◌then◌else◌, subst, refl}
+use Rattle.std.proofs.Common.{◌≡◌, ◌≢◌, ℕ, ◌+◌, Bool, true, false, List, [], ◌∷◌, length, ◌==◌, Option, Some, None, Result, Ok, Err, if◌then◌else◌, subst}
 use Rattle.tox_time.specs.Steps.{◌>>=◌}
 use Rattle.tox_time.specs.declared.arrivals.ArrivalFault.{ArrivalFault}
 use Rattle.tox_time.specs.Arrivals.{push_fault, eof_fault}
@@ -7,8 +7,6 @@ use Rattle.tox_text.specs.declared.fault.DryFault.{DryFault}
 use Rattle.tox_text.specs.declared.fault.DryFault.TheVariants.{OutOfMemory, BadLine, TooLong, ReadFault, WriteFault, Arrival}
 use Rattle.tox_text.specs.ArrivalsText.{Arrived, arrivals_of, lines_of, nothing, unless_refused, with_end, with_line, with_lines, with_piece, with_read}
 use Rattle.tox_text.specs.Line.{Line, arrival, end, line_of}
-use Rattle.tox_defs.specs.Chain.{Toxics}
-use Rattle.tox_proxy.specs.DryRun.{Leaves}
 use Rattle.tox_proxy.specs.Reading.{HasCause, IsRead}
 
 -- a fault, where there is one, is of a line

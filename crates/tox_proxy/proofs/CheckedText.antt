@@ -1,5 +1,5 @@
 -- What holds of whatever a text says, of a text that was checked.
-use Rattle.std.proofs.Common.{◌≡◌, ℕ, List, Ok, sym, ◌∙◌, ap}
+use Rattle.std.proofs.Common.{◌≡◌, ℕ, List, Ok, ◌∙◌, ap}
 use Rattle.tox_text.specs.ArrivalsText.{Arrived, arrivals_of}
 use Rattle.tox_text.specs.Checked.{IsChecked}
 

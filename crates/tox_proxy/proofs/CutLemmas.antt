@@ -1,5 +1,5 @@
 -- A slice that a runner gives is no longer to come.
-use Rattle.std.proofs.Common.{◌≡◌, ◌≢◌, ℕ, ◌+◌, ◌-◌, ◌<◌, ◌≤◌, ◌^◌, true, List, [], ◌∷◌, ◌++◌, length, replicate, inl, inr, refl, ap, sym, ◌∙◌, subst, arith, append_assoc, None, Some}
+use Rattle.std.proofs.Common.{◌≡◌, ◌≢◌, ℕ, ◌≤◌, true, List, [], ◌∷◌, ◌++◌, replicate, inl, inr, refl, ap, sym, ◌∙◌, subst, arith, append_assoc, None}
 use Rattle.std.proofs.lemmas.List.{append-nil}
 use Rattle.tox_time.specs.declared.item.Item.{Item}
 use Rattle.tox_time.specs.declared.item.Item.TheVariants.{Chunk, Closed, Reset, Quiet}

@@ -1,5 +1,5 @@
 -- A text on its way through its second pass: what arrived before the next line, and what the lines that are left add.
-use Rattle.std.proofs.Common.{◌≡◌, ◌≢◌, ℕ, ◌+◌, ◌*◌, ◌<◌, ◌≤◌, ◌^◌, slice_index, append_assoc, List, [], ◌∷◌, ◌++◌, length, Option, None, Some, Ok, option_map, Any, refl, ap, sym, ◌∙◌, subst, arith, append-nil, length-append}
+use Rattle.std.proofs.Common.{◌≡◌, ℕ, ◌+◌, ◌<◌, ◌≤◌, ◌^◌, slice_index, append_assoc, List, [], ◌∷◌, ◌++◌, length, Option, Some, Ok, option_map, Any, refl, ap, sym, ◌∙◌, subst, arith, append-nil, length-append}
 use denote.Bor.{Bor}
 use Rattle.std.specs.Prelude.{IsOk}
 use Rattle.std.specs.Result.{result_ok}
@@ -11,17 +11,16 @@ use Rattle.tox_time.specs.Arrivals.{arrival_list, next_chunk}
 use Rattle.tox_time.specs.Neighbours.{LiesInChunk}
 use Rattle.tox_time.specs.Stream.{IsStreamFrom, arrived as count_of, has_final, latest}
 use Rattle.tox_time.proofs.StreamLemmas.{arrived-append}
-use Rattle.tox_lend.specs.Run.{Run}
 use Rattle.tox_lend.specs.Window.{Pieces}
-use Rattle.tox_text.specs.ArrivalsText.{Arrived, lines_of, nothing, with_line, with_lines, with_piece}
+use Rattle.tox_text.specs.ArrivalsText.{Arrived, lines_of, nothing, with_line, with_lines}
 use Rattle.tox_text.specs.Checked.{AreArrivals}
 use Rattle.tox_text.specs.Line.{arrival, end, line_of}
 use Rattle.tox_text.specs.Lines.{lines_left}
 use Rattle.tox_text.specs.ResultText.{arrival_of}
 use Rattle.tox_text.proofs.CountLemmas.{accepted_piece}
-use Rattle.tox_text.proofs.LineTurns.{data_taken, end_taken, none_taken, pairs_taken, step}
+use Rattle.tox_text.proofs.LineTurns.{data_taken, end_taken, pairs_taken, step}
 use Rattle.tox_proxy.specs.SecondPass.{IsPieceOf, chunk_at}
-use Rattle.tox_proxy.proofs.TextTurns.{Leaves, arrival_behind, arrival_in, bytes_in, cancel, edge_behind, lines_leave}
+use Rattle.tox_proxy.proofs.TextTurns.{arrival_behind, arrival_in, bytes_in, cancel, edge_behind, lines_leave}
 
 -- the lines that are left, from the n-th on, leave all that arrived; a source stands before what they add
 pub record IsUnderWay (arrived : Arrived) (n : ℕ) (lines : List (List ℕ)) (stands : ℕ → List Item → Type 0) (window : Pieces) (later : List Item) : Type 0 where

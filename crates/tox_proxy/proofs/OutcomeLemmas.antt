@@ -1,13 +1,12 @@
 -- Slices of an outcome on their way through the pieces.
-use Rattle.std.proofs.Common.{◌≡◌, ◌≢◌, ℕ, ◌+◌, ◌-◌, ◌<◌, ◌≤◌, List, [], ◌∷◌, ◌++◌, replicate, ◌⊎◌, inl, inr, refl, ap, sym, ◌∙◌, subst, arith, append_assoc}
-use Rattle.std.proofs.lemmas.List.{replicate-append-replicate}
+use Rattle.std.proofs.Common.{◌≡◌, ◌≢◌, ℕ, ◌<◌, ◌≤◌, List, [], ◌∷◌, ◌++◌, replicate, ◌⊎◌, inl, inr, refl, ap, sym, ◌∙◌, subst, arith, append_assoc}
 use Rattle.tox_time.specs.declared.ending.Ending.{Ending}
 use Rattle.tox_time.specs.declared.item.Item.{Item}
 use Rattle.tox_time.specs.declared.item.Item.TheVariants.{Chunk, Closed, Reset, Quiet}
 use Rattle.tox_time.specs.declared.slice.Slice.{Slice}
 use Rattle.tox_time.specs.Arrivals.{arrival_list}
 use Rattle.tox_time.specs.Neighbours.{AreNeighbours}
-use Rattle.tox_time.specs.Stream.{IsStream, arrived as count_of, span_len}
+use Rattle.tox_time.specs.Stream.{arrived as count_of, span_len}
 use Rattle.tox_time.specs.Table.{slices_table}
 use Rattle.tox_lend.specs.Run.{LiesIn, Run, bytes_at, stop_of}
 use Rattle.tox_text.specs.ArrivalsText.{Arrived}
@@ -15,7 +14,7 @@ use Rattle.tox_text.specs.ResultText.{arrival_of, bytes_line, ending_line, lines
 use Rattle.tox_text.proofs.PieceRuns.{StartAnew-behind, StartAnew-instant, lines_text-slice}
 use Rattle.tox_text.proofs.Runs.{StartAnew, delivered_from}
 use Rattle.tox_proxy.specs.OutcomeSlices.{IsApart, IsPending, JoinsTo, StartsBehind, pending_text}
-use Rattle.tox_proxy.specs.SecondPass.{IsEdge, IsPieceOf, chunk_of}
+use Rattle.tox_proxy.specs.SecondPass.{IsPieceOf, chunk_of}
 use Rattle.tox_proxy.proofs.PieceLines.{some_first, stands_whole}
 use Rattle.tox_proxy.proofs.TextTurns.{lies_within}
 

@@ -1,16 +1,13 @@
 -- A text without faults, line by line: what each line adds to what arrived, and where its piece stands among all arrivals.
-use Rattle.std.proofs.Common.{◌≡◌, ◌≢◌, ℕ, zero, suc, ◌+◌, ◌-◌, ◌<◌, ◌≤◌, ◌^◌, ◌==◌, Bool, true, false, List, [], ◌∷◌, ◌++◌, length, get_or, slice_index, nat_lt, Option, Some, None, Result, Ok, Err, if◌then◌else◌, refl, ap, sym, ◌∙◌, subst, arith, rules, tests, append_assoc, append-nil, length-append}
+use Rattle.std.proofs.Common.{◌≡◌, ℕ, zero, suc, ◌+◌, ◌<◌, ◌≤◌, true, false, List, [], ◌∷◌, ◌++◌, length, get_or, slice_index, nat_lt, Option, Some, None, Ok, if◌then◌else◌, refl, ap, sym, ◌∙◌, subst, arith, rules, tests, append_assoc, append-nil, length-append}
 use Rattle.std.proofs.lemmas.List.{get_or_append_left, get_or-append_right}
-use Rattle.tox_time.specs.Steps.{◌>>=◌}
-use Rattle.tox_time.specs.declared.arrivals.ArrivalFault.{ArrivalFault}
 use Rattle.tox_time.specs.declared.item.Item.{Item}
 use Rattle.tox_time.specs.declared.item.Item.TheVariants.{Chunk, Closed, Reset, Quiet}
 use Rattle.tox_time.specs.declared.span.Span.{Span}
 use Rattle.tox_time.specs.Stream.{IsStreamFrom, arrived as count_of, span_len}
 use Rattle.tox_time.specs.Arrivals.{arrival_list, next_chunk}
 use Rattle.tox_time.specs.Neighbours.{LiesInChunk}
-use Rattle.tox_text.specs.declared.fault.DryFault.{DryFault}
-use Rattle.tox_text.specs.ArrivalsText.{Arrived, unless_refused, with_end, with_line, with_lines, with_piece, with_read}
+use Rattle.tox_text.specs.ArrivalsText.{Arrived, with_line, with_lines}
 use Rattle.tox_text.specs.Line.{Line, arrival, end, line_of}
 use Rattle.tox_text.specs.ResultText.{arrival_of}
 use Rattle.tox_proxy.specs.SecondPass.{IsEdge}

@@ -1,5 +1,5 @@
 -- Bytes on their way to a writer, in several steps.
-use Rattle.std.proofs.Common.{◌≡◌, ℕ, ◌-◌, ◌+◌, ◌≤◌, Bool, true, false, List, [], ◌++◌, length, take, drop, OnOk, OnErr, Option, Some, None, Result, Ok, Err, refl, arith, ap, sym, ◌∙◌, append_assoc, append-nil, length-drop, subst}
+use Rattle.std.proofs.Common.{◌≡◌, ℕ, ◌-◌, ◌+◌, ◌≤◌, Bool, true, List, [], ◌++◌, length, take, drop, Option, Some, None, Result, Ok, Err, refl, arith, ap, sym, ◌∙◌, append_assoc, append-nil, length-drop, subst}
 use Rattle.std.specs.Io.KnownBytes.{append_known}
 use Rattle.std.proofs.Math.Seq.{take-add}
 use Rattle.std.proofs.lemmas.List.{take_rest, take-append-drop}

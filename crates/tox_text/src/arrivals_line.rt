@@ -1,11 +1,9 @@
 //! One line of the arrivals text, in its parts.
 ghost use Rattle.std.specs.Prelude.{◌≡◌, ◌==◌, ◌<◌, length, option_map, position, IfSome};
-ghost use Rattle.std.specs.Char.{is_ascii_digit};
-ghost use Rattle.std.specs.List.{list_all};
 ghost use Rattle.tox_text.specs.Line.{cut_at, digit_count, instant_of, line_of, line_seen};
 
 use std::str;
-use tox_time::Micros;
+use tox_time::{HORIZON, Micros, parse_decimal};
 
 /// How many digits an instant may have.
 const MAX_DIGITS: usize = 16;
@@ -67,20 +65,11 @@ fn place_of(text: &[u8], separator: u8) -> Option<usize>
 fn instant_of(text: &[u8]) -> Option<Micros>
     ensures { result ≡ instant_of text.now }
 {
-    if text.len() > MAX_DIGITS || !are_digits(text) {
-        return None;
-    }
-    let Ok(digits) = str::from_utf8(text) else {
+    let Ok(text) = str::from_utf8(text) else {
         return None;
     };
-    let Ok(micros) = digits.parse() else {
+    let Some(micros) = parse_decimal(text, MAX_DIGITS, HORIZON) else {
         return None;
     };
     Micros::new(micros)
-}
-
-fn are_digits(text: &[u8]) -> bool
-    ensures { result ≡ list_all is_ascii_digit text.now }
-{
-    text.iter().all(|byte| byte.is_ascii_digit())
 }

@@ -1,5 +1,5 @@
 -- What has the flow's text, every run at rest delivered.
-use Rattle.std.proofs.Common.{◌≡◌, rules, sym, ◌∙◌, ap, Ok}
+use Rattle.std.proofs.Common.{◌≡◌, rules, sym, ◌∙◌, ap}
 use Rattle.std.specs.Io.KnownBytes.{append_known}
 use Rattle.tox_time.specs.Arrivals.{arrival_list}
 use Rattle.tox_time.specs.Table.{ending, table}

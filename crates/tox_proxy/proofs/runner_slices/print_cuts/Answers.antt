@@ -1,8 +1,6 @@
 -- One line more, or a front of it.
-use Rattle.std.proofs.Common.{◌≡◌, ◌∙◌, refl, sym, subst}
+use Rattle.std.proofs.Common.{◌∙◌, refl}
 use Rattle.std.proofs.lemmas.Result.{err_from_is_err_and}
-use Rattle.tox_plan.specs.Cuts.{IsCut}
-use Rattle.tox_text.proofs.Writes.{Prints-as}
 use Rattle.tox_proxy.proofs.CutLemmas.{IsOffered-same, text_to_come-cut}
 use Rattle.tox_proxy.proofs.Passing.{AppendsFront-broken, PassesDownTo-none, PassesDownTo-then}
 use Rattle.tox_proxy.proofs.PieceLines.{line_of_lent}

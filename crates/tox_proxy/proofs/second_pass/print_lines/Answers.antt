@@ -1,8 +1,8 @@
 -- One line more: its piece is printed, or the source's end is told.
-use Rattle.std.proofs.Common.{◌≡◌, ◌+◌, ◌<◌, ◌≤◌, ◌∷◌, ◌++◌, List, ℕ, [], Some, Ok, length, option_map, arith, rules, sym, ◌∙◌, ap, subst, vec_capacity}
+use Rattle.std.proofs.Common.{◌≡◌, ◌+◌, ◌<◌, ◌∷◌, ◌++◌, ℕ, [], Some, length, option_map, arith, rules, sym, ◌∙◌, ap, subst, vec_capacity}
 use Rattle.std.specs.Result.{result_ok}
 use Rattle.std.proofs.lemmas.Result.{err_from_is_err_and}
-use Rattle.tox_time.specs.declared.item.Item.TheVariants.{Closed, Quiet}
+use Rattle.tox_time.specs.declared.item.Item.TheVariants.{Quiet}
 use Rattle.tox_time.specs.Arrivals.{arrival_list}
 use Rattle.tox_lend.specs.Run.{Run}
 use Rattle.tox_text.specs.Checked.{AreShort}

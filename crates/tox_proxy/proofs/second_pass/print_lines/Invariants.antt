@@ -1,5 +1,5 @@
 -- What was printed, and what the lines that are left will print.
-use Rattle.std.proofs.Common.{◌≡◌, ◌+◌, ℕ, List, false, Ok, option_map, vec_capacity}
+use Rattle.std.proofs.Common.{◌≡◌, ℕ, List, false, Ok, option_map, vec_capacity}
 use Rattle.tox_time.specs.declared.item.Item.{Item}
 use Rattle.tox_time.specs.Arrivals.{arrival_list}
 use Rattle.tox_text.specs.ArrivalsText.{Arrived, arrivals_of}

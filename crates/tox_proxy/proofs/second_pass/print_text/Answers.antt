@@ -1,6 +1,5 @@
 -- Behind the last piece the ending's line alone is left.
 use Rattle.std.proofs.Common.{◌≡◌, ◌∷◌, ◌++◌, [], sym, ◌∙◌, ap}
-use Rattle.std.proofs.lemmas.Result.{err_from_is_err_and}
 use Rattle.tox_time.specs.declared.item.Item.TheVariants.{Quiet}
 use Rattle.tox_text.specs.ResultText.{ending_line}
 use Rattle.tox_text.proofs.Writes.{Prints-as, Prints-then}

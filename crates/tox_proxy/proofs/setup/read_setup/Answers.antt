@@ -1,5 +1,5 @@
 -- The populate file was read before the script.
-use Rattle.std.proofs.Common.{inl, inr, map}
+use Rattle.std.proofs.Common.{inl, inr}
 use Rattle.std.proofs.lemmas.Result.{err_from_is_err_and}
 use Rattle.tox_proxy.proofs.setup.read_setup.Goals as goal
 

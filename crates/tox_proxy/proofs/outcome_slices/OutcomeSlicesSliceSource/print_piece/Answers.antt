@@ -5,7 +5,7 @@ use Rattle.tox_time.specs.Arrivals.{arrival_list}
 use Rattle.tox_lend.specs.Run.{Run, stop_of}
 use Rattle.tox_lend.specs.contracts.piece.Piece.{the_view as piece_seen}
 use Rattle.tox_lend.specs.declared.piece.Piece.TheInside.{Inside}
-use Rattle.tox_proxy.specs.OutcomeSlices.{IsJoined, StartsBehind, pending_text}
+use Rattle.tox_proxy.specs.OutcomeSlices.{IsJoined, StartsBehind}
 use Rattle.tox_proxy.proofs.OutcomeLemmas.{IsPending-next, IsPrinting-next, joined_lies, pending_text-joined, starts_in}
 use Rattle.tox_proxy.proofs.Passing.{AppendsFront-broken, PassesDownTo-then}
 use Rattle.tox_proxy.proofs.PieceLines.{line_of_lent}

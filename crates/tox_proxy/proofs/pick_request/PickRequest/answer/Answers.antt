@@ -1,5 +1,5 @@
 -- What the files say answers the question.
-use Rattle.std.proofs.Common.{◌≡◌, map, Some, refl, rules}
+use Rattle.std.proofs.Common.{◌≡◌, Some, refl, rules}
 use Rattle.std.specs.List.{find}
 use Rattle.std.proofs.lemmas.Result.{err_from_is_err_and}
 use Rattle.tox_time.specs.StreamName.{stream_named}
