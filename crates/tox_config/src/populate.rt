@@ -22,7 +22,7 @@ const MAX_PROXIES: usize = 64;
 ///
 /// # Errors
 ///
-/// The fault of the first faulty place, and within a place the first in the order of [`ConfigFault`]. Want of memory may
+/// The fault of the first faulty place, and within a place the first in the order of [`ConfigFault`]. Out of memory may
 /// stand in its place.
 pub fn read_populate(alloc: Global, bytes: &[u8]) -> Result<Vec<ProxyDef>, ConfigFault>
     ensures ok { IfOk result (λ defs. populate bytes.now ≡ Ok defs.items) }

@@ -60,7 +60,7 @@ IsOp (Cutoff instant) = IsInstant instant
 IsOp (Slicing average variation micros lane) = variation < average
 IsOp (Limit bytes) = Unit {0}
 
--- whether an operation lets nothing through
+-- whether an operation drops all data
 abbrev pub is_mute : Op → Bool
 is_mute (Mute end) = true
 is_mute op = false

@@ -37,7 +37,8 @@ pub enum Op {
     Cutoff {
         instant: Micros,
     },
-    /// Cuts into pieces of `average` bytes, varied by `variation`, drawn from `lane`, `micros` microseconds apart.
+    /// Cuts into pieces of `average` bytes, varied by `variation`, drawn from `lane`, with `micros`
+    /// microseconds before each.
     Slicing {
         average: u32,
         variation: u32,

@@ -32,7 +32,7 @@ pub enum Toxic {
         timeout: u32,
     },
     /// Cuts data into pieces near `average_size` (1 to 1,000,000), varied by `size_variation` (below it),
-    /// with `delay` microseconds (0 to 3,600,000,000) between them.
+    /// with `delay` microseconds (0 to 3,600,000,000) before each.
     Slicer {
         average_size: u32,
         size_variation: u32,

@@ -1,3 +1,4 @@
+//! A slice lent from a piece.
 use tox_time::Micros;
 
 /// Bytes of one piece, from position `start` on, that leave the link at `instant`.

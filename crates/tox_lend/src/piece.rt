@@ -1,3 +1,4 @@
+//! Arrived bytes at their positions.
 use crate::lent::Lent;
 use std::marker::Model;
 use tox_time::{Micros, Span};
@@ -44,7 +45,7 @@ impl Piece {
         }
     }
 
-    /// Whether its last byte is before this position.
+    /// Whether it ends at or before this position.
     pub(crate) fn ends_by(&self, position: u64) -> bool
         ensures { result ≡ nat_le (stop_of self.now) position }
     {

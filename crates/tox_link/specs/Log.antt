@@ -26,7 +26,7 @@ has_source_end (Piece len instant ∷ log) = has_source_end log
 has_source_end (SourceEnd instant ∷ log) = true
 has_source_end (Wrote slice now ∷ log) = has_source_end log
 
--- the slices that were written
+-- the slices that were noted as written
 abbrev pub said : List LinkEvent → List Slice
 said [] = []
 said (Piece len instant ∷ log) = said log
@@ -52,7 +52,7 @@ IsDue (Piece len instant) = Unit {0}
 IsDue (SourceEnd instant) = Unit {0}
 IsDue (Wrote slice now) = slice.instant ≤ now
 
--- the clock told each reading, none is below an earlier one or `since`, and no slice is written early
+-- the clock told each reading, none is below an earlier one or `since`, and no slice's instant is past its reading
 abbrev pub IsTimely : (ℕ → Type 0) → ℕ → List LinkEvent → Type 0
 IsTimely told since [] = Unit {0}
 IsTimely told since (event ∷ log) = told (reading_of event) × (since ≤ reading_of event) × IsDue event × IsTimely told (reading_of event) log

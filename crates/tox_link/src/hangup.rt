@@ -3,7 +3,8 @@ use tox_time::Ending;
 
 /// What ends the connections of a link.
 pub trait Hangup {
-    /// Called once, with how the link ends and whether the source's end was taken.
+    /// Called once if the reader's thread started: with how the link ends and whether the source's end was taken, or
+    /// after a fault with a reset and false.
     fn hang_up(&mut self, ending: Ending, source_ended: bool);
 }
 

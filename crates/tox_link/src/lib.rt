@@ -1,4 +1,4 @@
-//! One direction of one live link.
+//! One direction of a live link, and the book of a proxy's links.
 #![tactic(auto)]
 
 mod act;

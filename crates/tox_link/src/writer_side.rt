@@ -79,7 +79,7 @@ impl<'w> WriterSide<'w> {
     }
 
     /// Whether a message may be taken. A piece that comes once the ending is known is dropped, so
-    /// it needs no room.
+    /// it needs no room in the window.
     pub fn may_take(&self) -> bool
         ensures going { IsTrue result → self.now.ended ≡ false }
         ensures core { IsTrue result → kept_count self.now.core < 1024 }

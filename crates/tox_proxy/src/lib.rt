@@ -1,4 +1,4 @@
-//! What the program does, as library calls over readers, writers and values.
+//! What the program does, as library calls over readers, writers, files, sockets and values.
 #![tactic(auto)]
 
 mod accepting;

@@ -1,4 +1,4 @@
-//! The lines that serving prints. Each is written whole.
+//! The lines that serving prints.
 ghost use Rattle.std.specs.Prelude.{◌≡◌, ◌++◌, [], false, codes, decimal};
 ghost use Rattle.tox_text.specs.Writing.{Prints, Writes};
 ghost use Rattle.tox_proxy.specs.ServeLines.{end_word, link_line, listening_line, side_text, total_line};

@@ -36,7 +36,7 @@ pub enum Field {
     /// A toxic's attributes: a table.
     #[error("attributes")]
     Attributes,
-    /// A key that the table doesn't have.
+    /// A key that such a table may not have.
     #[error("unknown")]
     Unknown,
 }

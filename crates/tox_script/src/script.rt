@@ -83,7 +83,7 @@ impl Script {
 /// # Errors
 ///
 /// The first fault: the document's, then each rule's in order, and behind each rule's own its toxics' in order. The fields
-/// of a table come in the order of [`Field`], and a toxic's faults in the order S2, S3, S7, S4, S5, S6, S8, S9. Want of
+/// of a table come in the order of [`Field`], and a toxic's faults in the order S2, S3, S7, S4, S5, S6, S8, S9. Out of
 /// memory may stand in place of any of them, but for bytes that are not UTF-8.
 pub fn read_script(alloc: Global, bytes: &[u8]) -> Result<Script, ScriptFault>
     ensures ok { IfOk result (λ script. script_of bytes.now ≡ Ok script) }

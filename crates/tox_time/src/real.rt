@@ -6,7 +6,8 @@ ghost use Rattle.tox_time.specs.Ends.{takes_nothing};
 use crate::ends::{EndFault, Sink, Source};
 use std::io::{Read, Write};
 
-/// A reader or writer of std. Keeps whether it has failed. Its bytes are unknown to contracts.
+/// A reader or writer of std. Keeps whether it has failed. As an end it tells no bytes; its clause `inner` passes on what
+/// the reader or writer in it tells.
 #[derive(Debug, Drop)]
 pub struct Real<E> {
     inner: E,
