@@ -1,5 +1,5 @@
 //! One direction of a live link, from its reader's thread to its writer.
-ghost use Rattle.std.specs.Prelude.{◌≡◌, ℕ, List, [], length, false, IfOk, IfErr, IfSome};
+ghost use Rattle.std.specs.Prelude.{◌≡◌, ℕ, List, [], length, false, IfOk, IfErr, IfSome, OnOk};
 ghost use Rattle.rtrb.specs.Ring.{sent, IsPair};
 ghost use Rattle.tox_time.specs.declared.item.Item.{Item as OneItem};
 ghost use Rattle.tox_time.specs.Stream.{IsStream};
@@ -112,6 +112,7 @@ pub fn carry<
         × IfSome (read_end_of report.source) (λ end.
         HandsOn (S.remaining reader) bytes end (S.remaining report.reader)
         × EndsFor end reads (length bytes) (S.remaining report.reader) (S.failed report.reader))) }
+    ensures working { OnOk result (W.failed ends.new.writer ≡ false) }
     ensures broken { IfErr result (λ fault. (log : List OneEvent)
         × (N.events notes.new ≡ with_events (N.events notes.old) log)
         × IsCutOff (means plan words.now) (C.told clock.now) (written_before fault) log) }

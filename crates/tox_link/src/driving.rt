@@ -121,6 +121,7 @@ pub(crate) fn drive<R: Wait, C: Clock, N: Notes, W: Sink, G: Gate>(
         ≡ append_known (W.written writer.old) (take side.new.written (came side.new)) }
     ensures few { side.new.written ≤ length (came side.new) }
     ensures ok { OnOk result (IsSound side.new (received side.new.inbox.receiver)) }
+    ensures working { OnOk result (W.failed writer.new ≡ false) }
     ensures ended { IfOk result (HasEnded (C.told clock.now) side.new) }
     ensures log { OnOk result ((log : List OneEvent)
         × (N.events notes.new ≡ with_events (N.events notes.old) log)
