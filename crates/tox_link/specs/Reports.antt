@@ -1,5 +1,5 @@
 -- What a link reports.
-use Rattle.std.specs.Prelude.{◌≡◌, ℕ, ◌≤◌, List, length, take, Option, Some, None}
+use Rattle.std.specs.Prelude.{◌≡◌, ℕ, ◌≤◌, Bool, true, false, List, length, take, Option, Some, None}
 use Rattle.std.specs.Io.KnownBytes.{append_known, prepend_known}
 use Rattle.tox_time.specs.declared.item.Item.{Item}
 use Rattle.tox_time.specs.declared.ending.Ending.{Ending}
@@ -18,6 +18,12 @@ abbrev pub written_before : LinkFault → ℕ
 written_before (OutOfMemory written) = written
 written_before (SpawnRefused written) = written
 written_before (WriteFault written) = written
+
+-- whether it is the writer that failed
+abbrev pub is_write_fault : LinkFault → Bool
+is_write_fault (OutOfMemory written) = false
+is_write_fault (SpawnRefused written) = false
+is_write_fault (WriteFault written) = true
 
 -- the source's end was heard where the link learnt in time why the reading ended, and else none
 abbrev pub HeardSo : Option ReadEnd → Ending → Type 0

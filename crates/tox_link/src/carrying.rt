@@ -9,7 +9,7 @@ ghost use Rattle.tox_link.specs.Core.{remaining_output};
 ghost use Rattle.tox_link.specs.Events.{with_events};
 ghost use Rattle.tox_link.specs.Logged.{IsCutOff};
 ghost use Rattle.tox_link.specs.Messages.{HandsOn, EndsFor};
-ghost use Rattle.tox_link.specs.Reports.{Reports, WritesFirst, written_before};
+ghost use Rattle.tox_link.specs.Reports.{Reports, WritesFirst, is_write_fault, written_before};
 ghost use Rattle.tox_link.specs.Side.{IsFresh};
 ghost use Rattle.tox_link.specs.Sources.{read_end_of};
 
@@ -53,6 +53,7 @@ fn start<
     ensures reads { IfOk result (λ started. (started.1.promise.reader.value ≡ reader)
         × (started.1.promise.reads ≡ reads)) }
     ensures err { IfErr result (λ fault. written_before fault ≡ 0) }
+    ensures cause { IfErr result (λ fault. is_write_fault fault ≡ false) }
 {
     let Ok((side, sender)) = WriterSide::new(alloc, plan, words) else {
         return Err(LinkFault::OutOfMemory(0));
@@ -119,6 +120,7 @@ pub fn carry<
     ensures broken_bytes { IfErr result (λ fault. (bytes : List ℕ)
         × WritesFirst (S.remaining reader) (W.written ends.old.writer) (W.written ends.new.writer)
         bytes (written_before fault)) }
+    ensures cause { IfErr result (λ fault. W.failed ends.new.writer ≡ is_write_fault fault) }
 {
     let (mut side, thread) = start(rt, alloc, reader, plan, words, reads, gate)?;
     let driven = drive(rt, &mut side, clock, notes, &mut ends.writer, &**gate);

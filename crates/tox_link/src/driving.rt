@@ -5,7 +5,7 @@ ghost use Rattle.rtrb.specs.Ring.{received, SameConsumer};
 ghost use Rattle.tox_link.specs.declared.notes.LinkEvent.{LinkEvent as OneEvent};
 ghost use Rattle.tox_link.specs.Events.{with_events};
 ghost use Rattle.tox_link.specs.Logged.{KeepsLogged, LogsFrom, CutsOff, CutsOffFrom, HasEnded};
-ghost use Rattle.tox_link.specs.Reports.{written_before};
+ghost use Rattle.tox_link.specs.Reports.{is_write_fault, written_before};
 ghost use Rattle.tox_link.specs.Side.{IsFresh, IsSound, GivesSlice, came};
 
 use crate::act::Act;
@@ -40,6 +40,7 @@ fn write_next<N: Notes, W: Sink>(
     ensures noted { OnOk result (N.events notes.new
         ≡ with_events (N.events notes.old) (OneEvent.Wrote slice.now now.now ∷ [])) }
     ensures err { IfErr result (λ fault. written_before fault ≡ side.new.written) }
+    ensures cause { IfErr result (λ fault. W.failed writer.new ≡ is_write_fault fault) }
     ensures unnoted { OnErr result (N.events notes.new ≡ N.events notes.old) }
 {
     let stop = slice.span.stop;
@@ -81,6 +82,7 @@ fn act<R: Wait, C: Clock, N: Notes, W: Sink>(
         × KeepsLogged (C.told clock.now) side.old more side.new) }
     ensures err { IfErr result (λ fault. (written_before fault ≡ side.new.written)
         × CutsOff (C.told clock.now) side.old side.new.written) }
+    ensures cause { IfErr result (λ fault. W.failed writer.new ≡ is_write_fault fault) }
     ensures unnoted { OnErr result (N.events notes.new ≡ N.events notes.old) }
 {
     let (act, now) = decide(&mut side.core, clock);
@@ -130,6 +132,7 @@ pub(crate) fn drive<R: Wait, C: Clock, N: Notes, W: Sink, G: Gate>(
         × (log : List OneEvent)
         × (N.events notes.new ≡ with_events (N.events notes.old) log)
         × CutsOffFrom (C.told clock.now) side.old log side.new.written) }
+    ensures cause { IfErr result (λ fault. W.failed writer.new ≡ is_write_fault fault) }
 {
     for _ in rt.forever() {
         let Ok(took) = take_message(side, clock, notes, gate) else {

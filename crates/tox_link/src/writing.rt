@@ -1,5 +1,5 @@
 //! Writes of a link: the bytes of a slice, from the pieces that hold them.
-ghost use Rattle.std.specs.Prelude.{◌≡◌, ℕ, ◌+◌, ◌<◌, ◌≤◌, List, length, take, drop, false, IfErr, OnOk, Option};
+ghost use Rattle.std.specs.Prelude.{◌≡◌, ℕ, ◌+◌, ◌<◌, ◌≤◌, List, length, take, drop, false, true, IfErr, OnOk, OnErr, Option};
 ghost use Rattle.std.specs.Io.KnownBytes.{append_known};
 ghost use Rattle.tox_time.specs.Stream.{span_len};
 ghost use Rattle.tox_link.specs.Held.{AreOf, HoldsSpan};
@@ -15,6 +15,7 @@ fn write_all<W: Sink>(writer: &mut W, bytes: &[u8]) -> Result<(), usize>
         ≡ append_known (W.written writer.old) bytes.now) × (W.failed writer.new ≡ false)) }
     ensures err { IfErr result (λ n. (n ≤ length bytes.now)
         × (W.written writer.new ≡ append_known (W.written writer.old) (take n bytes.now))) }
+    ensures failed { OnErr result (W.failed writer.new ≡ true) }
 {
     let mut done = 0;
     while done < bytes.len() {
@@ -66,6 +67,7 @@ pub(crate) fn write_slice<W: Sink>(
         ≡ append_known base (take slice.now.span.start heard)
         → W.written writer.new ≡ append_known base (take (slice.now.span.start + n) heard)) }
     ensures few { IfErr result (λ n. n ≤ span_len slice.now.span) }
+    ensures failed { OnErr result (W.failed writer.new ≡ true) }
 {
     let stop = slice.span.stop;
     let mut start = slice.span.start;
