@@ -1,0 +1,251 @@
+"""The cases: what clients and upstreams do, and how each link must end then.
+
+The line of a link follows from the rules: a source that ends or is reset closes its stream, and shuts the target's
+writing half; a failed write breaks its stream, and shuts both sockets. The steps of a case are in an order in which only
+one of these can happen. Where a count of bytes is a range, the case says why.
+"""
+import time
+
+from ends import (
+    BLOCK,
+    are_quiet,
+    has_ended,
+    read_all,
+    read_count,
+    reset,
+    send_more,
+    send_until_ended,
+    send_until_full,
+    shut_writing,
+)
+from waiting import check
+
+CASES = []
+
+
+def case(links, toxic=None):
+    """Registers a case of so many links. A toxic with its attribute meets these links, and not the one after them."""
+
+    def register(function):
+        CASES.append((function, links, toxic))
+        return function
+
+    return register
+
+
+@case(1)
+def client_resets_while_it_sends(toxi):
+    """The reset drops what the proxy has not read, and nobody can tell how much. What it read arrives, and then the end."""
+    client, server = toxi.link()
+    client.sendall(BLOCK)
+    reset(client)
+    heard = read_all(server)
+    check(BLOCK.startswith(heard), "the upstream heard other bytes than the client sent")
+    server.close()
+    toxi.ended(1, len(heard), "closed", 0, "closed")
+
+
+@case(1)
+def client_resets_while_it_reads(toxi):
+    """The system takes bytes that the client doesn't get, so the count lies between those read and those sent.
+
+    The upstream hears an end once the proxy has met the reset. What it sends then can't be written.
+    """
+    client, server = toxi.link()
+    client.sendall(b"hello")
+    read_count(server, 5)
+    server.sendall(BLOCK)
+    check(read_count(client, 1000) == BLOCK[:1000], "the client heard other bytes than the upstream sent")
+    reset(client)
+    has_ended(server)
+    send_more(server)
+    toxi.ended(1, 5, "closed", range(1000, len(BLOCK) + 1), "broken")
+    server.close()
+
+
+@case(1)
+def upstream_resets_while_it_sends(toxi):
+    """A reset source closes its stream, so the client gets what the proxy read, and then an end."""
+    client, server = toxi.link()
+    client.sendall(b"hello")
+    read_count(server, 5)
+    server.sendall(BLOCK)
+    reset(server)
+    heard = read_all(client)
+    check(BLOCK.startswith(heard), "the client heard other bytes than the upstream sent")
+    client.close()
+    toxi.ended(1, 5, "closed", len(heard), "closed")
+
+
+@case(1)
+def upstream_resets_while_it_reads(toxi):
+    """As before, with the other stream: the client hears the end, and a write of what it sends then fails."""
+    client, server = toxi.link()
+    client.sendall(BLOCK)
+    check(read_count(server, 1000) == BLOCK[:1000], "the upstream heard other bytes than the client sent")
+    reset(server)
+    has_ended(client)
+    send_more(client)
+    toxi.ended(1, range(1000, len(BLOCK) + 1), "broken", 0, "closed")
+    client.close()
+
+
+@case(2)
+def upstream_never_reads(toxi):
+    """The client has left, but its bytes still wait, so the link goes on until the upstream leaves. Others aren't held up."""
+    client, server = toxi.link()
+    sent = send_until_full(client)
+    client.close()
+    other, its_server = toxi.link()
+    other.sendall(b"hello")
+    check(read_count(its_server, 5) == b"hello", "another link carried other bytes")
+    its_server.close()
+    check(read_all(other) == b"", "another link answered bytes that nobody sent")
+    other.close()
+    toxi.ended(2, 5, "closed", 0, "closed")
+    check(1 not in toxi.ended_links(), "a link ended while its bytes waited")
+    # Bytes that the upstream never read make its close a reset.
+    server.close()
+    toxi.ended(1, range(1, sent), "broken", 0, "closed")
+
+
+@case(1)
+def upstream_shuts_its_writing_half(toxi):
+    client, server = toxi.link()
+    server.sendall(b"hello")
+    shut_writing(server)
+    check(read_all(client) == b"hello", "the client heard other bytes than the upstream sent")
+    client.sendall(BLOCK)
+    client.close()
+    check(read_all(server) == BLOCK, "the upstream heard other bytes than the client sent")
+    server.close()
+    toxi.ended(1, len(BLOCK), "closed", 5, "closed")
+
+
+@case(1)
+def client_shuts_its_writing_half(toxi):
+    client, server = toxi.link()
+    client.sendall(b"hello")
+    shut_writing(client)
+    check(read_all(server) == b"hello", "the upstream heard other bytes than the client sent")
+    server.sendall(BLOCK)
+    server.close()
+    check(read_all(client) == BLOCK, "the client heard other bytes than the upstream sent")
+    client.close()
+    toxi.ended(1, 5, "closed", len(BLOCK), "closed")
+
+
+@case(3)
+def upstream_dies_and_comes_back(toxi):
+    client, server = toxi.link()
+    server.sendall(b"hello")
+    read_count(client, 5)
+    toxi.upstream.down()
+    server.close()
+    check(read_all(client) == b"", "bytes of an upstream that is dead")
+    client.close()
+    toxi.ended(1, 0, "closed", 5, "closed")
+    for number in (2, 3):
+        with toxi.client() as client:
+            has_ended(client)
+        toxi.ended(number, 0, "broken", 0, "broken")
+    toxi.upstream.up()
+
+
+@case(200)
+def clients_vanish(toxi):
+    """Each second one leaves by a reset. They come 40 at a time, which the queues of both listeners hold."""
+    for first in range(1, 201, 40):
+        for number in range(first, first + 40):
+            with toxi.client() as client:
+                if number % 2:
+                    reset(client)
+        for _ in range(40):
+            with toxi.upstream.accept() as server:
+                check(read_all(server) == b"", "bytes of a client that sent none")
+    for number in range(1, 201):
+        toxi.ended(number, 0, "closed", 0, "closed")
+
+
+@case(1)
+def output_is_closed(toxi):
+    """Its reader is gone, so lines are dropped. Links go on."""
+    toxi.output.close()
+    client, server = toxi.link()
+    client.close()
+    check(read_all(server) == b"", "bytes of a client that sent none")
+    server.close()
+
+
+@case(11)
+def descriptors_lack(toxi):
+    """A link takes four descriptors: the client's, the upstream's, and one more of each for the reader."""
+    for more in (1, 2, 3):
+        toxi.allow_descriptors(more)
+        with toxi.client() as client:
+            has_ended(client)
+        toxi.ended(more, 0, "broken", 0, "broken")
+        toxi.rests()
+    # A waiting accept has its descriptor already. So the first client may be taken, and then its upstream's is lacking.
+    toxi.allow_descriptors(0)
+    clients = [toxi.client() for _ in range(8)]
+    for place, client in enumerate(clients):
+        client.sendall(bytes([place]))
+    are_quiet(*clients[1:])
+    toxi.allow_descriptors(None)
+    heard = toxi.upstream.echo_bytes(clients)
+    for place, client in enumerate(clients):
+        client.close()
+        if place == 0 and heard[0] == b"":
+            toxi.ended(4, 0, "broken", 0, "broken")
+        else:
+            check(heard[place] == bytes([place]), f"waiting client {place} heard {heard[place]}")
+            toxi.ended(4 + place, 1, "closed", 1, "closed")
+
+
+@case(2, ("timeout", "timeout = 0"))
+def silent_upstream(toxi):
+    """The client hears nothing, whether the upstream stays or leaves. The link ends when both have left."""
+    for number in (1, 2):
+        client, server = toxi.link()
+        client.sendall(b"hello")
+        check(read_count(server, 5) == b"hello", "the upstream heard other bytes than the client sent")
+        server.sendall(b"world")
+        if number == 1:
+            server.close()
+        are_quiet(client)
+        check(number not in toxi.ended_links(), "the link ended before the client left")
+        client.close()
+        if number == 2:
+            check(read_all(server) == b"", "bytes after the client's last one")
+            server.close()
+        toxi.ended(number, 5, "closed", 0, "open")
+
+
+@case(1, ("limit_data", "bytes = 3"))
+def limit_in_a_flood(toxi):
+    """The link closes with the third byte, though the upstream goes on. The client hears an end and no reset."""
+    client, server = toxi.link()
+    client.sendall(b"hello")
+    read_count(server, 5)
+    send_until_ended(server)
+    server.close()
+    check(read_all(client) == BLOCK[:3], "the client heard other bytes than the upstream's first three")
+    client.close()
+    toxi.ended(1, 5, "closed", 3, "closed")
+
+
+@case(2, ("reset_peer", "timeout = 50"))
+def reset_by_a_rule(toxi):
+    """The first upstream says nothing. What the second one says at once comes whole, or not at all if 50 ms have passed."""
+    for number, said in ((1, b""), (2, b"hello")):
+        begun = time.monotonic()
+        client, server = toxi.link()
+        server.sendall(said)
+        heard = read_all(client)
+        check(time.monotonic() - begun >= 0.05, "the link was reset too early")
+        check(heard in (b"", said), f"the client heard {heard}")
+        has_ended(server)
+        client.close()
+        server.close()
+        toxi.ended(number, 0, "closed", len(heard), "reset")

@@ -1,0 +1,140 @@
+"""The ends of links: an upstream that can go down and come back, and what a client or its server does to a connection."""
+import contextlib
+import select
+import socket
+import struct
+
+from waiting import LIMIT, Failed, check
+
+BLOCK = bytes(range(256)) * 256
+MOST = 10_000 * len(BLOCK)
+
+
+class Upstream:
+    """A listener whose connections the cases take themselves. Its port stays taken while it is down."""
+
+    def __init__(self):
+        self.port = 0
+        self.bind()
+        self.up()
+
+    def __enter__(self):
+        return self
+
+    def __exit__(self, *_):
+        self.socket.close()
+
+    def bind(self):
+        self.socket = socket.socket()
+        self.socket.setsockopt(socket.SOL_SOCKET, socket.SO_REUSEADDR, 1)
+        self.socket.bind(("127.0.0.1", self.port))
+        self.socket.settimeout(LIMIT)
+        self.port = self.socket.getsockname()[1]
+
+    def up(self):
+        self.socket.listen(128)
+
+    def down(self):
+        """Refuses connections from now on."""
+        self.socket.close()
+        self.bind()
+
+    def accept(self):
+        server, _ = self.socket.accept()
+        server.settimeout(LIMIT)
+        return server
+
+    def echo_bytes(self, clients):
+        """Sends back the first byte of each connection, until each of these clients has a byte or an end.
+
+        Returns what each one got.
+        """
+        got = {}
+        while len(got) < len(clients):
+            waiting = [client for client in clients if client not in got]
+            readable, _, _ = select.select([self.socket, *waiting], [], [], LIMIT)
+            check(readable, f"not within {LIMIT} s: a byte or an end for {len(waiting)} clients")
+            for client in readable:
+                if client is not self.socket:
+                    got[client] = byte_or_end(client)
+            if self.socket in readable:
+                with self.accept() as server:
+                    server.sendall(server.recv(1))
+        return [got[client] for client in clients]
+
+
+def shut_writing(end):
+    end.shutdown(socket.SHUT_WR)
+
+
+def reset(end):
+    """Closes a connection by a reset."""
+    end.setsockopt(socket.SOL_SOCKET, socket.SO_LINGER, struct.pack("ii", 1, 0))
+    end.close()
+
+
+def read_count(end, count):
+    """Exactly so many bytes."""
+    got = b""
+    while len(got) < count:
+        more = end.recv(count - len(got))
+        check(more, f"the connection ended after {len(got)} of {count} bytes")
+        got += more
+    return got
+
+
+def read_all(end):
+    """All bytes, up to an end that is no reset."""
+    return b"".join(iter(lambda: end.recv(65536), b""))
+
+
+def byte_or_end(end):
+    """The next byte, or none where the connection has ended or was reset."""
+    try:
+        return end.recv(1)
+    except ConnectionResetError:
+        return b""
+
+
+def has_ended(end):
+    check(byte_or_end(end) == b"", "a byte came where the connection should have ended")
+
+
+def are_quiet(*ends):
+    """Neither a byte nor an end comes for a short time."""
+    readable, _, _ = select.select(ends, [], [], 0.1)
+    check(not readable, "a byte or an end came where nothing should come")
+
+
+def send_more(end):
+    """Sends some bytes to a connection that may be gone."""
+    with contextlib.suppress(ConnectionResetError, BrokenPipeError):
+        end.sendall(b"more")
+
+
+def send_until_ended(end):
+    """Sends until the other side has ended or is gone, which a reader is told at once. The other side sends no byte."""
+    end.setblocking(False)
+    sent = 0
+    while sent < MOST:
+        readable, writable, _ = select.select([end], [end], [], LIMIT)
+        check(readable or writable, f"not within {LIMIT} s: the end of a connection that is sent to")
+        if readable:
+            return has_ended(end)
+        with contextlib.suppress(BlockingIOError, ConnectionResetError, BrokenPipeError):
+            sent += end.send(BLOCK)
+    raise Failed(f"{sent} bytes were taken by a connection that should be gone")
+
+
+def send_until_full(end):
+    """Sends until 20 looks in turn, 25 ms apart, find no room. Returns how many bytes the system took."""
+    end.setblocking(False)
+    sent = 0
+    looks = 0
+    while looks < 20:
+        _, writable, _ = select.select([], [end], [], 0.025)
+        looks = 0 if writable else looks + 1
+        with contextlib.suppress(BlockingIOError):
+            sent += end.send(BLOCK)
+        check(sent < MOST, f"{sent} bytes were taken, and nobody reads them")
+    return sent

@@ -1,0 +1,113 @@
+"""A `toxi serve` process: its lines, its threads and its descriptors."""
+import contextlib
+import json
+import os
+import re
+import resource
+import socket
+import subprocess
+
+from waiting import LIMIT, Failed, check, wait_until
+
+LINK = re.compile(r"link shop (\d+) up (\d+) (\w+) down (\d+) (\w+)")
+TOTAL = re.compile(r"total shop (\d+) up (\d+) down (\d+)")
+
+
+class Served:
+    """A process with one proxy before an upstream, which ends by itself after so many links."""
+
+    def __init__(self, program, folder, upstream, links, script):
+        config = os.path.join(folder, "proxies.json")
+        rules = os.path.join(folder, "script.toml")
+        with open(config, "w") as file:
+            json.dump([{"name": "shop", "listen": "127.0.0.1:0", "upstream": f"127.0.0.1:{upstream.port}"}], file)
+        with open(rules, "w") as file:
+            file.write(script)
+        command = [program, "serve", "--config", config, "--script", rules, "--seed", "1", "--links", str(links)]
+        self.upstream = upstream
+        self.links = links
+        self.told = b""
+        self.process = subprocess.Popen(command, stdin=subprocess.DEVNULL, stdout=subprocess.PIPE)
+        self.output = self.process.stdout
+        os.set_blocking(self.output.fileno(), False)
+
+    def __enter__(self):
+        return self
+
+    def __exit__(self, *_):
+        self.process.kill()
+        self.process.wait()
+        self.output.close()
+
+    def start(self):
+        """Waits until it listens. It has two threads then: the first one and the proxy's."""
+        wait_until(lambda: self.lines() or self.process.poll() is not None, "the line `listening`")
+        check(self.lines(), f"it ended with status {self.process.returncode} before it listened")
+        wait_until(lambda: self.threads() == 2, "two threads")
+        self.port = int(self.lines()[0].rpartition(":")[2])
+        self.at_rest = self.descriptors()
+        check(self.at_rest == list(range(len(self.at_rest))), f"there are gaps in its descriptors {self.at_rest}")
+
+    def lines(self):
+        """The whole lines that it printed so far."""
+        with contextlib.suppress(BlockingIOError):
+            while more := os.read(self.output.fileno(), 65536):
+                self.told += more
+        return self.told.decode().split("\n")[:-1]
+
+    def threads(self):
+        return len(os.listdir(f"/proc/{self.process.pid}/task"))
+
+    def descriptors(self):
+        return sorted(map(int, os.listdir(f"/proc/{self.process.pid}/fd")))
+
+    def allow_descriptors(self, more):
+        """Sets the soft limit to so many descriptors more than it has at rest. Without a number it is lifted."""
+        _, hard = resource.prlimit(self.process.pid, resource.RLIMIT_NOFILE)
+        soft = hard if more is None else len(self.at_rest) + more
+        resource.prlimit(self.process.pid, resource.RLIMIT_NOFILE, (soft, hard))
+
+    def client(self):
+        return socket.create_connection(("127.0.0.1", self.port), timeout=LIMIT)
+
+    def link(self):
+        """A client, and the upstream's side of its link."""
+        client = self.client()
+        return client, self.upstream.accept()
+
+    def ended_links(self):
+        """The lines of links so far, by number."""
+        found = [LINK.fullmatch(line) for line in self.lines()]
+        return {int(line[1]): line for line in found if line}
+
+    def ended(self, number, up, up_end, down, down_end):
+        """Waits for the line of a link. Its bytes are a number, or lie in a range."""
+        wait_until(lambda: number in self.ended_links(), f"the line of link {number}")
+        line = self.ended_links()[number]
+        for told, want in ((line[2], up), (line[4], down)):
+            check(int(told) in (want if isinstance(want, range) else [want]), f"`{line[0]}`: {told} isn't {want}")
+        check((line[3], line[5]) == (up_end, down_end), f"`{line[0]}` isn't up {up_end} down {down_end}")
+
+    def rests(self):
+        """Waits until no thread and no descriptor is left of the links that ended."""
+        wait_until(
+            lambda: self.threads() == 2 and self.descriptors() == self.at_rest,
+            "every thread and descriptor of the ended links is given back",
+        )
+
+    def ends(self):
+        """Waits until it ends by itself, with status 0."""
+        try:
+            check(self.process.wait(LIMIT) == 0, f"it ended with status {self.process.returncode}")
+        except subprocess.TimeoutExpired:
+            raise Failed(f"it didn't end within {LIMIT} s of its last link") from None
+
+    def told_all(self):
+        """Checks that it printed a line for each link, and then the sums of these lines."""
+        links = self.ended_links()
+        check(sorted(links) == list(range(1, self.links + 1)), f"there are lines of the links {sorted(links)}")
+        check(len(self.lines()) == self.links + 2, f"there are {len(self.lines())} lines for {self.links} links")
+        total = TOTAL.fullmatch(self.lines()[-1])
+        check(total, f"the last line is `{self.lines()[-1]}`")
+        up, down = (sum(int(line[place]) for line in links.values()) for place in (2, 4))
+        check(total.groups() == (str(self.links), str(up), str(down)), f"`{total[0]}`, but the sums are {up} and {down}")
