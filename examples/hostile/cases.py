@@ -16,6 +16,7 @@ from ends import (
     send_more,
     send_until_ended,
     send_until_full,
+    send_until_refused,
     shut_writing,
 )
 from waiting import check
@@ -249,3 +250,25 @@ def reset_by_a_rule(toxi):
         client.close()
         server.close()
         toxi.ended(number, 0, "closed", len(heard), "reset")
+
+
+@case(1, ("limit_data", "bytes = 3"))
+def limit_is_told_to_a_sender(toxi):
+    """An upstream that only sends learns at once that the link has ended."""
+    client, server = toxi.link()
+    send_until_refused(server)
+    check(read_all(client) == BLOCK[:3], "the client heard other bytes than the upstream's first three")
+    client.close()
+    server.close()
+    toxi.ended(1, 0, "closed", 3, "closed")
+
+
+@case(1)
+def fault_is_told_to_a_sender(toxi):
+    """A client whose bytes nobody reads learns at once that its upstream was reset."""
+    client, server = toxi.link()
+    sent = send_until_full(client)
+    reset(server)
+    send_until_refused(client)
+    client.close()
+    toxi.ended(1, range(1, sent), "broken", 0, "closed")

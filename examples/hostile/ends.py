@@ -126,6 +126,15 @@ def send_until_ended(end):
     raise Failed(f"{sent} bytes were taken by a connection that should be gone")
 
 
+def send_until_refused(end):
+    """Sends until the connection is gone, and reads nothing."""
+    end.settimeout(LIMIT)
+    with contextlib.suppress(ConnectionResetError, BrokenPipeError):
+        for _ in range(MOST // len(BLOCK)):
+            end.sendall(BLOCK)
+        raise Failed("a connection that should be gone takes bytes")
+
+
 def send_until_full(end):
     """Sends until 20 looks in turn, 25 ms apart, find no room. Returns how many bytes the system took."""
     end.setblocking(False)

@@ -11,8 +11,9 @@ const SHORT_REST: u64 = 10;
 /// The system's codes of a momentary lack: of descriptors in this process, in the system, and of buffers.
 const LACKS: [i32; 3] = [24, 23, 105];
 
-/// The system's code of a connection that broke before it was accepted.
-const PROTOCOL_ERROR: i32 = 71;
+/// The system's codes of a connection that broke before it was accepted: refused by a rule of the firewall, no network,
+/// a protocol error, no such option, not supported, timed out, and a host that is down.
+const BROKE: [i32; 7] = [1, 64, 71, 92, 95, 110, 112];
 
 /// What to do after a failed `accept`.
 #[derive(Clone, Copy, Debug, PartialEq, Eq)]
@@ -53,7 +54,7 @@ fn after(error: &io::Error) -> Next {
 
 fn after_code(code: Option<i32>) -> Next {
     match code {
-        Some(PROTOCOL_ERROR) => Next::TryAgain,
+        Some(code) if BROKE.contains(&code) => Next::TryAgain,
         Some(code) if LACKS.contains(&code) => Next::Rest,
         _ => Next::GiveUp,
     }

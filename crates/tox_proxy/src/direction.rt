@@ -9,8 +9,8 @@ use crate::link_end::{Carried, StreamEnd};
 use crate::open_gate::Open;
 use crate::serve_runtime::ServeRuntime;
 use crate::sockets::{NoNotes, Sockets};
+use crate::until_cut::UntilCut;
 use std::alloc::{AllocError, Global};
-use std::net::TcpStream;
 use std::sync::Arc;
 use tox_compile::{Plan, compile};
 use tox_link::{Ends, LinkFault, carry};
@@ -51,7 +51,7 @@ pub(crate) fn course_of(
 pub(crate) fn carry_stream<R: ServeRuntime>(
     rt: &R,
     alloc: Global,
-    reader: TcpStream,
+    reader: UntilCut,
     sockets: Sockets<'_>,
     clock: SinceStart<'_, R>,
     course: Course,
@@ -80,7 +80,7 @@ pub(crate) fn carry_stream<R: ServeRuntime>(
             end: StreamEnd::Ended(report.ending),
         },
         Err(fault) => {
-            sockets.shut();
+            sockets.cut();
             after_fault(&fault)
         }
     }

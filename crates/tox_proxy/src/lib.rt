@@ -31,6 +31,7 @@ mod slice_source;
 mod sockets;
 mod stages;
 mod toxics;
+mod until_cut;
 
 pub use dry::dry_run;
 pub use fault::StagesFault;

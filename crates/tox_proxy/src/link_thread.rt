@@ -9,10 +9,12 @@ use crate::printing::print_link;
 use crate::serve_run::Run;
 use crate::serve_runtime::ServeRuntime;
 use crate::sockets::Sockets;
+use crate::until_cut::UntilCut;
 use std::alloc::Global;
 use std::io::Write;
 use std::net::{Net, TcpListener, TcpStream};
-use std::sync::{Mutex, Wait};
+use std::sync::atomic::AtomicBool;
+use std::sync::{Arc, Mutex, Wait};
 use std::thread;
 use tox_config::ProxyDef;
 use tox_link::Book;
@@ -117,16 +119,28 @@ fn carry_both<R: ServeRuntime, W>(
     up: Course,
     down: Course,
 ) -> LinkEnd {
-    let (Ok(from_client), Ok(from_server)) = (client.try_clone(), server.try_clone()) else {
+    let alloc = run.alloc;
+    let (Ok(client_cut), Ok(server_cut)) = (
+        Arc::new(alloc, AtomicBool::new(false)),
+        Arc::new(alloc, AtomicBool::new(false)),
+    ) else {
         return LinkEnd::BROKEN;
     };
-    let alloc = run.alloc;
+    let (Some(from_client), Some(from_server)) = (
+        UntilCut::new(client, &client_cut),
+        UntilCut::new(server, &server_cut),
+    ) else {
+        return LinkEnd::BROKEN;
+    };
+    let (client_cut, server_cut) = (&*client_cut, &*server_cut);
     let gate = &run.gate;
     thread::scope(thread::scope_env(), rt, |scope| {
         let answers = scope.spawn(move || {
             let sockets = Sockets {
                 source: server,
                 target: client,
+                source_cut: server_cut,
+                target_cut: client_cut,
             };
             carry_stream(rt, alloc, from_server, sockets, clock, down, gate)
         });
@@ -136,6 +150,8 @@ fn carry_both<R: ServeRuntime, W>(
         let sockets = Sockets {
             source: client,
             target: server,
+            source_cut: client_cut,
+            target_cut: server_cut,
         };
         let upstream = carry_stream(rt, alloc, from_client, sockets, clock, up, gate);
         LinkEnd::of(&upstream, &answers.join(rt))

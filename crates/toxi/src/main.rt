@@ -72,6 +72,7 @@ fn serve_files<R: Print + Eprint + Files + AllocGlobal + ServeRuntime>(
     rt: &R,
     arguments: &ServeArguments<'_>,
 ) -> ExitCode {
+    let _held = serve::hold_standard(rt);
     match serve::set_up(rt, arguments) {
         Ok(setup) => tell(rt, serve::serve_proxies(rt, &setup, arguments)),
         Err(fault) => fail(rt, &fault),

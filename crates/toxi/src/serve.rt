@@ -1,8 +1,11 @@
 //! `toxi serve`: proxies that listen. Each line is on standard output as it comes.
-use std::io;
 use std::rt::Files;
 use std::sync::Mutex;
+use std::{fs, io};
 use tox_proxy::{RealFiles, ServeFault, ServeRuntime, Setup, SetupFault, read_setup, serve};
+
+/// A file that gives and takes nothing.
+const NOTHING: &str = "/dev/null";
 
 /// What `serve` is given.
 #[derive(Clone, Copy, Debug)]
@@ -14,6 +17,16 @@ pub struct ServeArguments<'a> {
     pub seed: u64,
     /// After how many connections each proxy stops listening. None: it goes on.
     pub links: Option<u64>,
+}
+
+/// Three files, which take the numbers of standard descriptors that were closed at the start. Else a socket takes them, and the
+/// lines go to its peer.
+pub fn hold_standard<R: Files>(rt: &R) -> [Option<R::File>; 3] {
+    [
+        fs::open(rt, NOTHING).ok(),
+        fs::open(rt, NOTHING).ok(),
+        fs::open(rt, NOTHING).ok(),
+    ]
 }
 
 /// Reads the populate file, and then the script.
