@@ -72,7 +72,9 @@ fn serve_files<R: Print + Eprint + Files + AllocGlobal + ServeRuntime>(
     rt: &R,
     arguments: &ServeArguments<'_>,
 ) -> ExitCode {
-    let _held = serve::hold_standard(rt);
+    let _input = serve::hold_descriptor(rt);
+    let _output = serve::hold_descriptor(rt);
+    let _errors = serve::hold_descriptor(rt);
     match serve::set_up(rt, arguments) {
         Ok(setup) => tell(rt, serve::serve_proxies(rt, &setup, arguments)),
         Err(fault) => fail(rt, &fault),

@@ -19,14 +19,10 @@ pub struct ServeArguments<'a> {
     pub links: Option<u64>,
 }
 
-/// Three files, which take the numbers of standard descriptors that were closed at the start. Else a socket takes them, and the
+/// A file that takes the number of a standard descriptor that was closed at the start. Else a socket takes it, and the
 /// lines go to its peer.
-pub fn hold_standard<R: Files>(rt: &R) -> [Option<R::File>; 3] {
-    [
-        fs::open(rt, NOTHING).ok(),
-        fs::open(rt, NOTHING).ok(),
-        fs::open(rt, NOTHING).ok(),
-    ]
+pub fn hold_descriptor<R: Files>(rt: &R) -> Option<R::File> {
+    fs::open(rt, NOTHING).ok()
 }
 
 /// Reads the populate file, and then the script.
