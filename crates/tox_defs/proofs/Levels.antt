@@ -10,9 +10,10 @@ use Rattle.tox_time.specs.Table.{final_of}
 use Rattle.tox_words.specs.Draw.{Draws}
 use Rattle.tox_defs.specs.declared.state.State.{State}
 use Rattle.tox_defs.specs.declared.level.Level.{Level}
-use Rattle.tox_defs.specs.declared.look.Look.TheVariants.{Piece, LastPiece, Ended}
+use Rattle.tox_defs.specs.declared.look.Look.TheVariants.{Piece, LastPiece, Ended, Late}
 use Rattle.tox_defs.specs.Reaction.{flow_from, state_from, with_piece, with_chunk, with_ending}
 use Rattle.tox_defs.specs.Op.{op_reaction}
+use Rattle.tox_defs.specs.Until.{with_previous}
 use Rattle.tox_defs.specs.Look.{as_chunk, rest_of, Finds, after_piece_of, IsFront}
 use Rattle.tox_defs.specs.Level.{ending_or, ended_or, level_gives, level_leaves, IsSound, IsNextPiece, IsAtEnd}
 use Rattle.tox_defs.proofs.FlowLemmas.{flow_from-done}
@@ -96,6 +97,39 @@ level_at_piece draws start level piece running some sound finds front =
       leaves = leaves_now draws start level running some ∙ (finds []).leaves
           ∙ ap (λ rest. state_from (op_reaction level.op draws) (after_piece_of level.stop level.state piece) rest) (append-nil (rest_of piece.span.stop level.stop level.instant))
           ∙ sym (level_leaves-running draws piece.span.stop later running);
+    }
+
+-- a level whose look found that the rest is late
+pub level_at_late : (draws : Draws) (start : ℕ) (level : Level) (piece : Slice) → level.ending ≡ None → start < level.stop → IsSound start level
+    → ((items : List Item) → Finds (op_reaction level.op draws) level.state (rest_at start level) items (Late piece)) → piece.span ≡ (rest_at start level).span
+    → IsNextPiece draws start level (record { op = level.op; state = with_previous level.state piece.instant; stop = level.stop; instant = level.instant; ending = level.ending }) piece
+level_at_late draws start level piece running some sound finds whole =
+    let begins : piece.span.start ≡ start = ap (λ span. span.start) whole in
+    let stops : piece.span.stop ≡ level.stop = ap (λ span. span.stop) whole in
+    let later : Level = record { op = level.op; state = with_previous level.state piece.instant; stop = level.stop; instant = level.instant; ending = level.ending } in
+    let nothing = rest_of-read piece.span.stop level.stop level.instant (omega (arith, stops)) in
+    record {
+      begins = begins;
+      some = omega (arith, stops, some);
+      within = omega (arith, stops);
+      op = refl;
+      stop = refl;
+      instant = refl;
+      sound = record {
+        within = omega (arith, stops);
+        few = sound.few;
+        chunks = omega (arith, stops, some, sound.chunks);
+        pieces = omega (arith, stops, some, sound.pieces);
+        passed = omega (arith, stops, some, sound.passed);
+        running = sound.running;
+        operation = sound.operation;
+      };
+      gives = λ items. gives_now draws start level running some items ∙ (finds items).gives
+          ∙ ap (λ given. as_chunk piece ∷ given) (sym (level_gives-running draws piece.span.stop later items running
+          ∙ ap (λ rest. flow_from (op_reaction level.op draws) later.state (rest ++ items)) nothing));
+      leaves = leaves_now draws start level running some ∙ (finds []).leaves
+          ∙ sym (level_leaves-running draws piece.span.stop later running
+          ∙ ap (λ rest. state_from (op_reaction level.op draws) later.state rest) nothing);
     }
 
 -- a level whose look found its last piece

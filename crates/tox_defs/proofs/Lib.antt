@@ -2,6 +2,7 @@ pub mod FlowLemmas
 pub mod Drawn
 pub mod Cutting
 pub mod Levels
+pub mod Stopping
 pub mod OpOf
 pub mod Stages
 pub mod OpenStates

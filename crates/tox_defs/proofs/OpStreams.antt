@@ -20,6 +20,7 @@ use Rattle.tox_defs.specs.Op.{op_reaction, IsOp, EndsInTime}
 use Rattle.tox_defs.proofs.Drawn.{varied-positive}
 use Rattle.tox_defs.proofs.KeepingStreams.{IsStreamFrom-flow}
 use Rattle.tox_defs.proofs.StreamKeepers.{Whatever, NotAfter}
+use Rattle.tox_defs.proofs.Stopping.{until_keeps}
 use Rattle.tox_defs.proofs.ToxicProofs.Timeout.{flow_from-muted}
 use Rattle.tox_defs.proofs.ToxicProofs.ResetPeer.{NotAfterEither, cut_off_keeps}
 use Rattle.tox_defs.proofs.ToxicProofs.Latency.{delayed_keeps}
@@ -34,13 +35,13 @@ IsStream-final (Closed t) fits = (omega arith, fits, refl)
 IsStream-final (Reset t) fits = (omega arith, fits, refl)
 
 pub IsStream-op_flow : (op : Op) (draws : Draws) (items : List Item) → IsOp op → IsStream items → IsStream (flow (op_reaction op draws) items)
-IsStream-op_flow (Delay fixed latency jitter lane) draws items fits stream =
-    IsStreamFrom-flow Whatever (counted (delay_gives (λ chunk. 1000 * (fixed + varied latency jitter (draws lane (1 + chunk)))))) (delayed_keeps (λ chunk. 1000 * (fixed + varied latency jitter (draws lane (1 + chunk))))) items 0 0 0 0 0 0 (omega arith) tt stream
-IsStream-op_flow (Pace rate) draws items fits stream = IsStreamFrom-flow Whatever (counted (pace_gives rate)) (paced_keeps rate fits) items 0 0 0 0 0 0 (omega arith) tt stream
+IsStream-op_flow (Delay fixed latency jitter lane until) draws items fits stream =
+    IsStreamFrom-flow Whatever _ (until_keeps until _ (delayed_keeps (λ chunk. 1000 * (fixed + varied latency jitter (draws lane (1 + chunk)))))) items 0 0 0 0 0 0 (omega arith) tt stream
+IsStream-op_flow (Pace rate until) draws items fits stream = IsStreamFrom-flow Whatever _ (until_keeps until _ (paced_keeps rate fits)) items 0 0 0 0 0 0 (omega arith) tt stream
 IsStream-op_flow (Slow millis) draws items fits stream = IsStreamFrom-flow NotAfter (counted (slow_gives (1000 * millis))) (closed_later_keeps (1000 * millis)) items 0 0 0 0 0 0 (omega arith) (omega arith) stream
 IsStream-op_flow (Mute ending) draws items fits stream = rw (flow_from-muted (final_of ending) items 0 0 0 0 0 0 stream) (IsStream-final ending fits)
 IsStream-op_flow (Cutoff instant) draws items fits stream =
     IsStreamFrom-flow (NotAfterEither instant) (counted (cutoff_gives instant)) (cut_off_keeps instant fits) items 0 0 0 0 0 0 (omega arith) (omega arith, omega arith) stream
-IsStream-op_flow (Slicing average variation micros lane) draws items fits stream =
-    IsStreamFrom-flow Whatever (counted (slicing_gives (λ piece. varied average variation (draws lane (1 + piece))) micros)) (sliced_keeps (λ piece. varied average variation (draws lane (1 + piece))) micros (λ piece. varied-positive average variation (draws lane (1 + piece)) fits)) items 0 0 0 0 0 0 (omega arith) tt stream
+IsStream-op_flow (Slicing average variation micros lane until) draws items fits stream =
+    IsStreamFrom-flow Whatever _ (until_keeps until _ (sliced_keeps (λ piece. varied average variation (draws lane (1 + piece))) micros (λ piece. varied-positive average variation (draws lane (1 + piece)) fits))) items 0 0 0 0 0 0 (omega arith) tt stream
 IsStream-op_flow (Limit bytes) draws items fits stream = IsStreamFrom-flow NotAfter (counted (limit_gives bytes)) (limited_keeps bytes) items 0 0 0 0 0 0 (omega arith) (omega arith) stream

@@ -1,12 +1,13 @@
 -- The printed short form of a toxic in range reads back as that toxic.
-use Rattle.std.proofs.Common.{◌≡◌, ℕ, ◌^◌, ◌<◌, ◌≤◌, ◌==◌, true, false, cond, nat_lt, List, [], ◌∷◌, ◌++◌, length, codes, Some, Ok, unwrap_or, refl, ap, ◌∙◌, append_assoc, arith, rules, tests}
+use Rattle.std.proofs.Common.{◌≡◌, ℕ, zero, suc, ◌^◌, ◌<◌, ◌≤◌, ◌==◌, true, false, cond, nat_lt, List, [], ◌∷◌, ◌++◌, length, codes, Some, Ok, unwrap_or, refl, ap, ◌∙◌, append_assoc, arith, rules, tests}
 use Rattle.std.specs.List.{after_first, AllByRecursion, join_with_byte, list_all}
+use Rattle.std.proofs.Math.Dec.{eqb-suc-zero}
 use Rattle.std.proofs.lemmas.Grind.{common_steps}
 use Rattle.tox_defs.proofs.Decimals.{read_decimal}
 use Rattle.tox_defs.proofs.Cuts.{after_first-front, before_first-front, lacks, position-front, slice_split-join_with_byte}
 use Rattle.tox_defs.specs.Kind.{checked, kind_of, name_of, toxic_of}
 use Rattle.tox_defs.specs.Pairs.{has_double_key, is_pair, is_word, key_of, pairs_of, value_at}
-use Rattle.tox_defs.specs.Printed.{printed_pairs, printed_short, type_of, values_of}
+use Rattle.tox_defs.specs.Printed.{printed_pair, printed_pairs, printed_short, type_of, values_of}
 use Rattle.tox_time.specs.Text.{is_colon}
 use Rattle.tox_defs.specs.Short.{is_known, pairs_in, short_of, toxicity_in, values_in, with_name, with_pairs}
 use Rattle.tox_defs.specs.Toxic.{IsInRange}
@@ -84,73 +85,117 @@ value_at_some key [] value read = cc
 value_at_some key (pair ∷ pairs) value read = omega arith
 
 -- the facts of printed pairs that make them read back
-short_of_printed : (toxic : Toxic) (toxicity : ℕ)
-    → list_all (lacks (λ byte. byte == 44)) (printed_pairs toxic toxicity) ≡ true
-    → list_all is_pair (printed_pairs toxic toxicity) ≡ true
-    → has_double_key (printed_pairs toxic toxicity) ≡ false
-    → list_all (λ pair. is_known (type_of toxic) (key_of pair)) (printed_pairs toxic toxicity) ≡ true
-    → value_at (codes "toxicity") (printed_pairs toxic toxicity) ≡ Some toxicity
-    → toxic_of (type_of toxic) (values_in (type_of toxic) (printed_pairs toxic toxicity)) ≡ toxic
+short_of_printed : (toxic : Toxic) (toxicity : ℕ) (pairs : List (List ℕ)) → printed_pairs toxic toxicity ≡ pairs
+    → list_all (lacks (λ byte. byte == 44)) pairs ≡ true → list_all is_pair pairs ≡ true
+    → has_double_key pairs ≡ false → list_all (λ pair. is_known (type_of toxic) (key_of pair)) pairs ≡ true
+    → value_at (codes "toxicity") pairs ≡ Some toxicity → toxic_of (type_of toxic) (values_in (type_of toxic) pairs) ≡ toxic
     → toxicity ≤ 1000 → IsInRange toxic
     → short_of (printed_short toxic toxicity) ≡ Ok (toxic, toxicity)
-short_of_printed toxic toxicity parted good apart known read made most inside =
+short_of_printed toxic toxicity pairs are parted good apart known read made most inside =
     let kind = type_of toxic in
-    let pairs = printed_pairs toxic toxicity in
-    ap short_of (append_assoc (name_of kind) (58 ∷ []) (join_with_byte 44 pairs))
+    ap (λ pairs. short_of (name_of kind ++ 58 ∷ [] ++ join_with_byte 44 pairs)) are
+    ∙ ap short_of (append_assoc (name_of kind) (58 ∷ []) (join_with_byte 44 pairs))
     ∙ short_of-joined kind pairs (value_at_some (codes "toxicity") pairs toxicity read) parted good
     ∙ with_pairs_good kind pairs toxic toxicity apart known read made most inside
 
 -- the values of attributes in range have few digits
 small_values : (toxic : Toxic) → IsInRange toxic → AllByRecursion (λ value. value < 10 ^ 18) (values_of toxic)
-small_values (toxic.Latency latency jitter) inside = grind (arith, common_steps)
-small_values (toxic.Bandwidth rate) inside = grind (arith, common_steps)
+small_values (toxic.Latency latency jitter until) inside = grind (arith, common_steps)
+small_values (toxic.Bandwidth rate until) inside = grind (arith, common_steps)
 small_values (toxic.SlowClose delay) inside = grind (arith, common_steps)
 small_values (toxic.Timeout timeout) inside = grind (arith, common_steps)
 small_values (toxic.ResetPeer timeout) inside = grind (arith, common_steps)
-small_values (toxic.Slicer average_size size_variation delay) inside = grind (arith, common_steps)
+small_values (toxic.Slicer average_size size_variation delay until) inside = grind (arith, common_steps)
 small_values (toxic.LimitData bytes) inside = grind (arith, common_steps)
 
 pub reads_back : (toxic : Toxic) (toxicity : ℕ) → IsInRange toxic → toxicity ≤ 1000
     → short_of (printed_short toxic toxicity) ≡ Ok (toxic, toxicity)
-reads_back (toxic.Latency latency jitter) toxicity inside most =
-    let small = small_values (toxic.Latency latency jitter) inside in
+reads_back (toxic.Latency latency jitter zero) toxicity inside most =
+    let small = small_values (toxic.Latency latency jitter 0) inside in
     let first = read_decimal latency small.0 in
     let second = read_decimal jitter small.1.0 in
     let last = read_decimal toxicity (omega arith) in
-    short_of_printed (toxic.Latency latency jitter) toxicity
+    short_of_printed (toxic.Latency latency jitter 0) toxicity
+    (printed_pair (codes "latency", latency) ∷ printed_pair (codes "jitter", jitter) ∷ printed_pair (codes "toxicity", toxicity) ∷ []) refl
     (rw (first.1, second.1, last.1) refl) (rw (first.0, second.0, last.0) refl)
     refl refl last.0 (rw (first.0, second.0) refl) most inside
-reads_back (toxic.Bandwidth rate) toxicity inside most =
-    let first = read_decimal rate (small_values (toxic.Bandwidth rate) inside).0 in
+reads_back (toxic.Latency latency jitter (suc until)) toxicity inside most =
+    let small = small_values (toxic.Latency latency jitter (suc until)) inside in
+    let first = read_decimal latency small.0 in
+    let second = read_decimal jitter small.1.0 in
+    let third = read_decimal (suc until) small.1.1.0 in
     let last = read_decimal toxicity (omega arith) in
-    short_of_printed (toxic.Bandwidth rate) toxicity (rw (first.1, last.1) refl) (rw (first.0, last.0) refl)
+    short_of_printed (toxic.Latency latency jitter (suc until)) toxicity
+    (printed_pair (codes "latency", latency) ∷ printed_pair (codes "jitter", jitter) ∷ printed_pair (codes "until", suc until) ∷ printed_pair (codes "toxicity", toxicity) ∷ []) (rw (eqb-suc-zero until) refl)
+    (rw (first.1, second.1, third.1, last.1) refl) (rw (first.0, second.0, third.0, last.0) refl)
+    refl refl last.0 (rw (first.0, second.0, third.0) refl) most inside
+reads_back (toxic.Bandwidth rate zero) toxicity inside most =
+    let small = small_values (toxic.Bandwidth rate 0) inside in
+    let first = read_decimal rate small.0 in
+    let last = read_decimal toxicity (omega arith) in
+    short_of_printed (toxic.Bandwidth rate 0) toxicity
+    (printed_pair (codes "rate", rate) ∷ printed_pair (codes "toxicity", toxicity) ∷ []) refl
+    (rw (first.1, last.1) refl) (rw (first.0, last.0) refl)
     refl refl last.0 (rw first.0 refl) most inside
-reads_back (toxic.SlowClose delay) toxicity inside most =
-    let first = read_decimal delay (small_values (toxic.SlowClose delay) inside).0 in
+reads_back (toxic.Bandwidth rate (suc until)) toxicity inside most =
+    let small = small_values (toxic.Bandwidth rate (suc until)) inside in
+    let first = read_decimal rate small.0 in
+    let second = read_decimal (suc until) small.1.0 in
     let last = read_decimal toxicity (omega arith) in
-    short_of_printed (toxic.SlowClose delay) toxicity (rw (first.1, last.1) refl) (rw (first.0, last.0) refl)
+    short_of_printed (toxic.Bandwidth rate (suc until)) toxicity
+    (printed_pair (codes "rate", rate) ∷ printed_pair (codes "until", suc until) ∷ printed_pair (codes "toxicity", toxicity) ∷ []) (rw (eqb-suc-zero until) refl)
+    (rw (first.1, second.1, last.1) refl) (rw (first.0, second.0, last.0) refl)
+    refl refl last.0 (rw (first.0, second.0) refl) most inside
+reads_back (toxic.SlowClose delay) toxicity inside most =
+    let small = small_values (toxic.SlowClose delay) inside in
+    let first = read_decimal delay small.0 in
+    let last = read_decimal toxicity (omega arith) in
+    short_of_printed (toxic.SlowClose delay) toxicity
+    (printed_pair (codes "delay", delay) ∷ printed_pair (codes "toxicity", toxicity) ∷ []) refl
+    (rw (first.1, last.1) refl) (rw (first.0, last.0) refl)
     refl refl last.0 (rw first.0 refl) most inside
 reads_back (toxic.Timeout timeout) toxicity inside most =
-    let first = read_decimal timeout (small_values (toxic.Timeout timeout) inside).0 in
+    let small = small_values (toxic.Timeout timeout) inside in
+    let first = read_decimal timeout small.0 in
     let last = read_decimal toxicity (omega arith) in
-    short_of_printed (toxic.Timeout timeout) toxicity (rw (first.1, last.1) refl) (rw (first.0, last.0) refl)
+    short_of_printed (toxic.Timeout timeout) toxicity
+    (printed_pair (codes "timeout", timeout) ∷ printed_pair (codes "toxicity", toxicity) ∷ []) refl
+    (rw (first.1, last.1) refl) (rw (first.0, last.0) refl)
     refl refl last.0 (rw first.0 refl) most inside
 reads_back (toxic.ResetPeer timeout) toxicity inside most =
-    let first = read_decimal timeout (small_values (toxic.ResetPeer timeout) inside).0 in
+    let small = small_values (toxic.ResetPeer timeout) inside in
+    let first = read_decimal timeout small.0 in
     let last = read_decimal toxicity (omega arith) in
-    short_of_printed (toxic.ResetPeer timeout) toxicity (rw (first.1, last.1) refl) (rw (first.0, last.0) refl)
+    short_of_printed (toxic.ResetPeer timeout) toxicity
+    (printed_pair (codes "timeout", timeout) ∷ printed_pair (codes "toxicity", toxicity) ∷ []) refl
+    (rw (first.1, last.1) refl) (rw (first.0, last.0) refl)
     refl refl last.0 (rw first.0 refl) most inside
-reads_back (toxic.Slicer average_size size_variation delay) toxicity inside most =
-    let small = small_values (toxic.Slicer average_size size_variation delay) inside in
+reads_back (toxic.Slicer average_size size_variation delay zero) toxicity inside most =
+    let small = small_values (toxic.Slicer average_size size_variation delay 0) inside in
     let first = read_decimal average_size small.0 in
     let second = read_decimal size_variation small.1.0 in
     let third = read_decimal delay small.1.1.0 in
     let last = read_decimal toxicity (omega arith) in
-    short_of_printed (toxic.Slicer average_size size_variation delay) toxicity
+    short_of_printed (toxic.Slicer average_size size_variation delay 0) toxicity
+    (printed_pair (codes "average_size", average_size) ∷ printed_pair (codes "size_variation", size_variation) ∷ printed_pair (codes "delay", delay) ∷ printed_pair (codes "toxicity", toxicity) ∷ []) refl
     (rw (first.1, second.1, third.1, last.1) refl) (rw (first.0, second.0, third.0, last.0) refl)
     refl refl last.0 (rw (first.0, second.0, third.0) refl) most inside
-reads_back (toxic.LimitData bytes) toxicity inside most =
-    let first = read_decimal bytes (small_values (toxic.LimitData bytes) inside).0 in
+reads_back (toxic.Slicer average_size size_variation delay (suc until)) toxicity inside most =
+    let small = small_values (toxic.Slicer average_size size_variation delay (suc until)) inside in
+    let first = read_decimal average_size small.0 in
+    let second = read_decimal size_variation small.1.0 in
+    let third = read_decimal delay small.1.1.0 in
+    let fourth = read_decimal (suc until) small.1.1.1.0 in
     let last = read_decimal toxicity (omega arith) in
-    short_of_printed (toxic.LimitData bytes) toxicity (rw (first.1, last.1) refl) (rw (first.0, last.0) refl)
+    short_of_printed (toxic.Slicer average_size size_variation delay (suc until)) toxicity
+    (printed_pair (codes "average_size", average_size) ∷ printed_pair (codes "size_variation", size_variation) ∷ printed_pair (codes "delay", delay) ∷ printed_pair (codes "until", suc until) ∷ printed_pair (codes "toxicity", toxicity) ∷ []) (rw (eqb-suc-zero until) refl)
+    (rw (first.1, second.1, third.1, fourth.1, last.1) refl) (rw (first.0, second.0, third.0, fourth.0, last.0) refl)
+    refl refl last.0 (rw (first.0, second.0, third.0, fourth.0) refl) most inside
+reads_back (toxic.LimitData bytes) toxicity inside most =
+    let small = small_values (toxic.LimitData bytes) inside in
+    let first = read_decimal bytes small.0 in
+    let last = read_decimal toxicity (omega arith) in
+    short_of_printed (toxic.LimitData bytes) toxicity
+    (printed_pair (codes "bytes", bytes) ∷ printed_pair (codes "toxicity", toxicity) ∷ []) refl
+    (rw (first.1, last.1) refl) (rw (first.0, last.0) refl)
     refl refl last.0 (rw first.0 refl) most inside

@@ -1,6 +1,9 @@
 -- A stage that takes a final.
-use Rattle.std.proofs.Common.{◌≡◌, ℕ, false, List, [], ◌∷◌, ◌++◌, None, ap, sym, ◌∙◌, arith}
+use Rattle.std.proofs.Common.{◌≡◌, ℕ, ◌<◌, false, List, [], ◌∷◌, ◌++◌, None, ap, sym, ◌∙◌, arith}
+use Rattle.std.proofs.lemmas.List.{append-nil}
 use Rattle.tox_time.specs.declared.item.Item.{Item}
+use Rattle.tox_time.specs.declared.item.Item.TheVariants.{Chunk}
+use Rattle.tox_time.specs.declared.span.Span.{Span}
 use Rattle.tox_time.specs.declared.ending.Ending.{Ending}
 use Rattle.tox_time.specs.declared.ending.Ending.TheVariants.{StillOpen, Closed, Reset}
 use Rattle.tox_time.specs.Table.{final_of}
@@ -8,13 +11,15 @@ use Rattle.tox_words.specs.Draw.{Draws, draw}
 use Rattle.tox_defs.specs.declared.state.State.{State}
 use Rattle.tox_defs.specs.declared.level.Level.{Level}
 use Rattle.tox_defs.specs.declared.position.StreamPosition.{StreamPosition}
-use Rattle.tox_defs.specs.Reaction.{react, flow_from, state_from, state_after, with_ending}
-use Rattle.tox_defs.specs.Op.{op_giving, op_reaction}
+use Rattle.tox_defs.specs.Reaction.{Reaction, counted, react, flow_from, state_from, state_after, with_ending}
+use Rattle.tox_defs.specs.Op.{op_giving, op_reaction, op_until}
 use Rattle.tox_defs.specs.StreamPosition.{position_after}
+use Rattle.tox_defs.specs.Look.{rest_of}
 use Rattle.tox_defs.specs.Level.{level_gives, level_leaves}
 use Rattle.tox_defs.specs.Stage.{Staged, taken}
 use Rattle.tox_defs.proofs.FlowLemmas.{state_same, react-running}
-use Rattle.tox_defs.proofs.Levels.{rest_of-read, level_gives-running, level_leaves-running}
+use Rattle.tox_defs.proofs.Stopping.{is_late-final, until-early}
+use Rattle.tox_defs.proofs.Levels.{rest_of-read, rest_of-unread, level_gives-running, level_leaves-running}
 
 -- an ending that is given for an ending counts nothing
 pub state_after-final : (state : State) (ending last : Ending) → state_after state (final_of ending) (final_of last ∷ []) ≡ with_ending state last
@@ -47,7 +52,23 @@ took_final words start level place self item ending last running read undone vie
     let reacts : react (op_reaction level.op (draw words)) level.state item ≡ record { state = with_ending level.state last; given = final_of last ∷ [] }
     = react-running (op_reaction level.op (draw words)) level.state item undone
     ∙ ap (λ item. op_reaction level.op (draw words) level.state item) is
+    ∙ until-early (op_until level.op) (counted (op_giving level.op (draw words))) level.state (final_of ending) (is_late-final (op_until level.op) ending)
     ∙ ap (λ given. record { state = state_after level.state (final_of ending) given; given = given }) (gives (draw words))
     ∙ ap (λ state. record { state = state; given = final_of last ∷ [] }) (state_after-final level.state ending last) in
     ap (λ answer. make answer.state answer.given) (sym reacts)
     ∙ ap (λ stage. taken stage item) (sym (read_stage words start level place running read) ∙ view)
+
+-- a running stage that takes a chunk has what its operation gives for it to emit
+pub took_chunk : (words : List ℕ) (start : ℕ) (level : Level) (place : StreamPosition) (self : Staged) (span : Span) (t : ℕ) → level.ending ≡ None → start ≡ level.stop
+    → ◌≡◌ {A = Staged} (record { op = level.op; words = words; state = level_leaves (draw words) start level; pending = level_gives (draw words) start level []; place = place }) self
+    → span.start ≡ start → span.start < span.stop
+    → ◌≡◌ {A = Staged} (record { op = level.op; words = words; state = level_leaves (draw words) start (record level { stop = span.stop; instant = t }); pending = level_gives (draw words) start (record level { stop = span.stop; instant = t }) []; place = position_after place (Chunk span t) }) (taken self (Chunk span t))
+took_chunk words start level place self span t running read view begins some =
+    let later : Level = record level { stop = span.stop; instant = t } in
+    let reaction : Reaction = op_reaction level.op (draw words) in
+    let make : State → List Item → Staged = λ state pending. record { op = level.op; words = words; state = state; pending = pending; place = position_after place (Chunk span t) } in
+    let is_rest : rest_of start span.stop t ≡ Chunk span t ∷ [] =
+    rest_of-unread start span.stop t (omega (arith, begins, some)) ∙ ap (λ start. Chunk (record { start = start; stop = span.stop }) t ∷ []) (sym begins) in
+    ap (λ state. make state (level_gives (draw words) start later [])) (level_leaves-running (draw words) start later running ∙ ap (λ rest. state_from reaction level.state rest) is_rest)
+    ∙ ap (make (react reaction level.state (Chunk span t)).state) (level_gives-running (draw words) start later [] running ∙ ap (λ rest. flow_from reaction level.state (rest ++ [])) is_rest ∙ append-nil (react reaction level.state (Chunk span t)).given)
+    ∙ ap (λ stage. taken stage (Chunk span t)) (sym (read_stage words start level place running read) ∙ view)

@@ -27,40 +27,40 @@ Gives entries words items instants end =
 no_toxic : Gives [] (0 ∷ []) (chunk 0 3 0 ∷ Closed 5 ∷ []) (0 ∷ 0 ∷ 0 ∷ []) (ClosedAt 5)
 no_toxic = (refl, refl)
 
-nothing_arrives : Gives (always (Latency 100 0 ∷ [])) (0 ∷ []) (Quiet ∷ []) ([]) StillOpen
+nothing_arrives : Gives (always (Latency 100 0 0 ∷ [])) (0 ∷ []) (Quiet ∷ []) ([]) StillOpen
 nothing_arrives = (refl, refl)
 
-latency : Gives (always (Latency 100 0 ∷ [])) (0 ∷ []) (chunk 0 2 0 ∷ Closed 50 ∷ []) (100000 ∷ 100000 ∷ []) (ClosedAt 100000)
+latency : Gives (always (Latency 100 0 0 ∷ [])) (0 ∷ []) (chunk 0 2 0 ∷ Closed 50 ∷ []) (100000 ∷ 100000 ∷ []) (ClosedAt 100000)
 latency = (refl, refl)
 
-jitter_keeps_order : Gives (always (Latency 10 5 ∷ [])) (0 ∷ 10 ∷ 0 ∷ []) (chunk 0 1 0 ∷ chunk 1 2 1000 ∷ Quiet ∷ []) (15000 ∷ 15000 ∷ []) StillOpen
+jitter_keeps_order : Gives (always (Latency 10 5 0 ∷ [])) (0 ∷ 10 ∷ 0 ∷ []) (chunk 0 1 0 ∷ chunk 1 2 1000 ∷ Quiet ∷ []) (15000 ∷ 15000 ∷ []) StillOpen
 jitter_keeps_order = (refl, refl)
 
-bandwidth : Gives (always (Bandwidth 1 ∷ [])) (0 ∷ []) (chunk 0 3 0 ∷ chunk 3 4 1000 ∷ Quiet ∷ []) (3000 ∷ 3000 ∷ 3000 ∷ 4000 ∷ []) StillOpen
+bandwidth : Gives (always (Bandwidth 1 0 ∷ [])) (0 ∷ []) (chunk 0 3 0 ∷ chunk 3 4 1000 ∷ Quiet ∷ []) (3000 ∷ 3000 ∷ 3000 ∷ 4000 ∷ []) StillOpen
 bandwidth = (refl, refl)
 
-bandwidth_cuts : Gives (always (Bandwidth 1 ∷ [])) (0 ∷ []) (chunk 0 250 0 ∷ Quiet ∷ []) (replicate 100 100000 ++ (replicate 100 200000 ++ replicate 50 250000)) StillOpen
+bandwidth_cuts : Gives (always (Bandwidth 1 0 ∷ [])) (0 ∷ []) (chunk 0 250 0 ∷ Quiet ∷ []) (replicate 100 100000 ++ (replicate 100 200000 ++ replicate 50 250000)) StillOpen
 bandwidth_cuts = (refl, refl)
 
-bandwidth_rounds_up : Gives (always (Bandwidth 3 ∷ [])) (0 ∷ []) (chunk 0 2 0 ∷ Quiet ∷ []) (667 ∷ 667 ∷ []) StillOpen
+bandwidth_rounds_up : Gives (always (Bandwidth 3 0 ∷ [])) (0 ∷ []) (chunk 0 2 0 ∷ Quiet ∷ []) (667 ∷ 667 ∷ []) StillOpen
 bandwidth_rounds_up = (refl, refl)
 
-slicer : Gives (always (Slicer 2 1 10 ∷ [])) (0 ∷ 1 ∷ 2 ∷ []) (chunk 0 5 0 ∷ Quiet ∷ []) (10 ∷ 10 ∷ 20 ∷ 20 ∷ 20 ∷ []) StillOpen
+slicer : Gives (always (Slicer 2 1 10 0 ∷ [])) (0 ∷ 1 ∷ 2 ∷ []) (chunk 0 5 0 ∷ Quiet ∷ []) (10 ∷ 10 ∷ 20 ∷ 20 ∷ 20 ∷ []) StillOpen
 slicer = (refl, refl)
 
-slicer_without_delay : Gives (always (Slicer 2 1 0 ∷ [])) (0 ∷ 1 ∷ 2 ∷ []) (chunk 0 5 0 ∷ Quiet ∷ []) (0 ∷ 0 ∷ 0 ∷ 0 ∷ 0 ∷ []) StillOpen
+slicer_without_delay : Gives (always (Slicer 2 1 0 0 ∷ [])) (0 ∷ 1 ∷ 2 ∷ []) (chunk 0 5 0 ∷ Quiet ∷ []) (0 ∷ 0 ∷ 0 ∷ 0 ∷ 0 ∷ []) StillOpen
 slicer_without_delay = (refl, refl)
 
 limit_reached : Gives (always (LimitData 3 ∷ [])) (0 ∷ []) (chunk 0 3 7 ∷ Closed 9 ∷ []) (7 ∷ 7 ∷ 7 ∷ []) (ClosedAt 7)
 limit_reached = (refl, refl)
 
-limit_before_latency : Gives (always (LimitData 4 ∷ Latency 1 0 ∷ [])) (0 ∷ []) (chunk 0 3 0 ∷ chunk 3 6 10 ∷ Quiet ∷ []) (1000 ∷ 1000 ∷ 1000 ∷ 1010 ∷ []) (ClosedAt 1010)
+limit_before_latency : Gives (always (LimitData 4 ∷ Latency 1 0 0 ∷ [])) (0 ∷ []) (chunk 0 3 0 ∷ chunk 3 6 10 ∷ Quiet ∷ []) (1000 ∷ 1000 ∷ 1000 ∷ 1010 ∷ []) (ClosedAt 1010)
 limit_before_latency = (refl, refl)
 
-limit_of_zero_first : Gives (always (LimitData 0 ∷ Latency 100 0 ∷ [])) (0 ∷ []) (chunk 0 1 7 ∷ Quiet ∷ []) ([]) (ClosedAt 7)
+limit_of_zero_first : Gives (always (LimitData 0 ∷ Latency 100 0 0 ∷ [])) (0 ∷ []) (chunk 0 1 7 ∷ Quiet ∷ []) ([]) (ClosedAt 7)
 limit_of_zero_first = (refl, refl)
 
-limit_of_zero_last : Gives (always (Latency 100 0 ∷ LimitData 0 ∷ [])) (0 ∷ []) (chunk 0 1 7 ∷ Quiet ∷ []) ([]) (ClosedAt 100007)
+limit_of_zero_last : Gives (always (Latency 100 0 0 ∷ LimitData 0 ∷ [])) (0 ∷ []) (chunk 0 1 7 ∷ Quiet ∷ []) ([]) (ClosedAt 100007)
 limit_of_zero_last = (refl, refl)
 
 timeout : Gives (always (Timeout 50 ∷ [])) (0 ∷ []) (chunk 0 1 0 ∷ Closed 5 ∷ []) ([]) (ClosedAt 50000)
@@ -81,20 +81,20 @@ reset_after_the_end = (refl, refl)
 reset_of_a_quiet_link : Gives (always (ResetPeer 20 ∷ [])) (0 ∷ []) (Quiet ∷ []) ([]) (ResetAt 20000)
 reset_of_a_quiet_link = (refl, refl)
 
-latency_at_the_horizon : Gives (always (Latency 1 0 ∷ [])) (0 ∷ []) (chunk 0 1 1000000000000000 ∷ Quiet ∷ []) (1000000000000000 ∷ []) StillOpen
+latency_at_the_horizon : Gives (always (Latency 1 0 0 ∷ [])) (0 ∷ []) (chunk 0 1 1000000000000000 ∷ Quiet ∷ []) (1000000000000000 ∷ []) StillOpen
 latency_at_the_horizon = (refl, refl)
 
 limit_then_slow_close : Gives (always (LimitData 2 ∷ SlowClose 100 ∷ [])) (0 ∷ []) (chunk 0 3 3 ∷ Quiet ∷ []) (3 ∷ 3 ∷ []) (ClosedAt 100003)
 limit_then_slow_close = (refl, refl)
 
-toxicity_not_met : Gives (record { toxic = Latency 1 0; toxicity = 500 } ∷ []) (500 ∷ []) (chunk 0 1 0 ∷ Quiet ∷ []) (0 ∷ []) StillOpen
+toxicity_not_met : Gives (record { toxic = Latency 1 0 0; toxicity = 500 } ∷ []) (500 ∷ []) (chunk 0 1 0 ∷ Quiet ∷ []) (0 ∷ []) StillOpen
 toxicity_not_met = (refl, refl)
 
-toxicity_met : Gives (record { toxic = Latency 1 0; toxicity = 500 } ∷ []) (499 ∷ []) (chunk 0 1 0 ∷ Quiet ∷ []) (1000 ∷ []) StillOpen
+toxicity_met : Gives (record { toxic = Latency 1 0 0; toxicity = 500 } ∷ []) (499 ∷ []) (chunk 0 1 0 ∷ Quiet ∷ []) (1000 ∷ []) StillOpen
 toxicity_met = (refl, refl)
 
-second_toxic_keeps_its_place : Gives (record { toxic = Latency 5 0; toxicity = 0 } ∷ record { toxic = Latency 1 1; toxicity = 1000 } ∷ []) (2 ∷ 0 ∷ []) (chunk 0 1 0 ∷ Quiet ∷ []) (0 ∷ []) StillOpen
+second_toxic_keeps_its_place : Gives (record { toxic = Latency 5 0 0; toxicity = 0 } ∷ record { toxic = Latency 1 1 0; toxicity = 1000 } ∷ []) (2 ∷ 0 ∷ []) (chunk 0 1 0 ∷ Quiet ∷ []) (0 ∷ []) StillOpen
 second_toxic_keeps_its_place = (refl, refl)
 
-slicer_counts_over_arrivals : Gives (always (Slicer 2 1 10 ∷ [])) (0 ∷ 1 ∷ 2 ∷ []) (chunk 0 3 0 ∷ chunk 3 5 0 ∷ Quiet ∷ []) (10 ∷ 10 ∷ 20 ∷ 30 ∷ 40 ∷ []) StillOpen
+slicer_counts_over_arrivals : Gives (always (Slicer 2 1 10 0 ∷ [])) (0 ∷ 1 ∷ 2 ∷ []) (chunk 0 3 0 ∷ chunk 3 5 0 ∷ Quiet ∷ []) (10 ∷ 10 ∷ 20 ∷ 30 ∷ 40 ∷ []) StillOpen
 slicer_counts_over_arrivals = (refl, refl)

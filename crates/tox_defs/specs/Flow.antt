@@ -12,6 +12,7 @@ use Rattle.tox_defs.specs.Applied.{is_applied}
 use Rattle.tox_defs.specs.Chain.{Toxics}
 use Rattle.tox_defs.specs.Toxic.{IsInRange}
 use Rattle.tox_defs.specs.Reaction.{Giving, Reaction, counted, flow_through}
+use Rattle.tox_defs.specs.Until.{until}
 use Rattle.tox_defs.specs.toxics.Latency.{latency_gives}
 use Rattle.tox_defs.specs.toxics.Bandwidth.{pace_gives}
 use Rattle.tox_defs.specs.toxics.SlowClose.{slow_gives}
@@ -22,18 +23,25 @@ use Rattle.tox_defs.specs.toxics.LimitData.{limit_gives}
 
 -- what a toxic gives, by the words of its lane
 abbrev pub toxic_giving : Toxic → (ℕ → ℕ) → Giving
-toxic_giving (Latency latency jitter) words = latency_gives latency jitter words
-toxic_giving (Bandwidth rate) words = pace_gives rate
+toxic_giving (Latency latency jitter until) words = latency_gives latency jitter words
+toxic_giving (Bandwidth rate until) words = pace_gives rate
 toxic_giving (SlowClose delay) words = slow_gives (1000 * delay)
 toxic_giving (Timeout timeout) words = mute_gives (final_of (timeout_ending timeout))
 toxic_giving (ResetPeer timeout) words = cutoff_gives (micros_of timeout)
-toxic_giving (Slicer average_size size_variation delay) words =
+toxic_giving (Slicer average_size size_variation delay until) words =
     slicer_gives average_size size_variation delay words
 toxic_giving (LimitData bytes) words = limit_gives bytes
 
+-- the milliseconds from which on a toxic lets chunks pass; 0: it never does
+abbrev pub toxic_until : Toxic → ℕ
+toxic_until (Latency latency jitter until) = until
+toxic_until (Bandwidth rate until) = until
+toxic_until (Slicer average_size size_variation delay until) = until
+toxic_until toxic = 0
+
 -- the reaction of a toxic, by the words of its lane
 abbrev pub toxic_reaction : Toxic → (ℕ → ℕ) → Reaction
-toxic_reaction toxic words = counted (toxic_giving toxic words)
+toxic_reaction toxic words = until (toxic_until toxic) (counted (toxic_giving toxic words))
 
 -- attributes in their ranges, and a place that a chain has
 abbrev pub IsPlaced : Placed → Type 0

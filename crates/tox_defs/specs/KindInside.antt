@@ -9,11 +9,12 @@ narrowed value = min value 4_294_967_295
 
 -- a toxic with the values of its attributes of 32 bits narrowed
 abbrev pub saturated : Toxic → Toxic
-saturated (Latency latency jitter) = Latency (narrowed latency) (narrowed jitter)
-saturated (Bandwidth rate) = Bandwidth (narrowed rate)
+saturated (Latency latency jitter until) =
+    Latency (narrowed latency) (narrowed jitter) (narrowed until)
+saturated (Bandwidth rate until) = Bandwidth (narrowed rate) (narrowed until)
 saturated (SlowClose delay) = SlowClose (narrowed delay)
 saturated (Timeout timeout) = Timeout (narrowed timeout)
 saturated (ResetPeer timeout) = ResetPeer (narrowed timeout)
-saturated (Slicer average_size size_variation delay) =
-    Slicer (narrowed average_size) (narrowed size_variation) delay
+saturated (Slicer average_size size_variation delay until) =
+    Slicer (narrowed average_size) (narrowed size_variation) delay (narrowed until)
 saturated (LimitData bytes) = LimitData bytes

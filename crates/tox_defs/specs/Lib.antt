@@ -6,6 +6,7 @@ pub mod ChainInside
 pub mod Applied
 pub mod Reaction
 pub mod Ordered
+pub mod Until
 pub mod Varied
 pub mod Pieces
 pub mod Flow

@@ -6,8 +6,9 @@ use Rattle.tox_time.specs.declared.item.Item.TheVariants.{Chunk}
 use Rattle.tox_time.specs.Table.{final_of}
 use Rattle.tox_defs.specs.declared.state.State.{State}
 use Rattle.tox_defs.specs.declared.look.Look.{Look}
-use Rattle.tox_defs.specs.declared.look.Look.TheVariants.{Piece, LastPiece, Ended}
+use Rattle.tox_defs.specs.declared.look.Look.TheVariants.{Piece, LastPiece, Ended, Late}
 use Rattle.tox_defs.specs.Reaction.{Reaction, flow_from, state_from, with_piece, with_chunk, with_ending}
+use Rattle.tox_defs.specs.Until.{with_previous}
 
 -- a slice as a chunk
 abbrev pub as_chunk : Slice → Item
@@ -41,6 +42,9 @@ Finds reaction state rest items (LastPiece piece ending) =
 Finds reaction state rest items (Ended ending) =
     Continues reaction state (as_chunk rest ∷ items) (final_of ending ∷ [])
     (with_ending (with_chunk state) ending) items
+Finds reaction state rest items (Late piece) =
+    Continues reaction state (as_chunk rest ∷ items) (as_chunk piece ∷ [])
+    (with_previous state piece.instant) items
 
 -- the piece begins where the rest does, isn't empty and lies in the rest
 pub record IsFront (rest piece : Slice) : Type 0 where
@@ -48,8 +52,9 @@ pub record IsFront (rest piece : Slice) : Type 0 where
   pub some : piece.span.start < piece.span.stop
   pub within : piece.span.stop ≤ rest.span.stop
 
--- the found piece, if any, is a front of the rest
+-- the found piece, if any, is a front of the rest, and all of it where it is late
 abbrev pub IsFrontOf : Slice → Look → Type 0
 IsFrontOf rest (Piece piece) = IsFront rest piece
 IsFrontOf rest (LastPiece piece ending) = IsFront rest piece
 IsFrontOf rest (Ended ending) = Unit {0}
+IsFrontOf rest (Late piece) = piece.span ≡ rest.span

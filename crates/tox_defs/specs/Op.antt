@@ -10,6 +10,7 @@ use Rattle.tox_defs.specs.declared.toxic.Toxic.TheVariants.{Latency, Bandwidth, 
 use Rattle.tox_defs.specs.declared.op.Op.{Op}
 use Rattle.tox_defs.specs.declared.op.Op.TheVariants.{Delay, Pace, Slow, Mute, Cutoff, Slicing, Limit}
 use Rattle.tox_defs.specs.Reaction.{Giving, Reaction, counted}
+use Rattle.tox_defs.specs.Until.{until}
 use Rattle.tox_defs.specs.toxics.Latency.{IsNormal, delay_of, delay_op_gives}
 use Rattle.tox_defs.specs.toxics.Bandwidth.{pace_gives}
 use Rattle.tox_defs.specs.toxics.SlowClose.{slow_gives}
@@ -20,28 +21,36 @@ use Rattle.tox_defs.specs.toxics.LimitData.{limit_gives}
 
 -- what an operation gives
 abbrev pub op_giving : Op → Draws → Giving
-op_giving (Delay fixed latency jitter lane) draws = delay_op_gives fixed latency jitter (draws lane)
-op_giving (Pace rate) draws = pace_gives rate
+op_giving (Delay fixed latency jitter lane until) draws =
+    delay_op_gives fixed latency jitter (draws lane)
+op_giving (Pace rate until) draws = pace_gives rate
 op_giving (Slow millis) draws = slow_gives (1000 * millis)
 op_giving (Mute end) draws = mute_gives (final_of end)
 op_giving (Cutoff instant) draws = cutoff_gives instant
-op_giving (Slicing average variation micros lane) draws =
+op_giving (Slicing average variation micros lane until) draws =
     slicer_gives average variation micros (draws lane)
 op_giving (Limit bytes) draws = limit_gives bytes
 
+-- the milliseconds from which on an operation lets chunks pass; 0: it never does
+abbrev pub op_until : Op → ℕ
+op_until (Delay fixed latency jitter lane until) = until
+op_until (Pace rate until) = until
+op_until (Slicing average variation micros lane until) = until
+op_until op = 0
+
 -- the reaction of an operation
 abbrev pub op_reaction : Op → Draws → Reaction
-op_reaction op draws = counted (op_giving op draws)
+op_reaction op draws = until (op_until op) (counted (op_giving op draws))
 
 -- the operation of a toxic at a place
 abbrev pub op_of : ℕ → Toxic → Op
-op_of place (Latency latency jitter) = delay_of place latency jitter
-op_of place (Bandwidth rate) = Pace rate
+op_of place (Latency latency jitter until) = delay_of place latency jitter until
+op_of place (Bandwidth rate until) = Pace rate until
 op_of place (SlowClose delay) = Slow delay
 op_of place (Timeout timeout) = Mute (timeout_ending timeout)
 op_of place (ResetPeer timeout) = Cutoff (micros_of timeout)
-op_of place (Slicer average_size size_variation delay) =
-    Slicing average_size size_variation delay place
+op_of place (Slicer average_size size_variation delay until) =
+    Slicing average_size size_variation delay place until
 op_of place (LimitData bytes) = Limit bytes
 
 -- an ending whose instant is one
@@ -52,12 +61,12 @@ EndsInTime (Reset t) = IsInstant t
 
 -- an operation that a plan may have
 abbrev pub IsOp : Op → Type 0
-IsOp (Delay fixed latency jitter lane) = IsNormal latency jitter
-IsOp (Pace rate) = 0 < rate
+IsOp (Delay fixed latency jitter lane until) = IsNormal latency jitter
+IsOp (Pace rate until) = 0 < rate
 IsOp (Slow millis) = Unit {0}
 IsOp (Mute end) = EndsInTime end
 IsOp (Cutoff instant) = IsInstant instant
-IsOp (Slicing average variation micros lane) = variation < average
+IsOp (Slicing average variation micros lane until) = variation < average
 IsOp (Limit bytes) = Unit {0}
 
 -- whether an operation drops all data

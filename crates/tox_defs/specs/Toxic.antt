@@ -14,17 +14,18 @@ use Rattle.tox_defs.specs.toxics.LimitData.{is_limit_data_within}
 
 -- whether each attribute is in its range, but for a size's variation
 abbrev pub is_within : Toxic → Bool
-is_within (Latency latency jitter) = is_latency_within latency jitter
-is_within (Bandwidth rate) = is_bandwidth_within rate
+is_within (Latency latency jitter until) = is_latency_within latency jitter until
+is_within (Bandwidth rate until) = is_bandwidth_within rate until
 is_within (SlowClose delay) = is_slow_close_within delay
 is_within (Timeout timeout) = is_timeout_within timeout
 is_within (ResetPeer timeout) = is_reset_peer_within timeout
-is_within (Slicer average_size size_variation delay) = is_slicer_within average_size delay
+is_within (Slicer average_size size_variation delay until) =
+    is_slicer_within average_size delay until
 is_within (LimitData bytes) = is_limit_data_within bytes
 
 -- whether sizes vary by their average or more
 abbrev pub is_varied_too_much : Toxic → Bool
-is_varied_too_much (Slicer average_size size_variation delay) =
+is_varied_too_much (Slicer average_size size_variation delay until) =
     is_slicer_varied_too_much average_size size_variation
 is_varied_too_much toxic = false
 

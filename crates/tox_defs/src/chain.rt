@@ -33,7 +33,7 @@ impl Default for Entry {
     ghost use Rattle.std.specs.Prelude.{◌≡◌};
     ghost use Rattle.tox_defs.specs.declared.toxic.Toxic.TheVariants.{Latency};
 
-    ghost is_default = { λ entry. entry ≡ record { toxic = Latency 0 0; toxicity = 0 } };
+    ghost is_default = { λ entry. entry ≡ record { toxic = Latency 0 0 0; toxicity = 0 } };
 
     /// A latency of zero that no link meets.
     fn default() -> Self {
@@ -41,6 +41,7 @@ impl Default for Entry {
             toxic: Toxic::Latency {
                 latency: 0,
                 jitter: 0,
+                until: 0,
             },
             toxicity: 0,
         }

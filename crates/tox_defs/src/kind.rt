@@ -136,8 +136,12 @@ impl Toxic {
         ensures all { length result.items ≡ length (attributes_of (type_of self.now)) }
     {
         match *self {
-            Toxic::Latency { latency, jitter } => listed(&[u64::from(latency), u64::from(jitter)]),
-            Toxic::Bandwidth { rate } => listed(&[u64::from(rate)]),
+            Toxic::Latency {
+                latency,
+                jitter,
+                until,
+            } => listed(&[u64::from(latency), u64::from(jitter), u64::from(until)]),
+            Toxic::Bandwidth { rate, until } => listed(&[u64::from(rate), u64::from(until)]),
             Toxic::SlowClose { delay } => listed(&[u64::from(delay)]),
             Toxic::Timeout { timeout } => listed(&[u64::from(timeout)]),
             Toxic::ResetPeer { timeout } => listed(&[u64::from(timeout)]),
@@ -145,7 +149,13 @@ impl Toxic {
                 average_size,
                 size_variation,
                 delay,
-            } => listed(&[u64::from(average_size), u64::from(size_variation), delay]),
+                until,
+            } => listed(&[
+                u64::from(average_size),
+                u64::from(size_variation),
+                delay,
+                u64::from(until),
+            ]),
             Toxic::LimitData { bytes } => listed(&[bytes]),
         }
     }

@@ -76,6 +76,10 @@ impl Level {
                 self.ending = Some(*ending);
                 Emission::End(*ending)
             }
+            Look::Late(piece) => {
+                self.state.add_late(piece);
+                Emission::Piece(*piece)
+            }
         }
     }
 }

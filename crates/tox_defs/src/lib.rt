@@ -17,6 +17,7 @@ mod stage;
 mod state;
 mod toxic;
 mod toxics;
+mod until;
 mod varied;
 
 pub use applied::Placed;

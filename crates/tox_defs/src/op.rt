@@ -2,7 +2,7 @@
 ghost use Rattle.std.specs.Prelude.{◌≡◌, [], ◌∷◌};
 ghost use Rattle.tox_time.specs.Table.{final_of};
 ghost use Rattle.tox_words.specs.Draw.{Draws};
-ghost use Rattle.tox_defs.specs.Op.{is_mute, op_giving, op_of};
+ghost use Rattle.tox_defs.specs.Op.{is_mute, op_giving, op_of, op_until};
 
 use crate::ordered::in_order;
 use crate::state::State;
@@ -14,16 +14,19 @@ use tox_time::{Ending, Micros};
 #[derive(Clone, Copy, Debug, PartialEq, Eq)]
 pub enum Op {
     /// Delays each chunk by `fixed` milliseconds and, if `jitter` isn't 0, by `latency` plus or minus `jitter`,
-    /// drawn from `lane`. Without jitter `fixed` has the whole delay, and `latency` and `lane` are 0.
+    /// drawn from `lane`. Without jitter `fixed` has the whole delay, and `latency` and `lane` are 0. Here, in
+    /// `Pace` and in `Slicing` a chunk at or past `until` milliseconds (0: never) leaves whole, in order and uncounted.
     Delay {
         fixed: u32,
         latency: u32,
         jitter: u32,
         lane: usize,
+        until: u32,
     },
     /// Passes `rate` bytes per millisecond.
     Pace {
         rate: u32,
+        until: u32,
     },
     /// Closes `millis` milliseconds later.
     Slow {
@@ -44,6 +47,7 @@ pub enum Op {
         variation: u32,
         micros: u64,
         lane: usize,
+        until: u32,
     },
     /// Closes after this many bytes.
     Limit {
@@ -69,8 +73,12 @@ impl Op {
         ensures { result ≡ op_of place toxic.now }
     {
         match *toxic {
-            Toxic::Latency { latency, jitter } => latency::op(latency, jitter, place),
-            Toxic::Bandwidth { rate } => bandwidth::op(rate),
+            Toxic::Latency {
+                latency,
+                jitter,
+                until,
+            } => latency::op(latency, jitter, until, place),
+            Toxic::Bandwidth { rate, until } => bandwidth::op(rate, until),
             Toxic::SlowClose { delay } => slow_close::op(delay),
             Toxic::Timeout { timeout } => timeout::op(timeout),
             Toxic::ResetPeer { timeout } => reset_peer::op(timeout),
@@ -78,7 +86,8 @@ impl Op {
                 average_size,
                 size_variation,
                 delay,
-            } => slicer::op(average_size, size_variation, delay, place),
+                until,
+            } => slicer::op(average_size, size_variation, delay, until, place),
             Toxic::LimitData { bytes } => limit_data::op(bytes),
         }
     }
@@ -96,6 +105,17 @@ impl Op {
             Op::Cutoff { instant } => reset_peer::map_ending(*instant, ending),
             Op::Slicing { .. } => in_order(state.previous, ending),
             Op::Limit { .. } => *ending,
+        }
+    }
+
+    /// The milliseconds from which on the operation lets chunks pass. 0: it never does.
+    #[inline(always)]
+    pub(crate) fn until(&self) -> u32
+        ensures { result ≡ op_until self.now }
+    {
+        match *self {
+            Op::Delay { until, .. } | Op::Pace { until, .. } | Op::Slicing { until, .. } => until,
+            _ => 0,
         }
     }
 

@@ -2,7 +2,7 @@
 ghost use Rattle.std.specs.Prelude.{◌≡◌, slice_index};
 ghost use Rattle.tox_defs.specs.KindInside.{narrowed};
 
-/// An hour in milliseconds: the greatest latency, jitter, delay of a close, and timeout.
+/// An hour in milliseconds: the greatest latency, jitter, `until`, delay of a close, and timeout.
 pub(crate) const HOUR: u32 = 3_600_000;
 
 /// The greatest rate in KB/s, and the greatest average size in bytes.

@@ -21,6 +21,7 @@ pub struct State {
 impl State {
     ghost use Rattle.tox_defs.specs.Reaction.{with_piece, with_chunk, with_ending};
     ghost use Rattle.tox_defs.specs.Look.{after_piece_of};
+    ghost use Rattle.tox_defs.specs.Until.{with_previous};
 
     /// Counts a given piece.
     pub(crate) fn add_piece(&mut self, piece: &Slice)
@@ -54,6 +55,13 @@ impl State {
         if piece.span.stop == stop {
             self.add_chunk();
         }
+    }
+
+    /// Notes a given chunk that isn't counted.
+    pub(crate) fn add_late(&mut self, piece: &Slice)
+        ensures { self.new ≡ with_previous self.old piece.now.instant }
+    {
+        self.previous = piece.instant;
     }
 
     /// Notes that the ending was given.

@@ -7,17 +7,20 @@ use crate::toxics::{bandwidth, latency, limit_data, reset_peer, slicer, slow_clo
 
 /// A fault that a link can meet, with the attributes of Toxiproxy's toxic of the same name.
 ///
-/// Times are in milliseconds, except a slicer's `delay` in microseconds. Sizes are in bytes.
+/// Times are in milliseconds, except a slicer's `delay` in microseconds. Sizes are in bytes. A chunk that comes at
+/// or past `until` (0 to 3,600,000; 0: never) leaves whole and in order, and the toxic doesn't count it.
 #[derive(Clone, Copy, Debug, PartialEq, Eq)]
 pub enum Toxic {
     /// Delays all data by `latency` plus or minus `jitter`: each 0 to 3,600,000.
     Latency {
         latency: u32,
         jitter: u32,
+        until: u32,
     },
     /// Limits a connection to `rate` KB/s (1 KB is 1000 bytes): 1 to 1,000,000.
     Bandwidth {
         rate: u32,
+        until: u32,
     },
     /// Delays the closing by `delay`: 0 to 3,600,000.
     SlowClose {
@@ -37,6 +40,7 @@ pub enum Toxic {
         average_size: u32,
         size_variation: u32,
         delay: u64,
+        until: u32,
     },
     /// Closes the connection once `bytes` have passed: 0 to 2^40.
     LimitData {
@@ -63,16 +67,21 @@ impl Toxic {
         ensures { result ≡ is_within self.now }
     {
         match *self {
-            Toxic::Latency { latency, jitter } => latency::is_within(latency, jitter),
-            Toxic::Bandwidth { rate } => bandwidth::is_within(rate),
+            Toxic::Latency {
+                latency,
+                jitter,
+                until,
+            } => latency::is_within(latency, jitter, until),
+            Toxic::Bandwidth { rate, until } => bandwidth::is_within(rate, until),
             Toxic::SlowClose { delay } => slow_close::is_within(delay),
             Toxic::Timeout { timeout } => timeout::is_within(timeout),
             Toxic::ResetPeer { timeout } => reset_peer::is_within(timeout),
             Toxic::Slicer {
                 average_size,
                 delay,
+                until,
                 ..
-            } => slicer::is_within(average_size, delay),
+            } => slicer::is_within(average_size, delay, until),
             Toxic::LimitData { bytes } => limit_data::is_within(bytes),
         }
     }

@@ -39,11 +39,11 @@ map_replicate f zero t ts = refl
 map_replicate f (suc n) t ts = ap (λ us. f t ∷ us) (map_replicate f n t ts)
 
 -- a latency without jitter moves every instant by the same
-pub table-latency : (latency : ℕ) (words : ℕ → ℕ) (items : List Item) (previous chunks pieces passed position since : ℕ) → previous ≤ plus since (1000 * latency) → IsStreamFrom position since items → table (flow_from (toxic_reaction (Latency latency 0) words) (open_state previous chunks pieces passed) items) ≡ map (λ t. plus t (1000 * latency)) (table items)
+pub table-latency : (latency : ℕ) (words : ℕ → ℕ) (items : List Item) (previous chunks pieces passed position since : ℕ) → previous ≤ plus since (1000 * latency) → IsStreamFrom position since items → table (flow_from (toxic_reaction (Latency latency 0 0) words) (open_state previous chunks pieces passed) items) ≡ map (λ t. plus t (1000 * latency)) (table items)
 table-latency latency words [] previous chunks pieces passed position since order stream = refl
 table-latency latency words (Chunk span t ∷ items) previous chunks pieces passed position since order stream =
     let leaves : max previous (plus t (1000 * ((latency + words (1 + chunks) % 1) - 0))) ≡ plus t (1000 * latency) = omega (arith, stream.2) in
-    let others : table (flow_from (toxic_reaction (Latency latency 0) words) (open_state (max previous (plus t (1000 * ((latency + words (1 + chunks) % 1) - 0)))) (chunks + 1) (pieces + 1) (passed + (span_len span + 0))) items) ≡ map (λ t. plus t (1000 * latency)) (table items) =
+    let others : table (flow_from (toxic_reaction (Latency latency 0 0) words) (open_state (max previous (plus t (1000 * ((latency + words (1 + chunks) % 1) - 0)))) (chunks + 1) (pieces + 1) (passed + (span_len span + 0))) items) ≡ map (λ t. plus t (1000 * latency)) (table items) =
     table-latency latency words items (max previous (plus t (1000 * ((latency + words (1 + chunks) % 1) - 0)))) (chunks + 1) (pieces + 1) (passed + (span_len span + 0)) span.stop t (omega (arith, leaves)) stream.4 in
     rw (map_replicate (λ t. plus t (1000 * latency)) (span_len span) t (table items)) (cc (ap (λ at. replicate (span_len span) at) leaves, others))
 table-latency latency words (Closed t ∷ items) previous chunks pieces passed position since order stream = rw stream.2 refl

@@ -1,5 +1,5 @@
 -- bandwidth: no more than so many bytes pass in a millisecond.
-use Rattle.std.specs.Prelude.{ℕ, ◌+◌, ◌*◌, ◌<◌, ◌≤◌, Bool, List, [], ◌∷◌, codes, length, slice_index}
+use Rattle.std.specs.Prelude.{ℕ, ◌+◌, ◌*◌, ◌<◌, ◌≤◌, ◌&&◌, Bool, List, [], ◌∷◌, codes, length, slice_index}
 use Rattle.std.specs.Int.{div_ceil}
 use Rattle.tox_time.specs.declared.item.Item.{Item}
 use Rattle.tox_time.specs.declared.item.Item.TheVariants.{Chunk}
@@ -9,20 +9,20 @@ use Rattle.tox_defs.specs.declared.toxic.Toxic.{Toxic}
 use Rattle.tox_defs.specs.declared.toxic.Toxic.TheVariants.{Bandwidth}
 use Rattle.tox_defs.specs.Ordered.{in_order}
 use Rattle.tox_defs.specs.Pieces.{leave, pieces_of}
-use Rattle.tox_defs.specs.Ranges.{is_up_to_million}
+use Rattle.tox_defs.specs.Ranges.{is_up_to_million, is_within_hour}
 use Rattle.tox_defs.specs.Reaction.{Giving}
 
--- the name of its attribute, in KB/s, which is bytes in a millisecond
+-- the names of its attributes: in KB/s, which is bytes in a millisecond, and in milliseconds
 abbrev pub bandwidth_attributes : List (List ℕ)
-bandwidth_attributes = codes "rate" ∷ []
+bandwidth_attributes = codes "rate" ∷ codes "until" ∷ []
 
--- the bandwidth with this value of its attribute
+-- the bandwidth with these values of its attributes
 abbrev pub bandwidth_of : List ℕ → Toxic
-bandwidth_of values = Bandwidth (slice_index values 0)
+bandwidth_of values = Bandwidth (slice_index values 0) (slice_index values 1)
 
--- the range of its attribute: one to a million
-abbrev pub is_bandwidth_within : ℕ → Bool
-is_bandwidth_within rate = is_up_to_million rate
+-- the ranges of its attributes: one to a million, and up to an hour
+abbrev pub is_bandwidth_within : ℕ → ℕ → Bool
+is_bandwidth_within rate until = is_up_to_million rate && is_within_hour until
 
 -- pieces of 100 rate bytes, at `rate` bytes a millisecond
 abbrev pub pace_gives : ℕ → Giving

@@ -13,17 +13,18 @@ use Rattle.tox_defs.specs.Ranges.{is_within_hour}
 use Rattle.tox_defs.specs.Reaction.{Giving}
 use Rattle.tox_defs.specs.Varied.{varied}
 
--- the names of its attributes, both in milliseconds
+-- the names of its attributes, all in milliseconds
 abbrev pub latency_attributes : List (List ℕ)
-latency_attributes = codes "latency" ∷ codes "jitter" ∷ []
+latency_attributes = codes "latency" ∷ codes "jitter" ∷ codes "until" ∷ []
 
 -- the latency with these values of its attributes
 abbrev pub latency_of : List ℕ → Toxic
-latency_of values = Latency (slice_index values 0) (slice_index values 1)
+latency_of values = Latency (slice_index values 0) (slice_index values 1) (slice_index values 2)
 
 -- the ranges of its attributes: each up to an hour
-abbrev pub is_latency_within : ℕ → ℕ → Bool
-is_latency_within latency jitter = is_within_hour latency && is_within_hour jitter
+abbrev pub is_latency_within : ℕ → ℕ → ℕ → Bool
+is_latency_within latency jitter until =
+    is_within_hour latency && is_within_hour jitter && is_within_hour until
 
 -- each chunk leaves later by the wait of its number
 abbrev pub delay_gives : (ℕ → ℕ) → Giving
@@ -42,9 +43,9 @@ delay_op_gives fixed latency jitter words =
     delay_gives (λ chunk. 1000 * (fixed + varied latency jitter (words (1 + chunk))))
 
 -- its operation: without jitter the fixed part has all, and nothing is drawn
-abbrev pub delay_of : ℕ → ℕ → ℕ → Op
-delay_of place latency zero = Delay latency 0 0 0
-delay_of place latency (suc jitter) = Delay 0 latency (suc jitter) place
+abbrev pub delay_of : ℕ → ℕ → ℕ → ℕ → Op
+delay_of place latency zero until = Delay latency 0 0 0 until
+delay_of place latency (suc jitter) until = Delay 0 latency (suc jitter) place until
 
 -- a delay without jitter has all in its fixed part
 abbrev pub IsNormal : ℕ → ℕ → Type 0

@@ -7,21 +7,24 @@ use Rattle.tox_defs.specs.declared.toxic.Toxic.{Toxic}
 use Rattle.tox_defs.specs.declared.toxic.Toxic.TheVariants.{Slicer}
 use Rattle.tox_defs.specs.Ordered.{in_order}
 use Rattle.tox_defs.specs.Pieces.{leave, pieces_of}
-use Rattle.tox_defs.specs.Ranges.{is_up_to_million}
+use Rattle.tox_defs.specs.Ranges.{is_up_to_million, is_within_hour}
 use Rattle.tox_defs.specs.Reaction.{Giving}
 use Rattle.tox_defs.specs.Varied.{varied}
 
--- the names of its attributes: bytes, bytes, microseconds
+-- the names of its attributes: bytes, bytes, microseconds, milliseconds
 abbrev pub slicer_attributes : List (List ℕ)
-slicer_attributes = codes "average_size" ∷ codes "size_variation" ∷ codes "delay" ∷ []
+slicer_attributes =
+    codes "average_size" ∷ codes "size_variation" ∷ codes "delay" ∷ codes "until" ∷ []
 
 -- the slicer with these values of its attributes
 abbrev pub slicer_of : List ℕ → Toxic
-slicer_of values = Slicer (slice_index values 0) (slice_index values 1) (slice_index values 2)
+slicer_of values =
+    Slicer (slice_index values 0) (slice_index values 1) (slice_index values 2) (slice_index values 3)
 
--- the ranges of the size and the delay: one to a million, and up to an hour
-abbrev pub is_slicer_within : ℕ → ℕ → Bool
-is_slicer_within average_size delay = is_up_to_million average_size && nat_le delay 3600000000
+-- the ranges of the size, the delay and the end: one to a million, and up to an hour each
+abbrev pub is_slicer_within : ℕ → ℕ → ℕ → Bool
+is_slicer_within average_size delay until =
+    is_up_to_million average_size && nat_le delay 3600000000 && is_within_hour until
 
 -- whether sizes vary by their average or more
 abbrev pub is_slicer_varied_too_much : ℕ → ℕ → Bool

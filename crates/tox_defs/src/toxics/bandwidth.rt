@@ -1,4 +1,4 @@
-//! bandwidth: limits a connection to `rate` KB/s, which is `rate` bytes in a millisecond.
+//! bandwidth: limits a connection to `rate` KB/s, which is `rate` bytes in a millisecond, before `until`.
 ghost use Rattle.std.specs.Prelude.{◌≡◌, ◌<◌, List, false, map};
 ghost use Rattle.tox_time.specs.declared.item.Item.{Item as OneItem};
 ghost use Rattle.tox_defs.specs.KindInside.{saturated};
@@ -9,39 +9,40 @@ ghost use Rattle.tox_defs.specs.toxics.Bandwidth.{bandwidth_attributes, bandwidt
 use crate::look::Look;
 use crate::op::Op;
 use crate::pieces::front;
-use crate::ranges::{MILLION, saturated};
+use crate::ranges::{HOUR, MILLION, saturated};
 use crate::state::State;
 use crate::toxic::Toxic;
 use tox_time::Slice;
 
-/// The name of the attribute.
+/// The names of the attributes.
 pub(crate) fn attributes() -> &'static [&'static str]
     ensures { map (λ name. name.now) result.now ≡ bandwidth_attributes }
 {
-    &["rate"]
+    &["rate", "until"]
 }
 
-/// The bandwidth with this value of its attribute.
+/// The bandwidth with these values of its attributes.
 pub(crate) fn from_values(values: &[u64]) -> Toxic
     ensures { result ≡ saturated (bandwidth_of values.now) }
 {
     Toxic::Bandwidth {
         rate: saturated(values, 0),
+        until: saturated(values, 1),
     }
 }
 
-/// Whether the attribute is 1 to 1,000,000.
-pub(crate) fn is_within(rate: u32) -> bool
-    ensures { result ≡ is_bandwidth_within rate }
+/// Whether the rate is 1 to 1,000,000, and `until` 0 to 3,600,000.
+pub(crate) fn is_within(rate: u32, until: u32) -> bool
+    ensures { result ≡ is_bandwidth_within rate until }
 {
-    1 <= rate && rate <= MILLION
+    1 <= rate && rate <= MILLION && until <= HOUR
 }
 
 /// The operation.
-pub(crate) fn op(rate: u32) -> Op
-    ensures { result ≡ Op.Pace rate }
+pub(crate) fn op(rate: u32, until: u32) -> Op
+    ensures { result ≡ Op.Pace rate until }
 {
-    Op::Pace { rate }
+    Op::Pace { rate, until }
 }
 
 /// Finds a piece of 100 `rate` bytes, or what is left, which leaves once it could have passed.

@@ -1,4 +1,4 @@
-//! latency: delays all data by `latency` plus or minus `jitter`, both in milliseconds.
+//! latency: delays all data by `latency` plus or minus `jitter`, both in milliseconds, before `until`.
 ghost use Rattle.std.specs.Prelude.{◌≡◌, ◌+◌, ◌<◌, ◌^◌, List, false, map};
 ghost use Rattle.tox_time.specs.declared.item.Item.{Item as OneItem};
 ghost use Rattle.tox_words.specs.Draw.{draw};
@@ -20,7 +20,7 @@ use tox_words::Words;
 pub(crate) fn attributes() -> &'static [&'static str]
     ensures { map (λ name. name.now) result.now ≡ latency_attributes }
 {
-    &["latency", "jitter"]
+    &["latency", "jitter", "until"]
 }
 
 /// The latency with these values of its attributes.
@@ -30,19 +30,20 @@ pub(crate) fn from_values(values: &[u64]) -> Toxic
     Toxic::Latency {
         latency: saturated(values, 0),
         jitter: saturated(values, 1),
+        until: saturated(values, 2),
     }
 }
 
 /// Whether each attribute is 0 to 3,600,000.
-pub(crate) fn is_within(latency: u32, jitter: u32) -> bool
-    ensures { result ≡ is_latency_within latency jitter }
+pub(crate) fn is_within(latency: u32, jitter: u32, until: u32) -> bool
+    ensures { result ≡ is_latency_within latency jitter until }
 {
-    latency <= HOUR && jitter <= HOUR
+    latency <= HOUR && jitter <= HOUR && until <= HOUR
 }
 
 /// The operation at a place. Without jitter all stands in the fixed part, and nothing is drawn.
-pub(crate) fn op(latency: u32, jitter: u32, place: usize) -> Op
-    ensures { result ≡ delay_of place latency jitter }
+pub(crate) fn op(latency: u32, jitter: u32, until: u32, place: usize) -> Op
+    ensures { result ≡ delay_of place latency jitter until }
 {
     if jitter == 0 {
         return Op::Delay {
@@ -50,6 +51,7 @@ pub(crate) fn op(latency: u32, jitter: u32, place: usize) -> Op
             latency: 0,
             jitter: 0,
             lane: 0,
+            until,
         };
     }
     Op::Delay {
@@ -57,6 +59,7 @@ pub(crate) fn op(latency: u32, jitter: u32, place: usize) -> Op
         latency,
         jitter,
         lane: place,
+        until,
     }
 }
 

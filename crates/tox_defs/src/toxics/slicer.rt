@@ -10,7 +10,7 @@ ghost use Rattle.tox_defs.specs.toxics.Slicer.{is_slicer_varied_too_much, is_sli
 use crate::look::Look;
 use crate::op::Op;
 use crate::pieces::front;
-use crate::ranges::{MILLION, saturated, value};
+use crate::ranges::{HOUR, MILLION, saturated, value};
 use crate::state::State;
 use crate::toxic::Toxic;
 use crate::varied::varied;
@@ -24,7 +24,7 @@ const HOUR_IN_MICROS: u64 = 3_600_000_000;
 pub(crate) fn attributes() -> &'static [&'static str]
     ensures { map (λ name. name.now) result.now ≡ slicer_attributes }
 {
-    &["average_size", "size_variation", "delay"]
+    &["average_size", "size_variation", "delay", "until"]
 }
 
 /// The slicer with these values of its attributes.
@@ -35,14 +35,15 @@ pub(crate) fn from_values(values: &[u64]) -> Toxic
         average_size: saturated(values, 0),
         size_variation: saturated(values, 1),
         delay: value(values, 2),
+        until: saturated(values, 3),
     }
 }
 
-/// Whether the size is 1 to 1,000,000, and the delay 0 to 3,600,000,000.
-pub(crate) fn is_within(average_size: u32, delay: u64) -> bool
-    ensures { result ≡ is_slicer_within average_size delay }
+/// Whether the size is 1 to 1,000,000, the delay 0 to 3,600,000,000, and `until` 0 to 3,600,000.
+pub(crate) fn is_within(average_size: u32, delay: u64, until: u32) -> bool
+    ensures { result ≡ is_slicer_within average_size delay until }
 {
-    1 <= average_size && average_size <= MILLION && delay <= HOUR_IN_MICROS
+    1 <= average_size && average_size <= MILLION && delay <= HOUR_IN_MICROS && until <= HOUR
 }
 
 /// Whether sizes vary by their average or more.
@@ -53,14 +54,21 @@ pub(crate) fn is_varied_too_much(average_size: u32, size_variation: u32) -> bool
 }
 
 /// The operation at a place.
-pub(crate) fn op(average_size: u32, size_variation: u32, delay: u64, place: usize) -> Op
-    ensures { result ≡ Op.Slicing average_size size_variation delay place }
+pub(crate) fn op(
+    average_size: u32,
+    size_variation: u32,
+    delay: u64,
+    until: u32,
+    place: usize,
+) -> Op
+    ensures { result ≡ Op.Slicing average_size size_variation delay place until }
 {
     Op::Slicing {
         average: average_size,
         variation: size_variation,
         micros: delay,
         lane: place,
+        until,
     }
 }
 

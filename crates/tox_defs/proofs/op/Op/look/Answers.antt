@@ -1,22 +1,14 @@
--- Each operation finds what the look of its toxic finds.
-use Rattle.std.proofs.Common.{◌*◌}
+-- A rest that isn't late is found as without an end.
+use Rattle.std.proofs.Common.{◌∙◌, [], ap, sym}
+use Rattle.tox_words.specs.Draw.{draw}
+use Rattle.tox_defs.specs.Look.{as_chunk}
+use Rattle.tox_defs.specs.Op.{op_giving, op_until}
+use Rattle.tox_defs.specs.Reaction.{counted}
+use Rattle.tox_defs.specs.Until.{is_late}
+use Rattle.tox_defs.proofs.Stopping.{finds_early}
 use Rattle.tox_defs.proofs.op.Op.look.Goals as goal
 
-pub returns-in-Delay-clause-finds : goal.returns-in-Delay-clause-finds
-returns-in-Delay-clause-finds c = λ items. rw c.in-Delay.is (c.look.ensures.finds items)
-
-pub returns-in-Pace-clause-finds : goal.returns-in-Pace-clause-finds
-returns-in-Pace-clause-finds c = λ items. rw c.in-Pace.is (c.look-in-Pace.ensures.finds items)
-
-pub returns-in-Slow-clause-finds : goal.returns-in-Slow-clause-finds
-returns-in-Slow-clause-finds c =
-    λ items. rw c.in-Slow.is (c.look-in-Slow.ensures.finds (1000 * c.in-Slow.millis) c.args.state.now items c.requires.running)
-
-pub returns-in-Cutoff-clause-finds : goal.returns-in-Cutoff-clause-finds
-returns-in-Cutoff-clause-finds c = λ items. rw c.in-Cutoff.is (c.look-in-Cutoff.ensures.finds c.args.state.now items c.requires.running)
-
-pub returns-in-Slicing-clause-finds : goal.returns-in-Slicing-clause-finds
-returns-in-Slicing-clause-finds c = λ items. rw c.in-Slicing.is (c.look-in-Slicing.ensures.finds items)
-
-pub returns-in-Limit-clause-finds : goal.returns-in-Limit-clause-finds
-returns-in-Limit-clause-finds c = λ items. rw c.in-Limit.is (c.look-in-Limit.ensures.finds items)
+pub returns-clause-finds : goal.returns-clause-finds
+returns-clause-finds c =
+    let early = sym (ap (λ millis. is_late millis (as_chunk c.args.rest.now)) c.until.ensures) ∙ sym c.is_late.ensures ∙ c.if-is_late.false in
+    λ items. finds_early (op_until c.args.self.now) (counted (op_giving c.args.self.now (draw c.args.words.now))) c.args.state.now c.args.rest.now c.look_in_time.result early (c.look_in_time.ensures.finds []) items

@@ -1,0 +1,14 @@
+//! Operations that stop: from an instant on, chunks pass whole, in order and uncounted.
+ghost use Rattle.std.specs.Prelude.{◌≡◌, true};
+ghost use Rattle.tox_defs.specs.Look.{as_chunk};
+ghost use Rattle.tox_defs.specs.Until.{is_late};
+
+use tox_time::Slice;
+
+/// Whether a rest comes at or past so many milliseconds. With 0 none is late.
+#[inline(always)]
+pub(crate) fn is_late(until: u32, rest: &Slice) -> bool
+    ensures { result ≡ is_late until (as_chunk rest.now) }
+{
+    until != 0 && 1000 * u64::from(until) <= rest.instant.get()
+}
