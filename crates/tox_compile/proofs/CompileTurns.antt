@@ -1,6 +1,6 @@
 -- One toxic more: what the operations so far become stays, there are few of them, and they add little.
 use Rattle.std.proofs.Common.{◌≡◌, ℕ, zero, suc, ◌+◌, ◌*◌, ◌<◌, ◌≤◌, false, List, [], ◌∷◌, ◌++◌, length, map, take, get_or, arith, ap, sym, ◌∙◌, subst}
-use Rattle.std.specs.Prelude.{All, fold}
+use Rattle.std.specs.Prelude.{◌&&◌, All, fold}
 use Rattle.std.proofs.lemmas.Bool.{and_parts, leb-true}
 use Rattle.std.proofs.lemmas.List.{map-append, take_all, take_more}
 use Rattle.std.proofs.lemmas.List.Sums.{fold-append}
@@ -20,16 +20,17 @@ use Rattle.tox_compile.proofs.Sums.{AddAtMost, length-with_op, with_op_adds}
 
 -- a toxic's operation adds an hour at most
 pub millis-op_of : (place : ℕ) (toxic : Toxic) → IsInRange toxic → millis_of (op_of place toxic) ≤ 3_600_000
-millis-op_of place (Latency latency zero) fits =
-    let within = both_tests (is_within (Latency latency 0)) false fits in
-    leb-true latency 3_600_000 (and_parts (is_within_hour latency) (is_within_hour 0) within.0).0
-millis-op_of place (Latency latency (suc jitter)) fits = omega arith
-millis-op_of place (Bandwidth rate) fits = omega arith
+millis-op_of place (Latency latency zero until) fits =
+    let within = both_tests (is_within (Latency latency 0 until)) false fits in
+    let first = and_parts (is_within_hour latency && is_within_hour 0) (is_within_hour until) within.0 in
+    leb-true latency 3_600_000 (and_parts (is_within_hour latency) (is_within_hour 0) first.0).0
+millis-op_of place (Latency latency (suc jitter) until) fits = omega arith
+millis-op_of place (Bandwidth rate until) fits = omega arith
 millis-op_of place (SlowClose delay) fits =
     let within = both_tests (is_within (SlowClose delay)) false fits in leb-true delay 3_600_000 within.0
 millis-op_of place (Timeout timeout) fits = omega arith
 millis-op_of place (ResetPeer timeout) fits = omega arith
-millis-op_of place (Slicer average variation delay) fits = omega arith
+millis-op_of place (Slicer average variation delay until) fits = omega arith
 millis-op_of place (LimitData bytes) fits = omega arith
 
 -- what the loop over the applied toxics keeps

@@ -1,10 +1,13 @@
 -- Delays: two add where one of them is the same for all chunks, and one of nothing does nothing.
-use Rattle.std.proofs.Common.{◌≡◌, ℕ, ◌+◌, ◌≤◌, max, List, [], ◌∷◌, refl, arith, ap}
+use Rattle.std.proofs.Common.{◌≡◌, ℕ, zero, suc, ◌+◌, ◌*◌, ◌≤◌, max, Bool, true, false, ◌++◌, ◌∙◌, if◌then◌else◌, List, [], ◌∷◌, refl, arith, ap}
+use Rattle.std.specs.Prelude.{nat_le}
+use Rattle.tox_time.specs.declared.span.Span.{Span}
 use Rattle.tox_time.specs.declared.item.Item.{Item}
 use Rattle.tox_time.specs.declared.item.Item.TheVariants.{Chunk, Closed, Reset, Quiet}
 use Rattle.tox_time.specs.Time.{horizon, plus}
 use Rattle.tox_time.specs.Stream.{span_len, IsStreamFrom}
-use Rattle.tox_defs.specs.Reaction.{counted, flow_from}
+use Rattle.tox_defs.specs.Reaction.{Reaction, counted, flow_from}
+use Rattle.tox_defs.specs.Until.{late_answer, until}
 use Rattle.tox_defs.specs.toxics.Latency.{delay_gives}
 use Rattle.tox_defs.proofs.OpenStates.{open_state}
 
@@ -37,14 +40,37 @@ delays_join_first first second both sum (Reset t ∷ items) c p1 n1 b1 p2 n2 b2 
 delays_join_first first second both sum (Quiet ∷ items) c p1 n1 b1 p2 n2 b2 n b position since order fits kept stream = rw stream refl
 
 -- a delay of nothing
-pub delay_vanishes : (wait : ℕ → ℕ) → ((i : ℕ) → wait i ≡ 0) → (items : List Item) (p c n b position since : ℕ) → p ≤ since → IsStreamFrom position since items → flow_from (counted (delay_gives wait)) (open_state p c n b) items ≡ items
-delay_vanishes wait none [] p c n b position since before stream = refl
-delay_vanishes wait none (Chunk span t ∷ items) p c n b position since before stream =
+delay_vanishes-never : (wait : ℕ → ℕ) → ((i : ℕ) → wait i ≡ 0) → (items : List Item) (p c n b position since : ℕ) → p ≤ since → IsStreamFrom position since items → flow_from (counted (delay_gives wait)) (open_state p c n b) items ≡ items
+delay_vanishes-never wait none [] p c n b position since before stream = refl
+delay_vanishes-never wait none (Chunk span t ∷ items) p c n b position since before stream =
     let same : max p (plus t (wait c)) ≡ t = omega (arith, none c, before, stream.2, stream.3) in
-    let others = delay_vanishes wait none items (max p (plus t (wait c))) (c + 1) (n + 1) (b + (span_len span + 0)) span.stop t (omega (arith, same)) stream.4 in
+    let others = delay_vanishes-never wait none items (max p (plus t (wait c))) (c + 1) (n + 1) (b + (span_len span + 0)) span.stop t (omega (arith, same)) stream.4 in
     cc
-delay_vanishes wait none (Closed t ∷ items) p c n b position since before stream =
+delay_vanishes-never wait none (Closed t ∷ items) p c n b position since before stream =
     let same : max p t ≡ t = omega (arith, before, stream.0) in rw stream.2 (ap (λ at. Closed at ∷ []) same)
-delay_vanishes wait none (Reset t ∷ items) p c n b position since before stream =
+delay_vanishes-never wait none (Reset t ∷ items) p c n b position since before stream =
     let same : max p t ≡ t = omega (arith, before, stream.0) in rw stream.2 (ap (λ at. Reset at ∷ []) same)
-delay_vanishes wait none (Quiet ∷ items) p c n b position since before stream = rw stream refl
+delay_vanishes-never wait none (Quiet ∷ items) p c n b position since before stream = rw stream refl
+
+-- a chunk leaves at its instant, late or not
+vanishes_at_chunk : (late : Bool) (reaction : Reaction) (wait : ℕ → ℕ) (span : Span) (t : ℕ) (items : List Item) (p c n b : ℕ) → max p t ≡ t → max p (plus t (wait c)) ≡ t
+    → ((c n b : ℕ) → flow_from reaction (open_state t c n b) items ≡ items)
+    → (if late then late_answer (open_state p c n b) (Chunk span t) else counted (delay_gives wait) (open_state p c n b) (Chunk span t)).given
+    ++ flow_from reaction (if late then late_answer (open_state p c n b) (Chunk span t) else counted (delay_gives wait) (open_state p c n b) (Chunk span t)).state items ≡ Chunk span t ∷ items
+vanishes_at_chunk true reaction wait span t items p c n b late early others =
+    ap (λ at. Chunk span at ∷ flow_from reaction (open_state at c n b) items) late ∙ ap (λ items. Chunk span t ∷ items) (others c n b)
+vanishes_at_chunk false reaction wait span t items p c n b late early others =
+    ap (λ at. Chunk span at ∷ flow_from reaction (open_state at (c + 1) (n + 1) (b + (span_len span + 0))) items) early ∙ ap (λ items. Chunk span t ∷ items) (others (c + 1) (n + 1) (b + (span_len span + 0)))
+
+-- whenever it stops
+pub delay_vanishes : (wait : ℕ → ℕ) → ((i : ℕ) → wait i ≡ 0) → (millis : ℕ) (items : List Item) (p c n b position since : ℕ) → p ≤ since → IsStreamFrom position since items → flow_from (until millis (counted (delay_gives wait))) (open_state p c n b) items ≡ items
+delay_vanishes wait none zero items p c n b position since before stream = delay_vanishes-never wait none items p c n b position since before stream
+delay_vanishes wait none (suc millis) [] p c n b position since before stream = refl
+delay_vanishes wait none (suc millis) (Chunk span t ∷ items) p c n b position since before stream =
+    vanishes_at_chunk (nat_le (1000 * suc millis) t) (until (suc millis) (counted (delay_gives wait))) wait span t items p c n b (omega (arith, before, stream.2)) (omega (arith, none c, before, stream.2, stream.3))
+    (λ c n b. delay_vanishes wait none (suc millis) items t c n b span.stop t (omega arith) stream.4)
+delay_vanishes wait none (suc millis) (Closed t ∷ items) p c n b position since before stream =
+    let same : max p t ≡ t = omega (arith, before, stream.0) in rw stream.2 (ap (λ at. Closed at ∷ []) same)
+delay_vanishes wait none (suc millis) (Reset t ∷ items) p c n b position since before stream =
+    let same : max p t ≡ t = omega (arith, before, stream.0) in rw stream.2 (ap (λ at. Reset at ∷ []) same)
+delay_vanishes wait none (suc millis) (Quiet ∷ items) p c n b position since before stream = rw stream refl

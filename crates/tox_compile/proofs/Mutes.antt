@@ -4,15 +4,19 @@ use Rattle.tox_time.specs.declared.ending.Ending.{Ending}
 use Rattle.tox_time.specs.Table.{ending, final_of}
 use Rattle.tox_words.specs.Draw.{Draws}
 use Rattle.tox_defs.specs.declared.op.Op.{Op}
-use Rattle.tox_defs.specs.Reaction.{first_state, flow}
-use Rattle.tox_defs.specs.Op.{op_giving, op_reaction}
+use Rattle.tox_defs.specs.Reaction.{Answer, counted, first_state, flow}
+use Rattle.tox_defs.specs.Op.{op_giving, op_reaction, op_until}
 use Rattle.tox_defs.proofs.Finals.{ending-final_of, gives-final}
 use Rattle.tox_defs.proofs.FlowLemmas.{flow_from-last}
+use Rattle.tox_defs.proofs.Stopping.{is_late-final, until-early}
 use Rattle.tox_compile.specs.Normal.{after_mute}
 
 -- what an operation gives for the ending of a mute
 pub flow-after_mute : (op : Op) (draws : Draws) (end : Ending) → flow (op_reaction op draws) (final_of end ∷ []) ≡ final_of (after_mute op end) ∷ []
-flow-after_mute op draws end = flow_from-last (op_reaction op draws) first_state (final_of end) [] refl ∙ gives-final op draws first_state end
+flow-after_mute op draws end =
+    flow_from-last (op_reaction op draws) first_state (final_of end) [] refl
+    ∙ ap (λ (answer : Answer). answer.given) (until-early (op_until op) (counted (op_giving op draws)) first_state (final_of end) (is_late-final (op_until op) end))
+    ∙ gives-final op draws first_state end
 
 -- which is the only ending of the final that it gives
 pub is-after_mute : (op : Op) (before after : Ending) → op_giving op (λ _ _. 0) first_state (final_of before) ≡ final_of after ∷ [] → after ≡ after_mute op before

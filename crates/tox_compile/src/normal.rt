@@ -58,10 +58,11 @@ fn joined(first: &Op, second: &Op) -> Option<Op>
 {
     match (first, second) {
         (
-            Op::Delay { .. },
+            Op::Delay { until: 0, .. },
             Op::Delay {
                 fixed,
                 jitter: 0,
+                until: 0,
                 ..
             },
         ) => Some(with_more(first, *fixed)),
@@ -69,9 +70,10 @@ fn joined(first: &Op, second: &Op) -> Option<Op>
             Op::Delay {
                 fixed,
                 jitter: 0,
+                until: 0,
                 ..
             },
-            Op::Delay { .. },
+            Op::Delay { until: 0, .. },
         ) => Some(with_more(second, *fixed)),
         (Op::Slow { .. }, Op::Slow { millis }) => Some(with_more(first, *millis)),
         (Op::Limit { bytes }, Op::Limit { bytes: other }) => Some(Op::Limit {
@@ -98,11 +100,13 @@ fn with_more(op: &Op, more: u32) -> Op
             latency,
             jitter,
             lane,
+            until,
         } => Op::Delay {
             fixed: fixed + more,
             latency: *latency,
             jitter: *jitter,
             lane: *lane,
+            until: *until,
         },
         Op::Slow { millis } => Op::Slow {
             millis: millis + more,
