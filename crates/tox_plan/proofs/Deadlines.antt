@@ -44,12 +44,12 @@ HaveStop d [] = ⊥
 HaveStop d (op ∷ ops) = IsStop d op ⊎ HaveStop d ops
 
 earlier-late : (d e : ℕ) (op : Op) → d ≤ e → IsLateOp e op → IsLateOp d op
-earlier-late d e (Delay fixed latency jitter lane) before late = tt
-earlier-late d e (Pace rate) before late = tt
+earlier-late d e (Delay fixed latency jitter lane until) before late = tt
+earlier-late d e (Pace rate until) before late = tt
 earlier-late d e (Slow millis) before late = tt
 earlier-late d e (Mute ending) before late = tt
 earlier-late d e (Cutoff instant) before late = omega (arith, before, late)
-earlier-late d e (Slicing average variation micros lane) before late = tt
+earlier-late d e (Slicing average variation micros lane until) before late = tt
 earlier-late d e (Limit bytes) before late = tt
 
 earlier-late_ops : (d e : ℕ) (ops : List Op) → d ≤ e → AreLateOps e ops → AreLateOps d ops
@@ -57,12 +57,12 @@ earlier-late_ops d e [] before late = tt
 earlier-late_ops d e (op ∷ ops) before late = (earlier-late d e op before late.0, earlier-late_ops d e ops before late.1)
 
 late-start : (op : Op) → IsLateOp 0 op
-late-start (Delay fixed latency jitter lane) = tt
-late-start (Pace rate) = tt
+late-start (Delay fixed latency jitter lane until) = tt
+late-start (Pace rate until) = tt
 late-start (Slow millis) = tt
 late-start (Mute ending) = tt
 late-start (Cutoff instant) = omega arith
-late-start (Slicing average variation micros lane) = tt
+late-start (Slicing average variation micros lane until) = tt
 late-start (Limit bytes) = tt
 
 late_ops-start : (ops : List Op) → AreLateOps 0 ops
@@ -76,12 +76,12 @@ earlier-some instant (Some e) none = absurd (cc)
 -- without a deadline no operation cuts anything off
 late_ops-none : (d : ℕ) (ops : List Op) → deadline_of ops ≡ None → AreLateOps d ops
 late_ops-none d [] none = tt
-late_ops-none d (Delay fixed latency jitter lane ∷ ops) none = (tt, late_ops-none d ops none)
-late_ops-none d (Pace rate ∷ ops) none = (tt, late_ops-none d ops none)
+late_ops-none d (Delay fixed latency jitter lane until ∷ ops) none = (tt, late_ops-none d ops none)
+late_ops-none d (Pace rate until ∷ ops) none = (tt, late_ops-none d ops none)
 late_ops-none d (Slow millis ∷ ops) none = (tt, late_ops-none d ops none)
 late_ops-none d (Mute ending ∷ ops) none = absurd (cc)
 late_ops-none d (Cutoff instant ∷ ops) none = absurd (earlier-some instant (deadline_of ops) none)
-late_ops-none d (Slicing average variation micros lane ∷ ops) none = (tt, late_ops-none d ops none)
+late_ops-none d (Slicing average variation micros lane until ∷ ops) none = (tt, late_ops-none d ops none)
 late_ops-none d (Limit bytes ∷ ops) none = (tt, late_ops-none d ops none)
 
 -- the earliest of a cutoff and what the other operations say
@@ -103,12 +103,12 @@ module _ (d instant : ℕ) (ops : List Op) (others : (e : ℕ) → deadline_of o
 -- the deadline is the first instant from which on some operation stops everything
 stop-deadline : (d : ℕ) (ops : List Op) → deadline_of ops ≡ Some d → AreLateOps d ops × HaveStop d ops
 stop-deadline d [] is = absurd (cc)
-stop-deadline d (Delay fixed latency jitter lane ∷ ops) is = let late = stop-deadline d ops is in ((tt, late.0), inr late.1)
-stop-deadline d (Pace rate ∷ ops) is = let late = stop-deadline d ops is in ((tt, late.0), inr late.1)
+stop-deadline d (Delay fixed latency jitter lane until ∷ ops) is = let late = stop-deadline d ops is in ((tt, late.0), inr late.1)
+stop-deadline d (Pace rate until ∷ ops) is = let late = stop-deadline d ops is in ((tt, late.0), inr late.1)
 stop-deadline d (Slow millis ∷ ops) is = let late = stop-deadline d ops is in ((tt, late.0), inr late.1)
 stop-deadline d (Mute ending ∷ ops) is = (subst (λ d. AreLateOps d (Mute ending ∷ ops)) (same_Some 0 d is) (late_ops-start (Mute ending ∷ ops)), inl tt)
 stop-deadline d (Cutoff instant ∷ ops) is = first-cutoff d instant ops (λ e. stop-deadline e ops) (deadline_of ops) refl is
-stop-deadline d (Slicing average variation micros lane ∷ ops) is = let late = stop-deadline d ops is in ((tt, late.0), inr late.1)
+stop-deadline d (Slicing average variation micros lane until ∷ ops) is = let late = stop-deadline d ops is in ((tt, late.0), inr late.1)
 stop-deadline d (Limit bytes ∷ ops) is = let late = stop-deadline d ops is in ((tt, late.0), inr late.1)
 
 late_ops-snoc : (d : ℕ) (ops : List Op) (op : Op) → AreLateOps d (ops ++ op ∷ []) → AreLateOps d ops × IsLateOp d op
@@ -160,12 +160,12 @@ cutoff-flow d words state (item ∷ items) running later =
 
 -- drained levels, one of which stops everything from an instant on, give the same for all later lists
 stop-level : (d : ℕ) (op : Op) → is_mute op ≡ false → IsStop d op → op ≡ Cutoff d
-stop-level d (Delay fixed latency jitter lane) loud stop = absurd stop
-stop-level d (Pace rate) loud stop = absurd stop
+stop-level d (Delay fixed latency jitter lane until) loud stop = absurd stop
+stop-level d (Pace rate until) loud stop = absurd stop
 stop-level d (Slow millis) loud stop = absurd stop
 stop-level d (Mute ending) loud stop = absurd (cc)
 stop-level d (Cutoff instant) loud stop = ap Cutoff stop
-stop-level d (Slicing average variation micros lane) loud stop = absurd stop
+stop-level d (Slicing average variation micros lane until) loud stop = absurd stop
 stop-level d (Limit bytes) loud stop = absurd stop
 
 same-later : (d : ℕ) (words : List ℕ) (start : ℕ) (levels : List Level) (source : Slice) (xs ys : List Item) → d ≤ horizon → AreNested start levels source → AreDrained start levels source

@@ -26,5 +26,5 @@ drained-final words start (level ∷ levels) source end nested drained =
     let after : (last : Ending) × (op_giving level.op (draw words) level.state (final_of before.0) ≡ final_of last ∷ []) = giving-final level.op words level.state before.0 in (
       after.0,
       ap (λ items. level_gives (draw words) start level items) before.1
-          ∙ level_gives-final words start level (final_of before.0) after.0 drained.0 drained.1 (nested.0.sound.running drained.1) after.1,
+          ∙ level_gives-final words start level before.0 after.0 drained.0 drained.1 (nested.0.sound.running drained.1) after.1,
     )

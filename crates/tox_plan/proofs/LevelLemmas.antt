@@ -1,5 +1,5 @@
 -- What is still to come from nested levels.
-use Rattle.std.proofs.Common.{◌≡◌, ℕ, ◌<◌, ◌≤◌, false, List, [], ◌∷◌, ◌++◌, append_assoc, None, ap, sym, ◌∙◌, arith, inr}
+use Rattle.std.proofs.Common.{◌≡◌, ℕ, ◌<◌, ◌≤◌, false, List, [], ◌∷◌, ◌++◌, append_assoc, None, refl, ap, sym, ◌∙◌, arith, inr}
 use Rattle.std.proofs.lemmas.List.{append-nil}
 use Rattle.tox_time.specs.declared.slice.Slice.{Slice}
 use Rattle.tox_time.specs.declared.item.Item.{Item}
@@ -7,11 +7,12 @@ use Rattle.tox_time.specs.declared.ending.Ending.{Ending}
 use Rattle.tox_time.specs.Table.{final_of}
 use Rattle.tox_words.specs.Draw.{draw}
 use Rattle.tox_defs.specs.declared.level.Level.{Level}
-use Rattle.tox_defs.specs.Reaction.{flow_from}
-use Rattle.tox_defs.specs.Op.{op_giving, op_reaction}
+use Rattle.tox_defs.specs.Reaction.{Answer, counted, flow_from}
+use Rattle.tox_defs.specs.Op.{op_giving, op_reaction, op_until}
 use Rattle.tox_defs.specs.Look.{as_chunk, rest_of}
 use Rattle.tox_defs.specs.Level.{level_gives}
-use Rattle.tox_defs.proofs.FlowLemmas.{Continues-counted}
+use Rattle.tox_defs.proofs.FlowLemmas.{flow_from-last, react-running}
+use Rattle.tox_defs.proofs.Stopping.{is_late-final, until-early}
 use Rattle.tox_defs.proofs.Levels.{rest_of-read, rest_of-unread, level_gives-running}
 use Rattle.tox_plan.specs.Levels.{to_come_from, ops_of, AreNested, AreDrained, HaveEnded}
 
@@ -21,12 +22,15 @@ rest_of-piece start piece begins some =
     rest_of-unread start piece.span.stop piece.instant some ∙ ap (λ start. as_chunk (record { span = record { start = start; stop = piece.span.stop }; instant = piece.instant }) ∷ []) (sym begins)
 
 -- a level that has nothing left gives what its operation gives for an ending
-pub level_gives-final : (words : List ℕ) (start : ℕ) (level : Level) (item : Item) (last : Ending) → level.stop ≡ start → level.ending ≡ None → level.state.done ≡ false
-    → op_giving level.op (draw words) level.state item ≡ final_of last ∷ [] → level_gives (draw words) start level (item ∷ []) ≡ final_of last ∷ []
-level_gives-final words start level item last read running undone gives =
-    level_gives-running (draw words) start level (item ∷ []) running
-    ∙ ap (λ rest. flow_from (op_reaction level.op (draw words)) level.state (rest ++ item ∷ [])) (rest_of-read start level.stop level.instant (omega (arith, read)))
-    ∙ (Continues-counted (op_giving level.op (draw words)) level.state item [] (final_of last ∷ []) undone gives).gives
+pub level_gives-final : (words : List ℕ) (start : ℕ) (level : Level) (before last : Ending) → level.stop ≡ start → level.ending ≡ None → level.state.done ≡ false
+    → op_giving level.op (draw words) level.state (final_of before) ≡ final_of last ∷ [] → level_gives (draw words) start level (final_of before ∷ []) ≡ final_of last ∷ []
+level_gives-final words start level before last read running undone gives =
+    level_gives-running (draw words) start level (final_of before ∷ []) running
+    ∙ ap (λ rest. flow_from (op_reaction level.op (draw words)) level.state (rest ++ final_of before ∷ [])) (rest_of-read start level.stop level.instant (omega (arith, read)))
+    ∙ flow_from-last (op_reaction level.op (draw words)) level.state (final_of before) [] refl
+    ∙ ap (λ (answer : Answer). answer.given) (react-running (op_reaction level.op (draw words)) level.state (final_of before) undone
+    ∙ until-early (op_until level.op) (counted (op_giving level.op (draw words))) level.state (final_of before) (is_late-final (op_until level.op) before))
+    ∙ gives
 
 -- a piece that comes from upstream is the next chunk of a level that has nothing left
 pub level_gives-filled : (words : List ℕ) (start : ℕ) (level : Level) (piece : Slice) (items : List Item) → level.ending ≡ None → level.stop ≡ start → piece.span.start ≡ level.stop → level.stop < piece.span.stop

@@ -51,7 +51,7 @@ pub upstream-end : (words : List ℕ) (start : ℕ) (upstream : List Level) (lev
 upstream-end words start upstream level source ending last running read sound only gives items =
     ap (λ stop. level_gives (draw words) start level (to_come_from words stop upstream source items)) read
     ∙ ap (λ items. level_gives (draw words) start level items) (only items)
-    ∙ level_gives-final words start level (final_of ending) last read running (sound.running running) (gives words)
+    ∙ level_gives-final words start level ending last read running (sound.running running) (gives words)
 
 -- the ending that upstream levels know, and what a level makes of it
 abbrev pub Knows : List Level → Option Ending → Type 0

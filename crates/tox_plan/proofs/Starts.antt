@@ -21,12 +21,12 @@ use Rattle.tox_plan.proofs.LevelLemmas.{ops_of-append}
 
 -- a level at its start gives its operation's flow of a stream
 level_gives-at_start : (op : Op) (words : List ℕ) (items : List Item) → IsStream items → level_gives (draw words) 0 (level_at_start op) items ≡ flow (op_reaction op (draw words)) items
-level_gives-at_start (Delay fixed latency jitter lane) words items stream = refl
-level_gives-at_start (Pace rate) words items stream = refl
+level_gives-at_start (Delay fixed latency jitter lane until) words items stream = refl
+level_gives-at_start (Pace rate until) words items stream = refl
 level_gives-at_start (Slow millis) words items stream = refl
 level_gives-at_start (Mute ending) words items stream = sym (flow_from-muted (final_of ending) items 0 0 0 0 0 0 stream)
 level_gives-at_start (Cutoff instant) words items stream = refl
-level_gives-at_start (Slicing average variation micros lane) words items stream = refl
+level_gives-at_start (Slicing average variation micros lane until) words items stream = refl
 level_gives-at_start (Limit bytes) words items stream = refl
 
 -- one more level at the source's side takes what comes and gives it to the others
@@ -43,12 +43,12 @@ read-snoc op start [] zero read = (sym zero, refl)
 read-snoc op start (level ∷ levels) zero read = (read.0, read-snoc op level.stop levels (read.0 ∙ zero) read.1)
 
 heard-at_start : (op : Op) → ending_at_start op ≡ None → is_mute op ≡ false
-heard-at_start (Delay fixed latency jitter lane) none = refl
-heard-at_start (Pace rate) none = refl
+heard-at_start (Delay fixed latency jitter lane until) none = refl
+heard-at_start (Pace rate until) none = refl
 heard-at_start (Slow millis) none = refl
 heard-at_start (Mute ending) none = absurd (cc)
 heard-at_start (Cutoff instant) none = refl
-heard-at_start (Slicing average variation micros lane) none = refl
+heard-at_start (Slicing average variation micros lane until) none = refl
 heard-at_start (Limit bytes) none = refl
 
 IsLevel-at_start : (op : Op) (start : ℕ) → IsOp op → start ≡ 0 → IsLevel start (level_at_start op)
