@@ -19,13 +19,15 @@ use Rattle.tox_defs.specs.declared.state.State.{State}
 use Rattle.tox_defs.specs.declared.toxic.Toxic.{Toxic}
 use Rattle.tox_defs.specs.declared.toxic.Toxic.TheVariants.{Latency, Bandwidth, SlowClose, Timeout, ResetPeer, Slicer, LimitData}
 use Rattle.tox_defs.specs.Chain.{Toxics}
-use Rattle.tox_defs.specs.Reaction.{Giving, react, counted, flow_from, first_state, flow_through}
+use Rattle.tox_defs.specs.Reaction.{Answer, Giving, react, counted, flow_from, first_state, flow_through}
+use Rattle.tox_defs.specs.Ordered.{in_order}
 use Rattle.tox_defs.specs.Pieces.{cut, leave}
+use Rattle.tox_defs.specs.Until.{is_late, late_answer, until}
 use Rattle.tox_defs.specs.toxics.LimitData.{first_bytes, limit_gives}
 use Rattle.tox_defs.specs.toxics.ResetPeer.{is_before}
 use Rattle.tox_defs.specs.toxics.Timeout.{mute_gives}
 use Rattle.tox_defs.specs.declared.applied.Placed.{Placed}
-use Rattle.tox_defs.specs.Flow.{toxic_giving, toxic_reaction, applied, chain_flow}
+use Rattle.tox_defs.specs.Flow.{toxic_giving, toxic_reaction, toxic_until, applied, chain_flow}
 use Rattle.tox_defs.specs.toxics.Timeout.{timeout_ending}
 use Rattle.tox_defs.specs.Varied.{varied}
 use Rattle.tox_defs.specs.Laws.{toxic_flow}
@@ -154,49 +156,61 @@ limited_within bytes state (Reset t) items = tt
 limited_within bytes state Quiet items = tt
 
 toxic_within : (toxic : Toxic) (words : ℕ → ℕ) → GivesWithin (toxic_giving toxic words)
-toxic_within (Latency latency jitter) words state (Chunk span t) items =
+toxic_within (Latency latency jitter until) words state (Chunk span t) items =
     chunk_within span t (max state.previous (plus t (1000 * varied latency jitter (words (1 + state.chunks))))) items
-toxic_within (Latency latency jitter) words state (Closed t) items = tt
-toxic_within (Latency latency jitter) words state (Reset t) items = tt
-toxic_within (Latency latency jitter) words state Quiet items = tt
-toxic_within (Bandwidth rate) words state (Chunk span t) items =
+toxic_within (Latency latency jitter until) words state (Closed t) items = tt
+toxic_within (Latency latency jitter until) words state (Reset t) items = tt
+toxic_within (Latency latency jitter until) words state Quiet items = tt
+toxic_within (Bandwidth rate until) words state (Chunk span t) items =
     leave_within (λ _. 100 * rate) (λ len. div_ceil (1000 * len) rate) 0 span.start (span_len span) (span_len span) state.previous t span t items (omega arith) (λ some. omega arith)
-toxic_within (Bandwidth rate) words state (Closed t) items = tt
-toxic_within (Bandwidth rate) words state (Reset t) items = tt
-toxic_within (Bandwidth rate) words state Quiet items = tt
+toxic_within (Bandwidth rate until) words state (Closed t) items = tt
+toxic_within (Bandwidth rate until) words state (Reset t) items = tt
+toxic_within (Bandwidth rate until) words state Quiet items = tt
 toxic_within (SlowClose delay) words state (Chunk span t) items = chunk_within span t t items
 toxic_within (SlowClose delay) words state (Closed t) items = tt
 toxic_within (SlowClose delay) words state (Reset t) items = tt
 toxic_within (SlowClose delay) words state Quiet items = tt
 toxic_within (Timeout timeout) words state item items = muted_within (timeout_ending timeout) state item items
 toxic_within (ResetPeer timeout) words state item items = cut_off_within (is_before (micros_of timeout) item) item (micros_of timeout) items
-toxic_within (Slicer average_size size_variation delay) words state (Chunk span t) items =
+toxic_within (Slicer average_size size_variation delay until) words state (Chunk span t) items =
     leave_within (λ piece. varied average_size size_variation (words (1 + piece))) (λ _. delay) state.pieces span.start (span_len span) (span_len span) state.previous t span t items (omega arith) (λ some. omega arith)
-toxic_within (Slicer average_size size_variation delay) words state (Closed t) items = tt
-toxic_within (Slicer average_size size_variation delay) words state (Reset t) items = tt
-toxic_within (Slicer average_size size_variation delay) words state Quiet items = tt
+toxic_within (Slicer average_size size_variation delay until) words state (Closed t) items = tt
+toxic_within (Slicer average_size size_variation delay until) words state (Reset t) items = tt
+toxic_within (Slicer average_size size_variation delay until) words state Quiet items = tt
 toxic_within (LimitData bytes) words state item items = limited_within bytes state item items
 
 -- Flows
 
-react_within : (done : Bool) (giving : Giving) (state : State) (item : Item) (items : List Item) → GivesWithin giving
-    → LieWithin (item ∷ items) (if done then (record { state = state; given = [] }) else counted giving state item).given
-react_within true giving state item items gives = tt
-react_within false giving state item items gives = gives state item items
+in_order_within : (since : ℕ) (item : Item) (items : List Item) → LieWithin (item ∷ items) (in_order since item ∷ [])
+in_order_within since (Chunk span t) items = chunk_within span t (max since t) items
+in_order_within since (Closed t) items = tt
+in_order_within since (Reset t) items = tt
+in_order_within since Quiet items = tt
 
-flow_within : (giving : Giving) → GivesWithin giving → (state : State) (items : List Item) → LieWithin items (flow_from (counted giving) state items)
-flow_within giving gives state [] = tt
-flow_within giving gives state (item ∷ items) =
-    both_within (item ∷ items) (react (counted giving) state item).given (flow_from (counted giving) (react (counted giving) state item).state items)
-    (react_within state.done giving state item items gives)
-    (later_within item items (flow_from (counted giving) (react (counted giving) state item).state items) (flow_within giving gives (react (counted giving) state item).state items))
+stopped_within : (late : Bool) (giving : Giving) (state : State) (item : Item) (items : List Item) → GivesWithin giving
+    → LieWithin (item ∷ items) (if late then late_answer state item else counted giving state item).given
+stopped_within true giving state item items gives = in_order_within state.previous item items
+stopped_within false giving state item items gives = gives state item items
+
+react_within : (done : Bool) (millis : ℕ) (giving : Giving) (state : State) (item : Item) (items : List Item) → GivesWithin giving
+    → LieWithin (item ∷ items) (if done then (record { state = state; given = [] }) else until millis (counted giving) state item).given
+react_within true millis giving state item items gives = tt
+react_within false millis giving state item items gives = stopped_within (is_late millis item) giving state item items gives
+
+flow_within : (millis : ℕ) (giving : Giving) → GivesWithin giving → (state : State) (items : List Item) → LieWithin items (flow_from (until millis (counted giving)) state items)
+flow_within millis giving gives state [] = tt
+flow_within millis giving gives state (item ∷ items) =
+    let answer : Answer = react (until millis (counted giving)) state item in
+    both_within (item ∷ items) answer.given (flow_from (until millis (counted giving)) answer.state items)
+    (react_within state.done millis giving state item items gives)
+    (later_within item items (flow_from (until millis (counted giving)) answer.state items) (flow_within millis giving gives answer.state items))
 
 toxics_within : (toxics : List Placed) (words : List ℕ) (items : List Item) → LieWithin items (flow_through (map (λ placed. toxic_reaction placed.toxic (draw words placed.place)) toxics) items)
 toxics_within [] words items = themselves_within items
 toxics_within (placed ∷ toxics) words items =
     let given = toxic_flow placed.toxic (draw words placed.place) items in
     through_within items given (flow_through (map (λ placed. toxic_reaction placed.toxic (draw words placed.place)) toxics) given)
-    (flow_within (toxic_giving placed.toxic (draw words placed.place)) (toxic_within placed.toxic (draw words placed.place)) first_state items)
+    (flow_within (toxic_until placed.toxic) (toxic_giving placed.toxic (draw words placed.place)) (toxic_within placed.toxic (draw words placed.place)) first_state items)
     (toxics_within toxics words given)
 
 pub chain_within : (chain : Toxics) (words : List ℕ) (items : List Item) → LieWithin items (chain_flow chain words items)
