@@ -1,11 +1,12 @@
 -- Printed short forms, in the parts in which they are printed.
-use Rattle.std.proofs.Common.{◌≡◌, ℕ, List, [], ◌∷◌, ◌++◌, codes, decimal, flat_map, map, append_assoc, append-nil, refl, ap, ◌∙◌}
+use Rattle.std.proofs.Common.{◌≡◌, ℕ, zero, suc, Bool, true, false, filter, if◌then◌else◌, List, [], ◌∷◌, ◌++◌, codes, decimal, flat_map, map, append_assoc, append-nil, refl, ap, ◌∙◌}
 use Rattle.std.specs.List.{join_with_byte, zip}
+use Rattle.std.proofs.Math.Dec.{eqb-suc-zero}
 use Rattle.tox_defs.specs.Kind.{attributes_of, name_of}
-use Rattle.tox_defs.specs.Printed.{printed_pair, printed_pairs, printed_short, type_of, values_of}
+use Rattle.tox_defs.specs.Printed.{is_shown, printed_pair, printed_pairs, printed_short, type_of, values_of}
 use Rattle.tox_defs.specs.declared.toxic.Toxic.{Toxic}
 use Rattle.tox_defs.specs.declared.toxic.Toxic.TheVariants.{Latency, Bandwidth, SlowClose, Timeout, ResetPeer, Slicer, LimitData}
-use Rattle.tox_text.specs.ShortForm.{pair_before_comma}
+use Rattle.tox_text.specs.ShortForm.{pair_before_comma, shown_before_comma}
 
 pub pair-parts : (key : List ℕ) (value : ℕ) → (key ++ codes "=") ++ (decimal value ++ codes ",") ≡ pair_before_comma (key, value)
 pair-parts key value = simp append_assoc
@@ -13,7 +14,7 @@ pair-parts key value = simp append_assoc
 -- the type, the pairs of the attributes, and that of the toxicity
 abbrev pub short_parts : List ℕ → List (List ℕ) → List ℕ → ℕ → List ℕ
 short_parts name keys values toxicity =
-    (name ++ codes ":") ++ (flat_map pair_before_comma (zip keys values) ++ (codes "toxicity=" ++ (decimal toxicity ++ [])))
+    (name ++ codes ":") ++ (flat_map shown_before_comma (zip keys values) ++ (codes "toxicity=" ++ (decimal toxicity ++ [])))
 
 -- parts with a comma behind each, before a last one
 joined_last : (parts : List (List ℕ)) (last : List ℕ) → flat_map (λ part. part ++ codes ",") parts ++ last ≡ join_with_byte 44 (parts ++ last ∷ [])
@@ -26,33 +27,36 @@ joined_last (part ∷ next ∷ parts) last =
 
 -- the attributes' pairs of a toxic
 abbrev pairs_of : Toxic → List (List ℕ)
-pairs_of toxic = map printed_pair (zip (attributes_of (type_of toxic)) (values_of toxic))
+pairs_of toxic = map printed_pair (filter is_shown (zip (attributes_of (type_of toxic)) (values_of toxic)))
 
--- each pair with a comma behind it
-spelled : (toxic : Toxic) → flat_map pair_before_comma (zip (attributes_of (type_of toxic)) (values_of toxic)) ≡ flat_map (λ part. part ++ codes ",") (pairs_of toxic)
-spelled (Latency latency jitter) = refl
-spelled (Bandwidth rate) = refl
-spelled (SlowClose delay) = refl
-spelled (Timeout timeout) = refl
-spelled (ResetPeer timeout) = refl
-spelled (Slicer average_size size_variation delay) = refl
-spelled (LimitData bytes) = refl
+-- each pair that is printed with a comma behind it
+spelled_by : (shown : Bool) (pair : List ℕ × ℕ) (pairs : List (List ℕ × ℕ)) → flat_map shown_before_comma pairs ≡ flat_map (λ part. part ++ codes ",") (map printed_pair (filter is_shown pairs))
+    → (if shown then pair_before_comma pair else []) ++ flat_map shown_before_comma pairs ≡ flat_map (λ part. part ++ codes ",") (map printed_pair (if shown then pair ∷ filter is_shown pairs else filter is_shown pairs))
+spelled_by true pair pairs others = ap (λ text. pair_before_comma pair ++ text) others
+spelled_by false pair pairs others = others
+
+spelled : (pairs : List (List ℕ × ℕ)) → flat_map shown_before_comma pairs ≡ flat_map (λ part. part ++ codes ",") (map printed_pair (filter is_shown pairs))
+spelled [] = refl
+spelled (pair ∷ pairs) = spelled_by (is_shown pair) pair pairs (spelled pairs)
 
 -- the toxicity's pair comes last
 ended : (toxic : Toxic) (toxicity : ℕ) → pairs_of toxic ++ printed_pair (codes "toxicity", toxicity) ∷ [] ≡ printed_pairs toxic toxicity
-ended (Latency latency jitter) toxicity = refl
-ended (Bandwidth rate) toxicity = refl
+ended (Latency latency jitter zero) toxicity = refl
+ended (Latency latency jitter (suc until)) toxicity = rw (eqb-suc-zero until) refl
+ended (Bandwidth rate zero) toxicity = refl
+ended (Bandwidth rate (suc until)) toxicity = rw (eqb-suc-zero until) refl
 ended (SlowClose delay) toxicity = refl
 ended (Timeout timeout) toxicity = refl
 ended (ResetPeer timeout) toxicity = refl
-ended (Slicer average_size size_variation delay) toxicity = refl
+ended (Slicer average_size size_variation delay zero) toxicity = refl
+ended (Slicer average_size size_variation delay (suc until)) toxicity = rw (eqb-suc-zero until) refl
 ended (LimitData bytes) toxicity = refl
 
 parts_of_toxic : (toxic : Toxic) (toxicity : ℕ)
     → short_parts (name_of (type_of toxic)) (attributes_of (type_of toxic)) (values_of toxic) toxicity ≡ printed_short toxic toxicity
 parts_of_toxic toxic toxicity =
     ap (λ text. (name_of (type_of toxic) ++ codes ":") ++ text) (
-    ap (λ text. text ++ (codes "toxicity=" ++ (decimal toxicity ++ []))) (spelled toxic)
+    ap (λ text. text ++ (codes "toxicity=" ++ (decimal toxicity ++ []))) (spelled (zip (attributes_of (type_of toxic)) (values_of toxic)))
     ∙ ap (λ digits. flat_map (λ part. part ++ codes ",") (pairs_of toxic) ++ (codes "toxicity=" ++ digits)) (append-nil (decimal toxicity))
     ∙ joined_last (pairs_of toxic) (printed_pair (codes "toxicity", toxicity))
     ∙ ap (join_with_byte 44) (ended toxic toxicity))

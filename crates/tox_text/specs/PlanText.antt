@@ -11,17 +11,21 @@ jitter_words latency jitter lane =
     else codes " jitter " ++ decimal latency ++ codes " " ++ decimal jitter ++ codes " lane "
     ++ decimal lane
 
+-- from when on an operation lets chunks pass, where it stops
+abbrev pub until_words : ℕ → List ℕ
+until_words until = if until == 0 then [] else codes " until " ++ decimal until
+
 -- the words of an operation
 abbrev pub op_words : Op → List ℕ
-op_words (Delay fixed latency jitter lane) =
-    codes "delay " ++ decimal fixed ++ jitter_words latency jitter lane
-op_words (Pace rate) = codes "pace " ++ decimal rate
+op_words (Delay fixed latency jitter lane until) =
+    codes "delay " ++ decimal fixed ++ jitter_words latency jitter lane ++ until_words until
+op_words (Pace rate until) = codes "pace " ++ decimal rate ++ until_words until
 op_words (Slow millis) = codes "slow " ++ decimal millis
 op_words (Limit bytes) = codes "limit " ++ decimal bytes
 op_words (Cutoff instant) = codes "cutoff " ++ decimal instant
-op_words (Slicing average variation micros lane) =
+op_words (Slicing average variation micros lane until) =
     codes "slicing " ++ decimal average ++ codes " " ++ decimal variation ++ codes " "
-    ++ decimal micros ++ codes " lane " ++ decimal lane
+    ++ decimal micros ++ codes " lane " ++ decimal lane ++ until_words until
 op_words (Mute ending) = codes "mute " ++ ending_words ending
 
 -- the line of an operation

@@ -1,7 +1,11 @@
 -- The parts of a printed short form.
-use Rattle.std.specs.Prelude.{ℕ, List, ◌++◌, codes}
-use Rattle.tox_defs.specs.Printed.{printed_pair}
+use Rattle.std.specs.Prelude.{ℕ, List, [], ◌++◌, codes, if◌then◌else◌}
+use Rattle.tox_defs.specs.Printed.{is_shown, printed_pair}
 
 -- a key with its value, and the comma behind it
 abbrev pub pair_before_comma : List ℕ × ℕ → List ℕ
 pair_before_comma pair = printed_pair pair ++ codes ","
+
+-- the same, and nothing where the pair isn't printed
+abbrev pub shown_before_comma : List ℕ × ℕ → List ℕ
+shown_before_comma pair = if is_shown pair then pair_before_comma pair else []

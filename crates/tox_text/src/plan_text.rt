@@ -1,7 +1,7 @@
 //! The text of a plan.
 ghost use Rattle.std.specs.Prelude.{◌≡◌, ◌+◌, ◌<◌, ◌≤◌, ◌++◌, [], false, length, decimal, flat_map};
 ghost use Rattle.arrayvec.specs.ArrayString.{array_string_len};
-ghost use Rattle.tox_text.specs.PlanText.{jitter_words, op_words, op_line, plan_text};
+ghost use Rattle.tox_text.specs.PlanText.{jitter_words, until_words, op_words, op_line, plan_text};
 ghost use Rattle.tox_text.specs.ResultText.{ending_words};
 ghost use Rattle.tox_text.specs.Writing.{Prints, Writes};
 
@@ -13,7 +13,7 @@ use tox_defs::Op;
 use tox_time::{EndFault, Ending, Sink};
 
 /// How many bytes the line of an operation has at most.
-const MAX_LINE: usize = 128;
+const MAX_LINE: usize = 160;
 
 /// The line of an operation, on its way to a writer.
 type Line = ArrayString<MAX_LINE>;
@@ -77,15 +77,16 @@ fn add_op(line: &mut Line, op: &Op)
             latency,
             jitter,
             lane,
+            until,
         } => {
             add_number(line, "delay ", u64::from(*fixed));
-            if *jitter != 0 {
-                add_number(line, " jitter ", u64::from(*latency));
-                add_number(line, " ", u64::from(*jitter));
-                add_number(line, " lane ", *lane as u64);
-            }
+            add_jitter(line, *latency, *jitter, *lane);
+            add_until(line, *until);
         }
-        Op::Pace { rate } => add_number(line, "pace ", u64::from(*rate)),
+        Op::Pace { rate, until } => {
+            add_number(line, "pace ", u64::from(*rate));
+            add_until(line, *until);
+        }
         Op::Slow { millis } => add_number(line, "slow ", u64::from(*millis)),
         Op::Limit { bytes } => add_number(line, "limit ", *bytes),
         Op::Cutoff { instant } => add_number(line, "cutoff ", instant.get()),
@@ -94,11 +95,13 @@ fn add_op(line: &mut Line, op: &Op)
             variation,
             micros,
             lane,
+            until,
         } => {
             add_number(line, "slicing ", u64::from(*average));
             add_number(line, " ", u64::from(*variation));
             add_number(line, " ", *micros);
             add_number(line, " lane ", *lane as u64);
+            add_until(line, *until);
         }
         Op::Mute {
             ending: Ending::StillOpen,
@@ -109,6 +112,30 @@ fn add_op(line: &mut Line, op: &Op)
         Op::Mute {
             ending: Ending::Reset(instant),
         } => add_number(line, "mute reset ", instant.get()),
+    }
+}
+
+/// Adds what a delay draws, if it has jitter.
+fn add_jitter(line: &mut Line, latency: u32, jitter: u32, lane: usize)
+    requires { array_string_len line.old + 75 ≤ MAX_LINE }
+    ensures text { line.new.bytes ≡ line.old.bytes ++ jitter_words latency jitter lane }
+    ensures most { array_string_len line.new ≤ array_string_len line.old + 75 }
+{
+    if jitter != 0 {
+        add_number(line, " jitter ", u64::from(latency));
+        add_number(line, " ", u64::from(jitter));
+        add_number(line, " lane ", lane as u64);
+    }
+}
+
+/// Adds from when on an operation lets chunks pass, if it stops.
+fn add_until(line: &mut Line, until: u32)
+    requires { array_string_len line.old + 27 ≤ MAX_LINE }
+    ensures text { line.new.bytes ≡ line.old.bytes ++ until_words until }
+    ensures most { array_string_len line.new ≤ array_string_len line.old + 27 }
+{
+    if until != 0 {
+        add_number(line, " until ", u64::from(until));
     }
 }
 

@@ -2,7 +2,7 @@
 ghost use Rattle.std.specs.Prelude.{◌≡◌, ◌≤◌, false, flat_map, length, map};
 ghost use Rattle.std.specs.List.{zip};
 ghost use Rattle.tox_defs.specs.Printed.{printed_short};
-ghost use Rattle.tox_text.specs.ShortForm.{pair_before_comma};
+ghost use Rattle.tox_text.specs.ShortForm.{pair_before_comma, shown_before_comma};
 ghost use Rattle.tox_text.specs.Writing.{Prints};
 
 use crate::buffer::Buffer;
@@ -26,7 +26,7 @@ pub(crate) fn print_short<W: Sink>(
     buffer.put_number(writer, u64::from(entry.toxicity), b"")
 }
 
-/// Prints each key with its value and a comma.
+/// Prints each key with its value and a comma, but for an `until` of 0.
 fn print_attributes<W: Sink>(
     buffer: &mut Buffer,
     writer: &mut W,
@@ -37,12 +37,28 @@ fn print_attributes<W: Sink>(
     requires enough { length keys.now ≤ length values.now }
     ensures { Prints result (W.written writer.old) buffer.old (W.written writer.new) buffer.new
         (W.failed writer.new)
-        (flat_map pair_before_comma (zip (map (λ key. key.now) keys.now) values.now)) }
+        (flat_map shown_before_comma (zip (map (λ key. key.now) keys.now) values.now)) }
 {
     for (place, key) in keys.iter().enumerate() {
-        print_pair(buffer, writer, key, values[place])?;
+        print_shown(buffer, writer, key, values[place])?;
     }
     Ok(())
+}
+
+fn print_shown<W: Sink>(
+    buffer: &mut Buffer,
+    writer: &mut W,
+    key: &str,
+    value: u64,
+) -> Result<(), EndFault>
+    requires { W.failed writer.old ≡ false }
+    ensures { Prints result (W.written writer.old) buffer.old (W.written writer.new) buffer.new
+        (W.failed writer.new) (shown_before_comma (key.now, value)) }
+{
+    if key == "until" && value == 0 {
+        return Ok(());
+    }
+    print_pair(buffer, writer, key, value)
 }
 
 fn print_pair<W: Sink>(

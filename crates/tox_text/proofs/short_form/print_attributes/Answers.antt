@@ -4,7 +4,7 @@ use Rattle.std.specs.List.{zip}
 use Rattle.std.proofs.lemmas.List.{length-map}
 use Rattle.std.proofs.lemmas.Result.{err_from_is_err_and}
 use Rattle.std.proofs.lemmas.Slice.Zip.{length-zip}
-use Rattle.tox_text.specs.ShortForm.{pair_before_comma}
+use Rattle.tox_text.specs.ShortForm.{shown_before_comma}
 use Rattle.tox_text.proofs.Listed.{IsAt-pair, Passes-all, Passes-more, Prints-stopped}
 use Rattle.tox_text.proofs.Writes.{Passes-none}
 use Rattle.tox_text.proofs.short_form.print_attributes.Goals as goal
@@ -15,18 +15,18 @@ loop-place-init g c = record { working = c.requires.working; passed = Passes-non
 pub loop-place-preserved : goal.loop-place-preserved
 loop-place-preserved g c =
     let here = IsAt-pair c.args.keys.now c.args.values.now c.loop-place.place (record { ref_ptr = (0, 0); now = [] }) 0 c.loop-place-test.true (omega arith) in record {
-      working = c.in_ok-print_pair.ensures.1;
-      passed = Passes-more pair_before_comma (zip (map (λ key. key.now) c.args.keys.now) c.args.values.now) c.loop-place.place _ _ _ _ _ _ _ here c.loop-place.invariant.passed c.in_ok-print_pair.ensures.0;
+      working = c.in_ok-print_shown.ensures.1;
+      passed = Passes-more shown_before_comma (zip (map (λ key. key.now) c.args.keys.now) c.args.values.now) c.loop-place.place _ _ _ _ _ _ _ here c.loop-place.invariant.passed c.in_ok-print_shown.ensures.0;
     }
 
-pub returns-in_err-print_pair : goal.returns-in_err-print_pair
-returns-in_err-print_pair g c =
+pub returns-in_err-print_shown : goal.returns-in_err-print_shown
+returns-in_err-print_shown g c =
     let here = IsAt-pair c.args.keys.now c.args.values.now c.loop-place.place (record { ref_ptr = (0, 0); now = [] }) 0 c.loop-place-test.true (omega arith) in
     let exit = err_from_is_err_and c.from_residual.result c.from_residual.ensures.1 in
-    Prints-stopped pair_before_comma (zip (map (λ key. key.now) c.args.keys.now) c.args.values.now) c.loop-place.place _ _ _ _ _ _ _ _ c.from_residual.result exit.0 here exit.1 c.loop-place.invariant.passed c.in_err-print_pair.ensures
+    Prints-stopped shown_before_comma (zip (map (λ key. key.now) c.args.keys.now) c.args.values.now) c.loop-place.place _ _ _ _ _ _ _ _ c.from_residual.result exit.0 here exit.1 c.loop-place.invariant.passed c.in_err-print_shown.ensures
 
 pub returns : goal.returns
 returns g c =
     let keys = map (λ key. key.now) c.args.keys.now in
     let past : length (zip keys c.args.values.now) ≤ c.loop-place.place = omega (arith, length-zip keys c.args.values.now, length-map c.args.keys.now (λ key. key.now), c.loop-place-test.false) in
-    (Passes-all pair_before_comma (zip keys c.args.values.now) c.loop-place.place _ _ _ _ past c.loop-place.invariant.passed, c.loop-place.invariant.working)
+    (Passes-all shown_before_comma (zip keys c.args.values.now) c.loop-place.place _ _ _ _ past c.loop-place.invariant.passed, c.loop-place.invariant.working)
