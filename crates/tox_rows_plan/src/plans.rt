@@ -25,13 +25,15 @@ fn each_toxic_has_its_operation(rt: HostRuntime) -> Result<(), Fail> {
             latency: 0,
             jitter: 0,
             lane: 0,
+            until: 0,
         },
-        Op::Pace { rate: 7 },
+        Op::Pace { rate: 7, until: 0 },
         Op::Delay {
             fixed: 0,
             latency: 5,
             jitter: 2,
             lane: 2,
+            until: 0,
         },
         Op::Slow { millis: 2 },
         Op::Limit { bytes: 9 },
@@ -40,6 +42,7 @@ fn each_toxic_has_its_operation(rt: HostRuntime) -> Result<(), Fail> {
             variation: 1,
             micros: 6,
             lane: 5,
+            until: 0,
         },
         Op::Cutoff {
             instant: Micros::from_millis(8),
@@ -107,6 +110,7 @@ fn toxicities_choose_by_their_lane(rt: HostRuntime) -> Result<(), Fail> {
         latency: 1,
         jitter: 1,
         lane: 1,
+        until: 0,
     };
     assert_eq!(rt; compile(&chain, &words).ops(), [delay].as_slice());
     assert_eq!(rt; compile(&chain, &words).deadline(), None);

@@ -26,9 +26,11 @@ fn toxic(generator: &mut Lcg64Xsh32) -> Toxic {
         0 => Toxic::Latency {
             latency: below(generator, 4),
             jitter: below(generator, 3),
+            until: below(generator, 6),
         },
         1 => Toxic::Bandwidth {
             rate: 1 + below(generator, 3),
+            until: below(generator, 6),
         },
         2 => Toxic::SlowClose {
             delay: below(generator, 3),
@@ -52,6 +54,7 @@ fn slicer(generator: &mut Lcg64Xsh32) -> Toxic {
         average_size,
         size_variation: below(generator, average_size),
         delay: u64::from(below(generator, 900)),
+        until: below(generator, 6),
     }
 }
 

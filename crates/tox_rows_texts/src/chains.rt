@@ -37,6 +37,14 @@ fn the_first_fault_of_short_forms_is_told(rt: HostRuntime) -> Result<(), Fail> {
         (["latency", "latency:", "noop"], "Q1 BadForm 2"),
         (["noop", "latency:", "latency"], "S3 UnknownType 1"),
         (["latency", "latency", "bandwidth"], "S5 OutOfRange 3"),
+        (
+            ["latency", "slow_close:until=1", "noop"],
+            "S4 UnknownAttribute 2",
+        ),
+        (
+            ["latency:latency=1,until=3600001", "noop", "noop"],
+            "S5 OutOfRange 1",
+        ),
     ];
     for (texts, want) in cases {
         let fault = read_chain(&texts).err().expect(&rt, "a fault");

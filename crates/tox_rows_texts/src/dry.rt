@@ -197,7 +197,13 @@ fn texts_are_run(rt: HostRuntime) -> Result<(), Fail> {
 }
 
 /// What a dry run writes and then answers, where its ends move at most so many bytes a call.
-fn run(alloc: Global, chain: &Chain, words: &Words, read: &str, most: usize) -> Result<String, Fail>
+pub fn run(
+    alloc: Global,
+    chain: &Chain,
+    words: &Words,
+    read: &str,
+    most: usize,
+) -> Result<String, Fail>
     requires { 0 < most }
 {
     let mut reader = MemorySource::new(read.as_bytes().to_vec(alloc)?, most, None);

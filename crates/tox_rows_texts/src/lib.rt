@@ -6,6 +6,8 @@ mod chains;
 #[cfg(test)]
 mod dry;
 #[cfg(test)]
+mod ends;
+#[cfg(test)]
 mod fault_names;
 #[cfg(test)]
 mod picks;

@@ -10,7 +10,7 @@ use tox_words::Words;
 const ROOM: usize = 200;
 
 /// Toxics, and the text of their plan.
-const CASES: [(&[&str], &str); 12] = [
+const CASES: [(&[&str], &str); 14] = [
     (&[], "pass\n"),
     (&["slow_close", "latency"], "pass\n"),
     (
@@ -83,6 +83,24 @@ const CASES: [(&[&str], &str); 12] = [
             "slicer:average_size=4,size_variation=1,delay=6",
         ],
         "pace 7\npace 7\nslicing 4 1 6 lane 2\n",
+    ),
+    (
+        &[
+            "latency:latency=10",
+            "latency:latency=5,until=7",
+            "latency:latency=1",
+            "latency:latency=2",
+        ],
+        "delay 10\ndelay 5 until 7\ndelay 3\n",
+    ),
+    (
+        &[
+            "latency:latency=0,until=4",
+            "latency:jitter=3,until=5",
+            "bandwidth:rate=7,until=6",
+            "slicer:average_size=4,size_variation=1,delay=6,until=7",
+        ],
+        "delay 0 jitter 0 3 lane 1 until 5\npace 7 until 6\nslicing 4 1 6 lane 3 until 7\n",
     ),
 ];
 
