@@ -17,6 +17,7 @@ fn first_byte() -> Slice {
 const LATENCY: Toxic = Toxic::Latency {
     latency: 1,
     jitter: 0,
+    until: 0,
 };
 
 /// Single bytes at instant 0, and no end.

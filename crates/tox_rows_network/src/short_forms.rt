@@ -2,7 +2,11 @@
 use tox_defs::{ShortFault, Toxic, ToxicFault, read_short};
 
 fn latency(latency: u32, jitter: u32) -> Toxic {
-    Toxic::Latency { latency, jitter }
+    Toxic::Latency {
+        latency,
+        jitter,
+        until: 0,
+    }
 }
 
 #[test]

@@ -351,6 +351,7 @@ fn a_chain_has_its_toxics_in_order(rt: HostRuntime) -> Result<(), Fail> {
             toxic: Toxic::Latency {
                 latency: 100,
                 jitter: 0,
+                until: 0,
             },
             toxicity: 1000,
         },
