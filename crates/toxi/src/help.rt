@@ -23,6 +23,7 @@ A TOXIC is a type, or a type, a colon and pairs of a key and a number, parted by
                 delay=MICROS            the wait before each piece; 0 to 3600000000
   limit_data    bytes=BYTES             closes after so many bytes; 0 to 1099511627776
 
+latency, bandwidth and slicer also have until=MS: what comes to them at or past that time passes whole and in order; 0 is never.
 MS is 0 to 3600000 milliseconds. A key that is absent is 0.
 Every type also has toxicity=N, the chance in thousandths that a link meets the toxic: 0 to 1000 [default: 1000]
 
@@ -56,6 +57,7 @@ The output has a line for each operation that the toxics come to, in order, or `
   mute open, mute closed MICROS or mute reset MICROS
                                           drops all data, and ends so
 
+The lines of delay, pace and slicing end in ` until MS` where the operation stops then.
 A lane is the place, from 0, of the toxic whose words are drawn. `toxi dry --help` shows each toxic.
 
 Example:
