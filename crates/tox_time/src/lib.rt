@@ -1,5 +1,5 @@
 //! Logical time, and what travels over a link: spans of bytes, items, arrivals and outcomes;
-//! and the ends that bytes are read from and written to.
+//! the ends that bytes are read from and written to; how a thread waits for another.
 #![tactic(auto)]
 
 mod arrivals;
@@ -11,6 +11,7 @@ mod memory_sink;
 mod memory_source;
 mod micros;
 mod outcome;
+mod pausing;
 mod real;
 mod slice;
 mod span;
@@ -26,6 +27,7 @@ pub use memory_sink::MemorySink;
 pub use memory_source::MemorySource;
 pub use micros::{HORIZON, Micros};
 pub use outcome::Outcome;
+pub use pausing::pause;
 pub use real::Real;
 pub use slice::{Slice, SliceList};
 pub use span::{MAX_BYTES, Span};
