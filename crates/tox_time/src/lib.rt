@@ -21,7 +21,7 @@ mod text;
 pub use arrivals::{ArrivalFault, Arrivals};
 pub use ending::Ending;
 pub use ends::{EndFault, Sink, Source};
-pub use gate::Gate;
+pub use gate::{Gate, OpenGate};
 pub use item::Item;
 pub use memory_sink::MemorySink;
 pub use memory_source::MemorySource;
