@@ -4,10 +4,10 @@ ghost use Rattle.rtrb.specs.Ring.{received, SameConsumer};
 ghost use Rattle.tox_link.specs.Messages.{Allows};
 
 use crate::message::Message;
-use crate::parking::{Parkers, pause};
+use crate::parking::Parkers;
 use crate::reading::Receiver;
 use std::sync::{Arc, Wait};
-use tox_time::Gate;
+use tox_time::{Gate, pause};
 
 /// The writer's end of the ring.
 #[derive(Drop)]

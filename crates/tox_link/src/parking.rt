@@ -1,10 +1,5 @@
-//! Waiting for the other side of a ring: yields at first, then sleeps until it is woken.
-use std::sync::Wait;
-use std::thread;
+//! What the two sides of a link's ring sleep on.
 use std::thread::Parker;
-
-/// How often a thread yields before it sleeps.
-const MAX_YIELDS: u32 = 64;
 
 /// What the two sides of a ring sleep on.
 #[derive(Drop)]
@@ -21,15 +16,5 @@ impl Parkers {
             reader: Parker::new(),
             writer: Parker::new(),
         }
-    }
-}
-
-/// One turn of a wait: a yield, or after 64 of them a sleep on `parker`.
-pub fn pause<R: Wait>(rt: &R, parker: &Parker, yields: &mut u32) {
-    if *yields < MAX_YIELDS {
-        *yields += 1;
-        thread::yield_now();
-    } else {
-        parker.park(rt);
     }
 }

@@ -5,14 +5,14 @@ ghost use Rattle.tox_link.specs.Messages.{Allows, ArePieces, ReadsFrom, HandsOn,
 ghost use Rattle.tox_link.specs.declared.message.Message.{Message as OneMessage};
 
 use crate::message::{InOrder, Message, ReadEnd};
-use crate::parking::{Parkers, pause};
+use crate::parking::Parkers;
 use rtrb::{Consumer, Producer, PushError};
 use std::alloc::Global;
 use std::snapshot::Snapshot;
 use std::sync::{Arc, Wait};
 use std::thread;
 use std::thread::{Promise, PromisedHandle, Threads};
-use tox_time::{Gate, MAX_BYTES, Source};
+use tox_time::{Gate, MAX_BYTES, Source, pause};
 
 /// The most bytes of one read.
 const READ_SIZE: usize = 16_384;

@@ -6,7 +6,6 @@ ghost use Rattle.tox_script.specs.Covering.{toxics_for};
 
 use crate::link_clock::SinceStart;
 use crate::link_end::{Carried, StreamEnd};
-use crate::open_gate::Open;
 use crate::serve_runtime::ServeRuntime;
 use crate::sockets::{NoNotes, Sockets};
 use crate::until_cut::UntilCut;
@@ -15,7 +14,7 @@ use std::sync::Arc;
 use tox_compile::{Plan, compile};
 use tox_link::{Ends, LinkFault, carry};
 use tox_script::Script;
-use tox_time::{MAX_BYTES, Real, Stream};
+use tox_time::{MAX_BYTES, OpenGate, Real, Stream};
 use tox_words::Words;
 
 /// The words and the plan of one stream of a link.
@@ -55,7 +54,7 @@ pub(crate) fn carry_stream<R: ServeRuntime>(
     sockets: Sockets<'_>,
     clock: SinceStart<'_, R>,
     course: Course,
-    gate: &Arc<Open, Global>,
+    gate: &Arc<OpenGate, Global>,
 ) -> Carried {
     let Course { words, plan } = course;
     let mut ends = Ends {

@@ -1,8 +1,8 @@
 //! What all links of a run of `serve` share.
-use crate::open_gate::Open;
 use std::alloc::Global;
 use std::sync::{Arc, Mutex};
 use tox_script::Script;
+use tox_time::OpenGate;
 
 /// What all links of a run share.
 #[derive(Drop)]
@@ -14,5 +14,5 @@ pub(crate) struct Run<'a, W> {
     pub(crate) links: Option<u64>,
     /// Where lines go, one at a time.
     pub(crate) out: &'a Mutex<W>,
-    pub(crate) gate: Arc<Open, Global>,
+    pub(crate) gate: Arc<OpenGate, Global>,
 }

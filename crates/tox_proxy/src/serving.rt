@@ -3,7 +3,6 @@ ghost use Rattle.std.specs.Prelude.{◌≡◌, All, false, IfErr, Ok};
 ghost use Rattle.tox_proxy.specs.Serving.{HasServeCause};
 
 use crate::listening::{Listening, listen_all};
-use crate::open_gate::Open;
 use crate::printing::print_listening;
 use crate::proxy_thread::serve_proxy;
 use crate::serve_fault::ServeFault;
@@ -18,6 +17,7 @@ use std::thread::{Scope, Threads};
 use std::time::Clock;
 use tox_config::ProxyDef;
 use tox_script::Script;
+use tox_time::OpenGate;
 
 /// Serves the enabled proxies. Binds all their addresses first, and prints where each listens. Each connection that is
 /// taken meets the toxics of the script under the words of the seed and its number. A line tells how each link ended,
@@ -51,7 +51,7 @@ pub fn serve<
         return Ok(());
     }
     let listening = listen_all(rt, alloc, proxies)?;
-    let Ok(gate) = Arc::new(alloc, Open) else {
+    let Ok(gate) = Arc::new(alloc, OpenGate) else {
         return Err(ServeFault::OutOfMemory);
     };
     let run = Run {

@@ -1,6 +1,9 @@
 //! What the tests that cross crates share.
 #![tactic(auto)]
 
+mod meeting;
+
+pub use meeting::{Meeting, comes_true};
 use std::alloc::{AllocError, Global};
 use tox_defs::{Chain, read_short};
 use tox_time::Outcome;

@@ -1,7 +1,7 @@
 //! One direction of a link, carried between ends in memory.
 ghost use Rattle.std.specs.Prelude.{◌≡◌, false, IfOk};
 
-use crate::link_ends::{HungUp, Meeting, Noted, Open, RestingClock, WaitingSource, WatchingSink};
+use crate::link_ends::{HungUp, Noted, RestingClock, WaitingSource, WatchingSink};
 use std::alloc::{AllocError, Global};
 use std::sync::atomic::{AtomicBool, AtomicU64, Ordering};
 use std::sync::{Arc, Wait};
@@ -10,8 +10,8 @@ use std::thread::Threads;
 use tox_compile::compile;
 use tox_defs::Chain;
 use tox_link::{Ends, LinkEvent, LinkFault, LinkReport, SourceEnding, carry};
-use tox_rows::chain_of;
-use tox_time::{Ending, Gate, MemorySink, MemorySource, Micros, Slice, Source, Span};
+use tox_rows::{Meeting, chain_of};
+use tox_time::{Ending, Gate, MemorySink, MemorySource, Micros, OpenGate, Slice, Source, Span};
 use tox_words::Words;
 
 /// What a link is carried with: a clock at 0, a writer and a hangup that look at it, and notes.
@@ -114,7 +114,7 @@ fn latency_delays_two_bytes(rt: HostRuntime) -> Result<(), Fail> {
     let alloc = rt.alloc();
     let chain = chain_of("latency:latency=1").expect(&rt, "a short form");
     let mut set = Setup::new(alloc, 16, None)?;
-    let gate = Arc::new(alloc, Open)?;
+    let gate = Arc::new(alloc, OpenGate)?;
     let reader = MemorySource::new(vec![in alloc; 0x61, 0x62]?, 16, None);
     let report = carried(&rt, alloc, &chain, reader, 10, &mut set, &gate)?.expect(&rt, "no fault");
     assert_eq!(rt; (report.taken, report.written), (2, 2));
@@ -138,11 +138,11 @@ fn latency_delays_two_bytes(rt: HostRuntime) -> Result<(), Fail> {
 fn reader_and_writer_meet(rt: HostRuntime) -> Result<(), Fail> {
     let alloc = rt.alloc();
     let mut set = Setup::new(alloc, 16, None)?;
-    let gate = Arc::new(alloc, Meeting::new())?;
+    let gate = Arc::new(alloc, Meeting::new(1))?;
     let reader = MemorySource::new(vec![in alloc; 0x61, 0x62]?, 16, None);
     let chain = Chain::new();
     let report = carried(&rt, alloc, &chain, reader, 10, &mut set, &gate)?.expect(&rt, "no fault");
-    assert!(rt; !gate.missed.load(Ordering::SeqCst));
+    assert!(rt; !gate.missed());
     assert_eq!(rt; (report.taken, report.written), (2, 2));
     assert_eq!(rt; report.ending, Ending::Closed(at(0)));
     assert_eq!(rt; report.source, SourceEnding::Eof);
@@ -154,7 +154,7 @@ fn a_muted_link_stays_open(rt: HostRuntime) -> Result<(), Fail> {
     let alloc = rt.alloc();
     let chain = chain_of("timeout:timeout=0").expect(&rt, "a short form");
     let mut set = Setup::new(alloc, 16, None)?;
-    let gate = Arc::new(alloc, Open)?;
+    let gate = Arc::new(alloc, OpenGate)?;
     let reader = MemorySource::new(Vec::new(alloc), 16, None);
     let report = carried(&rt, alloc, &chain, reader, 10, &mut set, &gate)?.expect(&rt, "no fault");
     assert_eq!(rt; (report.taken, report.written), (0, 0));
@@ -173,7 +173,7 @@ fn a_later_piece_has_a_later_instant(rt: HostRuntime) -> Result<(), Fail> {
     let alloc = rt.alloc();
     let chain = chain_of("latency:latency=1").expect(&rt, "a short form");
     let mut set = Setup::new(alloc, 16, None)?;
-    let gate = Arc::new(alloc, Open)?;
+    let gate = Arc::new(alloc, OpenGate)?;
     let missed = Arc::new(alloc, AtomicBool::new(false))?;
     let reader = WaitingSource {
         source: MemorySource::new(vec![in alloc; 0x61, 0x62]?, 1, None),
@@ -203,7 +203,7 @@ fn a_slow_close_waits_for_its_instant(rt: HostRuntime) -> Result<(), Fail> {
     let alloc = rt.alloc();
     let chain = chain_of("slow_close:delay=1").expect(&rt, "a short form");
     let mut set = Setup::new(alloc, 16, None)?;
-    let gate = Arc::new(alloc, Open)?;
+    let gate = Arc::new(alloc, OpenGate)?;
     let reader = MemorySource::new(vec![in alloc; 0x61, 0x62]?, 16, None);
     let report = carried(&rt, alloc, &chain, reader, 10, &mut set, &gate)?.expect(&rt, "no fault");
     assert_eq!(rt; (report.taken, report.written), (2, 2));
@@ -222,7 +222,7 @@ fn a_failing_reader_closes_the_link(rt: HostRuntime) -> Result<(), Fail> {
     let alloc = rt.alloc();
     let chain = Chain::new();
     let mut set = Setup::new(alloc, 16, None)?;
-    let gate = Arc::new(alloc, Open)?;
+    let gate = Arc::new(alloc, OpenGate)?;
     let reader = MemorySource::new(vec![in alloc; 0x61, 0x62]?, 16, Some(2));
     let report = carried(&rt, alloc, &chain, reader, 10, &mut set, &gate)?.expect(&rt, "no fault");
     assert_eq!(rt; (report.taken, report.written), (2, 2));
@@ -236,7 +236,7 @@ fn reads_are_used_up(rt: HostRuntime) -> Result<(), Fail> {
     let alloc = rt.alloc();
     let chain = Chain::new();
     let mut set = Setup::new(alloc, 16, None)?;
-    let gate = Arc::new(alloc, Open)?;
+    let gate = Arc::new(alloc, OpenGate)?;
     let reader = MemorySource::new(vec![in alloc; 0x61, 0x62]?, 1, None);
     let report = carried(&rt, alloc, &chain, reader, 1, &mut set, &gate)?.expect(&rt, "no fault");
     assert_eq!(rt; (report.taken, report.written), (1, 1));
@@ -250,7 +250,7 @@ fn a_failing_writer_resets_the_link(rt: HostRuntime) -> Result<(), Fail> {
     let alloc = rt.alloc();
     let chain = Chain::new();
     let mut set = Setup::new(alloc, 1, Some(3))?;
-    let gate = Arc::new(alloc, Open)?;
+    let gate = Arc::new(alloc, OpenGate)?;
     let reader = MemorySource::new(vec![in alloc; 0x61, 0x62, 0x63]?, 16, None);
     let answer = carried(&rt, alloc, &chain, reader, 10, &mut set, &gate)?;
     assert!(rt; matches!(answer, Err(LinkFault::WriteFault(2))));

@@ -1,15 +1,12 @@
-//! What a link is carried with in tests: a clock, notes, ends and gates that remember.
+//! What a link is carried with in tests: a clock, notes and ends that remember.
 ghost use Rattle.std.specs.Prelude.{Some, None};
 
 use std::alloc::{AllocError, Global};
 use std::sync::Arc;
 use std::sync::atomic::{AtomicBool, AtomicU64, Ordering};
-use std::thread;
 use tox_link::{Clock, Hangup, LinkEvent, Notes};
-use tox_time::{EndFault, Ending, Gate, Micros, Sink, Source};
-
-/// How often a thread yields at most until another one comes along.
-const TURNS: u64 = 1_000_000;
+use tox_rows::comes_true;
+use tox_time::{EndFault, Ending, Micros, Sink, Source};
 
 /// A clock that stands at 0, goes to `until` in `rest`, and moves nowhere else.
 #[derive(Drop)]
@@ -84,22 +81,11 @@ impl<S: Source> Source for WaitingSource<S> {
 
     fn read(&mut self, buffer: &mut [u8]) -> Result<usize, EndFault> {
         self.reads = self.reads.saturating_add(1);
-        if self.reads == 2 && !comes_along(&self.bytes) {
+        if self.reads == 2 && !comes_true(|| self.bytes.load(Ordering::SeqCst) != 0) {
             self.missed.store(true, Ordering::SeqCst);
         }
         self.source.read(buffer)
     }
-}
-
-/// Yields until the number isn't 0, and returns whether that came.
-fn comes_along(number: &AtomicU64) -> bool {
-    for _ in 0..TURNS {
-        if number.load(Ordering::SeqCst) != 0 {
-            return true;
-        }
-        thread::yield_now();
-    }
-    false
 }
 
 /// Remembers how a link ended, and the clock at that.
@@ -131,44 +117,4 @@ impl Hangup for HungUp {
         self.source_ended = source_ended;
         self.at = self.micros.load(Ordering::SeqCst);
     }
-}
-
-/// A gate at which the reader with its second item and the writer with its first each wait for the other.
-#[derive(Drop)]
-pub struct Meeting {
-    reader: AtomicU64,
-    writer: AtomicU64,
-    pub missed: AtomicBool,
-}
-
-impl Meeting {
-    pub fn new() -> Meeting {
-        Meeting {
-            reader: AtomicU64::new(0),
-            writer: AtomicU64::new(0),
-            missed: AtomicBool::new(false),
-        }
-    }
-}
-
-impl Gate for Meeting {
-    fn pass(&self, stage: usize, nth: u64) {
-        let (mine, other) = match (stage, nth) {
-            (0, 1) => (&self.reader, &self.writer),
-            (1, 0) => (&self.writer, &self.reader),
-            _ => return,
-        };
-        mine.store(1, Ordering::SeqCst);
-        if !comes_along(other) {
-            self.missed.store(true, Ordering::SeqCst);
-        }
-    }
-}
-
-/// A gate at which nobody stops.
-#[derive(Drop)]
-pub struct Open;
-
-impl Gate for Open {
-    fn pass(&self, _stage: usize, _nth: u64) {}
 }

@@ -1,66 +1,9 @@
-//! Gates for running stages.
+//! A gate that records what passes it.
 use std::process::Abort;
 use std::sync::atomic::{AtomicBool, AtomicU64, Ordering};
 use std::thread;
+use tox_rows::comes_true;
 use tox_time::Gate;
-
-/// How often a thread yields at most until another one comes along.
-const TURNS: u64 = 1_000_000;
-
-/// A gate at which nobody stops.
-pub struct Open;
-
-impl Gate for Open {
-    fn pass(&self, _stage: usize, _nth: u64) {}
-}
-
-/// Yields until the flag is set, and says whether it was.
-fn await_flag(flag: &AtomicBool) -> bool {
-    for _ in 0..TURNS {
-        if flag.load(Ordering::SeqCst) {
-            return true;
-        }
-        thread::yield_now();
-    }
-    false
-}
-
-/// A gate at which stage 1 with its first item and stage 0 with item `nth` each wait for the other.
-#[derive(Drop)]
-pub struct Meeting {
-    nth: u64,
-    first: AtomicBool,
-    second: AtomicBool,
-    pub missed: AtomicBool,
-}
-
-impl Meeting {
-    pub fn new(nth: u64) -> Meeting {
-        Meeting {
-            nth,
-            first: AtomicBool::new(false),
-            second: AtomicBool::new(false),
-            missed: AtomicBool::new(false),
-        }
-    }
-
-    fn meet(&self, mine: &AtomicBool, other: &AtomicBool) {
-        mine.store(true, Ordering::SeqCst);
-        if !await_flag(other) {
-            self.missed.store(true, Ordering::SeqCst);
-        }
-    }
-}
-
-impl Gate for Meeting {
-    fn pass(&self, stage: usize, nth: u64) {
-        match (stage, nth) {
-            (0, nth) if nth == self.nth => self.meet(&self.first, &self.second),
-            (1, 0) => self.meet(&self.second, &self.first),
-            _ => {}
-        }
-    }
-}
 
 /// A gate that records when each of five items of two stages entered and returned, by a clock that counts these events
 /// from 1. Stage 0 is slow with its first item. Stage 1 is slower with its own, and waits for stage 0's third.
@@ -135,7 +78,7 @@ impl Gate for Log {
             (0, 0) => yield_for(1000),
             (0, 2) => self.third.store(true, Ordering::SeqCst),
             (1, 0) => {
-                if !await_flag(&self.third) {
+                if !comes_true(|| self.third.load(Ordering::SeqCst)) {
                     self.missed.store(true, Ordering::SeqCst);
                 }
                 yield_for(1000);

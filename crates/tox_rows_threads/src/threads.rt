@@ -1,17 +1,16 @@
 //! Running stages beside the compiled plan.
 ghost use Rattle.std.specs.Prelude.{◌≤◌};
 
-use crate::gates::{Log, Meeting, Open};
+use crate::gates::Log;
 use std::process::Abort;
 use std::sync::Wait;
-use std::sync::atomic::Ordering;
 use std::test::Fail;
 use std::thread::Threads;
 use tox_plan::deliver;
 use tox_proxy::{DryFault, StagesFault, stages_run};
-use tox_rows::{chain_of, table_of};
+use tox_rows::{Meeting, chain_of, table_of};
 use tox_stages::{StageFault, run_stages};
-use tox_time::{Arrivals, Gate, MemorySink, MemorySource, Micros};
+use tox_time::{Arrivals, Gate, MemorySink, MemorySource, Micros, OpenGate};
 use tox_words::Words;
 
 /// Each toxic alone, and two in a row.
@@ -39,7 +38,7 @@ fn threads_deliver_what_the_plan_does(rt: HostRuntime) -> Result<(), Fail> {
         let planned = deliver(rt.alloc(), &chain, &words, &arrivals)?;
         let expected = table_of(rt.alloc(), &planned)?;
         for cap in [1, 2, 1024] {
-            let running = run_stages(&rt, rt.alloc(), &chain, &words, &arrivals, cap, &Open)?;
+            let running = run_stages(&rt, rt.alloc(), &chain, &words, &arrivals, cap, &OpenGate)?;
             let table = table_of(rt.alloc(), &running)?;
             assert_eq!(rt; table.as_slice(), expected.as_slice(), "{toxics} at {cap}");
             assert_eq!(rt; running.ending, planned.ending, "{toxics} at {cap}");
@@ -76,7 +75,7 @@ fn a_text_runs_in_threads(rt: HostRuntime) -> Result<(), Fail> {
             &chain,
             &words,
             1,
-            &Open,
+            &OpenGate,
         );
         assert_eq!(rt; ran, answer, "{text}");
         assert_eq!(rt; writer.bytes(), written.as_bytes(), "{text}");
@@ -114,7 +113,7 @@ fn run_at<R: Threads + Wait + Sync + AllocGlobal + Abort>(
 fn workers_of_a_text_meet(rt: HostRuntime) -> Result<(), Fail> {
     let gate = Meeting::new(1);
     let written = run_at(&rt, "0 data 61\n0 data 62\n", 1, &gate)?;
-    assert!(rt; !gate.missed.load(Ordering::SeqCst));
+    assert!(rt; !gate.missed());
     assert_eq!(rt; written.as_str(), "3000 0..1 61\n3000 1..2 62\nopen\n");
     Ok(())
 }
@@ -140,7 +139,7 @@ fn rings_of_a_text_have_their_room(rt: HostRuntime) -> Result<(), Fail> {
     let gate = Meeting::new(4);
     let read = "0 data 61\n0 data 62\n0 data 63\n0 data 64\n0 data 65\n";
     let written = run_at(&rt, read, 3, &gate)?;
-    assert!(rt; !gate.missed.load(Ordering::SeqCst));
+    assert!(rt; !gate.missed());
     assert!(rt; written.as_str().ends_with("3000 4..5 65\nopen\n"));
     Ok(())
 }

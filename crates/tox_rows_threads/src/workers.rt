@@ -1,12 +1,11 @@
 //! Workers of `run_stages`: their items, their rings, and that they run side by side.
-use crate::gates::{Log, Meeting, Open};
+use crate::gates::Log;
 use std::alloc::Global;
-use std::sync::atomic::Ordering;
 use std::test::Fail;
 use tox_defs::Chain;
-use tox_rows::chain_of;
+use tox_rows::{Meeting, chain_of};
 use tox_stages::run_stages;
-use tox_time::{Arrivals, Ending, Micros, Slice, Span};
+use tox_time::{Arrivals, Ending, Micros, OpenGate, Slice, Span};
 use tox_words::Words;
 
 const TWO_LATENCIES: &str = "latency:latency=1 latency:latency=2";
@@ -34,7 +33,7 @@ fn arrivals_pass_with_no_toxic(rt: HostRuntime) -> Result<(), Fail> {
     arrivals.push(3, Micros::ZERO)?;
     arrivals.eof(Micros::ZERO.after(5))?;
     let chain = Chain::new();
-    let outcome = run_stages(&rt, rt.alloc(), &chain, &words, &arrivals, 1, &Open)?;
+    let outcome = run_stages(&rt, rt.alloc(), &chain, &words, &arrivals, 1, &OpenGate)?;
     assert_eq!(rt; outcome.slices.as_slice(), [slice(0, 3, 0)].as_slice());
     assert_eq!(rt; outcome.ending, Ending::Closed(Micros::ZERO.after(5)));
     Ok(())
@@ -47,7 +46,7 @@ fn a_slicer_draws_its_sizes(rt: HostRuntime) -> Result<(), Fail> {
     arrivals.push(5, Micros::ZERO)?;
     let slicer = "slicer:average_size=2,size_variation=1,delay=10";
     let chain = chain_of(slicer).expect(&rt, "a short form");
-    let outcome = run_stages(&rt, rt.alloc(), &chain, &words, &arrivals, 1, &Open)?;
+    let outcome = run_stages(&rt, rt.alloc(), &chain, &words, &arrivals, 1, &OpenGate)?;
     let expected = [slice(0, 2, 10), slice(2, 5, 20)];
     assert_eq!(rt; outcome.slices.as_slice(), expected.as_slice());
     assert_eq!(rt; outcome.ending, Ending::StillOpen);
@@ -61,7 +60,7 @@ fn two_workers_meet(rt: HostRuntime) -> Result<(), Fail> {
     let arrivals = bytes_at_zero(rt.alloc(), 2)?;
     let gate = Meeting::new(1);
     let outcome = run_stages(&rt, rt.alloc(), &chain, &words, &arrivals, 1, &gate)?;
-    assert!(rt; !gate.missed.load(Ordering::SeqCst));
+    assert!(rt; !gate.missed());
     let expected = [slice(0, 1, 3000), slice(1, 2, 3000)];
     assert_eq!(rt; outcome.slices.as_slice(), expected.as_slice());
     assert_eq!(rt; outcome.ending, Ending::StillOpen);
@@ -79,7 +78,7 @@ fn rings_have_their_room(rt: HostRuntime) -> Result<(), Fail> {
     for (cap, nth) in [(1, 2), (3, 4)] {
         let gate = Meeting::new(nth);
         let outcome = run_stages(&rt, rt.alloc(), &chain, &words, &arrivals, cap, &gate)?;
-        assert!(rt; !gate.missed.load(Ordering::SeqCst), "rings of {cap}");
+        assert!(rt; !gate.missed(), "rings of {cap}");
         assert_eq!(rt; outcome.slices.as_slice().last(), Some(&slice(4, 5, 3000)));
     }
     Ok(())

@@ -1,5 +1,5 @@
 //! The chain of workers, built level by level.
-ghost use Rattle.std.specs.Prelude.{◌≡◌, ◌+◌, ◌≤◌, All, [], length, map, Some, IfOk};
+ghost use Rattle.std.specs.Prelude.{◌≡◌, ◌+◌, ◌≤◌, All, [], length, map, Some, IfOk, IfSome};
 ghost use Rattle.rtrb.specs.Ring.{sent, received, SameProducer, SameConsumer};
 ghost use Rattle.tox_time.specs.Arrivals.{arrival_list};
 ghost use Rattle.tox_time.specs.Neighbours.{AreNeighbours};
@@ -11,6 +11,7 @@ ghost use Rattle.tox_stages.specs.Passing.{Delivers, IsLinkStream, SendsFlow};
 ghost use Rattle.tox_stages.specs.Workers.{IsWorkerOf};
 
 use crate::fault::StageFault;
+use crate::parkers::{Circle, Parkers};
 use crate::source_and_sink::feed_and_drain;
 use crate::waiting::push_waiting;
 use crate::worker::{Ends, SendsFlowOf, work};
@@ -33,31 +34,32 @@ struct Pipeline<'s, R, G> {
     arrivals: &'s Arrivals,
     cap: usize,
     gate: &'s G,
+    parkers: &'s Circle,
 }
 
 /// A worker that was started, and the consumer of the ring behind it.
 type Started<'s> = (PromisedHandle<Ends, SendsFlowOf<'s>>, Consumer<Item>);
 
-/// Starts the worker of a toxic, which promises its flow. If a ring or a thread is refused, the consumer is dropped.
-fn start<'s, E: 's, R: Threads + Wait + Sync, G: Gate>(
+/// Starts the thread of a worker, which promises its flow. None if the thread is refused.
+fn spawn<'s, E: 's, R: Threads + Wait + Sync, G: Gate>(
     pipeline: &Pipeline<'s, R, G>,
     scope: &'s Scope<'s, E>,
     stage_number: usize,
-    placed: &Placed,
+    parkers: Parkers<'s>,
+    placed: Placed,
     consumer: Consumer<Item>,
-) -> Result<Started<'s>, StageFault>
-    requires placed { IsPlaced placed.now }
-    requires fresh { received consumer ≡ [] }
-    ensures { IfOk result
-        (λ started. IsWorkerOf started.0.promise placed.now pipeline.now.words.now consumer started.1) }
+    producer: Producer<Item>,
+) -> Option<PromisedHandle<Ends, SendsFlowOf<'s>>>
+    requires placed { IsPlaced placed }
+    requires fresh { (received consumer ≡ []) × (sent producer ≡ []) }
+    ensures { IfSome result (λ worker. (worker.promise.placed ≡ placed)
+        × (worker.promise.words.now ≡ pipeline.now.words.now)
+        × (worker.promise.consumer.value ≡ consumer) × (worker.promise.producer.value ≡ producer)) }
 {
-    let Ok((producer, next)) = RingBuffer::new(pipeline.alloc, pipeline.cap) else {
-        return Err(StageFault::OutOfMemory);
-    };
     let rt = pipeline.rt;
     let gate = pipeline.gate;
     let words = pipeline.words;
-    let placed = *placed;
+    let (own, before, behind) = (parkers.own, parkers.before, parkers.behind);
     let promise = SendsFlowOf {
         placed,
         words,
@@ -72,12 +74,53 @@ fn start<'s, E: 's, R: Threads + Wait + Sync, G: Gate>(
             ensures producer { SameProducer producer result.producer }
             ensures flow { SendsFlow (placed_reaction words.entry.now placed)
                 (received result.consumer) (sent result.producer) }
-        { work(rt, gate, stage_number, placed, words, consumer, producer) },
+        {
+            let parkers = Parkers::new(own, before, behind);
+            work(
+                rt,
+                gate,
+                stage_number,
+                placed,
+                words,
+                &parkers,
+                consumer,
+                producer,
+            )
+        },
     );
-    match worker {
-        Ok(worker) => Ok((worker, next)),
-        Err(_) => Err(StageFault::SpawnRefused),
-    }
+    worker.ok()
+}
+
+/// Makes the ring behind a toxic and starts its worker. If either is refused, the consumer is dropped.
+fn start<'s, E: 's, R: Threads + Wait + Sync, G: Gate>(
+    pipeline: &Pipeline<'s, R, G>,
+    scope: &'s Scope<'s, E>,
+    stage_number: usize,
+    parkers: Parkers<'s>,
+    placed: &Placed,
+    consumer: Consumer<Item>,
+) -> Result<Started<'s>, StageFault>
+    requires placed { IsPlaced placed.now }
+    requires fresh { received consumer ≡ [] }
+    ensures { IfOk result
+        (λ started. IsWorkerOf started.0.promise placed.now pipeline.now.words.now consumer started.1) }
+{
+    let Ok((producer, next)) = RingBuffer::new(pipeline.alloc, pipeline.cap) else {
+        return Err(StageFault::OutOfMemory);
+    };
+    let started = spawn(
+        pipeline,
+        scope,
+        stage_number,
+        parkers,
+        *placed,
+        consumer,
+        producer,
+    );
+    let Some(worker) = started else {
+        return Err(StageFault::SpawnRefused);
+    };
+    Ok((worker, next))
 }
 
 /// The stages of these toxics. Gives back the consumer of the ring before them, with what was delivered.
@@ -104,13 +147,22 @@ fn level<'s, E: 's, R: Threads + Wait + Sync, G: Gate>(
 {
     let rt = pipeline.rt;
     let Some((toxic, later)) = toxics.split_first() else {
-        return feed_and_drain(rt, pipeline.alloc, pipeline.arrivals, first, consumer);
+        let parkers = pipeline.parkers.ends(stage_number);
+        return feed_and_drain(
+            rt,
+            pipeline.alloc,
+            &parkers,
+            pipeline.arrivals,
+            first,
+            consumer,
+        );
     };
-    let started = start(pipeline, scope, stage_number, toxic, consumer);
+    let parkers = pipeline.parkers.worker(stage_number, later.len());
+    let started = start(pipeline, scope, stage_number, parkers, toxic, consumer);
     let (worker, next) = match started {
         Ok(started) => started,
         Err(fault) => {
-            push_waiting(rt, first, Item::Quiet);
+            push_waiting(rt, &pipeline.parkers.ends(stage_number), first, Item::Quiet);
             return Err(fault);
         }
     };
@@ -146,6 +198,8 @@ pub fn run_stages<R: Threads + Wait + Sync, G: Gate>(
     ensures network { IfOk result
         (IsNetworkAtRest cap chain.now words.now (arrival_list arrivals.now)) }
 {
+    let circle = Circle::new();
+    let parkers = &circle;
     thread::scope(
         thread::scope_env(),
         rt,
@@ -170,6 +224,7 @@ pub fn run_stages<R: Threads + Wait + Sync, G: Gate>(
                 arrivals,
                 cap,
                 gate,
+                parkers,
             };
             let toxics = chain.applied(words);
             let (mut consumer, outcome) = level(

@@ -4,6 +4,7 @@
 mod collected;
 mod fault;
 mod levels;
+mod parkers;
 mod source_and_sink;
 mod waiting;
 mod worker;

@@ -1,5 +1,5 @@
 //! The two ends of the chain, held by one thread: what arrives is sent, and what is delivered is collected.
-ghost use Rattle.std.specs.Prelude.{◌≡◌, [], ◌++◌, Some, IfOk};
+ghost use Rattle.std.specs.Prelude.{◌≡◌, [], ◌++◌, Some, false, IfOk};
 ghost use Rattle.rtrb.specs.Ring.{sent, received, SameProducer, SameConsumer};
 ghost use Rattle.tox_time.specs.Arrivals.{arrival_list};
 ghost use Rattle.tox_network.specs.Shown.{shown};
@@ -8,38 +8,46 @@ ghost use Rattle.tox_stages.specs.Passing.{Delivers, IsLinkStream};
 
 use crate::collected::Collected;
 use crate::fault::StageFault;
+use crate::parkers::Parkers;
 use rtrb::{Consumer, Producer};
 use std::alloc::Global;
 use std::sync::Wait;
-use std::thread;
 use tox_network::Waiting;
-use tox_time::{Arrivals, Item, Outcome};
+use tox_time::{Arrivals, Item, Outcome, pause};
 
-/// Sends arrivals while the ring has room.
-fn fill(first: &mut Producer<Item>, waiting: &mut Waiting<'_>)
+/// Sends arrivals while the ring has room. Returns whether one was sent.
+fn fill(first: &mut Producer<Item>, waiting: &mut Waiting<'_>) -> bool
     ensures ring { SameProducer first.old first.new }
     ensures sent { sent first.new ++ waiting.new.waiting ≡ sent first.old ++ waiting.old.waiting }
+    ensures none { result ≡ false → sent first.new ≡ sent first.old }
 {
+    let mut has_sent = false;
     while !waiting.is_empty() && !first.is_full() {
         first.push_reserved(waiting.pop());
+        has_sent = true;
     }
+    has_sent
 }
 
-/// Collects what is in the ring, up to the final.
-fn drain(consumer: &mut Consumer<Item>, collected: &mut Collected)
+/// Collects what is in the ring, up to the final. Returns whether an item came.
+fn drain(consumer: &mut Consumer<Item>, collected: &mut Collected) -> bool
     requires { Collects collected.old (received consumer.old) }
     ensures ring { SameConsumer consumer.old consumer.new }
     ensures kept { Collects collected.new (received consumer.new) }
+    ensures none { result ≡ false → received consumer.new ≡ received consumer.old }
 {
+    let mut has_come = false;
     for _ in 0..consumer.capacity() {
         if collected.has_ended() {
-            return;
+            return has_come;
         }
         let Ok(item) = consumer.pop() else {
-            return;
+            return has_come;
         };
         collected.keep(item);
+        has_come = true;
     }
+    has_come
 }
 
 /// Sends the arrivals with their final into the first ring and collects what comes out of the last, in turn, until
@@ -47,6 +55,7 @@ fn drain(consumer: &mut Consumer<Item>, collected: &mut Collected)
 pub(crate) fn feed_and_drain<R: Wait>(
     rt: &R,
     alloc: Global,
+    parkers: &Parkers<'_>,
     arrivals: &Arrivals,
     first: &mut Producer<Item>,
     consumer: Consumer<Item>,
@@ -62,16 +71,27 @@ pub(crate) fn feed_and_drain<R: Wait>(
     let mut waiting = Waiting::new(arrivals);
     let mut consumer = consumer;
     let mut collected = Collected::new(alloc);
+    let mut yields = 0;
     for _ in rt.forever() {
-        fill(first, &mut waiting);
-        drain(&mut consumer, &mut collected);
+        let has_sent = fill(first, &mut waiting);
+        if has_sent {
+            parkers.behind.unpark();
+        }
+        let has_come = drain(&mut consumer, &mut collected);
+        if has_come {
+            parkers.before.unpark();
+        }
         if waiting.is_empty() && collected.has_ended() {
             let Ok(outcome) = collected.into_outcome() else {
                 return Err(StageFault::OutOfMemory);
             };
             return Ok((consumer, outcome));
         }
-        thread::yield_now();
+        if has_sent || has_come {
+            yields = 0;
+        } else {
+            pause(rt, parkers.own, &mut yields);
+        }
     }
     unreachable!()
 }

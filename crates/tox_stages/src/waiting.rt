@@ -1,38 +1,53 @@
-//! Pushes and pops that try a full or an empty ring again.
+//! Pushes and pops that wait while a ring is full or empty, and wake the thread at its other end.
 ghost use Rattle.std.specs.Prelude.{◌≡◌, [], ◌∷◌, ◌++◌};
 ghost use Rattle.rtrb.specs.Ring.{sent, received, SameProducer, SameConsumer};
 
+use crate::parkers::Parkers;
 use rtrb::{Consumer, Producer, PushError};
 use std::sync::Wait;
-use std::thread;
-use tox_time::Item;
+use tox_time::{Item, pause};
 
 /// Waits until the item is pushed.
-pub(crate) fn push_waiting<R: Wait>(rt: &R, producer: &mut Producer<Item>, item: Item)
+pub(crate) fn push_waiting<R: Wait>(
+    rt: &R,
+    parkers: &Parkers<'_>,
+    producer: &mut Producer<Item>,
+    item: Item,
+)
     ensures ring { SameProducer producer.old producer.new }
     ensures sent { sent producer.new ≡ sent producer.old ++ item ∷ [] }
 {
     let mut item = item;
+    let mut yields = 0;
     for _ in rt.forever() {
         match producer.push(item) {
-            Ok(()) => return,
+            Ok(()) => {
+                parkers.behind.unpark();
+                return;
+            }
             Err(PushError::Full(back)) => item = back,
         }
-        thread::yield_now();
+        pause(rt, parkers.own, &mut yields);
     }
     unreachable!()
 }
 
 /// Waits for the next item.
-pub(crate) fn pop_waiting<R: Wait>(rt: &R, consumer: &mut Consumer<Item>) -> Item
+pub(crate) fn pop_waiting<R: Wait>(
+    rt: &R,
+    parkers: &Parkers<'_>,
+    consumer: &mut Consumer<Item>,
+) -> Item
     ensures ring { SameConsumer consumer.old consumer.new }
     ensures received { received consumer.new ≡ received consumer.old ++ result ∷ [] }
 {
+    let mut yields = 0;
     for _ in rt.forever() {
         if let Ok(item) = consumer.pop() {
+            parkers.before.unpark();
             return item;
         }
-        thread::yield_now();
+        pause(rt, parkers.own, &mut yields);
     }
     unreachable!()
 }

@@ -4,6 +4,7 @@ ghost use Rattle.rtrb.specs.Ring.{sent, received, SameProducer, SameConsumer};
 ghost use Rattle.tox_defs.specs.Flow.{IsPlaced, placed_reaction};
 ghost use Rattle.tox_stages.specs.Passing.{SendsFlow};
 
+use crate::parkers::Parkers;
 use crate::waiting::{pop_waiting, push_waiting};
 use rtrb::{Consumer, Producer};
 use std::snapshot::Snapshot;
@@ -38,13 +39,18 @@ impl<'w> Promise<Ends> for SendsFlowOf<'w> {
 }
 
 /// Sends all that the stage has to emit.
-fn emit_all<R: Wait>(rt: &R, stage: &mut Stage<'_>, producer: &mut Producer<Item>)
+fn emit_all<R: Wait>(
+    rt: &R,
+    parkers: &Parkers<'_>,
+    stage: &mut Stage<'_>,
+    producer: &mut Producer<Item>,
+)
     ensures ring { SameProducer producer.old producer.new }
     ensures sent { sent producer.new ≡ sent producer.old ++ stage.old.pending }
     ensures stage { stage.new ≡ record stage.old { pending = [] } }
 {
     while let Some(item) = stage.emit() {
-        push_waiting(rt, producer, item);
+        push_waiting(rt, parkers, producer, item);
     }
 }
 
@@ -57,6 +63,7 @@ pub(crate) fn work<R: Wait, G: Gate>(
     stage_number: usize,
     placed: Placed,
     words: &Words,
+    parkers: &Parkers<'_>,
     consumer: Consumer<Item>,
     producer: Producer<Item>,
 ) -> Ends
@@ -71,15 +78,15 @@ pub(crate) fn work<R: Wait, G: Gate>(
     let mut consumer = consumer;
     let mut producer = producer;
     for nth in 0..=MAX_BYTES {
-        let item = pop_waiting(rt, &mut consumer);
+        let item = pop_waiting(rt, parkers, &mut consumer);
         gate.pass(stage_number, nth);
         if !stage.may_take(&item) {
-            push_waiting(rt, &mut producer, Item::Quiet);
+            push_waiting(rt, parkers, &mut producer, Item::Quiet);
             return Ends { consumer, producer };
         }
         let is_last = item.is_final();
         stage.take(item);
-        emit_all(rt, &mut stage, &mut producer);
+        emit_all(rt, parkers, &mut stage, &mut producer);
         if is_last {
             return Ends { consumer, producer };
         }

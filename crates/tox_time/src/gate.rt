@@ -5,3 +5,11 @@ pub trait Gate: Sync {
     /// Worker `stage` took its `nth` item, both counted from 0, and has not worked on it yet.
     fn pass(&self, stage: usize, nth: u64);
 }
+
+/// A gate that stops nobody.
+#[derive(Drop)]
+pub struct OpenGate;
+
+impl Gate for OpenGate {
+    fn pass(&self, _stage: usize, _nth: u64) {}
+}

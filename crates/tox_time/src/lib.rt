@@ -1,5 +1,5 @@
 //! Logical time, and what travels over a link: spans of bytes, items, arrivals and outcomes;
-//! and the ends that bytes are read from and written to.
+//! the ends that bytes are read from and written to; how a thread waits for another.
 #![tactic(auto)]
 
 mod arrivals;
@@ -11,6 +11,7 @@ mod memory_sink;
 mod memory_source;
 mod micros;
 mod outcome;
+mod pausing;
 mod real;
 mod slice;
 mod span;
@@ -20,12 +21,13 @@ mod text;
 pub use arrivals::{ArrivalFault, Arrivals};
 pub use ending::Ending;
 pub use ends::{EndFault, Sink, Source};
-pub use gate::Gate;
+pub use gate::{Gate, OpenGate};
 pub use item::Item;
 pub use memory_sink::MemorySink;
 pub use memory_source::MemorySource;
 pub use micros::{HORIZON, Micros};
 pub use outcome::Outcome;
+pub use pausing::pause;
 pub use real::Real;
 pub use slice::{Slice, SliceList};
 pub use span::{MAX_BYTES, Span};

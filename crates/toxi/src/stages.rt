@@ -7,8 +7,8 @@ use crate::link::LinkArguments;
 use std::io;
 use std::sync::Wait;
 use std::thread::Threads;
-use tox_proxy::{Open, stages_run};
-use tox_time::Real;
+use tox_proxy::stages_run;
+use tox_time::{OpenGate, Real};
 
 /// The most items of a ring.
 pub const MAX_CAP: usize = 1024;
@@ -50,7 +50,7 @@ pub fn stages<R: Input + Print + AllocGlobal + Threads + Wait + Sync>(
         &link.chain,
         &link.words,
         cap.items,
-        &Open,
+        &OpenGate,
     )
     .map_err(Fault::Stages)
 }

@@ -1,0 +1,61 @@
+//! What the threads of a chain sleep on. Source and sink are one thread, so the threads stand in a circle.
+ghost use Rattle.std.specs.Prelude.{◌+◌, ◌≤◌};
+
+use std::array;
+use std::thread::Parker;
+
+/// What a thread sleeps on, and what its two neighbours do.
+#[derive(Drop)]
+pub(crate) struct Parkers<'p> {
+    /// The thread's own.
+    pub(crate) own: &'p Parker,
+    /// Of the thread that pushes into the ring before it. Woken after each pop.
+    pub(crate) before: &'p Parker,
+    /// Of the thread that pops from the ring behind it. Woken after each push.
+    pub(crate) behind: &'p Parker,
+}
+
+impl<'p> Parkers<'p> {
+    /// From those of the thread, of the one before it and of the one behind it.
+    pub(crate) fn new(own: &'p Parker, before: &'p Parker, behind: &'p Parker) -> Parkers<'p> {
+        Parkers {
+            own,
+            before,
+            behind,
+        }
+    }
+}
+
+/// What each thread sleeps on: source and sink on the first, and the worker of stage k on the one after k others.
+#[derive(Drop)]
+pub(crate) struct Circle {
+    parkers: [Parker; 17],
+}
+
+impl Circle {
+    /// Takes no memory.
+    pub(crate) fn new() -> Circle {
+        Circle {
+            parkers: array::from_fn(|_| Parker::new()),
+        }
+    }
+
+    /// For source and sink, with these workers between them.
+    pub(crate) fn ends(&self, workers: usize) -> Parkers<'_>
+        requires { workers ≤ 16 }
+    {
+        Parkers::new(&self.parkers[0], &self.parkers[workers], &self.parkers[1])
+    }
+
+    /// For the worker of a stage, with these workers behind it.
+    pub(crate) fn worker(&self, stage_number: usize, later: usize) -> Parkers<'_>
+        requires { stage_number + 1 + later ≤ 16 }
+    {
+        let behind = if later == 0 { 0 } else { stage_number + 2 };
+        Parkers::new(
+            &self.parkers[stage_number + 1],
+            &self.parkers[stage_number],
+            &self.parkers[behind],
+        )
+    }
+}
