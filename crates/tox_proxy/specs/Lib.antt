@@ -11,3 +11,4 @@ pub mod Picking
 pub mod Serving
 pub mod LinkEnds
 pub mod ServeLines
+pub mod ResetDue

@@ -2,12 +2,13 @@
 use Rattle.std.specs.Prelude.{ℕ, List, ◌++◌, Option, Some, None, codes, decimal}
 use Rattle.tox_time.specs.declared.ending.Ending.{Ending}
 use Rattle.tox_time.specs.declared.ending.Ending.TheVariants.{StillOpen, Closed, Reset}
+use Rattle.tox_text.specs.Names.{visible_name}
 use Rattle.tox_proxy.specs.declared.link_end.SideEnd.{SideEnd}
 use Rattle.tox_proxy.specs.declared.link_end.LinkEnd.{LinkEnd}
 
 -- a proxy of this name listens at this address
 abbrev pub listening_line : List ℕ → List ℕ → List ℕ
-listening_line name address = codes "listening " ++ name ++ codes " " ++ address ++ codes "\n"
+listening_line name address = codes "listening " ++ visible_name name ++ codes " " ++ address ++ codes "\n"
 
 -- how a side ended
 abbrev pub end_word : Option Ending → List ℕ
@@ -23,9 +24,9 @@ side_text side = decimal side.bytes ++ codes " " ++ end_word side.ending
 -- a numbered link of the proxy of this name ended
 abbrev pub link_line : List ℕ → ℕ → LinkEnd → List ℕ
 link_line name number end =
-    codes "link " ++ name ++ codes " " ++ decimal number ++ codes " up " ++ side_text end.upstream ++ codes " down " ++ side_text end.downstream ++ codes "\n"
+    codes "link " ++ visible_name name ++ codes " " ++ decimal number ++ codes " up " ++ side_text end.upstream ++ codes " down " ++ side_text end.downstream ++ codes "\n"
 
 -- the proxy of this name ended: its links, and their bytes on both streams
 abbrev pub total_line : List ℕ → ℕ → ℕ → ℕ → List ℕ
 total_line name links upstream downstream =
-    codes "total " ++ name ++ codes " " ++ decimal links ++ codes " up " ++ decimal upstream ++ codes " down " ++ decimal downstream ++ codes "\n"
+    codes "total " ++ visible_name name ++ codes " " ++ decimal links ++ codes " up " ++ decimal upstream ++ codes " down " ++ decimal downstream ++ codes "\n"

@@ -5,11 +5,11 @@ use std::sync::Wait;
 use std::time::{Clock, Duration};
 use std::{io, thread};
 
-/// How long a listener rests where descriptors or memory are lacking, in milliseconds.
+/// How long a listener rests at a momentary lack, in milliseconds.
 const SHORT_REST: u64 = 10;
 
-/// The system's codes of a momentary lack: of descriptors in this process, in the system, and of buffers.
-const LACKS: [i32; 3] = [24, 23, 105];
+/// The system's codes of a momentary lack: of descriptors in this process, in the system, of buffers, and of streams.
+const LACKS: [i32; 4] = [24, 23, 105, 63];
 
 /// The system's codes of a connection that broke before it was accepted: refused by a rule of the firewall, no network,
 /// a protocol error, no such option, not supported, timed out, and a host that is down.
@@ -47,7 +47,8 @@ fn after(error: &io::Error) -> Next {
         | ErrorKind::HostUnreachable
         | ErrorKind::NetworkUnreachable
         | ErrorKind::NetworkDown => Next::TryAgain,
-        ErrorKind::OutOfMemory => Next::Rest,
+        // Whoever shares the listener may have made it answer at once. Trying again without a rest would spin.
+        ErrorKind::OutOfMemory | ErrorKind::WouldBlock => Next::Rest,
         _ => after_code(error.raw_os_error()),
     }
 }

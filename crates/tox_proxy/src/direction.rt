@@ -6,9 +6,11 @@ ghost use Rattle.tox_script.specs.Covering.{toxics_for};
 
 use crate::link_clock::SinceStart;
 use crate::link_end::{Carried, StreamEnd};
+use crate::reset_due::reset_due;
 use crate::serve_runtime::ServeRuntime;
 use crate::sockets::{NoNotes, Sockets};
 use crate::until_cut::UntilCut;
+use crate::until_due::UntilDue;
 use std::alloc::{AllocError, Global};
 use std::sync::Arc;
 use tox_compile::{Plan, compile};
@@ -57,8 +59,9 @@ pub(crate) fn carry_stream<R: ServeRuntime>(
     gate: &Arc<OpenGate, Global>,
 ) -> Carried {
     let Course { words, plan } = course;
+    let writer = UntilDue::new(rt, sockets.target, clock, reset_due(plan.ops()));
     let mut ends = Ends {
-        writer: Real::new(sockets.target),
+        writer: Real::new(writer),
         hangup: sockets,
     };
     let done = carry(

@@ -18,6 +18,7 @@ mod pick_request;
 mod printing;
 mod proxy_thread;
 mod reading;
+mod reset_due;
 mod runner_slices;
 mod second_pass;
 mod serve_fault;
@@ -31,6 +32,7 @@ mod sockets;
 mod stages;
 mod toxics;
 mod until_cut;
+mod until_due;
 
 pub use dry::dry_run;
 pub use fault::StagesFault;

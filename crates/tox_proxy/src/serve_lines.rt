@@ -4,7 +4,7 @@ ghost use Rattle.tox_text.specs.Writing.{Prints, Writes};
 ghost use Rattle.tox_proxy.specs.ServeLines.{end_word, link_line, listening_line, side_text, total_line};
 
 use crate::link_end::{LinkEnd, SideEnd};
-use tox_text::Buffer;
+use tox_text::{Buffer, print_name};
 use tox_time::{EndFault, Ending, Sink};
 
 /// Writes that a proxy listens at an address.
@@ -32,7 +32,7 @@ fn put_listening<W: Sink>(
     ensures { Prints result (W.written writer.old) buffer.old (W.written writer.new) buffer.new
         (W.failed writer.new) (listening_line name.now address.now) }
 {
-    buffer.put_all(writer, &[b"listening ", name.as_bytes(), b" "])?;
+    print_name(buffer, writer, b"listening ", name, b" ")?;
     buffer.put_all(writer, &[address.as_bytes(), b"\n"])
 }
 
@@ -63,7 +63,7 @@ fn put_link<W: Sink>(
     ensures { Prints result (W.written writer.old) buffer.old (W.written writer.new) buffer.new
         (W.failed writer.new) (link_line name.now number end.now) }
 {
-    buffer.put_all(writer, &[b"link ", name.as_bytes(), b" "])?;
+    print_name(buffer, writer, b"link ", name, b" ")?;
     buffer.put_number(writer, number, b" up ")?;
     put_side(buffer, writer, &end.upstream, b" down ")?;
     put_side(buffer, writer, &end.downstream, b"\n")
@@ -125,7 +125,7 @@ fn put_total<W: Sink>(
     ensures { Prints result (W.written writer.old) buffer.old (W.written writer.new) buffer.new
         (W.failed writer.new) (total_line name.now links upstream downstream) }
 {
-    buffer.put_all(writer, &[b"total ", name.as_bytes(), b" "])?;
+    print_name(buffer, writer, b"total ", name, b" ")?;
     buffer.put_number(writer, links, b" up ")?;
     buffer.put_number(writer, upstream, b" down ")?;
     buffer.put_number(writer, downstream, b"\n")

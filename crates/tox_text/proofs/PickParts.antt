@@ -4,16 +4,17 @@ use Rattle.tox_config.specs.Proxy.{Proxy}
 use Rattle.tox_defs.specs.Applied.{is_applied}
 use Rattle.tox_defs.specs.Printed.{printed_short}
 use Rattle.tox_defs.specs.declared.chain.Entry.{Entry}
+use Rattle.tox_text.specs.Names.{visible_name}
 use Rattle.tox_text.specs.PickText.{applied_word, enabled_word, proxy_line, toxic_line}
 
 line_of_proxy : (proxy : Proxy)
-    → (codes "proxy " ++ (proxy.name ++ codes " listen ")) ++ ((proxy.listen ++ codes " upstream ") ++ ((proxy.upstream ++ codes " ") ++ (enabled_word proxy.enabled ++ codes "\n")))
+    → (codes "proxy " ++ (visible_name proxy.name ++ codes " listen ")) ++ ((proxy.listen ++ codes " upstream ") ++ ((proxy.upstream ++ codes " ") ++ (enabled_word proxy.enabled ++ codes "\n")))
     ≡ proxy_line proxy
 line_of_proxy proxy = simp append_assoc
 
 -- what the calls answered are these parts
 pub proxy_line-parts : (proxy : Proxy) (name listen upstream word : List ℕ) → name ≡ proxy.name → listen ≡ proxy.listen → upstream ≡ proxy.upstream → word ≡ enabled_word proxy.enabled
-    → (codes "proxy " ++ (name ++ codes " listen ")) ++ ((listen ++ codes " upstream ") ++ ((upstream ++ codes " ") ++ (word ++ codes "\n")))
+    → (codes "proxy " ++ (visible_name name ++ codes " listen ")) ++ ((listen ++ codes " upstream ") ++ ((upstream ++ codes " ") ++ (word ++ codes "\n")))
     ≡ proxy_line proxy
 proxy_line-parts proxy name listen upstream word named listening connecting enabled = rw (named, listening, connecting, enabled) (line_of_proxy proxy)
 

@@ -7,5 +7,6 @@ pub mod Writing
 pub mod ResultText
 pub mod PlanText
 pub mod ShortForm
+pub mod Names
 pub mod PickText
 pub mod PrintingPick

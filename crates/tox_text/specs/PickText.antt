@@ -10,6 +10,7 @@ use Rattle.tox_defs.specs.declared.chain.Entry.{Entry}
 use Rattle.tox_script.specs.Covering.{toxics_for}
 use Rattle.tox_script.specs.NamedChain.{NamedToxics}
 use Rattle.tox_script.specs.Rule.{Rules}
+use Rattle.tox_text.specs.Names.{visible_name}
 
 -- whether a proxy is enabled
 abbrev pub enabled_word : Bool → List ℕ
@@ -19,7 +20,7 @@ enabled_word false = codes "disabled"
 -- the line of a proxy
 abbrev pub proxy_line : Proxy → List ℕ
 proxy_line proxy =
-    codes "proxy " ++ proxy.name ++ codes " listen " ++ proxy.listen ++ codes " upstream "
+    codes "proxy " ++ visible_name proxy.name ++ codes " listen " ++ proxy.listen ++ codes " upstream "
     ++ proxy.upstream ++ codes " " ++ enabled_word proxy.enabled ++ codes "\n"
 
 -- whether a toxic is applied

@@ -6,6 +6,7 @@ ghost use Rattle.tox_text.specs.PrintingPick.{Leaves};
 ghost use Rattle.tox_text.specs.Writing.{Prints, Writes};
 
 use crate::buffer::Buffer;
+use crate::names::print_name;
 use crate::short_form::print_short;
 use std::alloc::Global;
 use thiserror::Error;
@@ -109,7 +110,7 @@ fn print_proxy<W: Sink>(
     ensures { Prints result (W.written writer.old) buffer.old (W.written writer.new) buffer.new
         (W.failed writer.new) (proxy_line proxy.now) }
 {
-    buffer.put_all(writer, &[b"proxy ", proxy.name.as_bytes(), b" listen "])?;
+    print_name(buffer, writer, b"proxy ", &proxy.name, b" listen ")?;
     buffer.put_all(writer, &[proxy.listen.as_bytes(), b" upstream "])?;
     buffer.put_all(writer, &[proxy.upstream.as_bytes(), b" "])?;
     buffer.put_all(writer, &[enabled_word(proxy.enabled), b"\n"])

@@ -1,0 +1,92 @@
+//! Writing a socket of a link until the reset of its stream is due.
+ghost use Rattle.std.specs.Io.{WritesAtMost};
+
+use crate::link_clock::SinceStart;
+use std::io;
+use std::io::{ErrorKind, Write};
+use std::net::TcpStream;
+use std::sync::Wait;
+use std::time::{Clock, Duration};
+use tox_link::Clock as LinkClock;
+use tox_time::Micros;
+
+/// How long a write waits for room before the clock is read again, in milliseconds.
+const MAX_WAIT: u64 = 10;
+
+/// A socket whose writes wait for room until the instant by which its plan resets the stream. From then on a write that finds
+/// no room fails, so that a peer that doesn't read can't hold up the reset. Without an instant a write waits for ever.
+#[derive(Drop)]
+pub(crate) struct UntilDue<'a, 'r, R> {
+    rt: &'r R,
+    socket: &'a TcpStream,
+    clock: SinceStart<'r, R>,
+    due: Option<Micros>,
+    /// Whether the last write found too little room.
+    is_full: bool,
+}
+
+impl<'a, 'r, R: Wait + Clock> UntilDue<'a, 'r, R> {
+    pub(crate) fn new(
+        rt: &'r R,
+        socket: &'a TcpStream,
+        clock: SinceStart<'r, R>,
+        due: Option<Micros>,
+    ) -> UntilDue<'a, 'r, R> {
+        if due.is_some() {
+            // A socket that is gone by now refuses the option, and its first write tells.
+            let _ = socket.set_write_timeout(Some(Duration::from_millis(MAX_WAIT)));
+        }
+        UntilDue {
+            rt,
+            socket,
+            clock,
+            due,
+            is_full: false,
+        }
+    }
+
+    fn is_due(&self) -> bool {
+        match &self.due {
+            Some(due) => *due <= self.clock.now(),
+            None => false,
+        }
+    }
+
+    /// Writes as much as there is room for. Without room it waits while the reset isn't due.
+    fn write_in_time(&self, bytes: &[u8]) -> io::Result<usize>
+        ensures { WritesAtMost result bytes.now }
+    {
+        let mut socket = self.socket;
+        for _ in self.rt.forever() {
+            match socket.write(bytes) {
+                Ok(count) => return Ok(count),
+                Err(error) => {
+                    if !is_momentary(&error) || self.is_due() {
+                        return Err(error);
+                    }
+                }
+            }
+        }
+        unreachable!()
+    }
+}
+
+/// Whether a write failed for want of room. A process that was stopped and goes on finds it interrupted.
+fn is_momentary(error: &io::Error) -> bool {
+    matches!(error.kind(), ErrorKind::WouldBlock | ErrorKind::Interrupted)
+}
+
+impl<'a, 'r, R: Wait + Clock> Write for UntilDue<'a, 'r, R> {
+    fn write(&mut self, bytes: &[u8]) -> io::Result<usize> {
+        if self.is_full && self.is_due() {
+            return Err(ErrorKind::TimedOut.into());
+        }
+        let count = self.write_in_time(bytes)?;
+        self.is_full = count < bytes.len();
+        Ok(count)
+    }
+
+    fn flush(&mut self) -> io::Result<()> {
+        Ok(())
+    }
+}
