@@ -12,10 +12,10 @@ later_by (Some due) millis = Some (plus due (1000 * millis))
 
 -- the instant by which a stream has ended behind an operation, if it ended by `due` before it
 abbrev pub after_op : Option ℕ → Op → Option ℕ
-after_op due (Delay fixed latency jitter lane) = later_by due (fixed + latency + jitter)
-after_op due (Pace rate) = None
+after_op due (Delay fixed latency jitter lane until) = later_by due (fixed + latency + jitter)
+after_op due (Pace rate until) = None
 after_op due (Slow millis) = later_by due millis
 after_op due (Mute end) = None
 after_op due (Cutoff instant) = earlier instant due
-after_op due (Slicing average variation micros lane) = None
+after_op due (Slicing average variation micros lane until) = None
 after_op due (Limit bytes) = due
