@@ -198,6 +198,19 @@ static void receive(int port, long bytes) {
     close(link);
 }
 
+/* how late each unit of bytes comes, of one that is due every `micros`, behind the one that comes earliest */
+static void paced(int port, long units, long size, long micros) {
+    int link = connect_to(port);
+    double *late = malloc(units * sizeof *late);
+    for (long i = 0; i < units; i++) {
+        if (!receive_pattern(link, i * size, size)) fail("paced");
+        late[i] = now() * 1e6 - i * micros;
+    }
+    qsort(late, units, sizeof *late, by_time);
+    printf("%.0f %.0f %.0f\n", late[units / 2] - late[0], late[units * 99 / 100] - late[0], late[units - 1] - late[0]);
+    close(link);
+}
+
 static void hold(int port, long links, long seconds) {
     for (long i = 0; i < links; i++)
         if (!echoes(connect_to(port), 0, 1)) fail("hold");
@@ -251,6 +264,7 @@ int main(int count, char **words) {
         printf("%.3f\n", now() - start);
     } else if (!strcmp(what, "ping")) ping(n[0], n[1]);
     else if (!strcmp(what, "receive")) receive(n[0], n[1]);
+    else if (!strcmp(what, "paced")) paced(n[0], n[1], n[2], n[3]);
     else if (!strcmp(what, "hold")) hold(n[0], n[1], n[2]);
     else if (!strcmp(what, "many")) many(n[0], n[1], n[2], n[3]);
     else if (!strcmp(what, "series")) series(n[0], n[1], n[2]);

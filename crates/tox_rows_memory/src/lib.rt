@@ -1,0 +1,15 @@
+//! Tests in which each request for memory is refused.
+#![tactic(auto)]
+
+#[cfg(test)]
+mod networks;
+#[cfg(test)]
+mod runs;
+#[cfg(test)]
+mod scarcity;
+#[cfg(test)]
+mod served;
+#[cfg(test)]
+mod threads;
+#[cfg(test)]
+mod values;

@@ -1,0 +1,115 @@
+//! Runs and picks, from text to text, with too little memory.
+use crate::scarcity::{MOST_TRIES, Scarcity, Tried, answer_of};
+use std::alloc::Global;
+use std::test::Fail;
+use tox_config::{ProxyDef, read_populate};
+use tox_defs::Chain;
+use tox_proxy::{DryFault, PrintPickFault, dry_run, find_proxy, print_pick};
+use tox_rows::chain_of;
+use tox_script::{Script, read_script};
+use tox_time::{MemorySink, MemorySource, Stream};
+use tox_words::Words;
+
+const TEXT: &str = "0 data 616263\n5 eof\n";
+
+const RESULT: &str = "1000 0..3 616263\nclosed 1000\n";
+
+const CONFIG: &str = "[{\"name\":\"a\",\"upstream\":\"h:1\"}]";
+
+const SCRIPT: &str = "\
+[[rule]]
+proxy = \"a\"
+first = 1
+
+[[rule.toxic]]
+type = \"latency\"
+attributes = { latency = 100 }
+";
+
+const PICK: &str = "\
+proxy a listen localhost:0 upstream h:1 enabled
+0 applied latency:latency=100,jitter=0,toxicity=1000 latency_downstream
+";
+
+/// What was written is this text after Ok, and else nothing.
+fn checked(answer: Tried, written: &[u8], text: &str) -> Tried {
+    let expected = match answer {
+        Tried::Answered => text.as_bytes(),
+        Tried::Refused | Tried::Wrong => b"",
+    };
+    if written == expected {
+        answer
+    } else {
+        Tried::Wrong
+    }
+}
+
+/// A dry run with little memory.
+fn run(
+    scarcity: &mut Scarcity,
+    alloc: Global,
+    bytes: usize,
+    chain: &Chain,
+    words: &Words,
+) -> Result<Tried, Fail> {
+    let mut reader = MemorySource::new(TEXT.as_bytes().to_vec(alloc)?, 64, None);
+    let mut writer = MemorySink::new(alloc, 100, 64, None)?;
+    scarcity.leave(alloc, bytes)?;
+    let answer = dry_run(alloc, &mut reader, &mut writer, chain, words);
+    scarcity.end();
+    let tried = answer_of(&answer, &DryFault::OutOfMemory);
+    Ok(checked(tried, writer.bytes(), RESULT))
+}
+
+#[test]
+fn a_dry_run_is_refused_memory(rt: HostRuntime) -> Result<(), Fail> {
+    let alloc = rt.alloc();
+    let words = Words::from_list(alloc, &[0])?;
+    let chain = chain_of("latency:latency=1").expect(&rt, "a short form");
+    let mut scarcity = Scarcity::new(alloc)?;
+    let mut refused = 0;
+    for tries in 0..MOST_TRIES {
+        if run(&mut scarcity, alloc, 16 * tries, &chain, &words)?.is_last()? {
+            refused = tries;
+            break;
+        }
+    }
+    eprintln!(rt; "refused {refused} times")?;
+    assert!(rt; 0 < refused);
+    Ok(())
+}
+
+/// A pick with little memory.
+fn pick(
+    scarcity: &mut Scarcity,
+    alloc: Global,
+    bytes: usize,
+    proxy: &ProxyDef,
+    script: &Script,
+) -> Result<Tried, Fail> {
+    let mut writer = MemorySink::new(alloc, 200, 64, None)?;
+    scarcity.leave(alloc, bytes)?;
+    let answer = print_pick(alloc, &mut writer, proxy, script, 1, Stream::Downstream, 1);
+    scarcity.end();
+    let tried = answer_of(&answer, &PrintPickFault::OutOfMemory);
+    Ok(checked(tried, writer.bytes(), PICK))
+}
+
+#[test]
+fn a_pick_is_refused_memory(rt: HostRuntime) -> Result<(), Fail> {
+    let alloc = rt.alloc();
+    let proxies = read_populate(alloc, CONFIG.as_bytes())?;
+    let proxy = find_proxy(&proxies, "a").ok_or("no proxy a")?;
+    let script = read_script(alloc, SCRIPT.as_bytes())?;
+    let mut scarcity = Scarcity::new(alloc)?;
+    let mut refused = 0;
+    for tries in 0..MOST_TRIES {
+        if pick(&mut scarcity, alloc, 16 * tries, proxy, &script)?.is_last()? {
+            refused = tries;
+            break;
+        }
+    }
+    eprintln!(rt; "refused {refused} times")?;
+    assert!(rt; 0 < refused);
+    Ok(())
+}
