@@ -9,9 +9,6 @@ use Rattle.tox_words.specs.Draw.{Draws}
 use Rattle.tox_defs.specs.declared.op.Op.{Op}
 use Rattle.tox_defs.specs.declared.op.Op.TheVariants.{Delay, Pace, Slow, Mute, Cutoff, Slicing, Limit}
 use Rattle.tox_defs.specs.Reaction.{counted, flow}
-use Rattle.tox_defs.specs.toxics.Latency.{delay_gives}
-use Rattle.tox_defs.specs.toxics.Bandwidth.{pace_gives}
-use Rattle.tox_defs.specs.toxics.Slicer.{slicing_gives}
 use Rattle.tox_defs.specs.toxics.SlowClose.{slow_gives}
 use Rattle.tox_defs.specs.toxics.ResetPeer.{cutoff_gives}
 use Rattle.tox_defs.specs.toxics.LimitData.{limit_gives}

@@ -1,5 +1,5 @@
 -- Toxics that stop: from an instant on, chunks pass whole, in order and uncounted.
-use Rattle.std.specs.Prelude.{ℕ, zero, suc, ◌*◌, Bool, false, List, [], ◌∷◌, nat_le, if◌then◌else◌}
+use Rattle.std.specs.Prelude.{ℕ, zero, suc, ◌*◌, Bool, false, [], ◌∷◌, nat_le, if◌then◌else◌}
 use Rattle.tox_time.specs.declared.item.Item.{Item}
 use Rattle.tox_time.specs.declared.item.Item.TheVariants.{Chunk}
 use Rattle.tox_time.specs.Stream.{latest_from}

@@ -8,8 +8,8 @@ ghost use Rattle.tox_defs.specs.Look.{Finds, IsFrontOf};
 
 use crate::op::Op;
 use crate::state::State;
-use crate::until::is_late;
 use crate::toxics::{bandwidth, latency, limit_data, reset_peer, slicer, slow_close};
+use crate::until::is_late;
 use tox_time::{Ending, Slice};
 use tox_words::Words;
 

@@ -54,13 +54,7 @@ pub(crate) fn is_varied_too_much(average_size: u32, size_variation: u32) -> bool
 }
 
 /// The operation at a place.
-pub(crate) fn op(
-    average_size: u32,
-    size_variation: u32,
-    delay: u64,
-    until: u32,
-    place: usize,
-) -> Op
+pub(crate) fn op(average_size: u32, size_variation: u32, delay: u64, until: u32, place: usize) -> Op
     ensures { result ≡ Op.Slicing average_size size_variation delay place until }
 {
     Op::Slicing {

@@ -1,5 +1,5 @@
 -- A toxic in its range joins the others.
-use Rattle.std.proofs.Common.{◌≤◌, arith, length, subst, sym, List}
+use Rattle.std.proofs.Common.{arith, subst, sym, List}
 use Rattle.std.specs.Prelude.{All}
 use Rattle.std.proofs.lemmas.Grind.{common_steps}
 use Rattle.std.proofs.lemmas.List.Elements.{All-push}
