@@ -2,22 +2,61 @@
 ghost use Rattle.std.specs.Prelude.{◌+◌, ◌≤◌};
 
 use std::array;
+use std::sync::Wait;
+use std::sync::atomic::{AtomicBool, Ordering};
 use std::thread::Parker;
+use tox_time::pause;
+
+/// What one thread sleeps on while it waits.
+#[derive(Drop)]
+pub(crate) struct Sleeper {
+    parker: Parker,
+    /// Whether the thread waits, and so may sleep.
+    waits: AtomicBool,
+}
+
+impl Sleeper {
+    fn new() -> Sleeper {
+        Sleeper {
+            parker: Parker::new(),
+            waits: AtomicBool::new(false),
+        }
+    }
+
+    /// One turn of the thread's own wait. It says that it waits long before it sleeps, and tries its ring again in
+    /// between, so whoever acts on the ring after that finds it waiting.
+    pub(crate) fn pause<R: Wait>(&self, rt: &R, yields: &mut u32) {
+        self.waits.store(true, Ordering::SeqCst);
+        pause(rt, &self.parker, yields);
+    }
+
+    /// Ends the thread's own wait.
+    pub(crate) fn resume(&self) {
+        self.waits.store(false, Ordering::SeqCst);
+    }
+
+    /// Wakes the thread, if it waits.
+    pub(crate) fn wake(&self) {
+        if self.waits.load(Ordering::SeqCst) {
+            self.parker.unpark();
+        }
+    }
+}
 
 /// What a thread sleeps on, and what its two neighbours do.
 #[derive(Drop)]
 pub(crate) struct Parkers<'p> {
     /// The thread's own.
-    pub(crate) own: &'p Parker,
+    pub(crate) own: &'p Sleeper,
     /// Of the thread that pushes into the ring before it. Woken after each pop.
-    pub(crate) before: &'p Parker,
+    pub(crate) before: &'p Sleeper,
     /// Of the thread that pops from the ring behind it. Woken after each push.
-    pub(crate) behind: &'p Parker,
+    pub(crate) behind: &'p Sleeper,
 }
 
 impl<'p> Parkers<'p> {
     /// From those of the thread, of the one before it and of the one behind it.
-    pub(crate) fn new(own: &'p Parker, before: &'p Parker, behind: &'p Parker) -> Parkers<'p> {
+    pub(crate) fn new(own: &'p Sleeper, before: &'p Sleeper, behind: &'p Sleeper) -> Parkers<'p> {
         Parkers {
             own,
             before,
@@ -29,14 +68,14 @@ impl<'p> Parkers<'p> {
 /// What each thread sleeps on: source and sink on the first, and the worker of stage k on the one after k others.
 #[derive(Drop)]
 pub(crate) struct Circle {
-    parkers: [Parker; 17],
+    parkers: [Sleeper; 17],
 }
 
 impl Circle {
     /// Takes no memory.
     pub(crate) fn new() -> Circle {
         Circle {
-            parkers: array::from_fn(|_| Parker::new()),
+            parkers: array::from_fn(|_| Sleeper::new()),
         }
     }
 

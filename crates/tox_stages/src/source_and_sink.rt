@@ -13,7 +13,7 @@ use rtrb::{Consumer, Producer};
 use std::alloc::Global;
 use std::sync::Wait;
 use tox_network::Waiting;
-use tox_time::{Arrivals, Item, Outcome, pause};
+use tox_time::{Arrivals, Item, Outcome};
 
 /// Sends arrivals while the ring has room. Returns whether one was sent.
 fn fill(first: &mut Producer<Item>, waiting: &mut Waiting<'_>) -> bool
@@ -75,11 +75,11 @@ pub(crate) fn feed_and_drain<R: Wait>(
     for _ in rt.forever() {
         let has_sent = fill(first, &mut waiting);
         if has_sent {
-            parkers.behind.unpark();
+            parkers.behind.wake();
         }
         let has_come = drain(&mut consumer, &mut collected);
         if has_come {
-            parkers.before.unpark();
+            parkers.before.wake();
         }
         if waiting.is_empty() && collected.has_ended() {
             let Ok(outcome) = collected.into_outcome() else {
@@ -89,8 +89,9 @@ pub(crate) fn feed_and_drain<R: Wait>(
         }
         if has_sent || has_come {
             yields = 0;
+            parkers.own.resume();
         } else {
-            pause(rt, parkers.own, &mut yields);
+            parkers.own.pause(rt, &mut yields);
         }
     }
     unreachable!()

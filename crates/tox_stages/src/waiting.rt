@@ -5,7 +5,7 @@ ghost use Rattle.rtrb.specs.Ring.{sent, received, SameProducer, SameConsumer};
 use crate::parkers::Parkers;
 use rtrb::{Consumer, Producer, PushError};
 use std::sync::Wait;
-use tox_time::{Item, pause};
+use tox_time::Item;
 
 /// Waits until the item is pushed.
 pub(crate) fn push_waiting<R: Wait>(
@@ -22,12 +22,15 @@ pub(crate) fn push_waiting<R: Wait>(
     for _ in rt.forever() {
         match producer.push(item) {
             Ok(()) => {
-                parkers.behind.unpark();
+                if yields > 0 {
+                    parkers.own.resume();
+                }
+                parkers.behind.wake();
                 return;
             }
             Err(PushError::Full(back)) => item = back,
         }
-        pause(rt, parkers.own, &mut yields);
+        parkers.own.pause(rt, &mut yields);
     }
     unreachable!()
 }
@@ -44,10 +47,13 @@ pub(crate) fn pop_waiting<R: Wait>(
     let mut yields = 0;
     for _ in rt.forever() {
         if let Ok(item) = consumer.pop() {
-            parkers.before.unpark();
+            if yields > 0 {
+                parkers.own.resume();
+            }
+            parkers.before.wake();
             return item;
         }
-        pause(rt, parkers.own, &mut yields);
+        parkers.own.pause(rt, &mut yields);
     }
     unreachable!()
 }
