@@ -9,6 +9,7 @@ import time
 from ends import (
     BLOCK,
     are_quiet,
+    flood,
     has_ended,
     read_all,
     read_count,
@@ -17,6 +18,7 @@ from ends import (
     send_until_ended,
     send_until_full,
     send_until_refused,
+    send_until_told,
     shut_writing,
 )
 from waiting import check
@@ -24,11 +26,11 @@ from waiting import check
 CASES = []
 
 
-def case(links, toxic=None):
+def case(links, toxic=None, stream="downstream", name="shop"):
     """Registers a case of so many links. A toxic with its attribute meets these links, and not the one after them."""
 
     def register(function):
-        CASES.append((function, links, toxic))
+        CASES.append((function, links, (*toxic, stream) if toxic else None, name))
         return function
 
     return register
@@ -272,3 +274,65 @@ def fault_is_told_to_a_sender(toxi):
     send_until_refused(client)
     client.close()
     toxi.ended(1, range(1, sent), "broken", 0, "closed")
+
+
+@case(20, ("limit_data", "bytes = 3"), stream="upstream")
+def limit_is_told_to_a_target_that_sends(toxi):
+    """The client's third byte closes the link in the middle of a flood. The upstream learns that, though it reads nothing.
+
+    How the other stream ends depends on whether it had bytes to write.
+    """
+    for _ in range(20):
+        client, server = toxi.link()
+        flood(server, client, 0.05)
+        client.send(b"abc")
+        begun = time.monotonic()
+        send_until_refused(server)
+        check(time.monotonic() - begun < 1, "the upstream learnt late that the link has ended")
+        client.close()
+        server.close()
+
+
+@case(2, ("reset_peer", "timeout = 300"))
+def reset_of_one_that_hardly_reads(toxi):
+    """The first client reads nothing, the second a little. Neither holds up the reset, which breaks off a write that waits.
+
+    Of the second one all may have been written by then.
+    """
+    for number, reads in ((1, False), (2, True)):
+        begun = time.monotonic()
+        client, server = toxi.link()
+        due = time.monotonic() + 0.3
+        sent = send_until_told(server, client if reads else None)
+        told = time.monotonic()
+        check(told - begun >= 0.3, "the link was reset too early")
+        check(told - due < 0.05, f"the reset came {1000 * (told - due):.0f} ms late")
+        send_until_refused(client)
+        client.close()
+        server.close()
+        if not reads:
+            toxi.ended(number, 0, "closed", range(1, sent), "broken")
+
+
+@case(1, name="the\nshop")
+def name_of_two_lines(toxi):
+    """Its lines have the line feed as a code."""
+    client, server = toxi.link()
+    client.close()
+    check(read_all(server) == b"", "bytes of a client that sent none")
+    server.close()
+    toxi.ended(1, 0, "closed", 0, "closed")
+
+
+@case(2)
+def listener_that_does_not_wait(toxi):
+    """Whoever shares the listener has set it to answer at once. The accept before that still waits for the first client."""
+    with toxi.listener() as listener:
+        listener.setblocking(False)
+    for number in (1, 2):
+        client, server = toxi.link()
+        client.close()
+        check(read_all(server) == b"", "bytes of a client that sent none")
+        server.close()
+        toxi.ended(number, 0, "closed", 0, "closed")
+        time.sleep(0.05)

@@ -3,6 +3,7 @@ import contextlib
 import select
 import socket
 import struct
+import time
 
 from waiting import LIMIT, Failed, check
 
@@ -112,6 +113,18 @@ def send_more(end):
         end.sendall(b"more")
 
 
+def flood(sender, reader, seconds):
+    """Sends as much as there is room for, and reads what comes of it."""
+    sender.setblocking(False)
+    reader.setblocking(False)
+    ends = time.monotonic() + seconds
+    while time.monotonic() < ends:
+        with contextlib.suppress(BlockingIOError):
+            sender.send(BLOCK)
+        with contextlib.suppress(BlockingIOError):
+            reader.recv(65536)
+
+
 def send_until_ended(end):
     """Sends until the other side has ended or is gone, which a reader is told at once. The other side sends no byte."""
     end.setblocking(False)
@@ -133,6 +146,28 @@ def send_until_refused(end):
         for _ in range(MOST // len(BLOCK)):
             end.sendall(BLOCK)
         raise Failed("a connection that should be gone takes bytes")
+
+
+def send_until_told(end, reader=None):
+    """Sends as long as the connection lives, and lets the reader, if there is one, read a little each 5 ms.
+
+    Returns how many bytes the system took.
+    """
+    end.setblocking(False)
+    sent = 0
+    ends = time.monotonic() + LIMIT
+    while time.monotonic() < ends:
+        readable, writable, _ = select.select([end], [end], [], 0.005)
+        try:
+            if reader and sent:
+                reader.recv(1000)
+            if readable:
+                has_ended(end)
+                return sent
+            sent += end.send(BLOCK) if writable else 0
+        except (ConnectionResetError, BrokenPipeError):
+            return sent
+    raise Failed(f"not within {LIMIT} s: the end of a connection that is sent to")
 
 
 def send_until_full(end):

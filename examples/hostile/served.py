@@ -1,5 +1,6 @@
 """A `toxi serve` process: its lines, its threads and its descriptors."""
 import contextlib
+import ctypes
 import json
 import os
 import re
@@ -9,21 +10,25 @@ import subprocess
 
 from waiting import LIMIT, Failed, check, wait_until
 
-LINK = re.compile(r"link shop (\d+) up (\d+) (\w+) down (\d+) (\w+)")
-TOTAL = re.compile(r"total shop (\d+) up (\d+) down (\d+)")
+LINK = r"link {name} (\d+) up (\d+) (\w+) down (\d+) (\w+)"
+TOTAL = r"total {name} (\d+) up (\d+) down (\d+)"
+PIDFD_GETFD = 438
 
 
 class Served:
     """A process with one proxy before an upstream, which ends by itself after so many links."""
 
-    def __init__(self, program, folder, upstream, links, script):
+    def __init__(self, program, folder, upstream, links, script, name):
         config = os.path.join(folder, "proxies.json")
         rules = os.path.join(folder, "script.toml")
         with open(config, "w") as file:
-            json.dump([{"name": "shop", "listen": "127.0.0.1:0", "upstream": f"127.0.0.1:{upstream.port}"}], file)
+            json.dump([{"name": name, "listen": "127.0.0.1:0", "upstream": f"127.0.0.1:{upstream.port}"}], file)
         with open(rules, "w") as file:
             file.write(script)
         command = [program, "serve", "--config", config, "--script", rules, "--seed", "1", "--links", str(links)]
+        printed = re.escape(name.replace("\n", r"\x0a"))
+        self.link_line = re.compile(LINK.format(name=printed))
+        self.total_line = re.compile(TOTAL.format(name=printed))
         self.upstream = upstream
         self.links = links
         self.told = b""
@@ -67,6 +72,18 @@ class Served:
         soft = hard if more is None else len(self.at_rest) + more
         resource.prlimit(self.process.pid, resource.RLIMIT_NOFILE, (soft, hard))
 
+    def listener(self):
+        """Another handle of the socket that it listens at, which shares how that waits."""
+        process = os.pidfd_open(self.process.pid)
+        library = ctypes.CDLL(None, use_errno=True)
+        for descriptor in self.at_rest:
+            if os.readlink(f"/proc/{self.process.pid}/fd/{descriptor}").startswith("socket:"):
+                handle = library.syscall(PIDFD_GETFD, process, descriptor, 0)
+                os.close(process)
+                check(handle >= 0, f"no handle of its listener: {os.strerror(ctypes.get_errno())}")
+                return socket.socket(fileno=handle)
+        raise Failed("it has no socket")
+
     def client(self):
         return socket.create_connection(("127.0.0.1", self.port), timeout=LIMIT)
 
@@ -77,7 +94,7 @@ class Served:
 
     def ended_links(self):
         """The lines of links so far, by number."""
-        found = [LINK.fullmatch(line) for line in self.lines()]
+        found = [self.link_line.fullmatch(line) for line in self.lines()]
         return {int(line[1]): line for line in found if line}
 
     def ended(self, number, up, up_end, down, down_end):
@@ -107,7 +124,7 @@ class Served:
         links = self.ended_links()
         check(sorted(links) == list(range(1, self.links + 1)), f"there are lines of the links {sorted(links)}")
         check(len(self.lines()) == self.links + 2, f"there are {len(self.lines())} lines for {self.links} links")
-        total = TOTAL.fullmatch(self.lines()[-1])
+        total = self.total_line.fullmatch(self.lines()[-1])
         check(total, f"the last line is `{self.lines()[-1]}`")
         up, down = (sum(int(line[place]) for line in links.values()) for place in (2, 4))
         check(total.groups() == (str(self.links), str(up), str(down)), f"`{total[0]}`, but the sums are {up} and {down}")

@@ -2,10 +2,18 @@
 ghost use Rattle.std.specs.Prelude.{None};
 
 use std::alloc::AllocError;
+use std::io::Read;
 use std::net::{Shutdown, TcpStream};
 use std::sync::atomic::{AtomicBool, Ordering};
+use std::time::Duration;
 use tox_link::{Hangup, LinkEvent, Notes};
 use tox_time::Ending;
+
+/// How many reads at most drop what a peer has sent.
+const MAX_READS: u64 = 1_024;
+
+/// How long such a read waits, in milliseconds.
+const SHORT_WAIT: u64 = 1;
 
 /// The sockets of one direction, and what stops the reading of each.
 #[derive(Clone, Copy)]
@@ -23,6 +31,18 @@ impl<'a> Sockets<'a> {
         let _ = self.target.shutdown(Shutdown::Both);
     }
 
+    /// Shuts both sockets. What the source sent stays unread. What the target sent is dropped first: a socket that is shut
+    /// announces no room, and a peer that waits for it would not be told. Leaving it unread would reset the target, which
+    /// drops the last bytes that were written to it. Shutting the source comes last, since the other direction then fails and
+    /// shuts both.
+    fn close(&self) {
+        self.source_cut.store(true, Ordering::SeqCst);
+        self.target_cut.store(true, Ordering::SeqCst);
+        let _ = self.target.shutdown(Shutdown::Write);
+        drop_unread(self.target);
+        self.shut();
+    }
+
     /// Shuts both sockets, and leaves unread what their peers sent.
     pub(crate) fn cut(&self) {
         self.source_cut.store(true, Ordering::SeqCst);
@@ -38,12 +58,22 @@ impl<'a> Hangup for Sockets<'a> {
             Ending::Closed(_) if source_ended => {
                 let _ = self.target.shutdown(Shutdown::Write);
             }
-            // A reset of the target would drop the last bytes that were written to it.
-            Ending::Closed(_) => {
-                self.source_cut.store(true, Ordering::SeqCst);
-                self.shut();
-            }
+            Ending::Closed(_) => self.close(),
             Ending::Reset(_) => self.cut(),
+        }
+    }
+}
+
+/// Reads and drops what a peer has sent, so that there is room again.
+fn drop_unread(mut socket: &TcpStream) {
+    if socket.set_read_timeout(Some(Duration::from_millis(SHORT_WAIT))).is_err() {
+        return;
+    }
+    let mut bytes = [0; 16_384];
+    for _ in 0..MAX_READS {
+        match socket.read(&mut bytes) {
+            Ok(count) if count == bytes.len() => {}
+            _ => return,
         }
     }
 }

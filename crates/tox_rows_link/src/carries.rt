@@ -14,6 +14,9 @@ use tox_rows::{Meeting, chain_of};
 use tox_time::{Ending, Gate, MemorySink, MemorySource, Micros, OpenGate, Slice, Source, Span};
 use tox_words::Words;
 
+/// How many reads of one byte a long link takes.
+const MANY: usize = 65_536;
+
 /// What a link is carried with: a clock at 0, a writer and a hangup that look at it, and notes.
 #[derive(Drop)]
 struct Setup {
@@ -24,14 +27,25 @@ struct Setup {
 }
 
 impl Setup {
-    /// The sink takes at most `most` bytes a call, and fails at the call of this number.
+    /// The sink has room for 16 bytes, takes at most `most` a call, and fails at the call of this number.
     fn new(alloc: Global, most: usize, failing_call: Option<u64>) -> Result<Setup, Fail>
+        ensures { IfOk result (λ made. made.ends.writer.sink.failed ≡ false) }
+    {
+        Setup::with_sink(
+            alloc,
+            MemorySink::new(alloc, 16, most.max(1), failing_call)?,
+        )
+    }
+
+    /// With a sink of its own.
+    fn with_sink(alloc: Global, sink: MemorySink) -> Result<Setup, Fail>
+        requires { sink.failed ≡ false }
         ensures { IfOk result (λ made. made.ends.writer.sink.failed ≡ false) }
     {
         let micros = Arc::new(alloc, AtomicU64::new(0))?;
         let bytes = Arc::new(alloc, AtomicU64::new(0))?;
         let writer = WatchingSink {
-            sink: MemorySink::new(alloc, 16, most.max(1), failing_call)?,
+            sink,
             micros: micros.clone()?,
             bytes: bytes.clone()?,
             first: None,
@@ -246,6 +260,22 @@ fn reads_are_used_up(rt: HostRuntime) -> Result<(), Fail> {
 }
 
 #[test]
+fn many_small_reads_are_used_up(rt: HostRuntime) -> Result<(), Fail> {
+    let alloc = rt.alloc();
+    let chain = Chain::new();
+    let sink = MemorySink::new(alloc, MANY, 16_384, None)?;
+    let mut set = Setup::with_sink(alloc, sink)?;
+    let gate = Arc::new(alloc, Open)?;
+    let reader = MemorySource::new(vec![in alloc; 0x61; MANY]?, 1, None);
+    let reads = MANY as u64;
+    let report = carried(&rt, alloc, &chain, reader, reads, &mut set, &gate)?.expect(&rt, "no fault");
+    assert_eq!(rt; (report.taken, report.written), (65_536, 65_536));
+    assert_eq!(rt; report.ending, Ending::Closed(at(0)));
+    assert_eq!(rt; report.source, SourceEnding::ReadsUsedUp);
+    Ok(())
+}
+
+#[test]
 fn a_failing_writer_resets_the_link(rt: HostRuntime) -> Result<(), Fail> {
     let alloc = rt.alloc();
     let chain = Chain::new();
@@ -260,5 +290,19 @@ fn a_failing_writer_resets_the_link(rt: HostRuntime) -> Result<(), Fail> {
         (set.ends.hangup.calls, set.ends.hangup.source_ended),
         (1, false)
     );
+    Ok(())
+}
+
+#[test]
+fn a_writer_that_takes_nothing_resets_the_link(rt: HostRuntime) -> Result<(), Fail> {
+    let alloc = rt.alloc();
+    let chain = Chain::new();
+    let mut set = Setup::with_sink(alloc, MemorySink::new(alloc, 0, 1, None)?)?;
+    let gate = Arc::new(alloc, Open)?;
+    let reader = MemorySource::new(vec![in alloc; 0x61, 0x62, 0x63]?, 16, None);
+    let answer = carried(&rt, alloc, &chain, reader, 10, &mut set, &gate)?;
+    assert!(rt; matches!(answer, Err(LinkFault::WriteFault(0))));
+    assert!(rt; set.ends.writer.sink.bytes().is_empty());
+    assert_eq!(rt; set.ends.hangup.ending, Ending::Reset(at(0)));
     Ok(())
 }

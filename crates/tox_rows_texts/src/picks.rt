@@ -83,6 +83,20 @@ fn each_write_of_a_pick_may_fail(rt: HostRuntime) -> Result<(), Fail> {
     Ok(())
 }
 
+#[test]
+fn a_name_keeps_to_its_line(rt: HostRuntime) -> Result<(), Fail> {
+    let config = r#"[{"name":"a\n\u007fb\\","upstream":"localhost:1"}]"#;
+    let proxies = read_populate(rt.alloc(), config.as_bytes())?;
+    let script = read_script(rt.alloc(), b"")?;
+    let proxy = find_proxy(&proxies, "a\n\x7fb\\").ok_or("no such proxy")?;
+    let mut writer = MemorySink::new(rt.alloc(), ROOM, ROOM, None)?;
+    print_pick(rt.alloc(), &mut writer, proxy, &script, 1, Stream::Upstream, 1)?;
+    let line = r"proxy a\x0a\x7fb\ listen localhost:0 upstream localhost:1 enabled";
+    let want = format!(in rt.alloc(); "{line}\n")?;
+    assert_eq!(rt; writer.bytes(), want.as_bytes());
+    Ok(())
+}
+
 /// The name of a test's own file.
 fn path_of(rt: &(impl Env + AllocGlobal), id: u32, file: &str) -> Result<String, Fail> {
     let folder = env::temp_dir(rt)?;
