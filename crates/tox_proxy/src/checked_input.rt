@@ -1,5 +1,5 @@
 //! An arrivals text that was read whole and has no fault, with room for its second pass.
-ghost use Rattle.std.specs.Prelude.{◌≡◌, ◌+◌, [], false, vec_capacity, IfOk, IfErr};
+ghost use Rattle.std.specs.Prelude.{◌≡◌, ◌≢◌, ◌+◌, [], false, vec_capacity, IfOk, IfErr, Err};
 ghost use Rattle.tox_text.specs.Checked.{IsChecked};
 ghost use Rattle.tox_proxy.specs.Reading.{HasCause, IsRead, TakesAtMost};
 
@@ -30,6 +30,7 @@ pub(crate) fn read_checked<R: Source>(
         (λ input. input.room.window ≡ record { held = []; room = 1; stop = 0 }) }
     ensures cause { IfErr result
         (HasCause (R.remaining reader.old) (R.remaining reader.new) (R.failed reader.new) false) }
+    ensures working { result ≢ Err DryFault.ReadFault → R.failed reader.new ≡ false }
     ensures most { TakesAtMost (16_777_216 + 1) (R.remaining reader.old) (R.remaining reader.new) }
 {
     let text = read_input(alloc, reader)?;

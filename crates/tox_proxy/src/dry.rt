@@ -5,7 +5,7 @@ ghost use Rattle.tox_proxy.specs.Reading.{HasCause, TakesAtMost};
 ghost use Rattle.tox_text.specs.ArrivalsText.{Arrived, arrivals_of};
 ghost use Rattle.tox_text.specs.Checked.{IsChecked};
 ghost use Rattle.tox_text.specs.Writing.{Writes};
-ghost use Rattle.tox_text.specs.declared.fault.DryFault.TheVariants.{WriteFault};
+ghost use Rattle.tox_text.specs.declared.fault.DryFault.TheVariants.{ReadFault, WriteFault};
 
 use crate::checked_input::{CheckedInput, read_checked};
 use crate::second_pass::{PieceRoom, write_text};
@@ -42,6 +42,7 @@ pub fn dry_run<R: Source, W: Sink>(
         (HasCause (R.remaining reader.old) (R.remaining reader.new) (R.failed reader.new)
         (W.failed writer.new)) }
     ensures working { result ≢ Err WriteFault → W.failed writer.new ≡ false }
+    ensures reading { result ≢ Err ReadFault → R.failed reader.new ≡ false }
     ensures left { IfErr result
         (Leaves chain.now words.now (R.remaining reader.old) (R.remaining reader.new)
         (W.written writer.old) (W.written writer.new)) }

@@ -1,5 +1,5 @@
 //! Reading an input whole.
-ghost use Rattle.std.specs.Prelude.{◌≡◌, ◌+◌, ◌<◌, false, length, IfOk, IfErr};
+ghost use Rattle.std.specs.Prelude.{◌≡◌, ◌≢◌, ◌+◌, ◌<◌, false, length, IfOk, IfErr, Err};
 ghost use Rattle.tox_proxy.specs.Reading.{HasInputCause, IsRead, TakesAtMost};
 
 use std::alloc::{AllocError, Global};
@@ -28,6 +28,7 @@ pub(crate) fn read_input<R: Source>(alloc: Global, reader: &mut R) -> Result<Vec
         (λ text. IsRead (R.remaining reader.old) (R.remaining reader.new) text.items) }
     ensures fault { IfErr result
         (HasInputCause (R.remaining reader.old) (R.remaining reader.new) (R.failed reader.new)) }
+    ensures working { result ≢ Err InputFault.ReadFault → R.failed reader.new ≡ false }
     ensures most { TakesAtMost (16_777_216 + 1) (R.remaining reader.old) (R.remaining reader.new) }
 {
     let Ok(mut block) = zeros(alloc, BLOCK) else {
@@ -54,6 +55,7 @@ fn read_by_blocks<R: Source>(
         (λ text. IsRead (R.remaining reader.old) (R.remaining reader.new) text.items) }
     ensures fault { IfErr result
         (HasInputCause (R.remaining reader.old) (R.remaining reader.new) (R.failed reader.new)) }
+    ensures working { result ≢ Err InputFault.ReadFault → R.failed reader.new ≡ false }
     ensures most { TakesAtMost (16_777_216 + 1) (R.remaining reader.old) (R.remaining reader.new) }
 {
     let mut text = Vec::new(alloc);

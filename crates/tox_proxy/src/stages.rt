@@ -10,7 +10,7 @@ ghost use Rattle.tox_text.specs.Writing.{Writes};
 ghost use Rattle.tox_proxy.specs.DryRun.{WritesEveryRest, WritesResult};
 ghost use Rattle.tox_proxy.specs.Reading.{TakesAtMost};
 ghost use Rattle.tox_proxy.specs.StagesRun.{HasStagesCause, StagesLeave};
-ghost use Rattle.tox_text.specs.declared.fault.DryFault.TheVariants.{WriteFault};
+ghost use Rattle.tox_text.specs.declared.fault.DryFault.TheVariants.{ReadFault, WriteFault};
 ghost use Rattle.tox_proxy.specs.declared.fault.StagesFault.TheVariants.{Dry};
 
 use crate::checked_input::{CheckedInput, read_checked};
@@ -54,6 +54,7 @@ pub fn stages_run<T: Threads + Wait + Sync, R: Source, W: Sink, G: Gate>(
         (HasStagesCause (R.remaining reader.old) (R.remaining reader.new) (R.failed reader.new)
         (W.failed writer.new)) }
     ensures working { result ≢ Err (Dry WriteFault) → W.failed writer.new ≡ false }
+    ensures reading { result ≢ Err (Dry ReadFault) → R.failed reader.new ≡ false }
     ensures left { IfErr result
         (StagesLeave chain.now words.now (R.remaining reader.old) (R.remaining reader.new)
         (W.written writer.old) (W.written writer.new)) }
