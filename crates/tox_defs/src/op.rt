@@ -2,7 +2,7 @@
 ghost use Rattle.std.specs.Prelude.{◌≡◌, [], ◌∷◌};
 ghost use Rattle.tox_time.specs.Table.{final_of};
 ghost use Rattle.tox_words.specs.Draw.{Draws};
-ghost use Rattle.tox_defs.specs.Op.{is_mute, op_giving, op_of, op_until};
+ghost use Rattle.tox_defs.specs.Op.{is_mute, op_giving, op_of};
 
 use crate::ordered::in_order;
 use crate::state::State;
@@ -105,17 +105,6 @@ impl Op {
             Op::Cutoff { instant } => reset_peer::map_ending(*instant, ending),
             Op::Slicing { .. } => in_order(state.previous, ending),
             Op::Limit { .. } => *ending,
-        }
-    }
-
-    /// The milliseconds from which on the operation lets chunks pass. 0: it never does.
-    #[inline(always)]
-    pub(crate) fn until(&self) -> u32
-        ensures { result ≡ op_until self.now }
-    {
-        match *self {
-            Op::Delay { until, .. } | Op::Pace { until, .. } | Op::Slicing { until, .. } => until,
-            _ => 0,
         }
     }
 
