@@ -36,7 +36,10 @@ fn after_op(due: Option<Micros>, op: &Op) -> Option<Micros>
             latency,
             jitter,
             ..
-        } => later_by(due, u64::from(*fixed) + u64::from(*latency) + u64::from(*jitter)),
+        } => later_by(
+            due,
+            u64::from(*fixed) + u64::from(*latency) + u64::from(*jitter),
+        ),
         Op::Pace { .. } | Op::Slicing { .. } | Op::Mute { .. } => None,
     }
 }

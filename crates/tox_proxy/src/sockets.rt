@@ -66,7 +66,10 @@ impl<'a> Hangup for Sockets<'a> {
 
 /// Reads and drops what a peer has sent, so that there is room again.
 fn drop_unread(mut socket: &TcpStream) {
-    if socket.set_read_timeout(Some(Duration::from_millis(SHORT_WAIT))).is_err() {
+    if socket
+        .set_read_timeout(Some(Duration::from_millis(SHORT_WAIT)))
+        .is_err()
+    {
         return;
     }
     let mut bytes = [0; 16_384];

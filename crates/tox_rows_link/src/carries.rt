@@ -268,7 +268,9 @@ fn many_small_reads_are_used_up(rt: HostRuntime) -> Result<(), Fail> {
     let gate = Arc::new(alloc, Open)?;
     let reader = MemorySource::new(vec![in alloc; 0x61; MANY]?, 1, None);
     let reads = MANY as u64;
-    let report = carried(&rt, alloc, &chain, reader, reads, &mut set, &gate)?.expect(&rt, "no fault");
+    let report = carried(&rt, alloc, &chain, reader, reads, &mut set, &gate)?.expect(
+        &rt, "no fault",
+    );
     assert_eq!(rt; (report.taken, report.written), (65_536, 65_536));
     assert_eq!(rt; report.ending, Ending::Closed(at(0)));
     assert_eq!(rt; report.source, SourceEnding::ReadsUsedUp);

@@ -90,7 +90,15 @@ fn a_name_keeps_to_its_line(rt: HostRuntime) -> Result<(), Fail> {
     let script = read_script(rt.alloc(), b"")?;
     let proxy = find_proxy(&proxies, "a\n\x7fb\\").ok_or("no such proxy")?;
     let mut writer = MemorySink::new(rt.alloc(), ROOM, ROOM, None)?;
-    print_pick(rt.alloc(), &mut writer, proxy, &script, 1, Stream::Upstream, 1)?;
+    print_pick(
+        rt.alloc(),
+        &mut writer,
+        proxy,
+        &script,
+        1,
+        Stream::Upstream,
+        1,
+    )?;
     let line = r"proxy a\x0a\x7fb\ listen localhost:0 upstream localhost:1 enabled";
     let want = format!(in rt.alloc(); "{line}\n")?;
     assert_eq!(rt; writer.bytes(), want.as_bytes());

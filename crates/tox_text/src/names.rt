@@ -24,11 +24,7 @@ pub fn print_name<W: Sink>(
     buffer.put(writer, after)
 }
 
-fn print_visible<W: Sink>(
-    buffer: &mut Buffer,
-    writer: &mut W,
-    bytes: &[u8],
-) -> Result<(), EndFault>
+fn print_visible<W: Sink>(buffer: &mut Buffer, writer: &mut W, bytes: &[u8]) -> Result<(), EndFault>
     requires { W.failed writer.old ≡ false }
     ensures { Prints result (W.written writer.old) buffer.old (W.written writer.new) buffer.new
         (W.failed writer.new) (visible_name bytes.now) }
