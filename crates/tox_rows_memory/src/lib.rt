@@ -8,4 +8,8 @@ mod runs;
 #[cfg(test)]
 mod scarcity;
 #[cfg(test)]
+mod served;
+#[cfg(test)]
+mod threads;
+#[cfg(test)]
 mod values;

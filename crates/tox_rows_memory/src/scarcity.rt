@@ -6,14 +6,17 @@ use std::test::Fail;
 const BLOCK: usize = 1 << 16;
 
 /// How many blocks the room has.
-const BLOCKS: usize = 8;
+const BLOCKS: usize = 32;
 
-/// Room for the stacks of seven threads. The C library gives a block of more than 32 MB back to the system, and it keeps the
-/// stack of a thread for the next one. With 64 MB or more it would give each thread a heap of its own.
+/// The C library gives a block of more than 32 MB back to the system when it is freed.
+const RETURNED: usize = 34_000_000;
+
+/// Room for the stacks of seven threads. The C library keeps the stack of a thread for the next one. With 64 MB or more it would
+/// give each thread a heap of its own.
 const STACKS: usize = 60_000_000;
 
 /// How often a call is tried at most.
-pub const MOST_TRIES: usize = BLOCKS * BLOCK / 32;
+pub const MOST_TRIES: usize = 16_384;
 
 /// More blocks than memory is made of.
 const MAX_BLOCKS: usize = 20_000;
@@ -76,22 +79,25 @@ fn take_all(alloc: Global, blocks: &mut Vec<Vec<u8>>) {
 impl Scarcity {
     /// Takes all memory but the room.
     pub fn new(alloc: Global) -> Result<Scarcity, AllocError> {
-        Scarcity::keep(alloc, 0)
+        Scarcity::keep(alloc, 0, 0)
     }
 
-    /// Takes all memory but the room and the stacks of seven threads. Threads that run before the first `leave` keep theirs.
-    pub fn with_stacks(alloc: Global) -> Result<Scarcity, AllocError> {
-        Scarcity::keep(alloc, STACKS)
+    /// Takes all memory but the room, the stacks of seven threads, and pages for them. Threads that run before the first
+    /// `leave` keep their stacks. The C library gives such a thread whole pages at each request.
+    pub fn with_threads(alloc: Global) -> Result<Scarcity, AllocError> {
+        Scarcity::keep(alloc, STACKS, RETURNED + (1 << 20))
     }
 
-    /// Takes all memory but the room and a block of `stacks` bytes.
-    fn keep(alloc: Global, stacks: usize) -> Result<Scarcity, AllocError> {
-        let mut rest = Vec::with_capacity(alloc, MAX_BLOCKS)?;
+    /// Takes all memory but the room, and blocks of `stacks` and of `pages` bytes that don't lie side by side.
+    fn keep(alloc: Global, stacks: usize, pages: usize) -> Result<Scarcity, AllocError> {
+        let mut rest: Vec<Vec<u8>> = Vec::with_capacity(alloc, MAX_BLOCKS)?;
         let mut room: Vec<Vec<u8>> = Vec::with_capacity(alloc, MAX_BLOCKS)?;
         for _ in 0..BLOCKS {
             room.push(Vec::with_capacity(alloc, BLOCK)?)?;
         }
         room.push(Vec::with_capacity(alloc, stacks)?)?;
+        rest.push(Vec::with_capacity(alloc, RETURNED)?)?;
+        room.push(Vec::with_capacity(alloc, pages)?)?;
         take_all(alloc, &mut rest);
         room.clear();
         Ok(Scarcity { rest, room })
@@ -99,11 +105,25 @@ impl Scarcity {
 
     /// Takes the room too, but for about `bytes` bytes that lie side by side.
     pub fn leave(&mut self, alloc: Global, bytes: usize) -> Result<(), AllocError> {
-        let block: Vec<u8> = Vec::with_capacity(alloc, bytes.saturating_add(SPLITTABLE))?;
+        self.leave_behind(alloc, SPLITTABLE, bytes)
+    }
+
+    /// Takes the room too, but for so many pages that other threads can have.
+    pub fn leave_pages(&mut self, alloc: Global, pages: usize) -> Result<(), AllocError> {
+        self.leave_behind(alloc, RETURNED, pages.saturating_mul(4096))
+    }
+
+    /// Takes the room too, but for the last `bytes` bytes of a block that has `front` bytes more.
+    fn leave_behind(
+        &mut self,
+        alloc: Global,
+        front: usize,
+        bytes: usize,
+    ) -> Result<(), AllocError> {
+        let block: Vec<u8> = Vec::with_capacity(alloc, bytes.saturating_add(front))?;
         take_all(alloc, &mut self.room);
         drop(block);
-        let front = Vec::with_capacity(alloc, SPLITTABLE)?;
-        self.room.push(front)?;
+        self.room.push(Vec::with_capacity(alloc, front)?)?;
         Ok(())
     }
 
