@@ -306,12 +306,12 @@ def reset_of_one_that_hardly_reads(toxi):
         sent = send_until_told(server, client if reads else None)
         told = time.monotonic()
         check(told - begun >= 0.3, "the link was reset too early")
-        check(told - due < 0.05, f"the reset came {1000 * (told - due):.0f} ms late")
+        check(told - due < 0.2, f"the reset came {1000 * (told - due):.0f} ms late")
+        if not reads:
+            toxi.ended(number, 0, "closed", range(1, sent), "broken")
         send_until_refused(client)
         client.close()
         server.close()
-        if not reads:
-            toxi.ended(number, 0, "closed", range(1, sent), "broken")
 
 
 @case(1, name="the\nshop")

@@ -265,7 +265,7 @@ fn many_small_reads_are_used_up(rt: HostRuntime) -> Result<(), Fail> {
     let chain = Chain::new();
     let sink = MemorySink::new(alloc, MANY, 16_384, None)?;
     let mut set = Setup::with_sink(alloc, sink)?;
-    let gate = Arc::new(alloc, Open)?;
+    let gate = Arc::new(alloc, OpenGate)?;
     let reader = MemorySource::new(vec![in alloc; 0x61; MANY]?, 1, None);
     let reads = MANY as u64;
     let report = carried(&rt, alloc, &chain, reader, reads, &mut set, &gate)?.expect(
@@ -300,7 +300,7 @@ fn a_writer_that_takes_nothing_resets_the_link(rt: HostRuntime) -> Result<(), Fa
     let alloc = rt.alloc();
     let chain = Chain::new();
     let mut set = Setup::with_sink(alloc, MemorySink::new(alloc, 0, 1, None)?)?;
-    let gate = Arc::new(alloc, Open)?;
+    let gate = Arc::new(alloc, OpenGate)?;
     let reader = MemorySource::new(vec![in alloc; 0x61, 0x62, 0x63]?, 16, None);
     let answer = carried(&rt, alloc, &chain, reader, 10, &mut set, &gate)?;
     assert!(rt; matches!(answer, Err(LinkFault::WriteFault(0))));

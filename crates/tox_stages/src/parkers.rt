@@ -48,9 +48,9 @@ impl Sleeper {
 pub(crate) struct Parkers<'p> {
     /// The thread's own.
     pub(crate) own: &'p Sleeper,
-    /// Of the thread that pushes into the ring before it. Woken after each pop.
+    /// Of the thread that pushes into the ring before it. Woken after a pop, if it waits.
     pub(crate) before: &'p Sleeper,
-    /// Of the thread that pops from the ring behind it. Woken after each push.
+    /// Of the thread that pops from the ring behind it. Woken after a push, if it waits.
     pub(crate) behind: &'p Sleeper,
 }
 
