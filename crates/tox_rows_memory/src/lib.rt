@@ -8,8 +8,6 @@ mod runs;
 #[cfg(test)]
 mod scarcity;
 #[cfg(test)]
-mod served;
-#[cfg(test)]
 mod threads;
 #[cfg(test)]
 mod values;

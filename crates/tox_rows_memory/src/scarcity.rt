@@ -1,4 +1,6 @@
 //! How a test makes requests for memory fail: it takes all that its process can have, and gives a little back.
+ghost use Rattle.std.specs.Prelude.{◌≤◌};
+
 use std::alloc::{AllocError, Global};
 use std::test::Fail;
 
@@ -8,11 +10,8 @@ const BLOCK: usize = 1 << 16;
 /// How many blocks the room has.
 const BLOCKS: usize = 32;
 
-/// The C library gives a block of more than 32 MB back to the system when it is freed.
-const RETURNED: usize = 34_000_000;
-
-/// Room for the stacks of seven threads. The C library keeps the stack of a thread for the next one. With 64 MB or more it would
-/// give each thread a heap of its own.
+/// Room for the stacks of seven threads. The C library gives a freed block of more than 32 MB back to the system, and keeps the
+/// stack of a thread for the next one. With 64 MB or more it would give each thread a heap of its own.
 const STACKS: usize = 60_000_000;
 
 /// How often a call is tried at most.
@@ -64,14 +63,17 @@ fn take_blocks(alloc: Global, size: usize, blocks: &mut Vec<Vec<u8>>) {
     }
 }
 
-/// Takes what memory there is, in ever smaller blocks. The C library keeps freed blocks of up to 1 KB by their sizes.
-fn take_all(alloc: Global, blocks: &mut Vec<Vec<u8>>) {
-    let mut size: usize = 1 << 40;
-    for _ in 0..30 {
+/// Takes what memory there is, in blocks of at most 2^`doublings` KB and ever smaller ones. The C library keeps freed blocks of
+/// up to 1 KB by their sizes.
+fn take_all(alloc: Global, doublings: u32, blocks: &mut Vec<Vec<u8>>)
+    requires { doublings ≤ 30 }
+{
+    let mut size: usize = 1024 << doublings;
+    for _ in 0..doublings {
         take_blocks(alloc, size, blocks);
         size /= 2;
     }
-    for sixteens in (1..128).rev() {
+    for sixteens in (1..=64).rev() {
         take_blocks(alloc, 16 * sixteens, blocks);
     }
 }
@@ -79,51 +81,33 @@ fn take_all(alloc: Global, blocks: &mut Vec<Vec<u8>>) {
 impl Scarcity {
     /// Takes all memory but the room.
     pub fn new(alloc: Global) -> Result<Scarcity, AllocError> {
-        Scarcity::keep(alloc, 0, 0)
+        Scarcity::keep(alloc, 0)
     }
 
-    /// Takes all memory but the room, the stacks of seven threads, and pages for them. Threads that run before the first
-    /// `leave` keep their stacks. The C library gives such a thread whole pages at each request.
+    /// Takes all memory but the room and the stacks of seven threads. Threads that run before the first `leave` keep theirs.
     pub fn with_threads(alloc: Global) -> Result<Scarcity, AllocError> {
-        Scarcity::keep(alloc, STACKS, RETURNED + (1 << 20))
+        Scarcity::keep(alloc, STACKS)
     }
 
-    /// Takes all memory but the room, and blocks of `stacks` and of `pages` bytes that don't lie side by side.
-    fn keep(alloc: Global, stacks: usize, pages: usize) -> Result<Scarcity, AllocError> {
+    /// Takes all memory but the room and a block of `stacks` bytes.
+    fn keep(alloc: Global, stacks: usize) -> Result<Scarcity, AllocError> {
         let mut rest: Vec<Vec<u8>> = Vec::with_capacity(alloc, MAX_BLOCKS)?;
         let mut room: Vec<Vec<u8>> = Vec::with_capacity(alloc, MAX_BLOCKS)?;
         for _ in 0..BLOCKS {
             room.push(Vec::with_capacity(alloc, BLOCK)?)?;
         }
         room.push(Vec::with_capacity(alloc, stacks)?)?;
-        rest.push(Vec::with_capacity(alloc, RETURNED)?)?;
-        room.push(Vec::with_capacity(alloc, pages)?)?;
-        take_all(alloc, &mut rest);
+        take_all(alloc, 30, &mut rest);
         room.clear();
         Ok(Scarcity { rest, room })
     }
 
     /// Takes the room too, but for about `bytes` bytes that lie side by side.
     pub fn leave(&mut self, alloc: Global, bytes: usize) -> Result<(), AllocError> {
-        self.leave_behind(alloc, SPLITTABLE, bytes)
-    }
-
-    /// Takes the room too, but for so many pages that other threads can have.
-    pub fn leave_pages(&mut self, alloc: Global, pages: usize) -> Result<(), AllocError> {
-        self.leave_behind(alloc, RETURNED, pages.saturating_mul(4096))
-    }
-
-    /// Takes the room too, but for the last `bytes` bytes of a block that has `front` bytes more.
-    fn leave_behind(
-        &mut self,
-        alloc: Global,
-        front: usize,
-        bytes: usize,
-    ) -> Result<(), AllocError> {
-        let block: Vec<u8> = Vec::with_capacity(alloc, bytes.saturating_add(front))?;
-        take_all(alloc, &mut self.room);
+        let block: Vec<u8> = Vec::with_capacity(alloc, bytes.saturating_add(SPLITTABLE))?;
+        take_all(alloc, 16, &mut self.room);
         drop(block);
-        self.room.push(Vec::with_capacity(alloc, front)?)?;
+        self.room.push(Vec::with_capacity(alloc, SPLITTABLE)?)?;
         Ok(())
     }
 

@@ -299,20 +299,8 @@ fn link_all<R: Threads + Wait + Copy + Send + 'static>(
 #[test]
 fn a_link_is_refused_its_thread(rt: HostRuntime) -> Result<(), Fail> {
     let alloc = rt.alloc();
-    let refusals = link_all(&rt, Scarcity::with_threads(alloc)?, alloc, 2000)?;
+    let refusals = link_all(&rt, Scarcity::with_threads(alloc)?, alloc, 1500)?;
     eprintln!(rt; "{refusals:?}")?;
     assert!(rt; !refusals.is_answered && 0 < refusals.memory && 0 < refusals.threads);
-    Ok(())
-}
-
-#[test]
-fn a_link_is_refused_memory(rt: HostRuntime) -> Result<(), Fail> {
-    let alloc = rt.alloc();
-    let arrivals = Arrivals::new(alloc);
-    let scarcity = Scarcity::with_threads(alloc)?;
-    keep_stacks(&rt, alloc, "latency:latency=1", &arrivals)?;
-    let refusals = link_all(&rt, scarcity, alloc, 4000)?;
-    eprintln!(rt; "{refusals:?}")?;
-    assert!(rt; refusals.is_answered && 0 < refusals.memory);
     Ok(())
 }
