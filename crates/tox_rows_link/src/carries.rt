@@ -15,7 +15,7 @@ use tox_time::{Ending, Gate, MemorySink, MemorySource, Micros, OpenGate, Slice, 
 use tox_words::Words;
 
 /// How many reads of one byte a long link takes.
-const MANY: usize = 65_536;
+const MANY: usize = 1_048_576;
 
 /// What a link is carried with: a clock at 0, a writer and a hangup that look at it, and notes.
 #[derive(Drop)]
@@ -271,7 +271,7 @@ fn many_small_reads_are_used_up(rt: HostRuntime) -> Result<(), Fail> {
     let report = carried(&rt, alloc, &chain, reader, reads, &mut set, &gate)?.expect(
         &rt, "no fault",
     );
-    assert_eq!(rt; (report.taken, report.written), (65_536, 65_536));
+    assert_eq!(rt; (report.taken, report.written), (1_048_576, 1_048_576));
     assert_eq!(rt; report.ending, Ending::Closed(at(0)));
     assert_eq!(rt; report.source, SourceEnding::ReadsUsedUp);
     Ok(())
