@@ -198,16 +198,20 @@ static void receive(int port, long bytes) {
     close(link);
 }
 
-/* how late each unit of bytes comes, of one that is due every `micros`, behind the one that comes earliest */
-static void paced(int port, long units, long size, long micros) {
+/* how late each part of a transfer comes, at so many nanoseconds a byte, behind the part that comes earliest */
+static void paced(int port, long bytes, long nanoseconds) {
     int link = connect_to(port);
-    double *late = malloc(units * sizeof *late);
-    for (long i = 0; i < units; i++) {
-        if (!receive_pattern(link, i * size, size)) fail("paced");
-        late[i] = now() * 1e6 - i * micros;
+    double *late = malloc(bytes * sizeof *late);
+    unsigned char block[BLOCK];
+    long parts = 0;
+    for (long came = 0; came < bytes; parts++) {
+        ssize_t got = recv(link, block, sizeof block, 0);
+        if (got <= 0 || memcmp(block, pattern + came % PERIOD, got)) fail("paced");
+        came += got;
+        late[parts] = now() * 1e6 - came * (nanoseconds / 1e3);
     }
-    qsort(late, units, sizeof *late, by_time);
-    printf("%.0f %.0f %.0f\n", late[units / 2] - late[0], late[units * 99 / 100] - late[0], late[units - 1] - late[0]);
+    qsort(late, parts, sizeof *late, by_time);
+    printf("%ld %.0f %.0f %.0f\n", parts, late[parts / 2] - late[0], late[parts * 99 / 100] - late[0], late[parts - 1] - late[0]);
     close(link);
 }
 
@@ -264,7 +268,7 @@ int main(int count, char **words) {
         printf("%.3f\n", now() - start);
     } else if (!strcmp(what, "ping")) ping(n[0], n[1]);
     else if (!strcmp(what, "receive")) receive(n[0], n[1]);
-    else if (!strcmp(what, "paced")) paced(n[0], n[1], n[2], n[3]);
+    else if (!strcmp(what, "paced")) paced(n[0], n[1], n[2]);
     else if (!strcmp(what, "hold")) hold(n[0], n[1], n[2]);
     else if (!strcmp(what, "many")) many(n[0], n[1], n[2], n[3]);
     else if (!strcmp(what, "series")) series(n[0], n[1], n[2]);
