@@ -1,5 +1,5 @@
 //! The stage network, windows, cores and plans, with too little memory.
-use crate::scarcity::{MOST_TRIES, Scarcity, Tried, answer_of, refusals};
+use crate::scarcity::{MAX_TRIES, Scarcity, Tried, answer_of, refusals};
 use std::alloc::{AllocError, Global};
 use std::test::Fail;
 use tox_compile::compile;
@@ -93,7 +93,7 @@ fn a_settled_network_is_refused_memory(rt: HostRuntime) -> Result<(), Fail> {
     let expected = [1000, 1000, 2000, 2000, 3000, 3000];
     let mut scarcity = Scarcity::new(alloc)?;
     let mut refused = 0;
-    for tries in 0..MOST_TRIES {
+    for tries in 0..MAX_TRIES {
         let network = Network::new(alloc, &chain, &words, &arrivals, 2)?;
         let answer = settle(&mut scarcity, alloc, 16 * tries, network, &expected)?;
         if answer.is_last()? {

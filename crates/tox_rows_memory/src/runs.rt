@@ -1,5 +1,5 @@
 //! Runs and picks, from text to text, with too little memory.
-use crate::scarcity::{MOST_TRIES, Scarcity, Tried, answer_of};
+use crate::scarcity::{MAX_TRIES, Scarcity, Tried, answer_of};
 use std::alloc::Global;
 use std::test::Fail;
 use tox_config::{ProxyDef, read_populate};
@@ -68,7 +68,7 @@ fn a_dry_run_is_refused_memory(rt: HostRuntime) -> Result<(), Fail> {
     let chain = chain_of("latency:latency=1").expect(&rt, "a short form");
     let mut scarcity = Scarcity::new(alloc)?;
     let mut refused = 0;
-    for tries in 0..MOST_TRIES {
+    for tries in 0..MAX_TRIES {
         if run(&mut scarcity, alloc, 16 * tries, &chain, &words)?.is_last()? {
             refused = tries;
             break;
@@ -103,7 +103,7 @@ fn a_pick_is_refused_memory(rt: HostRuntime) -> Result<(), Fail> {
     let script = read_script(alloc, SCRIPT.as_bytes())?;
     let mut scarcity = Scarcity::new(alloc)?;
     let mut refused = 0;
-    for tries in 0..MOST_TRIES {
+    for tries in 0..MAX_TRIES {
         if pick(&mut scarcity, alloc, 16 * tries, proxy, &script)?.is_last()? {
             refused = tries;
             break;

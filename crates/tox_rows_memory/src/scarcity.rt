@@ -15,7 +15,7 @@ const BLOCKS: usize = 32;
 const STACKS: usize = 60_000_000;
 
 /// How often a call is tried at most.
-pub const MOST_TRIES: usize = 16_384;
+pub const MAX_TRIES: usize = 16_384;
 
 /// More blocks than memory is made of.
 const MAX_BLOCKS: usize = 20_000;
@@ -131,7 +131,7 @@ pub fn refusals<Call: Fn() -> Tried + Drop>(alloc: Global, call: Call) -> Result
     requires { Call.IsAlwaysCallable call }
 {
     let mut scarcity = Scarcity::new(alloc)?;
-    for refused in 0..MOST_TRIES {
+    for refused in 0..MAX_TRIES {
         scarcity.leave(alloc, 16 * refused)?;
         let answer = call();
         scarcity.end();

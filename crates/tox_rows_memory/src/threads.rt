@@ -16,7 +16,7 @@ use tox_time::{Arrivals, Ending, Gate, MemorySink, MemorySource, Micros};
 use tox_words::Words;
 
 /// More steps of 16 bytes than rings and an outcome of two bytes need.
-const MOST_STEPS: usize = 300;
+const MAX_STEPS: usize = 300;
 
 /// How often a run was refused memory, and a thread.
 #[derive(Clone, Copy, Debug, PartialEq, Eq)]
@@ -108,7 +108,7 @@ fn run_all<R: Threads + Wait + Sync>(
     arrivals: &Arrivals,
 ) -> Result<Refusals, Fail> {
     let mut refusals = Refusals::new();
-    for step in 0..MOST_STEPS {
+    for step in 0..MAX_STEPS {
         let answer = run(
             rt,
             &mut scarcity,
