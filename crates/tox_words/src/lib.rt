@@ -1,12 +1,16 @@
 //! Tables of random words, from which toxics draw.
 #![tactic(auto)]
 
+mod drawing;
 mod fault;
+mod lanes;
 mod seed;
 #[cfg(test)]
 mod tests;
 mod text;
 mod words;
 
+pub use drawing::Drawing;
 pub use fault::WordsFault;
+pub use lanes::Lanes;
 pub use words::{MAX_CONNECTIONS, MAX_WORDS, Words};

@@ -1,5 +1,5 @@
 //! Worked word tables and draws.
-use crate::{MAX_WORDS, Words, WordsFault};
+use crate::{Drawing, Lanes, MAX_WORDS, Words, WordsFault};
 use std::alloc::{AllocError, Global};
 use std::test::Fail;
 use tox_time::Stream;
@@ -77,5 +77,7 @@ fn lanes_take_turns(rt: HostRuntime) -> Result<(), Fail> {
     for (lane, j, word) in cases {
         assert_eq!(rt; words.draw(lane, j), word, "lane {lane}, word {j}");
     }
+    assert_eq!(rt; words.draw_in(Lanes::ThirtyTwo, 0, 1), 30);
+    assert_eq!(rt; Drawing::new(Lanes::ThirtyTwo, &words).draw(1, 1), 10);
     Ok(())
 }

@@ -1,6 +1,6 @@
 //! Word tables, and the words that lanes draw from them.
 ghost use Rattle.std.specs.Prelude.{◌≡◌, ◌≢◌, ◌<◌, ◌≤◌, ◌+◌, ◌*◌, ◌%◌, IfOk, IfErr, IsOk, IsOkUnless, length};
-ghost use Rattle.tox_words.specs.Draw.{draw};
+ghost use Rattle.tox_words.specs.Draw.{draw, draw_in, lane_count};
 ghost use Rattle.tox_words.specs.Seeded.{seeded_words};
 ghost use Rattle.tox_words.specs.Table.{IsWordTable, max_words, table_of};
 ghost use Rattle.tox_words.specs.WordsText.{table_of_text};
@@ -8,6 +8,7 @@ ghost use Rattle.tox_words.specs.declared.words.TheConstants.{MAX_CONNECTIONS};
 ghost use Rattle.tox_words.specs.declared.fault.WordsFault.TheVariants.{OutOfMemory};
 
 use crate::fault::WordsFault;
+use crate::lanes::Lanes;
 use crate::seed::seeded_words;
 use crate::text::{bad_place, count_parts, words_of};
 use std::alloc::Global;
@@ -20,8 +21,8 @@ pub const MAX_WORDS: usize = 4096;
 /// The most connections of a proxy, which number from 1.
 pub const MAX_CONNECTIONS: u64 = 1_000_000;
 
-/// The lanes that share a table.
-const LANES: usize = 16;
+/// The most lanes that share a table.
+const MAX_LANES: usize = 32;
 
 /// A table of 1 to [`MAX_WORDS`] words of 32 bits.
 #[derive(Debug, Drop)]
@@ -113,24 +114,32 @@ impl Words {
         self.words.len()
     }
 
-    /// The `j`-th word of a lane, both from 0. The 16 lanes take turns at the table, round and
-    /// round. Total: any lane, any turn.
+    /// The `j`-th word of a lane of 16, both from 0.
     pub fn draw(&self, lane: usize, j: u64) -> u32
         ensures { result ≡ draw self.now lane j }
     {
-        self.words[place_of(lane, j, self.len())]
+        self.draw_in(Lanes::Sixteen, lane, j)
+    }
+
+    /// The `j`-th word of a lane, both from 0. The lanes take turns at the table, round and round. Total: any lane,
+    /// any turn.
+    pub fn draw_in(&self, lanes: Lanes, lane: usize, j: u64) -> u32
+        ensures { result ≡ draw_in lanes self.now lane j }
+    {
+        self.words[place_of(lanes, lane, j, self.len())]
     }
 }
 
 /// The index of the `j`-th word of a lane in a table of `len` words. The common case costs one division.
-fn place_of(lane: usize, j: u64, len: usize) -> usize
+fn place_of(lanes: Lanes, lane: usize, j: u64, len: usize) -> usize
     requires some { 0 < len }
     requires most { len ≤ max_words }
-    ensures { result ≡ (lane + 16 * j) % len }
+    ensures { result ≡ (lane + lane_count lanes * j) % len }
 {
-    if lane < LANES && j < u64::MAX / LANES as u64 {
-        return ((lane as u64 + LANES as u64 * j) % len as u64) as usize;
+    let count = lanes.count();
+    if lane < MAX_LANES && j < u64::MAX / MAX_LANES as u64 {
+        return ((lane as u64 + count as u64 * j) % len as u64) as usize;
     }
     let turn = (j % len as u64) as usize;
-    (lane % len + LANES * turn) % len
+    (lane % len + count * turn) % len
 }
