@@ -4,14 +4,14 @@ use Rattle.std.specs.Prelude.{All, nat_lt}
 use Rattle.std.proofs.lemmas.List.Elements.{All-nil, All-cons, All-head, All-tail}
 use Rattle.tox_time.specs.declared.item.Item.{Item}
 use Rattle.tox_time.specs.Stream.{IsStream}
-use Rattle.tox_words.specs.Draw.{draw}
+use Rattle.tox_words.specs.Draw.{Draws}
 use Rattle.tox_defs.specs.declared.chain.Entry.{Entry}
 use Rattle.tox_defs.specs.declared.toxic.Toxic.{Toxic}
 use Rattle.tox_defs.specs.Toxic.{IsInRange}
 use Rattle.tox_defs.specs.Chain.{Toxics, IsEntry, IsChain}
 use Rattle.tox_defs.specs.Reaction.{flow_through}
 use Rattle.tox_defs.specs.declared.applied.Placed.{Placed}
-use Rattle.tox_defs.specs.Flow.{toxic_reaction, applied_from, applied, chain_flow}
+use Rattle.tox_defs.specs.Flow.{toxic_reaction, applied_from, applied, chain_draws, chain_flow}
 use Rattle.tox_defs.specs.Laws.{toxic_flow, IsKeptBy, KeepsStreams}
 use Rattle.tox_defs.proofs.ToxicStreams.{IsStream-toxic_flow}
 use Rattle.tox_defs.proofs.Passing.{arrived-toxic_flow}
@@ -21,29 +21,29 @@ applied_by : (met : Bool) (place : ℕ) (entry : Entry) (others : List Placed) �
 applied_by true place entry others fits rest = All-cons (λ placed. IsInRange placed.toxic) (record { place = place; toxic = entry.toxic }) others fits rest
 applied_by false place entry others fits rest = rest
 
-in_range-applied_from : (place : ℕ) (entries : List Entry) (words : List ℕ) → All IsEntry entries → All (λ placed. IsInRange placed.toxic) (applied_from place entries words)
-in_range-applied_from place [] words fits = All-nil (λ placed. IsInRange placed.toxic)
-in_range-applied_from place (entry ∷ entries) words fits =
+in_range-applied_from : (place : ℕ) (entries : List Entry) (draws : Draws) → All IsEntry entries → All (λ placed. IsInRange placed.toxic) (applied_from place entries draws)
+in_range-applied_from place [] draws fits = All-nil (λ placed. IsInRange placed.toxic)
+in_range-applied_from place (entry ∷ entries) draws fits =
     let first : IsEntry entry = All-head IsEntry entry entries fits in
-    applied_by (nat_lt (draw words place 0 % 1000) entry.toxicity) place entry (applied_from (place + 1) entries words) first.0
-    (in_range-applied_from (place + 1) entries words (All-tail IsEntry entry entries fits))
+    applied_by (nat_lt (draws place 0 % 1000) entry.toxicity) place entry (applied_from (place + 1) entries draws) first.0
+    (in_range-applied_from (place + 1) entries draws (All-tail IsEntry entry entries fits))
 
 -- the applied toxics of a chain are in range
 pub in_range-applied : (chain : Toxics) (words : List ℕ) → IsChain chain → All (λ placed. IsInRange placed.toxic) (applied chain words)
-in_range-applied chain words fits = in_range-applied_from 0 chain.entries words fits.entries_fit
+in_range-applied chain words fits = in_range-applied_from 0 chain.entries (chain_draws chain words) fits.entries_fit
 
 pub toxic_keeps : (toxic : Toxic) → IsInRange toxic → KeepsStreams toxic
 toxic_keeps toxic fits words items stream =
     record { stream = IsStream-toxic_flow toxic words items fits stream; bytes = arrived-toxic_flow toxic words items }
 
 -- toxics, one after the other
-pub kept_by_toxics : (toxics : List Placed) (words : List ℕ) (items : List Item) → All (λ placed. IsInRange placed.toxic) toxics → IsStream items
-    → IsKeptBy items (flow_through (map (λ placed. toxic_reaction placed.toxic (draw words placed.place)) toxics) items)
-kept_by_toxics [] words items fit stream = record { stream = stream; bytes = omega arith }
-kept_by_toxics (placed ∷ toxics) words items fit stream =
-    let first = toxic_keeps placed.toxic (All-head (λ placed. IsInRange placed.toxic) placed toxics fit) (draw words placed.place) items stream in
-    let others = kept_by_toxics toxics words (toxic_flow placed.toxic (draw words placed.place) items) (All-tail (λ placed. IsInRange placed.toxic) placed toxics fit) first.stream in
+pub kept_by_toxics : (toxics : List Placed) (draws : Draws) (items : List Item) → All (λ placed. IsInRange placed.toxic) toxics → IsStream items
+    → IsKeptBy items (flow_through (map (λ placed. toxic_reaction placed.toxic (draws placed.place)) toxics) items)
+kept_by_toxics [] draws items fit stream = record { stream = stream; bytes = omega arith }
+kept_by_toxics (placed ∷ toxics) draws items fit stream =
+    let first = toxic_keeps placed.toxic (All-head (λ placed. IsInRange placed.toxic) placed toxics fit) (draws placed.place) items stream in
+    let others = kept_by_toxics toxics draws (toxic_flow placed.toxic (draws placed.place) items) (All-tail (λ placed. IsInRange placed.toxic) placed toxics fit) first.stream in
     record { stream = others.stream; bytes = omega (arith, first.bytes, others.bytes) }
 
 pub kept_by_chain : (chain : Toxics) (words : List ℕ) (items : List Item) → IsChain chain → IsStream items → IsKeptBy items (chain_flow chain words items)
-kept_by_chain chain words items fits stream = kept_by_toxics (applied chain words) words items (in_range-applied chain words fits) stream
+kept_by_chain chain words items fits stream = kept_by_toxics (applied chain words) (chain_draws chain words) items (in_range-applied chain words fits) stream

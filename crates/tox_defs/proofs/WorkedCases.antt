@@ -5,6 +5,7 @@ use Rattle.tox_time.specs.declared.item.Item.TheVariants.{Chunk, Closed, Quiet}
 use Rattle.tox_time.specs.declared.ending.Ending.{Ending}
 use Rattle.tox_time.specs.declared.ending.Ending.TheVariants.{StillOpen, Closed as ClosedAt, Reset as ResetAt}
 use Rattle.tox_time.specs.Table.{table, ending}
+use Rattle.tox_words.specs.declared.lanes.Lanes.TheVariants.{Sixteen}
 use Rattle.tox_defs.specs.declared.toxic.Toxic.{Toxic}
 use Rattle.tox_defs.specs.declared.chain.Entry.{Entry}
 use Rattle.tox_defs.specs.declared.toxic.Toxic.TheVariants.{Latency, Bandwidth, SlowClose, Timeout, ResetPeer, Slicer, LimitData}
@@ -22,7 +23,7 @@ always (toxic ∷ toxics) = record { toxic = toxic; toxicity = 1000 } ∷ always
 -- what the chain gives has this table and this ending
 abbrev Gives : List Entry → List ℕ → List Item → List ℕ → Ending → Type 0
 Gives entries words items instants end =
-    (table (chain_flow (record { entries = entries }) words items) ≡ instants) × (ending (chain_flow (record { entries = entries }) words items) ≡ end)
+    (table (chain_flow (record { lanes = Sixteen; entries = entries }) words items) ≡ instants) × (ending (chain_flow (record { lanes = Sixteen; entries = entries }) words items) ≡ end)
 
 no_toxic : Gives [] (0 ∷ []) (chunk 0 3 0 ∷ Closed 5 ∷ []) (0 ∷ 0 ∷ 0 ∷ []) (ClosedAt 5)
 no_toxic = (refl, refl)

@@ -3,7 +3,7 @@ use Rattle.tox_defs.specs.declared.chain.Chain.TheInside.{Inside}
 use Rattle.tox_defs.specs.Chain.{Toxics, IsChain}
 
 abbrev pub toxics : Inside → Toxics
-toxics chain = record { entries = chain.entries.items }
+toxics chain = record { lanes = chain.lanes; entries = chain.entries.items }
 
 abbrev pub IsKept : Inside → Type 0
 IsKept chain = IsChain (toxics chain)

@@ -3,7 +3,8 @@ use Rattle.std.specs.Prelude.{ℕ, ◌+◌, ◌*◌, ◌<◌, List, [], ◌∷�
 use Rattle.tox_time.specs.declared.item.Item.{Item}
 use Rattle.tox_time.specs.Time.{micros_of}
 use Rattle.tox_time.specs.Table.{final_of}
-use Rattle.tox_words.specs.Draw.{draw}
+use Rattle.tox_words.specs.declared.lanes.Lanes.{Lanes}
+use Rattle.tox_words.specs.Draw.{Draws, draw_in, lane_count}
 use Rattle.tox_defs.specs.declared.toxic.Toxic.{Toxic}
 use Rattle.tox_defs.specs.declared.toxic.Toxic.TheVariants.{Latency, Bandwidth, SlowClose, Timeout, ResetPeer, Slicer, LimitData}
 use Rattle.tox_defs.specs.declared.applied.Placed.{Placed}
@@ -43,29 +44,33 @@ toxic_until toxic = 0
 abbrev pub toxic_reaction : Toxic → (ℕ → ℕ) → Reaction
 toxic_reaction toxic words = until (toxic_until toxic) (counted (toxic_giving toxic words))
 
--- attributes in their ranges, and a place that a chain has
-abbrev pub IsPlaced : Placed → Type 0
-IsPlaced placed = IsInRange placed.toxic × (placed.place < 16)
+-- attributes in their ranges, and a place that a chain of so many lanes has
+abbrev pub IsPlaced : Lanes → Placed → Type 0
+IsPlaced lanes placed = IsInRange placed.toxic × (placed.place < lane_count lanes)
 
 -- the toxics that a link meets, of those from a place on
-abbrev pub applied_from : ℕ → List Entry → List ℕ → List Placed
-applied_from place [] words = []
-applied_from place (entry ∷ entries) words =
-    if is_applied entry place words
-    then record { place = place; toxic = entry.toxic } ∷ applied_from (place + 1) entries words
-    else applied_from (place + 1) entries words
+abbrev pub applied_from : ℕ → List Entry → Draws → List Placed
+applied_from place [] draws = []
+applied_from place (entry ∷ entries) draws =
+    if is_applied entry place draws
+    then record { place = place; toxic = entry.toxic } ∷ applied_from (place + 1) entries draws
+    else applied_from (place + 1) entries draws
+
+-- what the toxics of a chain draw from these words
+abbrev pub chain_draws : Toxics → List ℕ → Draws
+chain_draws chain words = draw_in chain.lanes words
 
 -- the applied toxics of a chain, each with its place
 abbrev pub applied : Toxics → List ℕ → List Placed
-applied chain words = applied_from 0 chain.entries words
+applied chain words = applied_from 0 chain.entries (chain_draws chain words)
 
--- the reaction of an applied toxic, on a link with these words
-abbrev pub placed_reaction : List ℕ → Placed → Reaction
-placed_reaction words placed = toxic_reaction placed.toxic (draw words placed.place)
+-- the reaction of an applied toxic, on a link that draws these words
+abbrev pub placed_reaction : Draws → Placed → Reaction
+placed_reaction draws placed = toxic_reaction placed.toxic (draws placed.place)
 
 -- the reactions of the applied toxics, in order
 abbrev pub reactions_of : Toxics → List ℕ → List Reaction
-reactions_of chain words = map (placed_reaction words) (applied chain words)
+reactions_of chain words = map (placed_reaction (chain_draws chain words)) (applied chain words)
 
 -- the flow of a chain
 abbrev pub chain_flow : Toxics → List ℕ → List Item → List Item

@@ -1,7 +1,7 @@
 -- A stage as a value: a toxic's operation with its state after the whole reaction, and what is still to emit of that.
-use Rattle.std.specs.Prelude.{◌≡◌, ℕ, List, [], ◌∷◌, Option, None, Some}
+use Rattle.std.specs.Prelude.{◌≡◌, List, [], ◌∷◌, Option, None, Some}
 use Rattle.tox_time.specs.declared.item.Item.{Item}
-use Rattle.tox_words.specs.Draw.{draw}
+use Rattle.tox_words.specs.Draw.{DrawingView, draws_of}
 use Rattle.tox_defs.specs.declared.op.Op.{Op}
 use Rattle.tox_defs.specs.declared.state.State.{State}
 use Rattle.tox_defs.specs.declared.position.StreamPosition.{StreamPosition}
@@ -12,25 +12,25 @@ use Rattle.tox_defs.specs.StreamPosition.{first_position, position_after}
 -- what a stage is seen as
 pub record Staged : Type 0 where
   pub op : Op
-  pub words : List ℕ
+  pub drawing : DrawingView
   pub state : State
   pub pending : List Item
   pub place : StreamPosition
 
 -- a stage that was given nothing yet
-abbrev pub first_stage : Op → List ℕ → Staged
-first_stage op words =
-    record { op = op; words = words; state = first_state; pending = []; place = first_position }
+abbrev pub first_stage : Op → DrawingView → Staged
+first_stage op drawing =
+    record { op = op; drawing = drawing; state = first_state; pending = []; place = first_position }
 
 -- how a stage reacts to an item
 abbrev pub reaction_of : Staged → Reaction
-reaction_of stage = op_reaction stage.op (draw stage.words)
+reaction_of stage = op_reaction stage.op (draws_of stage.drawing)
 
 -- the stage that took an item: it has the state after the reaction, and the whole reaction to emit
 abbrev pub taken : Staged → Item → Staged
 taken stage item = record {
   op = stage.op;
-  words = stage.words;
+  drawing = stage.drawing;
   state = (react (reaction_of stage) stage.state item).state;
   pending = (react (reaction_of stage) stage.state item).given;
   place = position_after stage.place item;

@@ -1,6 +1,6 @@
 -- What a contract sees of a `Stage`, and what its fields keep.
 use Rattle.std.specs.Prelude.{◌≡◌, ℕ, ◌^◌, ◌<◌, ◌≤◌, None, false, []}
-use Rattle.tox_words.specs.Draw.{draw}
+use Rattle.tox_words.specs.Draw.{draws_of}
 use Rattle.tox_defs.specs.declared.stage.Stage.TheInside.{Inside}
 use Rattle.tox_defs.specs.declared.state.State.{State}
 use Rattle.tox_defs.specs.Op.{IsOp, is_mute}
@@ -10,9 +10,9 @@ use Rattle.tox_defs.specs.Stage.{Staged}
 abbrev pub staged : Inside → Staged
 staged stage = record {
   op = stage.level.op;
-  words = stage.words.now;
-  state = level_leaves (draw stage.words.now) stage.start stage.level;
-  pending = level_gives (draw stage.words.now) stage.start stage.level [];
+  drawing = stage.drawing;
+  state = level_leaves (draws_of stage.drawing) stage.start stage.level;
+  pending = level_gives (draws_of stage.drawing) stage.start stage.level [];
   place = stage.place;
 }
 

@@ -6,7 +6,7 @@ ghost use Rattle.tox_defs.specs.Flow.{IsPlaced, applied};
 use crate::chain::{Chain, MAX_TOXICS};
 use crate::toxic::Toxic;
 use arrayvec::ArrayVec;
-use tox_words::Words;
+use tox_words::{Drawing, Words};
 
 /// A toxic that a link meets, with its place in the chain as written.
 #[derive(Clone, Copy, Debug, PartialEq, Eq)]
@@ -38,12 +38,13 @@ impl Chain {
     /// The toxics that a link with these words meets, in order.
     pub fn applied(&self, words: &Words) -> ArrayVec<Placed, MAX_TOXICS>
         ensures value { result.items ≡ applied self.now words.now }
-        ensures placed { All IsPlaced result.items }
+        ensures placed { All (IsPlaced self.now.lanes) result.items }
         ensures chain { IsChain self.now }
     {
+        let drawing = Drawing::new(self.lanes(), words);
         let mut met = ArrayVec::new();
         for (place, entry) in self.entries().iter().enumerate() {
-            if entry.is_applied(place, words) {
+            if entry.is_applied(place, &drawing) {
                 met.push(Placed {
                     place,
                     toxic: entry.toxic,

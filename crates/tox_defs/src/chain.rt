@@ -1,15 +1,17 @@
 //! Chains: the toxics of one stream of a link, each with its toxicity.
-ghost use Rattle.std.specs.Prelude.{◌≡◌, ℕ, ◌+◌, ◌<◌, ◌≤◌, ◌↔◌, List, [], ◌∷◌, ◌++◌, length, slice_get, Some, IsTrue, IsOk, OnOk, OnErr, IsSomeAnd};
+ghost use Rattle.std.specs.Prelude.{◌≡◌, ℕ, ◌+◌, ◌<◌, ◌≤◌, ◌↔◌, List, [], ◌∷◌, ◌++◌, length, nat_le, slice_get, Some, IsTrue, IsOk, OnOk, OnErr, IsSomeAnd};
+ghost use Rattle.tox_words.specs.declared.lanes.Lanes.TheVariants.{Sixteen};
+ghost use Rattle.tox_words.specs.Draw.{draws_of, lane_count};
 ghost use Rattle.tox_defs.specs.Applied.{is_applied};
 
 use crate::fault::TooManyToxics;
 use crate::toxic::Toxic;
 use arrayvec::ArrayVec;
 use std::marker::Model;
-use tox_words::Words;
+use tox_words::{Drawing, Lanes};
 
 /// The most toxics of a chain.
-pub const MAX_TOXICS: usize = 16;
+pub const MAX_TOXICS: usize = 32;
 
 /// A toxic of a chain.
 #[derive(Clone, Copy, Debug, PartialEq, Eq)]
@@ -20,12 +22,12 @@ pub struct Entry {
 }
 
 impl Entry {
-    /// Whether a link with these words meets the toxic at this place of its chain: the first word of the place's
+    /// Whether a link that draws these words meets the toxic at this place of its chain: the first word of the place's
     /// lane, modulo 1000, is below the toxicity.
-    pub fn is_applied(&self, place: usize, words: &Words) -> bool
-        ensures { result ≡ is_applied self.now place words.now }
+    pub fn is_applied(&self, place: usize, drawing: &Drawing<'_>) -> bool
+        ensures { result ≡ is_applied self.now place (draws_of drawing.now) }
     {
-        words.draw(place, 0) % 1000 < u32::from(self.toxicity)
+        drawing.draw(place, 0) % 1000 < u32::from(self.toxicity)
     }
 }
 
@@ -48,9 +50,10 @@ impl Default for Entry {
     }
 }
 
-/// The toxics of one stream of a link, in order, each with its toxicity: at most [`MAX_TOXICS`].
+/// The toxics of one stream of a link, in order, each with its toxicity: at most one for each lane.
 #[derive(Drop)]
 pub struct Chain {
+    lanes: Lanes,
     entries: ArrayVec<Entry, MAX_TOXICS>,
 }
 
@@ -68,38 +71,61 @@ impl Model for Chain {
 
 impl Chain {
     ghost use Rattle.tox_defs.specs.Toxic.{IsInRange};
-    ghost use Rattle.tox_defs.specs.Chain.{IsChain, max_toxics};
+    ghost use Rattle.tox_defs.specs.Chain.{IsChain};
     ghost use Rattle.tox_defs.specs.Flow.{chain_flow};
     ghost use Rattle.tox_defs.specs.Laws.{IsKeptBy};
     ghost use Rattle.tox_time.specs.declared.item.Item.{Item as OneItem};
     ghost use Rattle.tox_time.specs.Stream.{IsStream, arrived};
 
-    /// The empty chain, which changes nothing.
+    /// The empty chain of 16 lanes, which changes nothing.
     pub fn new() -> Chain
-        ensures { result ≡ record { entries = [] } }
+        ensures { result ≡ record { lanes = Sixteen; entries = [] } }
+    {
+        Chain::with_lanes(Lanes::Sixteen)
+    }
+
+    /// The empty chain of so many lanes.
+    pub fn with_lanes(lanes: Lanes) -> Chain
+        ensures { result ≡ record { lanes = lanes; entries = [] } }
     {
         Chain {
+            lanes,
             entries: ArrayVec::new(),
         }
+    }
+
+    /// The lanes that the toxics draw from, one for each place.
+    pub fn lanes(&self) -> Lanes
+        ensures { result ≡ self.now.lanes }
+    {
+        self.lanes
     }
 
     /// Adds a toxic behind the others. A refusal leaves the chain unchanged.
     pub fn push(&mut self, toxic: Toxic, toxicity: u16) -> Result<(), TooManyToxics>
         requires in_range { IsInRange toxic }
         requires thousandths { toxicity ≤ 1000 }
-        ensures room { IsOk result ↔ (length self.old.entries < max_toxics) }
+        ensures room { IsOk result ↔ (length self.old.entries < lane_count self.old.lanes) }
         ensures ok { OnOk result (self.new.entries
             ≡ self.old.entries ++ record { toxic = toxic; toxicity = toxicity } ∷ []) }
+        ensures kept { self.new.lanes ≡ self.old.lanes }
         ensures err { OnErr result (self.new ≡ self.old) }
     {
-        if self.entries.is_full() {
+        if self.is_full() {
             return Err(TooManyToxics);
         }
         self.entries.push(Entry { toxic, toxicity });
         Ok(())
     }
 
-    /// How many toxics there are, 0 to [`MAX_TOXICS`].
+    /// Whether each lane has its toxic.
+    pub fn is_full(&self) -> bool
+        ensures { result ≡ nat_le (lane_count self.now.lanes) (length self.now.entries) }
+    {
+        self.len() >= self.lanes.count()
+    }
+
+    /// How many toxics there are, 0 to the number of lanes.
     pub fn len(&self) -> usize
         ensures value { result ≡ length self.now.entries }
         ensures chain { IsChain self.now }

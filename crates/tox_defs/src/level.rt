@@ -1,6 +1,6 @@
 //! One operation of a plan at work on its present chunk.
 ghost use Rattle.std.specs.Prelude.{◌≡◌, ◌<◌, None, false};
-ghost use Rattle.tox_words.specs.Draw.{draw};
+ghost use Rattle.tox_words.specs.Draw.{draws_of};
 ghost use Rattle.tox_defs.specs.Op.{is_mute};
 ghost use Rattle.tox_defs.specs.Level.{IsSound, MatchEmission, first_level};
 
@@ -8,7 +8,7 @@ use crate::look::Look;
 use crate::op::Op;
 use crate::state::State;
 use tox_time::{Ending, Micros, Slice, Span};
-use tox_words::Words;
+use tox_words::Drawing;
 
 /// An operation at work: its state, where its present chunk stops and that chunk's instant, and the ending that
 /// it found, if any. A last piece may still leave before that ending.
@@ -44,12 +44,12 @@ impl Level {
     /// The next piece of the present chunk, whose unread bytes are `start..stop`, or the ending if no piece comes
     /// before it. A found ending is kept in `ending`.
     #[inline(always)]
-    pub fn advance(&mut self, start: u64, words: &Words) -> Emission
+    pub fn advance(&mut self, start: u64, drawing: &Drawing<'_>) -> Emission
         requires some { start < self.old.stop }
         requires heard { is_mute self.old.op ≡ false }
         requires open { self.old.ending ≡ None }
         requires sound { IsSound start self.old }
-        ensures { MatchEmission (draw words.now) start self.old self.new result }
+        ensures { MatchEmission (draws_of drawing.now) start self.old self.new result }
     {
         let rest = Slice {
             span: Span {
@@ -58,7 +58,7 @@ impl Level {
             },
             instant: self.instant,
         };
-        match &self.op.look(&self.state, &rest, words) {
+        match &self.op.look(&self.state, &rest, drawing) {
             Look::Piece(piece) => {
                 self.state.add_piece_of(self.stop, piece);
                 Emission::Piece(*piece)

@@ -30,4 +30,5 @@ pub use position::StreamPosition;
 pub use short::read_short;
 pub use stage::Stage;
 pub use state::State;
+pub use tox_words::{Drawing, Lanes};
 pub use toxic::Toxic;

@@ -1,7 +1,7 @@
 //! A look of an operation at the rest of a chunk.
 ghost use Rattle.std.specs.Prelude.{◌≡◌, ◌+◌, ◌<◌, ◌^◌, List, false};
 ghost use Rattle.tox_time.specs.declared.item.Item.{Item as OneItem};
-ghost use Rattle.tox_words.specs.Draw.{draw};
+ghost use Rattle.tox_words.specs.Draw.{draws_of};
 ghost use Rattle.tox_defs.specs.Op.{IsOp, is_mute, op_reaction};
 ghost use Rattle.tox_defs.specs.Look.{Finds, IsFrontOf};
 
@@ -10,7 +10,7 @@ use crate::state::State;
 use crate::toxics::{bandwidth, latency, limit_data, reset_peer, slicer, slow_close};
 use crate::until::{is_late, late};
 use tox_time::{Ending, Slice};
-use tox_words::Words;
+use tox_words::Drawing;
 
 /// What a look at the rest of a chunk finds.
 #[derive(Clone, Copy, Debug, PartialEq, Eq)]
@@ -30,7 +30,7 @@ impl Op {
     /// and [`Level::advance`](crate::Level::advance) makes each look 25 % slower. Asking whether the rest is late before the
     /// dispatch, by another one, makes it 10 to 20 % slower.
     #[inline(always)]
-    pub(crate) fn look(&self, state: &State, rest: &Slice, words: &Words) -> Look
+    pub(crate) fn look(&self, state: &State, rest: &Slice, drawing: &Drawing<'_>) -> Look
         requires operation { IsOp self.now }
         requires heard { is_mute self.now ≡ false }
         requires running { state.now.done ≡ false }
@@ -38,7 +38,7 @@ impl Op {
         requires chunks { state.now.chunks + 1 < 2 ^ 64 }
         requires pieces { state.now.pieces + 1 < 2 ^ 64 }
         ensures finds { (items : List OneItem)
-            → Finds (op_reaction self.now (draw words.now)) state.now rest.now items result }
+            → Finds (op_reaction self.now (draws_of drawing.now)) state.now rest.now items result }
         ensures front { IsFrontOf rest.now result }
     {
         match *self {
@@ -52,7 +52,7 @@ impl Op {
                 if is_late(until, rest) {
                     return late(state, rest);
                 }
-                latency::look(fixed, latency, jitter, lane, state, rest, words)
+                latency::look(fixed, latency, jitter, lane, state, rest, drawing)
             }
             Op::Pace { rate, until } => {
                 if is_late(until, rest) {
@@ -73,7 +73,7 @@ impl Op {
                 if is_late(until, rest) {
                     return late(state, rest);
                 }
-                slicer::look(average, variation, micros, lane, state, rest, words)
+                slicer::look(average, variation, micros, lane, state, rest, drawing)
             }
             Op::Limit { bytes } => limit_data::look(bytes, state, rest),
         }

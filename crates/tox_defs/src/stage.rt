@@ -1,7 +1,6 @@
 //! One toxic at work on a stream, item by item.
 ghost use Rattle.std.specs.Prelude.{◌≡◌, ◌^◌, ◌<◌, ◌≤◌, ◌↔◌, List, [], true, IsTrue};
-ghost use Rattle.tox_words.specs.Draw.{draw};
-ghost use Rattle.tox_defs.specs.Chain.{max_toxics};
+ghost use Rattle.tox_words.specs.Draw.{draw_in, lane_count};
 ghost use Rattle.tox_defs.specs.Toxic.{IsInRange};
 ghost use Rattle.tox_defs.specs.Flow.{toxic_reaction};
 ghost use Rattle.tox_defs.specs.Op.{op_of, op_reaction};
@@ -16,7 +15,7 @@ use crate::position::StreamPosition;
 use crate::toxic::Toxic;
 use std::marker::Model;
 use tox_time::{Ending, Item};
-use tox_words::Words;
+use tox_words::{Drawing, Lanes, Words};
 
 /// A toxic at work on one stream: it takes an item, and then emits what the toxic gives for it.
 ///
@@ -25,7 +24,7 @@ use tox_words::Words;
 pub struct Stage<'w> {
     level: Level,
     start: u64,
-    words: &'w Words,
+    drawing: Drawing<'w>,
     place: StreamPosition,
 }
 
@@ -44,22 +43,23 @@ impl<'w> Model for Stage<'w> {
 impl<'w> Stage<'w> {
     ghost use Rattle.tox_defs.specs.Stage.{first_stage, taken, MatchEmitted};
 
-    /// The stage of a toxic at this place of its chain, before its first item. It draws from the lane of that number.
-    pub fn new(toxic: Toxic, lane: usize, words: &'w Words) -> Stage<'w>
+    /// The stage of a toxic at this place of its chain, before its first item. It draws from the lane of that number, of so many.
+    pub fn new(toxic: Toxic, lanes: Lanes, lane: usize, words: &'w Words) -> Stage<'w>
         requires in_range { IsInRange toxic }
-        requires place { lane < max_toxics }
-        ensures first { result ≡ first_stage (op_of lane toxic) words.now }
+        requires place { lane < lane_count lanes }
+        ensures first { result ≡ first_stage (op_of lane toxic)
+            (record { lanes = lanes; words = words.now }) }
         ensures law { HasLaw toxic }
         ensures streams { KeepsStreams toxic }
         ensures takes { (items : List OneItem) → IsStream items → arrived items ≤ 2 ^ 40
             → AllFit result.place items }
-        ensures reacts { op_reaction (op_of lane toxic) (draw words.now)
-            ≡ toxic_reaction toxic (draw words.now lane) }
+        ensures reacts { op_reaction (op_of lane toxic) (draw_in lanes words.now)
+            ≡ toxic_reaction toxic (draw_in lanes words.now lane) }
     {
         Stage {
             level: Level::new(&Op::of(&toxic, lane)),
             start: 0,
-            words,
+            drawing: Drawing::new(lanes, words),
             place: StreamPosition::start(),
         }
     }
@@ -113,7 +113,7 @@ impl<'w> Stage<'w> {
         ensures { MatchEmitted self.old self.new result }
     {
         if self.level.ending.is_none() && self.start < self.level.stop {
-            if let Emission::Piece(piece) = self.level.advance(self.start, self.words) {
+            if let Emission::Piece(piece) = self.level.advance(self.start, &self.drawing) {
                 self.start = piece.span.stop;
                 return Some(Item::Chunk(piece.span, piece.instant));
             }

@@ -1,7 +1,7 @@
 //! latency: delays all data by `latency` plus or minus `jitter`, both in milliseconds, before `until`.
 ghost use Rattle.std.specs.Prelude.{◌≡◌, ◌+◌, ◌<◌, ◌^◌, List, false, map};
 ghost use Rattle.tox_time.specs.declared.item.Item.{Item as OneItem};
-ghost use Rattle.tox_words.specs.Draw.{draw};
+ghost use Rattle.tox_words.specs.Draw.{draws_of};
 ghost use Rattle.tox_defs.specs.KindInside.{saturated};
 ghost use Rattle.tox_defs.specs.Look.{Finds, IsFrontOf};
 ghost use Rattle.tox_defs.specs.Reaction.{counted};
@@ -14,7 +14,7 @@ use crate::state::State;
 use crate::toxic::Toxic;
 use crate::varied::varied;
 use tox_time::Slice;
-use tox_words::Words;
+use tox_words::Drawing;
 
 /// The names of the attributes.
 pub(crate) fn attributes() -> &'static [&'static str]
@@ -72,17 +72,17 @@ pub(crate) fn look(
     lane: usize,
     state: &State,
     rest: &Slice,
-    words: &Words,
+    drawing: &Drawing<'_>,
 ) -> Look
     requires running { state.now.done ≡ false }
     requires some { rest.now.span.start < rest.now.span.stop }
     requires chunks { state.now.chunks + 1 < 2 ^ 64 }
     ensures finds { (items : List OneItem)
-        → Finds (counted (delay_op_gives fixed latency jitter (draw words.now lane)))
+        → Finds (counted (delay_op_gives fixed latency jitter (draws_of drawing.now lane)))
         state.now rest.now items result }
     ensures front { IsFrontOf rest.now result }
 {
-    let wait = u64::from(fixed) + varied(words, lane, state.chunks, latency, jitter);
+    let wait = u64::from(fixed) + varied(drawing, lane, state.chunks, latency, jitter);
     Look::Piece(Slice {
         span: rest.span,
         instant: state.previous.later(rest.instant.after(1000 * wait)),

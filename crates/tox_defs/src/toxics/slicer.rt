@@ -1,7 +1,7 @@
 //! slicer: cuts data into pieces near `average_size` bytes, varied by `size_variation`, with `delay` microseconds before each.
 ghost use Rattle.std.specs.Prelude.{◌≡◌, ◌+◌, ◌<◌, ◌^◌, List, false, map};
 ghost use Rattle.tox_time.specs.declared.item.Item.{Item as OneItem};
-ghost use Rattle.tox_words.specs.Draw.{draw};
+ghost use Rattle.tox_words.specs.Draw.{draws_of};
 ghost use Rattle.tox_defs.specs.KindInside.{saturated};
 ghost use Rattle.tox_defs.specs.Look.{Finds, IsFrontOf};
 ghost use Rattle.tox_defs.specs.Reaction.{counted};
@@ -15,7 +15,7 @@ use crate::state::State;
 use crate::toxic::Toxic;
 use crate::varied::varied;
 use tox_time::Slice;
-use tox_words::Words;
+use tox_words::Drawing;
 
 /// The longest delay before a piece, in microseconds: an hour.
 const HOUR_IN_MICROS: u64 = 3_600_000_000;
@@ -75,19 +75,22 @@ pub(crate) fn look(
     lane: usize,
     state: &State,
     rest: &Slice,
-    words: &Words,
+    drawing: &Drawing<'_>,
 ) -> Look
     requires sizes { variation < average }
     requires running { state.now.done ≡ false }
     requires some { rest.now.span.start < rest.now.span.stop }
     requires pieces { state.now.pieces + 1 < 2 ^ 64 }
     ensures finds { (items : List OneItem)
-        → Finds (counted (slicer_gives average variation micros (draw words.now lane)))
+        → Finds (counted (slicer_gives average variation micros (draws_of drawing.now lane)))
         state.now rest.now items result }
     ensures front { IsFrontOf rest.now result }
 {
     Look::Piece(Slice {
-        span: front(rest, varied(words, lane, state.pieces, average, variation)),
+        span: front(
+            rest,
+            varied(drawing, lane, state.pieces, average, variation),
+        ),
         instant: state.previous.later(rest.instant).after(micros),
     })
 }

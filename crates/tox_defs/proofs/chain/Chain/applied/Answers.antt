@@ -16,9 +16,9 @@ loop-place-preserved c =
       | then-is_applied w ↦
           subst Kept (sym (ap (λ met. met.items) w.met-is ∙ w.push.ensures.items))
           (gathers-met chain words place c.loop-place.met.items _ _ _ c.entries-entry-items.ensures.chain same c.loop-place-test.true refl
-          (sym c.is_applied.ensures ∙ w.if-is_applied.true) c.loop-place.invariant)
+          (rw (c.new-drawing.ensures, c.lanes.ensures) at (sym c.is_applied.ensures ∙ w.if-is_applied.true)) c.loop-place.invariant)
       | else-is_applied w ↦
           subst Kept (sym (ap (λ met. met.items) w.met-is))
           (gathers-skipped chain words place c.loop-place.met.items _ _ _ same c.loop-place-test.true refl
-          (sym c.is_applied.ensures ∙ w.if-is_applied.false) c.loop-place.invariant)
+          (rw (c.new-drawing.ensures, c.lanes.ensures) at (sym c.is_applied.ensures ∙ w.if-is_applied.false)) c.loop-place.invariant)
     ]
