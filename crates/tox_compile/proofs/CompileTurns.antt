@@ -4,6 +4,7 @@ use Rattle.std.specs.Prelude.{◌&&◌, All, fold}
 use Rattle.std.proofs.lemmas.Bool.{and_parts, leb-true}
 use Rattle.std.proofs.lemmas.List.{map-append, take_all, take_more}
 use Rattle.std.proofs.lemmas.List.Sums.{fold-append}
+use Rattle.tox_words.specs.declared.lanes.Lanes.{Lanes}
 use Rattle.tox_defs.specs.declared.applied.Placed.{Placed}
 use Rattle.tox_defs.specs.declared.op.Op.{Op}
 use Rattle.tox_defs.specs.declared.toxic.Toxic.{Toxic}
@@ -40,10 +41,10 @@ pub record Compiles (toxics : List Placed) (count : ℕ) (ops : List Op) : Type 
   pub sums : AddAtMost (3_600_000 * count) ops
 
 -- one more toxic
-pub compiles-more : (toxics : List Placed) (count : ℕ) (ops : List Op) (toxic d : Placed) → count < length toxics → toxic ≡ get_or toxics count d
-    → All IsPlaced toxics → Compiles toxics count ops → Compiles toxics (count + 1) (with_op ops (op_of_placed toxic))
-compiles-more toxics count ops toxic d here is placed so_far =
-    let in_range : IsPlaced toxic = subst IsPlaced (sym is) (placed count d here) in
+pub compiles-more : (lanes : Lanes) (toxics : List Placed) (count : ℕ) (ops : List Op) (toxic d : Placed) → count < length toxics → toxic ≡ get_or toxics count d
+    → All (IsPlaced lanes) toxics → Compiles toxics count ops → Compiles toxics (count + 1) (with_op ops (op_of_placed toxic))
+compiles-more lanes toxics count ops toxic d here is placed so_far =
+    let in_range : IsPlaced lanes toxic = subst (IsPlaced lanes) (sym is) (placed count d here) in
     let hour = millis-op_of toxic.place toxic.toxic in_range.0 in
     let more : 3_600_000 * count + 3_600_000 ≡ 3_600_000 * (count + 1) = omega arith in
     let most = length-with_op ops (op_of_placed toxic) in

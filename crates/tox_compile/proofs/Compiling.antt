@@ -3,12 +3,12 @@ use Rattle.std.proofs.Common.{◌≡◌, ℕ, List, [], ◌∷◌, map, refl, ap
 use Rattle.std.specs.Prelude.{All}
 use Rattle.std.proofs.lemmas.List.Elements.{All-nil, All-cons, All-head, All-tail}
 use Rattle.tox_time.specs.declared.item.Item.{Item}
-use Rattle.tox_words.specs.Draw.{Draws, draw}
+use Rattle.tox_words.specs.Draw.{Draws}
 use Rattle.tox_defs.specs.Toxic.{IsInRange}
 use Rattle.tox_defs.specs.Chain.{Toxics, IsChain}
 use Rattle.tox_defs.specs.Reaction.{flow_through}
 use Rattle.tox_defs.specs.declared.applied.Placed.{Placed}
-use Rattle.tox_defs.specs.Flow.{toxic_reaction, applied, chain_flow}
+use Rattle.tox_defs.specs.Flow.{toxic_reaction, applied, chain_draws, chain_flow}
 use Rattle.tox_defs.specs.Op.{IsOp}
 use Rattle.tox_defs.proofs.OpOf.{op_reaction-op_of, IsOp-op_of}
 use Rattle.tox_defs.proofs.ChainStreams.{in_range-applied}
@@ -22,8 +22,8 @@ reactions-placed draws (placed ∷ toxics) =
     ∙ ap (λ reactions. toxic_reaction placed.toxic (draws placed.place) ∷ reactions) (reactions-placed draws toxics)
 
 -- for every list of items
-pub means-applied_ops : (chain : Toxics) (words : List ℕ) (items : List Item) → means (record { ops = applied_ops chain words }) words items ≡ chain_flow chain words items
-means-applied_ops chain words items = ap (λ reactions. flow_through reactions items) (reactions-placed (draw words) (applied chain words))
+pub means-applied_ops : (chain : Toxics) (words : List ℕ) (items : List Item) → means (record { lanes = chain.lanes; ops = applied_ops chain words }) words items ≡ chain_flow chain words items
+means-applied_ops chain words items = ap (λ reactions. flow_through reactions items) (reactions-placed (chain_draws chain words) (applied chain words))
 
 operations-placed : (toxics : List Placed) → All (λ placed. IsInRange placed.toxic) toxics → All IsOp (map op_of_placed toxics)
 operations-placed [] fit = All-nil IsOp

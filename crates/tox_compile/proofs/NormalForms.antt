@@ -6,13 +6,13 @@ use Rattle.std.proofs.lemmas.List.Elements.{All-nil, All-cons, All-head, All-tai
 use Rattle.tox_time.specs.declared.item.Item.{Item}
 use Rattle.tox_time.specs.Stream.{IsStream}
 use Rattle.tox_time.specs.Table.{final_of}
-use Rattle.tox_words.specs.Draw.{Draws, draw}
+use Rattle.tox_words.specs.Draw.{Draws}
 use Rattle.tox_defs.specs.declared.op.Op.{Op}
 use Rattle.tox_defs.specs.declared.op.Op.TheVariants.{Delay, Pace, Slow, Mute, Cutoff, Slicing, Limit}
 use Rattle.tox_defs.specs.Chain.{Toxics, IsChain}
 use Rattle.tox_defs.specs.Reaction.{counted, flow, flow_through}
 use Rattle.tox_defs.specs.Until.{until as stopping}
-use Rattle.tox_defs.specs.Flow.{chain_flow}
+use Rattle.tox_defs.specs.Flow.{chain_draws, chain_flow}
 use Rattle.tox_defs.specs.Op.{op_reaction, IsOp}
 use Rattle.tox_defs.specs.toxics.Latency.{IsNormal}
 use Rattle.tox_defs.proofs.OpStreams.{IsStream-op_flow}
@@ -110,10 +110,10 @@ operations-fold draws before (op ∷ ops) fits fits' =
     operations-fold draws (with_op before op) ops taken.operations (All-tail IsOp op ops fits')
 
 -- the normal form means what the chain means
-pub means-normal_form : (chain : Toxics) (words : List ℕ) (items : List Item) → IsChain chain → IsStream items → means (record { ops = normal_form chain words }) words items ≡ chain_flow chain words items
+pub means-normal_form : (chain : Toxics) (words : List ℕ) (items : List Item) → IsChain chain → IsStream items → means (record { lanes = chain.lanes; ops = normal_form chain words }) words items ≡ chain_flow chain words items
 means-normal_form chain words items fits stream =
-    given_by-fold (draw words) [] (applied_ops chain words) items (All-nil IsOp) (operations-applied_ops chain words fits) stream ∙ means-applied_ops chain words items
+    given_by-fold (chain_draws chain words) [] (applied_ops chain words) items (All-nil IsOp) (operations-applied_ops chain words fits) stream ∙ means-applied_ops chain words items
 
 -- its operations are operations that a plan may have
 pub operations-normal_form : (chain : Toxics) (words : List ℕ) → IsChain chain → All IsOp (normal_form chain words)
-operations-normal_form chain words fits = operations-fold (draw words) [] (applied_ops chain words) (All-nil IsOp) (operations-applied_ops chain words fits)
+operations-normal_form chain words fits = operations-fold (chain_draws chain words) [] (applied_ops chain words) (All-nil IsOp) (operations-applied_ops chain words fits)

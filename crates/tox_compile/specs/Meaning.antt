@@ -1,15 +1,17 @@
 -- What a plan does to a stream, and from when on arrivals change nothing.
 use Rattle.std.specs.Prelude.{ℕ, ◌≤◌, min, All, List, [], ◌∷◌, length, map, Option, Some, None}
 use Rattle.tox_time.specs.declared.item.Item.{Item}
-use Rattle.tox_words.specs.Draw.{Draws, draw}
+use Rattle.tox_words.specs.declared.lanes.Lanes.{Lanes}
+use Rattle.tox_words.specs.Draw.{Draws, draw_in}
 use Rattle.tox_defs.specs.declared.op.Op.{Op}
 use Rattle.tox_defs.specs.declared.op.Op.TheVariants.{Mute, Cutoff}
 use Rattle.tox_defs.specs.Chain.{max_toxics}
 use Rattle.tox_defs.specs.Reaction.{Reaction, flow_through}
 use Rattle.tox_defs.specs.Op.{op_reaction, IsOp}
 
--- what a plan is seen as: its operations in order
+-- what a plan is seen as: its lanes, and its operations in order
 pub record Ops : Type 0 where
+  pub lanes : Lanes
   pub ops : List Op
 
 -- what every plan keeps
@@ -23,7 +25,7 @@ op_reactions ops draws = map (λ op. op_reaction op draws) ops
 
 -- the meaning of a plan: what its operations give for a list, one after the other
 abbrev pub means : Ops → List ℕ → List Item → List Item
-means plan words items = flow_through (op_reactions plan.ops (draw words)) items
+means plan words items = flow_through (op_reactions plan.ops (draw_in plan.lanes words)) items
 
 -- the earlier of an instant and one that may be
 abbrev pub earlier : ℕ → Option ℕ → Option ℕ

@@ -3,7 +3,7 @@ use Rattle.tox_compile.specs.declared.plan.Plan.TheInside.{Inside}
 use Rattle.tox_compile.specs.Meaning.{Ops, IsPlan}
 
 abbrev pub operations : Inside → Ops
-operations plan = record { ops = plan.ops.items }
+operations plan = record { lanes = plan.lanes; ops = plan.ops.items }
 
 abbrev pub IsKept : Inside → Type 0
 IsKept plan = IsPlan (operations plan)

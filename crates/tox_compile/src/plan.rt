@@ -12,12 +12,13 @@ use arrayvec::ArrayVec;
 use std::marker::Model;
 use tox_defs::{Chain, MAX_TOXICS, Op};
 use tox_time::Micros;
-use tox_words::Words;
+use tox_words::{Lanes, Words};
 
 /// A compiled chain: the operations of its applied toxics in order, each joined to the one before it if a rule
 /// allows.
 #[derive(Drop)]
 pub struct Plan {
+    lanes: Lanes,
     ops: ArrayVec<Op, MAX_TOXICS>,
 }
 
@@ -35,6 +36,13 @@ impl Model for Plan {
 
 impl Plan {
     ghost use Rattle.tox_compile.specs.Meaning.{IsPlan};
+
+    /// The lanes of the chain, from which the operations draw.
+    pub fn lanes(&self) -> Lanes
+        ensures { result ≡ self.now.lanes }
+    {
+        self.lanes
+    }
 
     /// The operations in order.
     pub fn ops(&self) -> &[Op]
@@ -75,6 +83,7 @@ fn earlier(instant: Micros, other: Option<Micros>) -> Micros
 
 /// The plan of a chain on a link with these words.
 pub fn compile(chain: &Chain, words: &Words) -> Plan
+    ensures lanes { result.lanes ≡ chain.now.lanes }
     ensures ops { result.ops ≡ normal_form chain.now words.now }
     ensures means { (items : List OneItem) → IsStream items
         → means result words.now items ≡ chain_flow chain.now words.now items }
@@ -83,5 +92,8 @@ pub fn compile(chain: &Chain, words: &Words) -> Plan
     for placed in chain.applied(words).iter() {
         add(&mut ops, &Op::of(&placed.toxic, placed.place));
     }
-    Plan { ops }
+    Plan {
+        lanes: chain.lanes(),
+        ops,
+    }
 }

@@ -4,7 +4,7 @@ use Rattle.std.specs.Prelude.{All, fold}
 use Rattle.tox_defs.specs.Flow.{IsPlaced}
 use Rattle.tox_defs.specs.Op.{IsOp}
 use Rattle.tox_compile.specs.Compiled.{op_of_placed}
-use Rattle.tox_compile.specs.Normal.{with_op}
+use Rattle.tox_compile.specs.Normal.{with_op, normal_form}
 use Rattle.tox_compile.specs.Meaning.{means}
 use Rattle.tox_compile.proofs.NormalForms.{means-normal_form, operations-normal_form}
 use Rattle.tox_compile.proofs.CompileTurns.{Compiles, compiles-more, compiled}
@@ -13,10 +13,10 @@ use Rattle.tox_compile.proofs.plan.compile.Goals as goal
 pub loop-placed-preserved : goal.loop-placed-preserved
 loop-placed-preserved c =
     let loop = c.loop-placed in
-    let placed = subst (λ toxics. All IsPlaced toxics) (sym c.deref-placed-items.ensures.0) c.applied.ensures.placed in
+    let placed = subst (λ toxics. All (IsPlaced c.args.chain.now.lanes) toxics) (sym c.deref-placed-items.ensures.0) c.applied.ensures.placed in
     subst (λ ops. Compiles c.deref-placed-items.result.now (loop.placed-index + 1) ops)
     (ap (λ op. with_op loop.ops.items op) (sym c.of.ensures) ∙ sym c.add.ensures)
-    (compiles-more _ _ _ _ _ c.loop-placed-test.true refl placed loop.invariant)
+    (compiles-more _ _ _ _ _ _ c.loop-placed-test.true refl placed loop.invariant)
 
 pub invariant_of-result : goal.invariant_of-result
 invariant_of-result c =
@@ -31,4 +31,4 @@ pub returns-clause-means : goal.returns-clause-means
 returns-clause-means c =
     let is = compiled _ _ _ c.loop-placed-test.false c.loop-placed.invariant
     ∙ ap (λ toxics. fold with_op [] (map op_of_placed toxics)) (c.deref-placed-items.ensures.0 ∙ c.applied.ensures.value) in
-    λ items stream. ap (λ ops. means (record { ops = ops }) c.args.words.now items) is ∙ means-normal_form c.args.chain.now c.args.words.now items c.applied.ensures.chain stream
+    λ items stream. ap (λ ops. means (record { lanes = c.lanes.result; ops = ops }) c.args.words.now items) is ∙ ap (λ lanes. means (record { lanes = lanes; ops = normal_form c.args.chain.now c.args.words.now }) c.args.words.now items) c.lanes.ensures ∙ means-normal_form c.args.chain.now c.args.words.now items c.applied.ensures.chain stream
