@@ -4,7 +4,7 @@ use Rattle.tox_time.specs.declared.item.Item.{Item}
 use Rattle.tox_time.specs.Time.{micros_of}
 use Rattle.tox_time.specs.Table.{final_of}
 use Rattle.tox_words.specs.declared.lanes.Lanes.{Lanes}
-use Rattle.tox_words.specs.Draw.{Draws, draw_in, lane_count}
+use Rattle.tox_words.specs.Draw.{Draws, DrawingView, draws_of, lane_count}
 use Rattle.tox_defs.specs.declared.toxic.Toxic.{Toxic}
 use Rattle.tox_defs.specs.declared.toxic.Toxic.TheVariants.{Latency, Bandwidth, SlowClose, Timeout, ResetPeer, Slicer, LimitData}
 use Rattle.tox_defs.specs.declared.applied.Placed.{Placed}
@@ -56,9 +56,13 @@ applied_from place (entry ∷ entries) draws =
     then record { place = place; toxic = entry.toxic } ∷ applied_from (place + 1) entries draws
     else applied_from (place + 1) entries draws
 
+-- these words with the lanes of a chain
+abbrev pub chain_drawing : Toxics → List ℕ → DrawingView
+chain_drawing chain words = record { lanes = chain.lanes; words = words }
+
 -- what the toxics of a chain draw from these words
 abbrev pub chain_draws : Toxics → List ℕ → Draws
-chain_draws chain words = draw_in chain.lanes words
+chain_draws chain words = draws_of (chain_drawing chain words)
 
 -- the applied toxics of a chain, each with its place
 abbrev pub applied : Toxics → List ℕ → List Placed

@@ -6,7 +6,7 @@ use Rattle.std.proofs.lemmas.Option.{none-some, same_Some, slice_get_within}
 use Rattle.std.proofs.Math.Nat.{mul-le-mul_left}
 use Rattle.tox_time.specs.declared.item.Item.{Item}
 use Rattle.tox_time.specs.Stream.{IsStream, arrived, has_final}
-use Rattle.tox_words.specs.Draw.{draw}
+use Rattle.tox_words.specs.Draw.{Draws, DrawingView, draws_of}
 use Rattle.tox_time.proofs.StreamLemmas.{final_of_stream}
 use Rattle.tox_defs.specs.declared.chain.Entry.{Entry}
 use Rattle.tox_defs.specs.declared.position.StreamPosition.{StreamPosition}
@@ -14,9 +14,10 @@ use Rattle.tox_defs.specs.Applied.{is_applied}
 use Rattle.tox_defs.specs.Chain.{Toxics, IsChain, max_toxics}
 use Rattle.tox_defs.specs.Reaction.{flow_through}
 use Rattle.tox_defs.specs.declared.applied.Placed.{Placed}
-use Rattle.tox_defs.specs.Flow.{toxic_reaction, applied_from, applied, reactions_of}
+use Rattle.tox_defs.specs.Flow.{toxic_reaction, applied_from, applied, chain_drawing, chain_draws, reactions_of}
 use Rattle.tox_defs.specs.StreamPosition.{fits, first_position, position_after, AllFit}
 use Rattle.tox_defs.specs.Stage.{Staged}
+use Rattle.tox_words.proofs.LaneCounts.{lane_count-most}
 use Rattle.tox_defs.proofs.OpOf.{op_reaction-op_of}
 use Rattle.tox_defs.proofs.Places.{AllFit-stream}
 use Rattle.tox_network.specs.declared.moves.Move.{Move}
@@ -115,65 +116,65 @@ applied_no_more : (met : Bool) (placed : Placed) (others : List Placed) (most : 
 applied_no_more true placed others most few = omega arith
 applied_no_more false placed others most few = omega arith
 
-length-applied_from : (place : ℕ) (entries : List Entry) (words : List ℕ) → length (applied_from place entries words) ≤ length entries
-length-applied_from place [] words = omega arith
-length-applied_from place (entry ∷ entries) words =
-    let before = applied_no_more (is_applied entry place words) (record { place = place; toxic = entry.toxic }) (applied_from (place + 1) entries words) (length entries) (length-applied_from (place + 1) entries words) in
+length-applied_from : (place : ℕ) (entries : List Entry) (draws : Draws) → length (applied_from place entries draws) ≤ length entries
+length-applied_from place [] draws = omega arith
+length-applied_from place (entry ∷ entries) draws =
+    let before = applied_no_more (is_applied entry place draws) (record { place = place; toxic = entry.toxic }) (applied_from (place + 1) entries draws) (length entries) (length-applied_from (place + 1) entries draws) in
     omega (arith, before)
 
 -- the stages of toxics as the definitions see them
-states_of_toxics : (toxics : List Placed) (words : List ℕ) → map stage_of (map (placed_stage words) toxics) ≡ map idle_stage (map (λ placed. toxic_reaction placed.toxic (draw words placed.place)) toxics)
-states_of_toxics [] words = refl
-states_of_toxics (placed ∷ toxics) words =
-    ap (λ reaction. idle_stage reaction ∷ map stage_of (map (placed_stage words) toxics)) (op_reaction-op_of placed.place placed.toxic (draw words))
-    ∙ ap (λ stages. idle_stage (toxic_reaction placed.toxic (draw words placed.place)) ∷ stages) (states_of_toxics toxics words)
+states_of_toxics : (toxics : List Placed) (drawing : DrawingView) → map stage_of (map (placed_stage drawing) toxics) ≡ map idle_stage (map (λ placed. toxic_reaction placed.toxic (draws_of drawing placed.place)) toxics)
+states_of_toxics [] drawing = refl
+states_of_toxics (placed ∷ toxics) drawing =
+    ap (λ reaction. idle_stage reaction ∷ map stage_of (map (placed_stage drawing) toxics)) (op_reaction-op_of placed.place placed.toxic (draws_of drawing))
+    ∙ ap (λ stages. idle_stage (toxic_reaction placed.toxic (draws_of drawing placed.place)) ∷ stages) (states_of_toxics toxics drawing)
 
-places_of_toxics : (toxics : List Placed) (words : List ℕ) (k : ℕ) (stage : Staged) → slice_get (map (placed_stage words) toxics) k ≡ Some stage → stage.place ≡ first_position
-places_of_toxics [] words k stage at = absurd (none-some stage at)
-places_of_toxics (placed ∷ toxics) words zero stage at = sym (ap (λ (one : Staged). one.place) (same_Some _ _ at))
-places_of_toxics (placed ∷ toxics) words (suc k) stage at = places_of_toxics toxics words k stage at
+places_of_toxics : (toxics : List Placed) (drawing : DrawingView) (k : ℕ) (stage : Staged) → slice_get (map (placed_stage drawing) toxics) k ≡ Some stage → stage.place ≡ first_position
+places_of_toxics [] drawing k stage at = absurd (none-some stage at)
+places_of_toxics (placed ∷ toxics) drawing zero stage at = sym (ap (λ (one : Staged). one.place) (same_Some _ _ at))
+places_of_toxics (placed ∷ toxics) drawing (suc k) stage at = places_of_toxics toxics drawing k stage at
 
 -- a network as it is made
-pub first_network : ℕ → List ℕ → List Placed → List Item → NetworkView
-first_network cap words toxics items = record {
+pub first_network : ℕ → DrawingView → List Placed → List Item → NetworkView
+first_network cap drawing toxics items = record {
   cap = cap;
   arrived = items;
   steps = 0;
   waiting = items;
   queues = replicate (length toxics + 1) [];
-  stages = map (placed_stage words) toxics;
+  stages = map (placed_stage drawing) toxics;
   delivered = [];
 }
 
-pub first_state_of : (cap : ℕ) (chain : Toxics) (words : List ℕ) (items : List Item) → state_of (first_network cap words (applied chain words) items) ≡ start (reactions_of chain words) items
+pub first_state_of : (cap : ℕ) (chain : Toxics) (words : List ℕ) (items : List Item) → state_of (first_network cap (chain_drawing chain words) (applied chain words) items) ≡ start (reactions_of chain words) items
 unfolding first_network
 first_state_of cap chain words items =
     let toxics = applied chain words in
     let with : List (List Item) → List StageState → NetworkState = λ queues stages. record { arrivals = items; queues = queues; stages = stages; delivered = [] } in
-    let same : length toxics ≡ length (reactions_of chain words) = sym (length-map toxics (λ placed. toxic_reaction placed.toxic (draw words placed.place))) in
-    ap (λ count. with (replicate (count + 1) []) (map stage_of (map (placed_stage words) toxics))) same
-    ∙ ap (with (replicate (length (reactions_of chain words) + 1) [])) (states_of_toxics toxics words)
+    let same : length toxics ≡ length (reactions_of chain words) = sym (length-map toxics (λ placed. toxic_reaction placed.toxic (chain_draws chain words placed.place))) in
+    ap (λ count. with (replicate (count + 1) []) (map stage_of (map (placed_stage (chain_drawing chain words)) toxics))) same
+    ∙ ap (with (replicate (length (reactions_of chain words) + 1) [])) (states_of_toxics toxics (chain_drawing chain words))
 
-pub sound_start : (cap : ℕ) (chain : Toxics) (words : List ℕ) (items : List Item) → 1 ≤ cap → IsChain chain → IsStream items → arrived items ≤ 2 ^ 40 → IsSound (first_network cap words (applied chain words) items)
+pub sound_start : (cap : ℕ) (chain : Toxics) (words : List ℕ) (items : List Item) → 1 ≤ cap → IsChain chain → IsStream items → arrived items ≤ 2 ^ 40 → IsSound (first_network cap (chain_drawing chain words) (applied chain words) items)
 unfolding first_network
 sound_start cap chain words items room fits stream bytes =
     let toxics = applied chain words in
     let reactions = reactions_of chain words in
-    let network : NetworkView = first_network cap words toxics items in
+    let network : NetworkView = first_network cap (chain_drawing chain words) toxics items in
     let is : state_of network ≡ start reactions items = first_state_of cap chain words items in
-    let count : length network.stages ≡ length reactions = length-map toxics (placed_stage words) ∙ sym (length-map toxics (λ placed. toxic_reaction placed.toxic (draw words placed.place))) in
+    let count : length network.stages ≡ length reactions = length-map toxics (placed_stage (chain_drawing chain words)) ∙ sym (length-map toxics (λ placed. toxic_reaction placed.toxic (chain_draws chain words placed.place))) in
     let no_item : List Item = [] in
-    let most : length network.stages ≤ max_toxics = omega (arith, length-map toxics (placed_stage words), length-applied_from 0 chain.entries words, fits.most) in
+    let most : length network.stages ≤ max_toxics = omega (arith, length-map toxics (placed_stage (chain_drawing chain words)), length-applied_from 0 chain.entries (chain_draws chain words), fits.most, lane_count-most chain.lanes) in
     let moves : moves_left (start reactions items) ≤ most_moves (length reactions) items = start_moves reactions items (arrived items + 1) (few_in_front chain words items fits stream) in
     let product : (2 * length network.stages + 2) * (arrived items + 1) ≤ (2 * length network.stages + 2) * (2 ^ 40 + 1) = mul-le-mul_left (2 * length network.stages + 2) (omega arith) in
     record {
       room = room;
-      shaped = omega (arith, length-replicate (length toxics + 1) no_item, length-map toxics (placed_stage words));
+      shaped = omega (arith, length-replicate (length toxics + 1) no_item, length-map toxics (placed_stage (chain_drawing chain words)));
       fits = λ k stage at.
           let within : k ≤ length reactions = let here = slice_get_within network.stages k stage at in omega arith in
           let kept = kept_by_front chain words k items fits stream in
           let comes : coming (state_of network) k ≡ flow_through (take k reactions) items = ap (λ n. coming n k) is ∙ start_coming reactions items k within in
-          subst (λ place. AllFit place (coming (state_of network) k)) (sym (places_of_toxics toxics words k stage at))
+          subst (λ place. AllFit place (coming (state_of network) k)) (sym (places_of_toxics toxics (chain_drawing chain words) k stage at))
           (subst (AllFit first_position) (sym comes) (AllFit-stream 0 0 (flow_through (take k reactions) items) kept.stream (omega (arith, kept.bytes))));
       whole =
           let kept = kept_by_front chain words (length reactions) items fits stream in
@@ -185,21 +186,21 @@ sound_start cap chain words items room fits stream bytes =
 -- a network made of these parts is sound, and made no move yet
 pub first_made : (network : NetworkView) (cap : ℕ) (chain : Toxics) (words : List ℕ) (items : List Item) → 1 ≤ cap → IsChain chain → IsStream items → arrived items ≤ 2 ^ 40
     → network.cap ≡ cap → network.arrived ≡ items → network.steps ≡ 0 → network.waiting ≡ items → network.queues ≡ replicate (length network.stages + 1) []
-    → network.stages ≡ map (placed_stage words) (applied chain words) → network.delivered ≡ [] → IsSound network × IsStart chain words items cap network
+    → network.stages ≡ map (placed_stage (chain_drawing chain words)) (applied chain words) → network.delivered ≡ [] → IsSound network × IsStart chain words items cap network
 unfolding first_network
 first_made network cap chain words items room fits stream bytes same_cap same_arrived same_steps same_waiting same_queues same_stages same_delivered =
     let toxics = applied chain words in
     let make : ℕ → List Item → ℕ → List Item → List (List Item) → List Staged → List Item → NetworkView
     = λ c a n w q s d. record { cap = c; arrived = a; steps = n; waiting = w; queues = q; stages = s; delivered = d } in
-    let queues : network.queues ≡ replicate (length toxics + 1) [] = same_queues ∙ ap (λ count. replicate (count + 1) []) (ap length same_stages ∙ length-map toxics (placed_stage words)) in
-    let same : network ≡ first_network cap words toxics items =
+    let queues : network.queues ≡ replicate (length toxics + 1) [] = same_queues ∙ ap (λ count. replicate (count + 1) []) (ap length same_stages ∙ length-map toxics (placed_stage (chain_drawing chain words))) in
+    let same : network ≡ first_network cap (chain_drawing chain words) toxics items =
     ap (λ c. make c network.arrived network.steps network.waiting network.queues network.stages network.delivered) same_cap
     ∙ ap (λ a. make cap a network.steps network.waiting network.queues network.stages network.delivered) same_arrived
     ∙ ap (λ n. make cap items n network.waiting network.queues network.stages network.delivered) same_steps
     ∙ ap (λ w. make cap items 0 w network.queues network.stages network.delivered) same_waiting
     ∙ ap (λ q. make cap items 0 items q network.stages network.delivered) queues
     ∙ ap (λ s. make cap items 0 items (replicate (length toxics + 1) []) s network.delivered) same_stages
-    ∙ ap (make cap items 0 items (replicate (length toxics + 1) []) (map (placed_stage words) toxics)) same_delivered in (
+    ∙ ap (make cap items 0 items (replicate (length toxics + 1) []) (map (placed_stage (chain_drawing chain words)) toxics)) same_delivered in (
       subst IsSound (sym same) (sound_start cap chain words items room fits stream bytes),
       record { state = ap state_of same ∙ first_state_of cap chain words items; cap = same_cap; arrived = same_arrived; steps = same_steps },
     )

@@ -5,28 +5,28 @@ use Rattle.std.proofs.lemmas.List.Elements.{All-head, All-tail}
 use Rattle.tox_time.specs.declared.item.Item.{Item}
 use Rattle.tox_time.specs.declared.item.Item.TheVariants.{Chunk, Closed, Reset, Quiet}
 use Rattle.tox_time.specs.Stream.{IsStreamFrom, IsStream, arrived, has_final}
-use Rattle.tox_words.specs.Draw.{draw}
+use Rattle.tox_words.specs.Draw.{Draws}
 use Rattle.tox_defs.specs.Toxic.{IsInRange}
 use Rattle.tox_defs.specs.Chain.{Toxics, IsChain}
 use Rattle.tox_defs.specs.Reaction.{flow_through}
 use Rattle.tox_defs.specs.declared.applied.Placed.{Placed}
-use Rattle.tox_defs.specs.Flow.{toxic_reaction, applied, reactions_of}
+use Rattle.tox_defs.specs.Flow.{toxic_reaction, applied, chain_draws, reactions_of}
 use Rattle.tox_defs.specs.Laws.{toxic_flow, IsKeptBy}
 use Rattle.tox_defs.proofs.ChainStreams.{toxic_keeps, in_range-applied}
 use Rattle.tox_defs.proofs.Places.{length-stream}
 
 -- what the first k toxics give for a stream
-kept_by_first : (toxics : List Placed) (words : List ℕ) (k : ℕ) (items : List Item) → All (λ placed. IsInRange placed.toxic) toxics → IsStream items
-    → IsKeptBy items (flow_through (take k (map (λ placed. toxic_reaction placed.toxic (draw words placed.place)) toxics)) items)
-kept_by_first toxics words zero items fit stream = record { stream = stream; bytes = omega arith }
-kept_by_first [] words (suc k) items fit stream = record { stream = stream; bytes = omega arith }
-kept_by_first (placed ∷ toxics) words (suc k) items fit stream =
-    let first = toxic_keeps placed.toxic (All-head (λ placed. IsInRange placed.toxic) placed toxics fit) (draw words placed.place) items stream in
-    let others = kept_by_first toxics words k (toxic_flow placed.toxic (draw words placed.place) items) (All-tail (λ placed. IsInRange placed.toxic) placed toxics fit) first.stream in
+kept_by_first : (toxics : List Placed) (draws : Draws) (k : ℕ) (items : List Item) → All (λ placed. IsInRange placed.toxic) toxics → IsStream items
+    → IsKeptBy items (flow_through (take k (map (λ placed. toxic_reaction placed.toxic (draws placed.place)) toxics)) items)
+kept_by_first toxics draws zero items fit stream = record { stream = stream; bytes = omega arith }
+kept_by_first [] draws (suc k) items fit stream = record { stream = stream; bytes = omega arith }
+kept_by_first (placed ∷ toxics) draws (suc k) items fit stream =
+    let first = toxic_keeps placed.toxic (All-head (λ placed. IsInRange placed.toxic) placed toxics fit) (draws placed.place) items stream in
+    let others = kept_by_first toxics draws k (toxic_flow placed.toxic (draws placed.place) items) (All-tail (λ placed. IsInRange placed.toxic) placed toxics fit) first.stream in
     record { stream = others.stream; bytes = omega (arith, first.bytes, others.bytes) }
 
 pub kept_by_front : (chain : Toxics) (words : List ℕ) (k : ℕ) (items : List Item) → IsChain chain → IsStream items → IsKeptBy items (flow_through (take k (reactions_of chain words)) items)
-kept_by_front chain words k items fits stream = kept_by_first (applied chain words) words k items (in_range-applied chain words fits) stream
+kept_by_front chain words k items fits stream = kept_by_first (applied chain words) (chain_draws chain words) k items (in_range-applied chain words fits) stream
 
 pub few_in_front : (chain : Toxics) (words : List ℕ) (items : List Item) → IsChain chain → IsStream items → (k : ℕ) → k ≤ length (reactions_of chain words) → length (flow_through (take k (reactions_of chain words)) items) ≤ arrived items + 1
 few_in_front chain words items fits stream k l =

@@ -53,3 +53,12 @@ any_some (item ∷ items) move other some = refl
 
 pub any_none : (items : List Item) (move : Move) (other : Option Move) → items ≡ [] → if_any items move other ≡ other
 any_none items move other none = ap (λ all. if_any all move other) none
+
+-- a stage that has an item puts it
+pub before_busy : (network : NetworkView) (place k : ℕ) (stage : Staged) → k + 1 ≡ place → slice_get network.stages k ≡ Some stage → (stage.pending ≡ [] → ⊥)
+    → possible_before (state_of network) place ≡ Some (Put k)
+before_busy network place k stage next at busy =
+    let n = state_of network in
+    let others : Option Move = if_any (queue n k) (Take k) (possible_before n k) in
+    let same : suc k ≡ place = omega arith in
+    subst (λ p. possible_before n p ≡ Some (Put k)) same (ap (λ one. if_any (unsent_of one) (Put k) others) (state_at network k stage at) ∙ any_some stage.pending (Put k) others busy)

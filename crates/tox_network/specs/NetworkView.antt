@@ -2,6 +2,7 @@
 use Rattle.std.specs.Prelude.{◌≡◌, ℕ, ◌+◌, ◌≤◌, ◌<◌, ◌^◌, ◌∷◌, false, List, map, length, Some, slice_get}
 use Rattle.tox_time.specs.declared.item.Item.{Item}
 use Rattle.tox_time.specs.Stream.{IsStream, is_final}
+use Rattle.tox_words.specs.Draw.{DrawingView}
 use Rattle.tox_defs.specs.Chain.{Toxics}
 use Rattle.tox_defs.specs.declared.applied.Placed.{Placed}
 use Rattle.tox_defs.specs.Flow.{reactions_of}
@@ -29,8 +30,8 @@ stage_of stage =
     record { reaction = reaction_of stage; state = stage.state; unsent = stage.pending }
 
 -- the stage of an applied toxic that was given nothing yet
-abbrev pub placed_stage : List ℕ → Placed → Staged
-placed_stage words placed = first_stage (op_of placed.place placed.toxic) words
+abbrev pub placed_stage : DrawingView → Placed → Staged
+placed_stage drawing placed = first_stage (op_of placed.place placed.toxic) drawing
 
 -- the state that a network is in
 abbrev pub state_of : NetworkView → NetworkState

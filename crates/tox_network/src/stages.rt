@@ -1,7 +1,7 @@
 //! The stages of a chain.
 ghost use Rattle.std.specs.Prelude.{◌≡◌, IfOk, map};
 ghost use Rattle.tox_defs.specs.Chain.{IsChain};
-ghost use Rattle.tox_defs.specs.Flow.{applied};
+ghost use Rattle.tox_defs.specs.Flow.{applied, chain_drawing};
 ghost use Rattle.tox_network.specs.NetworkView.{placed_stage};
 
 use std::alloc::{AllocError, Global};
@@ -15,13 +15,14 @@ pub(crate) fn first_stages<'w>(
     words: &'w Words,
 ) -> Result<Vec<Stage<'w>>, AllocError>
     ensures stages { IfOk result
-        (λ stages. stages.items ≡ map (placed_stage words.now) (applied chain.now words.now)) }
+        (λ stages. stages.items ≡ map (placed_stage (chain_drawing chain.now words.now)) (applied chain.now words.now)) }
     ensures chain { IsChain chain.now }
 {
+    let lanes = chain.lanes();
     let applied = chain.applied(words);
     let mut stages = Vec::with_capacity(alloc, applied.len())?;
     for placed in applied.iter() {
-        stages.push(Stage::new(placed.toxic, placed.place, words))?;
+        stages.push(Stage::new(placed.toxic, lanes, placed.place, words))?;
     }
     Ok(stages)
 }

@@ -1,3 +1,4 @@
+pub mod LaneCounts
 mod Turns
 mod Outputs
 mod Texts
