@@ -10,7 +10,7 @@ use Rattle.tox_time.specs.declared.item.Item.{Item}
 use Rattle.tox_time.specs.declared.item.Item.TheVariants.{Chunk, Closed, Reset, Quiet}
 use Rattle.tox_time.specs.declared.ending.Ending.{Ending}
 use Rattle.tox_time.specs.Stream.{has_final, IsStreamFrom}
-use Rattle.tox_words.specs.Draw.{draw}
+use Rattle.tox_words.specs.Draw.{Draws, draws_of}
 use Rattle.tox_defs.specs.declared.op.Op.{Op}
 use Rattle.tox_defs.specs.declared.op.Op.TheVariants.{Delay, Pace, Slow, Mute, Cutoff, Slicing, Limit}
 use Rattle.tox_defs.specs.declared.level.Level.{Level}
@@ -122,27 +122,27 @@ stop-snoc d (first ∷ ops) op (inl stop) = inl (inl stop)
 stop-snoc d (first ∷ ops) op (inr stop) = elim (stop-snoc d ops op stop) [ inl others ↦ inl (inr others) | inr last ↦ inr last ]
 
 -- a level that has nothing left gives what its operation gives
-gives-drained : (words : List ℕ) (start : ℕ) (level : Level) (items : List Item) → level.stop ≡ start → level.ending ≡ None
-    → level_gives (draw words) start level items ≡ flow_from (op_reaction level.op (draw words)) level.state items
-gives-drained words start level items read running =
-    level_gives-running (draw words) start level items running
-    ∙ ap (λ rest. flow_from (op_reaction level.op (draw words)) level.state (rest ++ items)) (rest_of-read start level.stop level.instant (omega (arith, read)))
+gives-drained : (draws : Draws) (start : ℕ) (level : Level) (items : List Item) → level.stop ≡ start → level.ending ≡ None
+    → level_gives draws start level items ≡ flow_from (op_reaction level.op draws) level.state items
+gives-drained draws start level items read running =
+    level_gives-running draws start level items running
+    ∙ ap (λ rest. flow_from (op_reaction level.op draws) level.state (rest ++ items)) (rest_of-read start level.stop level.instant (omega (arith, read)))
 
 -- a late list that has a final stays one through drained levels that cut nothing off
 pub record IsLater (d : ℕ) (items : List Item) : Type 0 where
   pub late : AreLate d items
   pub final : has_final items ≡ true
 
-late-levels : (d : ℕ) (words : List ℕ) (start : ℕ) (levels : List Level) (source : Slice) (items : List Item) → d ≤ horizon → AreNested start levels source → AreDrained start levels source
-    → AreLateOps d (ops_of levels) → IsLater d items → IsLater d (to_come_from words start levels source items)
-late-levels d words start [] source items fits nested drained from later = subst (λ items. IsLater d items) (sym (to_come_from-read words start source items drained)) later
-late-levels d words start (level ∷ levels) source items fits nested drained from later =
+late-levels : (d : ℕ) (draws : Draws) (start : ℕ) (levels : List Level) (source : Slice) (items : List Item) → d ≤ horizon → AreNested start levels source → AreDrained start levels source
+    → AreLateOps d (ops_of levels) → IsLater d items → IsLater d (to_come_from draws start levels source items)
+late-levels d draws start [] source items fits nested drained from later = subst (λ items. IsLater d items) (sym (to_come_from-read draws start source items drained)) later
+late-levels d draws start (level ∷ levels) source items fits nested drained from later =
     let split = late_ops-snoc d (ops_of levels) level.op from in
-    let above : IsLater d (to_come_from words level.stop levels source items) = late-levels d words level.stop levels source items fits nested.1 drained.2 split.0 later in
-    subst (λ items. IsLater d items) (sym (gives-drained words start level _ drained.0 drained.1))
+    let above : IsLater d (to_come_from draws level.stop levels source items) = late-levels d draws level.stop levels source items fits nested.1 drained.2 split.0 later in
+    subst (λ items. IsLater d items) (sym (gives-drained draws start level _ drained.0 drained.1))
     (record {
-      late = late-flow d level.op words fits (nested.0.heard drained.1) split.1 level.state _ above.late;
-      final = final-flow level.op words level.state _ (nested.0.sound.running drained.1) above.final;
+      late = late-flow d level.op draws fits (nested.0.heard drained.1) split.1 level.state _ above.late;
+      final = final-flow level.op draws level.state _ (nested.0.sound.running drained.1) above.final;
     })
 
 -- a cutoff makes of a late list the same as of a quiet source
@@ -152,11 +152,11 @@ late-before d (Closed t) items late = le-ltb t d late.0
 late-before d (Reset t) items late = le-ltb t d late.0
 late-before d Quiet items late = refl
 
-cutoff-flow : (d : ℕ) (words : List ℕ) (state : State) (items : List Item) → state.done ≡ false → IsLater d items → flow_from (op_reaction (Cutoff d) (draw words)) state items ≡ Reset d ∷ []
-cutoff-flow d words state [] running later = absurd (let none : false ≡ true = later.final in cc)
-cutoff-flow d words state (item ∷ items) running later =
+cutoff-flow : (d : ℕ) (draws : Draws) (state : State) (items : List Item) → state.done ≡ false → IsLater d items → flow_from (op_reaction (Cutoff d) draws) state items ≡ Reset d ∷ []
+cutoff-flow d draws state [] running later = absurd (let none : false ≡ true = later.final in cc)
+cutoff-flow d draws state (item ∷ items) running later =
     (Continues-counted (cutoff_gives d) state item items (Reset d ∷ []) running (ap (λ early. (if early then item else Reset d) ∷ []) (late-before d item items later.late))).gives
-    ∙ ap (λ more. Reset d ∷ more) (flow_from-done (op_reaction (Cutoff d) (draw words)) _ items refl)
+    ∙ ap (λ more. Reset d ∷ more) (flow_from-done (op_reaction (Cutoff d) draws) _ items refl)
 
 -- drained levels, one of which stops everything from an instant on, give the same for all later lists
 stop-level : (d : ℕ) (op : Op) → is_mute op ≡ false → IsStop d op → op ≡ Cutoff d
@@ -168,24 +168,24 @@ stop-level d (Cutoff instant) loud stop = ap Cutoff stop
 stop-level d (Slicing average variation micros lane until) loud stop = absurd stop
 stop-level d (Limit bytes) loud stop = absurd stop
 
-same-later : (d : ℕ) (words : List ℕ) (start : ℕ) (levels : List Level) (source : Slice) (xs ys : List Item) → d ≤ horizon → AreNested start levels source → AreDrained start levels source
+same-later : (d : ℕ) (draws : Draws) (start : ℕ) (levels : List Level) (source : Slice) (xs ys : List Item) → d ≤ horizon → AreNested start levels source → AreDrained start levels source
     → AreLateOps d (ops_of levels) → HaveStop d (ops_of levels) → IsLater d xs → IsLater d ys
-    → to_come_from words start levels source xs ≡ to_come_from words start levels source ys
-same-later d words start [] source xs ys fits nested drained from stop later_xs later_ys = absurd stop
-same-later d words start (level ∷ levels) source xs ys fits nested drained from stop later_xs later_ys =
+    → to_come_from draws start levels source xs ≡ to_come_from draws start levels source ys
+same-later d draws start [] source xs ys fits nested drained from stop later_xs later_ys = absurd stop
+same-later d draws start (level ∷ levels) source xs ys fits nested drained from stop later_xs later_ys =
     elim (stop-snoc d (ops_of levels) level.op stop) [
-      | inl above ↦ ap (λ items. level_gives (draw words) start level items) (same-later d words level.stop levels source xs ys fits nested.1 drained.2 split.0 above later_xs later_ys)
+      | inl above ↦ ap (λ items. level_gives draws start level items) (same-later d draws level.stop levels source xs ys fits nested.1 drained.2 split.0 above later_xs later_ys)
       | inr here ↦ cut here xs later_xs ∙ sym (cut here ys later_ys)
     ]
   where
     split : AreLateOps d (ops_of levels) × IsLateOp d level.op
     split = late_ops-snoc d (ops_of levels) level.op from
 
-    cut : IsStop d level.op → (items : List Item) → IsLater d items → to_come_from words start (level ∷ levels) source items ≡ Reset d ∷ []
+    cut : IsStop d level.op → (items : List Item) → IsLater d items → to_come_from draws start (level ∷ levels) source items ≡ Reset d ∷ []
     cut here items later =
-        gives-drained words start level _ drained.0 drained.1
-        ∙ ap (λ op. flow_from (op_reaction op (draw words)) level.state (to_come_from words level.stop levels source items)) (stop-level d level.op (nested.0.heard drained.1) here)
-        ∙ cutoff-flow d words level.state _ (nested.0.sound.running drained.1) (late-levels d words level.stop levels source items fits nested.1 drained.2 split.0 later)
+        gives-drained draws start level _ drained.0 drained.1
+        ∙ ap (λ op. flow_from (op_reaction op draws) level.state (to_come_from draws level.stop levels source items)) (stop-level d level.op (nested.0.heard drained.1) here)
+        ∙ cutoff-flow d draws level.state _ (nested.0.sound.running drained.1) (late-levels d draws level.stop levels source items fits nested.1 drained.2 split.0 later)
 
 -- a stream's instants are not beyond the horizon, unless the source is quiet
 begins-in-time : (d position since : ℕ) (items : List Item) → d ≤ since → IsStreamFrom position since items → (d ≤ horizon) ⊎ (items ≡ Quiet ∷ [])
@@ -204,7 +204,7 @@ module _ (runner : RunnerView) (invariant : IsRunning runner) (idle : runner.idl
       let unfound : runner.lookahead ≡ None = idle-unfound runner invariant idle in
       let nested : AreNested runner.position runner.levels runner.piece = subst (λ found. AreNested (reader_at runner.position found) runner.levels runner.piece) unfound (invariant.nested running) in
       to_come-unfound runner items running unfound
-      ∙ same-later d runner.words runner.position runner.levels runner.piece items (Quiet ∷ []) fits nested (idle-drained runner invariant idle running) found.0 found.1
+      ∙ same-later d (draws_of runner.drawing) runner.position runner.levels runner.piece items (Quiet ∷ []) fits nested (idle-drained runner invariant idle running) found.0 found.1
       (record { late = late-stream d position since items from stream; final = final_of_stream position since items stream }) (record { late = tt; final = refl })
       ∙ sym (to_come-unfound runner (Quiet ∷ []) running unfound)
 

@@ -4,7 +4,7 @@ use Rattle.std.specs.Prelude.{is_some, IsSome, All, MatchOption}
 use Rattle.tox_time.specs.declared.item.Item.{Item}
 use Rattle.tox_time.specs.declared.ending.Ending.{Ending}
 use Rattle.tox_time.specs.Stream.{IsStream}
-use Rattle.tox_words.specs.Draw.{draw}
+use Rattle.tox_words.specs.Draw.{DrawingView, draws_of}
 use Rattle.tox_defs.specs.declared.op.Op.{Op}
 use Rattle.tox_defs.specs.Reaction.{flow_through}
 use Rattle.tox_defs.specs.Op.{IsOp}
@@ -15,11 +15,11 @@ use Rattle.tox_plan.proofs.Starts.{nested-at_start, means-at_start, length-level
 use Rattle.tox_plan.proofs.RunnerOutput.{to_come-unfound, to_come-ended, drained-unended, none_of}
 
 -- a runner that was offered nothing yet
-module _ (ops : List Op) (words : List ℕ) (known : Option Ending) where
+module _ (ops : List Op) (drawing : DrawingView) (known : Option Ending) where
   abbrev pub first_runner : RunnerView
   first_runner = record {
     levels = levels_at_start ops;
-    words = words;
+    drawing = drawing;
     position = 0;
     piece = no_piece;
     latest = 0;
@@ -34,11 +34,11 @@ module _ (ops : List Op) (words : List ℕ) (known : Option Ending) where
     pieces = 0;
   }
 
-  known_at_start : (ending : Option Ending) → known ≡ ending → MatchOption known (AreDrained 0 (levels_at_start ops) no_piece) (OnlyEnds words 0 (levels_at_start ops) no_piece) → known ≡ None → AreDrained 0 (levels_at_start ops) no_piece
+  known_at_start : (ending : Option Ending) → known ≡ ending → MatchOption known (AreDrained 0 (levels_at_start ops) no_piece) (OnlyEnds (draws_of drawing) 0 (levels_at_start ops) no_piece) → known ≡ None → AreDrained 0 (levels_at_start ops) no_piece
   known_at_start None is drained none = rw is at drained
   known_at_start (Some ending) is drained none = absurd (let both : is_some known ≡ true = rw is refl in let open_yet : is_some known ≡ false = ap is_some none in cc)
 
-  pub IsRunning-first : All IsOp ops → length ops ≤ 16 → MatchOption known (AreDrained 0 (levels_at_start ops) no_piece) (OnlyEnds words 0 (levels_at_start ops) no_piece) → (IsSome known → HaveEnded (levels_at_start ops)) → IsRunning first_runner
+  pub IsRunning-first : All IsOp ops → length ops ≤ 32 → MatchOption known (AreDrained 0 (levels_at_start ops) no_piece) (OnlyEnds (draws_of drawing) 0 (levels_at_start ops) no_piece) → (IsSome known → HaveEnded (levels_at_start ops)) → IsRunning first_runner
   IsRunning-first fit few knows kept = record {
     nested = λ _. nested-at_start ops fit;
     drained = λ read none. known_at_start known refl knows none;
@@ -58,13 +58,13 @@ module _ (ops : List Op) (words : List ℕ) (known : Option Ending) where
     looked = λ some. omega arith;
   }
 
-  means_by : (ending : Option Ending) → known ≡ ending → All IsOp ops → MatchOption known (AreDrained 0 (levels_at_start ops) no_piece) (OnlyEnds words 0 (levels_at_start ops) no_piece) → (items : List Item) → IsStream items
-      → to_come first_runner items ≡ flow_through (op_reactions ops (draw words)) items
-  means_by None is fit knows items stream = to_come-unfound first_runner items is refl ∙ means-at_start ops words items fit stream
+  means_by : (ending : Option Ending) → known ≡ ending → All IsOp ops → MatchOption known (AreDrained 0 (levels_at_start ops) no_piece) (OnlyEnds (draws_of drawing) 0 (levels_at_start ops) no_piece) → (items : List Item) → IsStream items
+      → to_come first_runner items ≡ flow_through (op_reactions ops (draws_of drawing)) items
+  means_by None is fit knows items stream = to_come-unfound first_runner items is refl ∙ means-at_start ops (draws_of drawing) items fit stream
   means_by (Some ending) is fit knows items stream =
-      let only : OnlyEnds words 0 (levels_at_start ops) no_piece ending = rw is at knows in
-      to_come-ended first_runner ending items is ∙ sym (only items) ∙ means-at_start ops words items fit stream
+      let only : OnlyEnds (draws_of drawing) 0 (levels_at_start ops) no_piece ending = rw is at knows in
+      to_come-ended first_runner ending items is ∙ sym (only items) ∙ means-at_start ops (draws_of drawing) items fit stream
 
-  pub means-first : All IsOp ops → MatchOption known (AreDrained 0 (levels_at_start ops) no_piece) (OnlyEnds words 0 (levels_at_start ops) no_piece) → (items : List Item) → IsStream items
-      → to_come first_runner items ≡ flow_through (op_reactions ops (draw words)) items
+  pub means-first : All IsOp ops → MatchOption known (AreDrained 0 (levels_at_start ops) no_piece) (OnlyEnds (draws_of drawing) 0 (levels_at_start ops) no_piece) → (items : List Item) → IsStream items
+      → to_come first_runner items ≡ flow_through (op_reactions ops (draws_of drawing)) items
   means-first fit knows items stream = means_by known refl fit knows items stream

@@ -16,7 +16,7 @@ module _ (old : RunnerView) (cut : Slice) where
   abbrev pub after_given : RunnerView
   after_given = record {
     levels = old.levels;
-    words = old.words;
+    drawing = old.drawing;
     position = cut.span.stop;
     piece = old.piece;
     latest = old.latest;
@@ -124,7 +124,7 @@ IsCut-same old middle new slice cut same counted = record {
 
 pub keeps-both : (old middle new : RunnerView) → KeepsOffers old middle → KeepsOffers middle new → KeepsOffers old new
 keeps-both old middle new first second = record {
-  words = second.words ∙ first.words;
+  drawing = second.drawing ∙ first.drawing;
   piece = second.piece ∙ first.piece;
   latest = second.latest ∙ first.latest;
   finished = second.finished ∙ first.finished;

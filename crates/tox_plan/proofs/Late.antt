@@ -11,7 +11,7 @@ use Rattle.tox_time.specs.Time.{horizon, plus}
 use Rattle.tox_time.specs.Stream.{span_len, has_final, IsStreamFrom}
 use Rattle.tox_time.specs.Table.{final_of}
 use Rattle.tox_time.proofs.StreamLemmas.{has_final-append}
-use Rattle.tox_words.specs.Draw.{draw}
+use Rattle.tox_words.specs.Draw.{Draws}
 use Rattle.tox_defs.specs.declared.op.Op.{Op}
 use Rattle.tox_defs.specs.declared.op.Op.TheVariants.{Delay, Pace, Slow, Mute, Cutoff, Slicing, Limit}
 use Rattle.tox_defs.specs.declared.state.State.{State}
@@ -91,47 +91,47 @@ IsLateOp d (Cutoff instant) = d ≤ instant
 IsLateOp d op = Unit {0}
 
 -- what an operation gives for an item
-late-giving : (d : ℕ) (op : Op) (words : List ℕ) (state : State) (item : Item) → d ≤ horizon → is_mute op ≡ false → IsLateOp d op → AreLate d (item ∷ []) → AreLate d (op_giving op (draw words) state item)
-late-giving d (Delay fixed latency jitter lane until) words state (Chunk span t) fits loud from late = (omega (arith, fits, late.0), tt)
-late-giving d (Delay fixed latency jitter lane until) words state (Closed t) fits loud from late = late-in_order d state.previous (Closed t) late
-late-giving d (Delay fixed latency jitter lane until) words state (Reset t) fits loud from late = late-in_order d state.previous (Reset t) late
-late-giving d (Delay fixed latency jitter lane until) words state Quiet fits loud from late = tt
-late-giving d (Pace rate until) words state (Chunk span t) fits loud from late = late-leave d (λ n. div_ceil (1000 * n) rate) state.previous t (pieces_of (λ _. 100 * rate) 0 span) fits late.0
-late-giving d (Pace rate until) words state (Closed t) fits loud from late = late-in_order d state.previous (Closed t) late
-late-giving d (Pace rate until) words state (Reset t) fits loud from late = late-in_order d state.previous (Reset t) late
-late-giving d (Pace rate until) words state Quiet fits loud from late = tt
-late-giving d (Slow millis) words state (Chunk span t) fits loud from late = late
-late-giving d (Slow millis) words state (Closed t) fits loud from late = (omega (arith, fits, late.0), tt)
-late-giving d (Slow millis) words state (Reset t) fits loud from late = late
-late-giving d (Slow millis) words state Quiet fits loud from late = tt
-late-giving d (Mute ending) words state item fits loud from late = absurd (cc)
-late-giving d (Cutoff instant) words state item fits loud from late = late-cut_off d instant (is_before instant item) item from late
-late-giving d (Slicing average variation micros lane until) words state (Chunk span t) fits loud from late =
-    late-leave d (λ _. micros) state.previous t (pieces_of (λ piece. varied average variation (draw words lane (1 + piece))) state.pieces span) fits late.0
-late-giving d (Slicing average variation micros lane until) words state (Closed t) fits loud from late = late-in_order d state.previous (Closed t) late
-late-giving d (Slicing average variation micros lane until) words state (Reset t) fits loud from late = late-in_order d state.previous (Reset t) late
-late-giving d (Slicing average variation micros lane until) words state Quiet fits loud from late = tt
-late-giving d (Limit bytes) words state (Chunk span t) fits loud from late =
+late-giving : (d : ℕ) (op : Op) (draws : Draws) (state : State) (item : Item) → d ≤ horizon → is_mute op ≡ false → IsLateOp d op → AreLate d (item ∷ []) → AreLate d (op_giving op draws state item)
+late-giving d (Delay fixed latency jitter lane until) draws state (Chunk span t) fits loud from late = (omega (arith, fits, late.0), tt)
+late-giving d (Delay fixed latency jitter lane until) draws state (Closed t) fits loud from late = late-in_order d state.previous (Closed t) late
+late-giving d (Delay fixed latency jitter lane until) draws state (Reset t) fits loud from late = late-in_order d state.previous (Reset t) late
+late-giving d (Delay fixed latency jitter lane until) draws state Quiet fits loud from late = tt
+late-giving d (Pace rate until) draws state (Chunk span t) fits loud from late = late-leave d (λ n. div_ceil (1000 * n) rate) state.previous t (pieces_of (λ _. 100 * rate) 0 span) fits late.0
+late-giving d (Pace rate until) draws state (Closed t) fits loud from late = late-in_order d state.previous (Closed t) late
+late-giving d (Pace rate until) draws state (Reset t) fits loud from late = late-in_order d state.previous (Reset t) late
+late-giving d (Pace rate until) draws state Quiet fits loud from late = tt
+late-giving d (Slow millis) draws state (Chunk span t) fits loud from late = late
+late-giving d (Slow millis) draws state (Closed t) fits loud from late = (omega (arith, fits, late.0), tt)
+late-giving d (Slow millis) draws state (Reset t) fits loud from late = late
+late-giving d (Slow millis) draws state Quiet fits loud from late = tt
+late-giving d (Mute ending) draws state item fits loud from late = absurd (cc)
+late-giving d (Cutoff instant) draws state item fits loud from late = late-cut_off d instant (is_before instant item) item from late
+late-giving d (Slicing average variation micros lane until) draws state (Chunk span t) fits loud from late =
+    late-leave d (λ _. micros) state.previous t (pieces_of (λ piece. varied average variation (draws lane (1 + piece))) state.pieces span) fits late.0
+late-giving d (Slicing average variation micros lane until) draws state (Closed t) fits loud from late = late-in_order d state.previous (Closed t) late
+late-giving d (Slicing average variation micros lane until) draws state (Reset t) fits loud from late = late-in_order d state.previous (Reset t) late
+late-giving d (Slicing average variation micros lane until) draws state Quiet fits loud from late = tt
+late-giving d (Limit bytes) draws state (Chunk span t) fits loud from late =
     late-either d (nat_lt (span_len span) (bytes - state.passed)) (Chunk span t ∷ []) (first_bytes (bytes - state.passed) span t ++ (Closed t ∷ [])) late (late-first_bytes d (bytes - state.passed) span t late.0)
-late-giving d (Limit bytes) words state (Closed t) fits loud from late = late
-late-giving d (Limit bytes) words state (Reset t) fits loud from late = late
-late-giving d (Limit bytes) words state Quiet fits loud from late = tt
+late-giving d (Limit bytes) draws state (Closed t) fits loud from late = late
+late-giving d (Limit bytes) draws state (Reset t) fits loud from late = late
+late-giving d (Limit bytes) draws state Quiet fits loud from late = tt
 
-module _ (d : ℕ) (op : Op) (words : List ℕ) (fits : d ≤ horizon) (loud : is_mute op ≡ false) (from : IsLateOp d op) where
-  late-answer : (stopped : Bool) (state : State) (item : Item) → AreLate d (item ∷ []) → AreLate d (if stopped then late_answer state item else counted (op_giving op (draw words)) state item).given
+module _ (d : ℕ) (op : Op) (draws : Draws) (fits : d ≤ horizon) (loud : is_mute op ≡ false) (from : IsLateOp d op) where
+  late-answer : (stopped : Bool) (state : State) (item : Item) → AreLate d (item ∷ []) → AreLate d (if stopped then late_answer state item else counted (op_giving op draws) state item).given
   late-answer true state item late = late-in_order d state.previous item late
-  late-answer false state item late = late-giving d op words state item fits loud from late
+  late-answer false state item late = late-giving d op draws state item fits loud from late
 
-  late-step : (done : Bool) (state : State) (item : Item) → AreLate d (item ∷ []) → AreLate d (if done then (record { state = state; given = [] }) else op_reaction op (draw words) state item).given
+  late-step : (done : Bool) (state : State) (item : Item) → AreLate d (item ∷ []) → AreLate d (if done then (record { state = state; given = [] }) else op_reaction op draws state item).given
   late-step true state item late = tt
   late-step false state item late = late-answer (is_late (op_until op) item) state item late
 
   -- what an operation gives for a list
-  pub late-flow : (state : State) (items : List Item) → AreLate d items → AreLate d (flow_from (op_reaction op (draw words)) state items)
+  pub late-flow : (state : State) (items : List Item) → AreLate d items → AreLate d (flow_from (op_reaction op draws) state items)
   late-flow state [] late = tt
   late-flow state (item ∷ items) late =
-      late-append d (react (op_reaction op (draw words)) state item).given _ (late-step state.done state item (late-head d item items late))
-      (late-flow (react (op_reaction op (draw words)) state item).state items (late-tail d item items late))
+      late-append d (react (op_reaction op draws) state item).given _ (late-step state.done state item (late-head d item items late))
+      (late-flow (react (op_reaction op draws) state item).state items (late-tail d item items late))
 
 has_final-early : (xs ys : List Item) → has_final xs ≡ true → has_final (xs ++ ys) ≡ true
 has_final-early [] ys final = absurd (cc)
@@ -145,42 +145,42 @@ has_final-ending StillOpen = refl
 has_final-ending (ClosedAt t) = refl
 has_final-ending (ResetAt t) = refl
 
-module _ (op : Op) (words : List ℕ) where
-  final-ending : (state : State) (ending : Ending) → has_final (op_reaction op (draw words) state (final_of ending)).given ≡ true
+module _ (op : Op) (draws : Draws) where
+  final-ending : (state : State) (ending : Ending) → has_final (op_reaction op draws state (final_of ending)).given ≡ true
   final-ending state ending =
-      ap (λ (answer : Answer). has_final answer.given) (until-early (op_until op) (counted (op_giving op (draw words))) state (final_of ending) (is_late-final (op_until op) ending))
-      ∙ ap has_final (giving-final op words state ending).1 ∙ has_final-ending (giving-final op words state ending).0
+      ap (λ (answer : Answer). has_final answer.given) (until-early (op_until op) (counted (op_giving op draws)) state (final_of ending) (is_late-final (op_until op) ending))
+      ∙ ap has_final (giving-final op draws state ending).1 ∙ has_final-ending (giving-final op draws state ending).0
 
-  final-giving : (state : State) (ending : Ending) (items : List Item) → state.done ≡ false → has_final (flow_from (op_reaction op (draw words)) state (final_of ending ∷ items)) ≡ true
+  final-giving : (state : State) (ending : Ending) (items : List Item) → state.done ≡ false → has_final (flow_from (op_reaction op draws) state (final_of ending ∷ items)) ≡ true
   final-giving state ending items running =
-      ap (λ (answer : Answer). has_final (answer.given ++ flow_from (op_reaction op (draw words)) answer.state items)) (react-running (op_reaction op (draw words)) state (final_of ending) running)
-      ∙ has_final-early (op_reaction op (draw words) state (final_of ending)).given _ (final-ending state ending)
+      ap (λ (answer : Answer). has_final (answer.given ++ flow_from (op_reaction op draws) answer.state items)) (react-running (op_reaction op draws) state (final_of ending) running)
+      ∙ has_final-early (op_reaction op draws state (final_of ending)).given _ (final-ending state ending)
 
   -- who gives no final for a chunk goes on
   done-chunk : (stopped : Bool) (state : State) (span : Span) (t : ℕ) → state.done ≡ false
-      → (if stopped then late_answer state (Chunk span t) else counted (op_giving op (draw words)) state (Chunk span t)).state.done
-      ≡ has_final (if stopped then late_answer state (Chunk span t) else counted (op_giving op (draw words)) state (Chunk span t)).given
+      → (if stopped then late_answer state (Chunk span t) else counted (op_giving op draws) state (Chunk span t)).state.done
+      ≡ has_final (if stopped then late_answer state (Chunk span t) else counted (op_giving op draws) state (Chunk span t)).given
   done-chunk true state span t running = running
   done-chunk false state span t running = refl
 
-  final-step : (state : State) (item : Item) (items : List Item) → state.done ≡ false → (ends : Bool) → has_final (op_reaction op (draw words) state item).given ≡ ends
-      → (ends ≡ false → has_final (flow_from (op_reaction op (draw words)) (op_reaction op (draw words) state item).state items) ≡ true)
-      → has_final (flow_from (op_reaction op (draw words)) state (item ∷ items)) ≡ true
+  final-step : (state : State) (item : Item) (items : List Item) → state.done ≡ false → (ends : Bool) → has_final (op_reaction op draws state item).given ≡ ends
+      → (ends ≡ false → has_final (flow_from (op_reaction op draws) (op_reaction op draws state item).state items) ≡ true)
+      → has_final (flow_from (op_reaction op draws) state (item ∷ items)) ≡ true
   final-step state item items running true is others =
-      ap (λ (answer : Answer). has_final (answer.given ++ flow_from (op_reaction op (draw words)) answer.state items)) (react-running (op_reaction op (draw words)) state item running)
-      ∙ has_final-early (op_reaction op (draw words) state item).given _ is
+      ap (λ (answer : Answer). has_final (answer.given ++ flow_from (op_reaction op draws) answer.state items)) (react-running (op_reaction op draws) state item running)
+      ∙ has_final-early (op_reaction op draws state item).given _ is
   final-step state item items running false is others =
-      ap (λ (answer : Answer). has_final (answer.given ++ flow_from (op_reaction op (draw words)) answer.state items)) (react-running (op_reaction op (draw words)) state item running)
-      ∙ has_final-append (op_reaction op (draw words) state item).given _ is
+      ap (λ (answer : Answer). has_final (answer.given ++ flow_from (op_reaction op draws) answer.state items)) (react-running (op_reaction op draws) state item running)
+      ∙ has_final-append (op_reaction op draws state item).given _ is
       ∙ others refl
 
   -- a final brings a final
-  pub final-flow : (state : State) (items : List Item) → state.done ≡ false → has_final items ≡ true → has_final (flow_from (op_reaction op (draw words)) state items) ≡ true
+  pub final-flow : (state : State) (items : List Item) → state.done ≡ false → has_final items ≡ true → has_final (flow_from (op_reaction op draws) state items) ≡ true
   final-flow state [] running final = absurd (cc)
   final-flow state (Closed t ∷ items) running final = final-giving state (ClosedAt t) items running
   final-flow state (Reset t ∷ items) running final = final-giving state (ResetAt t) items running
   final-flow state (Quiet ∷ items) running final = final-giving state StillOpen items running
   final-flow state (Chunk span t ∷ items) running final =
-      let answer : Answer = op_reaction op (draw words) state (Chunk span t) in
+      let answer : Answer = op_reaction op draws state (Chunk span t) in
       let done = done-chunk (is_late (op_until op) (Chunk span t)) state span t running in
       final-step state (Chunk span t) items running (has_final answer.given) refl (λ none. final-flow answer.state items (done ∙ none) final)

@@ -9,6 +9,7 @@ use Rattle.tox_time.specs.declared.item.Item.{Item}
 use Rattle.tox_time.specs.declared.item.Item.TheVariants.{Chunk, Closed, Reset, Quiet}
 use Rattle.tox_time.specs.declared.ending.Ending.{Ending}
 use Rattle.tox_time.specs.Table.{final_of}
+use Rattle.tox_words.specs.Draw.{draws_of}
 use Rattle.tox_defs.specs.declared.level.Level.{Level}
 use Rattle.tox_plan.specs.Levels.{AreNested, AreDrained, IsNext, HaveEnded, AreOpenUnless}
 use Rattle.tox_plan.specs.RunnerView.{RunnerView, IsRunning, IsFound, to_come, reader_at, round_due, HasNoChunk}
@@ -17,9 +18,9 @@ use Rattle.tox_plan.proofs.LevelLemmas.{nested-below, drained-at}
 use Rattle.tox_plan.proofs.RunnerOutput.{to_come-unfound, to_come-found, to_come-ended, unknown, final-no_chunk, read-no_chunk, unread-ending, unread-busy}
 
 -- a round of looks fits the counter of turns
-pub turns_fit : (levels turns cuts pieces : ℕ) → turns ≤ levels * (cuts + pieces) → levels ≤ 16 → cuts ≤ 2 ^ 40 → pieces ≤ 2 ^ 40 → turns + levels < 2 ^ 64
+pub turns_fit : (levels turns cuts pieces : ℕ) → turns ≤ levels * (cuts + pieces) → levels ≤ 32 → cuts ≤ 2 ^ 40 → pieces ≤ 2 ^ 40 → turns + levels < 2 ^ 64
 turns_fit levels turns cuts pieces counted few few_cuts few_pieces =
-    let most : levels * (cuts + pieces) ≤ 16 * (cuts + pieces) = mul-le-mul_right (cuts + pieces) few in
+    let most : levels * (cuts + pieces) ≤ 32 * (cuts + pieces) = mul-le-mul_right (cuts + pieces) few in
     omega arith
 
 -- at most one round is due
@@ -45,7 +46,7 @@ module _ (old : RunnerView) (levels : List Level) (turns : ℕ) (ended : Bool) (
   abbrev pub after_found : RunnerView
   after_found = record {
     levels = levels;
-    words = old.words;
+    drawing = old.drawing;
     position = old.position;
     piece = old.piece;
     latest = old.latest;
@@ -60,7 +61,7 @@ module _ (old : RunnerView) (levels : List Level) (turns : ℕ) (ended : Bool) (
     pieces = old.pieces;
   }
 
-  module _ (invariant : IsRunning old) (unread : old.drained ≡ false) (unfound : old.lookahead ≡ None) (next : IsNext old.words old.position old.levels levels old.piece cut) where
+  module _ (invariant : IsRunning old) (unread : old.drained ≡ false) (unfound : old.lookahead ≡ None) (next : IsNext (draws_of old.drawing) old.position old.levels levels old.piece cut) where
     pub IsRunning-after_found : (last ≡ true → AreDrained cut.span.stop levels old.piece) → AreOpenUnless ended levels → length levels ≡ length old.levels → turns ≤ old.turns + length old.levels → old.turns ≤ turns → (0 < length old.levels → old.turns < turns) → IsRunning after_found
     IsRunning-after_found drained unended same_length few_turns more looked =
         let busy : old.idle ≡ false = unread-busy old invariant unread in
@@ -96,7 +97,7 @@ module _ (old : RunnerView) (levels : List Level) (turns : ℕ) (ended : Bool) (
   abbrev pub after_read : RunnerView
   after_read = record {
     levels = levels;
-    words = old.words;
+    drawing = old.drawing;
     position = old.position;
     piece = old.piece;
     latest = old.latest;

@@ -2,6 +2,7 @@
 use Rattle.std.proofs.Common.{◌≡◌, ℕ, ◌<◌, ◌≤◌, ◌+◌, ◌*◌, ◌^◌, true, false, List, ◌∷◌, length, None, refl, ap, ◌∙◌, sym, subst, arith}
 use Rattle.std.specs.Prelude.{is_some, IsSome, IfSome}
 use Rattle.tox_time.specs.declared.item.Item.{Item}
+use Rattle.tox_words.specs.Draw.{draws_of}
 use Rattle.tox_defs.specs.Look.{as_chunk}
 use Rattle.tox_plan.specs.Levels.{AreDrained}
 use Rattle.tox_plan.specs.RunnerView.{RunnerView, IsRunning, IsFound, to_come, reader_at, next_piece}
@@ -13,7 +14,7 @@ module _ (old : RunnerView) (len instant : ℕ) where
   abbrev pub after_offer : RunnerView
   after_offer = record {
     levels = old.levels;
-    words = old.words;
+    drawing = old.drawing;
     position = old.position;
     piece = next_piece old len instant;
     latest = instant;
@@ -63,5 +64,5 @@ module _ (old : RunnerView) (len instant : ℕ) where
     pub to_come-after_offer : 0 < len → (items : List Item) → to_come after_offer items ≡ to_come old (as_chunk (next_piece old len instant) ∷ items)
     to_come-after_offer some items =
         to_come-unfound after_offer items none unfound
-        ∙ drained-offered old.words old.position old.levels old.piece (next_piece old len instant) items drained refl (omega arith)
+        ∙ drained-offered (draws_of old.drawing) old.position old.levels old.piece (next_piece old len instant) items drained refl (omega arith)
         ∙ sym (to_come-unfound old (as_chunk (next_piece old len instant) ∷ items) none unfound)

@@ -7,7 +7,7 @@ use Rattle.tox_time.specs.declared.item.Item.{Item}
 use Rattle.tox_time.specs.declared.item.Item.TheVariants.{Chunk, Closed, Reset, Quiet}
 use Rattle.tox_time.specs.Stream.{IsStream, IsStreamFrom, span_len}
 use Rattle.tox_time.specs.Table.{table, slices_table}
-use Rattle.tox_words.specs.Draw.{draw}
+use Rattle.tox_words.specs.Draw.{Draws, draw_in}
 use Rattle.tox_defs.specs.declared.op.Op.{Op}
 use Rattle.tox_defs.specs.Reaction.{flow, flow_through}
 use Rattle.tox_defs.specs.Op.{IsOp, op_reaction}
@@ -45,10 +45,10 @@ never-behind since [] ys never = never
 never-behind since (x ∷ xs) ys never = never-later x since ys never.0 (never-behind x xs ys never.1)
 
 -- what a plan means for a stream is a stream
-stream-through : (ops : List Op) (words : List ℕ) (items : List Item) → All IsOp ops → IsStream items → IsStream (flow_through (op_reactions ops (draw words)) items)
-stream-through [] words items fit stream = stream
-stream-through (op ∷ ops) words items fit stream =
-    stream-through ops words (flow (op_reaction op (draw words)) items) (All-tail IsOp op ops fit) (IsStream-op_flow op (draw words) items (All-head IsOp op ops fit) stream)
+stream-through : (ops : List Op) (draws : Draws) (items : List Item) → All IsOp ops → IsStream items → IsStream (flow_through (op_reactions ops draws) items)
+stream-through [] draws items fit stream = stream
+stream-through (op ∷ ops) draws items fit stream =
+    stream-through ops draws (flow (op_reaction op draws) items) (All-tail IsOp op ops fit) (IsStream-op_flow op draws items (All-head IsOp op ops fit) stream)
 
 after-never : (instant t : ℕ) (ts : List ℕ) → instant < t → NeverFall t ts → AreAfter instant ts
 after-never instant t [] before never = tt
@@ -81,7 +81,7 @@ left-after plan offered given slice runner fits stream has some apart =
     let left : List ℕ = table (to_come runner (Quiet ∷ [])) in
     let whole : NeverFall 0 (slices_table (given ++ slice ∷ []) ++ left)
     = subst (λ ts. NeverFall 0 ts) (sym (has.tables (Quiet ∷ []) stream))
-    (table-never 0 0 (means plan runner.words (offered ++ Quiet ∷ [])) (stream-through plan.ops runner.words (offered ++ Quiet ∷ []) fits.operations stream)) in
+    (table-never 0 0 (means plan runner.drawing.words (offered ++ Quiet ∷ [])) (stream-through plan.ops (draw_in plan.lanes runner.drawing.words) (offered ++ Quiet ∷ []) fits.operations stream)) in
     let split : slices_table (given ++ slice ∷ []) ++ left ≡ slices_table given ++ (replicate (span_len slice.span) slice.instant ++ left)
     = ap (λ ts. ts ++ left) (slices_table-append given (slice ∷ []))
     ∙ append_assoc (slices_table given) (slices_table (slice ∷ [])) left

@@ -7,6 +7,7 @@ use Rattle.tox_time.specs.declared.item.Item.TheVariants.{Quiet}
 use Rattle.tox_time.specs.declared.ending.Ending.{Ending}
 use Rattle.tox_time.specs.declared.ending.Ending.TheVariants.{StillOpen, Closed as ClosedEnding, Reset as ResetEnding}
 use Rattle.tox_time.specs.Table.{final_of}
+use Rattle.tox_words.specs.Draw.{Draws, draws_of}
 use Rattle.tox_defs.specs.declared.level.Level.{Level}
 use Rattle.tox_defs.specs.Look.{as_chunk}
 use Rattle.tox_defs.specs.Level.{ending_or}
@@ -15,24 +16,24 @@ use Rattle.tox_plan.specs.RunnerView.{RunnerView, IsRunning, IsFound, to_come, f
 use Rattle.tox_plan.proofs.Endings.{drained-final}
 
 pub to_come-running : (runner : RunnerView) (items : List Item) → runner.ending ≡ None
-    → to_come runner items ≡ found_chunk runner.lookahead ++ to_come_from runner.words (reader_at runner.position runner.lookahead) runner.levels runner.piece items
+    → to_come runner items ≡ found_chunk runner.lookahead ++ to_come_from (draws_of runner.drawing) (reader_at runner.position runner.lookahead) runner.levels runner.piece items
 to_come-running runner items running =
-    ap (λ ending. ending_or ending (found_chunk runner.lookahead ++ to_come_from runner.words (reader_at runner.position runner.lookahead) runner.levels runner.piece items)) running
+    ap (λ ending. ending_or ending (found_chunk runner.lookahead ++ to_come_from (draws_of runner.drawing) (reader_at runner.position runner.lookahead) runner.levels runner.piece items)) running
 
-pub to_come-unfound : (runner : RunnerView) (items : List Item) → runner.ending ≡ None → runner.lookahead ≡ None → to_come runner items ≡ to_come_from runner.words runner.position runner.levels runner.piece items
+pub to_come-unfound : (runner : RunnerView) (items : List Item) → runner.ending ≡ None → runner.lookahead ≡ None → to_come runner items ≡ to_come_from (draws_of runner.drawing) runner.position runner.levels runner.piece items
 to_come-unfound runner items running none =
     to_come-running runner items running
-    ∙ ap (λ found. found_chunk found ++ to_come_from runner.words (reader_at runner.position found) runner.levels runner.piece items) none
+    ∙ ap (λ found. found_chunk found ++ to_come_from (draws_of runner.drawing) (reader_at runner.position found) runner.levels runner.piece items) none
 
 pub to_come-found : (runner : RunnerView) (cut : Slice) (items : List Item) → runner.ending ≡ None → runner.lookahead ≡ Some cut
-    → to_come runner items ≡ as_chunk cut ∷ to_come_from runner.words cut.span.stop runner.levels runner.piece items
+    → to_come runner items ≡ as_chunk cut ∷ to_come_from (draws_of runner.drawing) cut.span.stop runner.levels runner.piece items
 to_come-found runner cut items running some =
     to_come-running runner items running
-    ∙ ap (λ found. found_chunk found ++ to_come_from runner.words (reader_at runner.position found) runner.levels runner.piece items) some
+    ∙ ap (λ found. found_chunk found ++ to_come_from (draws_of runner.drawing) (reader_at runner.position found) runner.levels runner.piece items) some
 
 pub to_come-ended : (runner : RunnerView) (ending : Ending) (items : List Item) → runner.ending ≡ Some ending → to_come runner items ≡ final_of ending ∷ []
 to_come-ended runner ending items ended =
-    ap (λ ending. ending_or ending (found_chunk runner.lookahead ++ to_come_from runner.words (reader_at runner.position runner.lookahead) runner.levels runner.piece items)) ended
+    ap (λ ending. ending_or ending (found_chunk runner.lookahead ++ to_come_from (draws_of runner.drawing) (reader_at runner.position runner.lookahead) runner.levels runner.piece items)) ended
 
 -- an idle runner has found nothing
 pub idle-unfound : (runner : RunnerView) → IsRunning runner → runner.idle ≡ true → runner.lookahead ≡ None
@@ -73,9 +74,9 @@ final-no_chunk (ClosedEnding t) = tt
 final-no_chunk (ResetEnding t) = tt
 
 -- no chunk comes any more from drained levels, once the source says nothing more
-pub drained-no_chunk : (words : List ℕ) (start : ℕ) (levels : List Level) (source : Slice) → AreNested start levels source → AreDrained start levels source → HasNoChunk (to_come_from words start levels source (Quiet ∷ []))
-drained-no_chunk words start levels source nested drained =
-    let last : (last : Ending) × (to_come_from words start levels source (final_of StillOpen ∷ []) ≡ final_of last ∷ []) = drained-final words start levels source StillOpen nested drained in
+pub drained-no_chunk : (draws : Draws) (start : ℕ) (levels : List Level) (source : Slice) → AreNested start levels source → AreDrained start levels source → HasNoChunk (to_come_from draws start levels source (Quiet ∷ []))
+drained-no_chunk draws start levels source nested drained =
+    let last : (last : Ending) × (to_come_from draws start levels source (final_of StillOpen ∷ []) ≡ final_of last ∷ []) = drained-final draws start levels source StillOpen nested drained in
     subst HasNoChunk (sym last.1) (final-no_chunk last.0)
 
 -- no chunk comes any more from a runner that has read its piece, unless it is offered one
@@ -86,7 +87,7 @@ read-no_chunk runner invariant read none = from runner.ending refl
     from None is =
         let drained : AreDrained runner.position runner.levels runner.piece = subst (λ found. AreDrained (reader_at runner.position found) runner.levels runner.piece) none (invariant.drained read is) in
         let nested : AreNested runner.position runner.levels runner.piece = subst (λ found. AreNested (reader_at runner.position found) runner.levels runner.piece) none (invariant.nested is) in
-        subst HasNoChunk (sym (to_come-unfound runner (Quiet ∷ []) is none)) (drained-no_chunk runner.words runner.position runner.levels runner.piece nested drained)
+        subst HasNoChunk (sym (to_come-unfound runner (Quiet ∷ []) is none)) (drained-no_chunk (draws_of runner.drawing) runner.position runner.levels runner.piece nested drained)
     from (Some ending) is = subst HasNoChunk (sym (to_come-ended runner ending (Quiet ∷ []) is)) (final-no_chunk ending)
 
 -- a runner that has not read its piece has no ending

@@ -5,7 +5,7 @@ use Rattle.std.proofs.lemmas.List.Elements.{All-head, All-tail}
 use Rattle.tox_time.specs.declared.item.Item.{Item}
 use Rattle.tox_time.specs.Stream.{IsStream}
 use Rattle.tox_time.specs.Table.{final_of}
-use Rattle.tox_words.specs.Draw.{draw}
+use Rattle.tox_words.specs.Draw.{Draws}
 use Rattle.tox_defs.specs.declared.op.Op.{Op}
 use Rattle.tox_defs.specs.declared.op.Op.TheVariants.{Delay, Pace, Slow, Mute, Cutoff, Slicing, Limit}
 use Rattle.tox_defs.specs.declared.level.Level.{Level}
@@ -20,23 +20,23 @@ use Rattle.tox_plan.specs.RunnerView.{no_piece}
 use Rattle.tox_plan.proofs.LevelLemmas.{ops_of-append}
 
 -- a level at its start gives its operation's flow of a stream
-level_gives-at_start : (op : Op) (words : List ℕ) (items : List Item) → IsStream items → level_gives (draw words) 0 (level_at_start op) items ≡ flow (op_reaction op (draw words)) items
-level_gives-at_start (Delay fixed latency jitter lane until) words items stream = refl
-level_gives-at_start (Pace rate until) words items stream = refl
-level_gives-at_start (Slow millis) words items stream = refl
-level_gives-at_start (Mute ending) words items stream = sym (flow_from-muted (final_of ending) items 0 0 0 0 0 0 stream)
-level_gives-at_start (Cutoff instant) words items stream = refl
-level_gives-at_start (Slicing average variation micros lane until) words items stream = refl
-level_gives-at_start (Limit bytes) words items stream = refl
+level_gives-at_start : (op : Op) (draws : Draws) (items : List Item) → IsStream items → level_gives draws 0 (level_at_start op) items ≡ flow (op_reaction op draws) items
+level_gives-at_start (Delay fixed latency jitter lane until) draws items stream = refl
+level_gives-at_start (Pace rate until) draws items stream = refl
+level_gives-at_start (Slow millis) draws items stream = refl
+level_gives-at_start (Mute ending) draws items stream = sym (flow_from-muted (final_of ending) items 0 0 0 0 0 0 stream)
+level_gives-at_start (Cutoff instant) draws items stream = refl
+level_gives-at_start (Slicing average variation micros lane until) draws items stream = refl
+level_gives-at_start (Limit bytes) draws items stream = refl
 
 -- one more level at the source's side takes what comes and gives it to the others
-to_come_from-snoc : (words : List ℕ) (op : Op) (levels : List Level) (items : List Item) → AreRead 0 levels no_piece
-    → to_come_from words 0 (levels ++ level_at_start op ∷ []) no_piece items ≡ to_come_from words 0 levels no_piece (level_gives (draw words) 0 (level_at_start op) items)
-to_come_from-snoc words op [] items read = refl
-to_come_from-snoc words op (level ∷ levels) items read =
-    ap (λ stop. level_gives (draw words) 0 level (to_come_from words stop (levels ++ level_at_start op ∷ []) no_piece items)) read.0
-    ∙ ap (λ items. level_gives (draw words) 0 level items) (to_come_from-snoc words op levels items (subst (λ stop. AreRead stop levels no_piece) read.0 read.1))
-    ∙ ap (λ stop. level_gives (draw words) 0 level (to_come_from words stop levels no_piece (level_gives (draw words) 0 (level_at_start op) items))) (sym read.0)
+to_come_from-snoc : (draws : Draws) (op : Op) (levels : List Level) (items : List Item) → AreRead 0 levels no_piece
+    → to_come_from draws 0 (levels ++ level_at_start op ∷ []) no_piece items ≡ to_come_from draws 0 levels no_piece (level_gives draws 0 (level_at_start op) items)
+to_come_from-snoc draws op [] items read = refl
+to_come_from-snoc draws op (level ∷ levels) items read =
+    ap (λ stop. level_gives draws 0 level (to_come_from draws stop (levels ++ level_at_start op ∷ []) no_piece items)) read.0
+    ∙ ap (λ items. level_gives draws 0 level items) (to_come_from-snoc draws op levels items (subst (λ stop. AreRead stop levels no_piece) read.0 read.1))
+    ∙ ap (λ stop. level_gives draws 0 level (to_come_from draws stop levels no_piece (level_gives draws 0 (level_at_start op) items))) (sym read.0)
 
 read-snoc : (op : Op) (start : ℕ) (levels : List Level) → start ≡ 0 → AreRead start levels no_piece → AreRead start (levels ++ level_at_start op ∷ []) no_piece
 read-snoc op start [] zero read = (sym zero, refl)
@@ -79,9 +79,9 @@ ops_of-at_start [] = refl
 ops_of-at_start (op ∷ ops) = ops_of-append (levels_at_start ops) (level_at_start op ∷ []) ∙ ap (λ ops. op ∷ ops) (ops_of-at_start ops)
 
 -- for every stream
-pub means-at_start : (ops : List Op) (words : List ℕ) (items : List Item) → All IsOp ops → IsStream items → to_come_from words 0 (levels_at_start ops) no_piece items ≡ flow_through (op_reactions ops (draw words)) items
-means-at_start [] words items fit stream = refl
-means-at_start (op ∷ ops) words items fit stream =
-    to_come_from-snoc words op (levels_at_start ops) items (read-at_start ops)
-    ∙ ap (λ items. to_come_from words 0 (levels_at_start ops) no_piece items) (level_gives-at_start op words items stream)
-    ∙ means-at_start ops words (flow (op_reaction op (draw words)) items) (All-tail IsOp op ops fit) (IsStream-op_flow op (draw words) items (All-head IsOp op ops fit) stream)
+pub means-at_start : (ops : List Op) (draws : Draws) (items : List Item) → All IsOp ops → IsStream items → to_come_from draws 0 (levels_at_start ops) no_piece items ≡ flow_through (op_reactions ops draws) items
+means-at_start [] draws items fit stream = refl
+means-at_start (op ∷ ops) draws items fit stream =
+    to_come_from-snoc draws op (levels_at_start ops) items (read-at_start ops)
+    ∙ ap (λ items. to_come_from draws 0 (levels_at_start ops) no_piece items) (level_gives-at_start op draws items stream)
+    ∙ means-at_start ops draws (flow (op_reaction op draws) items) (All-tail IsOp op ops fit) (IsStream-op_flow op draws items (All-head IsOp op ops fit) stream)

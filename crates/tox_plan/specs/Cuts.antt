@@ -39,7 +39,7 @@ pub record IsOneCut (old new : RunnerView) (cut : Slice) : Type 0 where
 
 -- the offers, the words and the plan's operations stay
 pub record KeepsOffers (old new : RunnerView) : Type 0 where
-  pub words : new.words ≡ old.words
+  pub drawing : new.drawing ≡ old.drawing
   pub piece : new.piece ≡ old.piece
   pub latest : new.latest ≡ old.latest
   pub finished : new.finished ≡ old.finished

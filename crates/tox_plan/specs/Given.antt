@@ -13,9 +13,9 @@ pub record HasGiven (plan : Ops) (offered : List Item) (given : List Slice)
     (runner : RunnerView) : Type 0 where
   pub tables : (items : List Item) → IsStream (offered ++ items)
       → slices_table given ++ table (to_come runner items)
-      ≡ table (means plan runner.words (offered ++ items))
+      ≡ table (means plan runner.drawing.words (offered ++ items))
   pub endings : (items : List Item) → IsStream (offered ++ items)
-      → ending (to_come runner items) ≡ ending (means plan runner.words (offered ++ items))
+      → ending (to_come runner items) ≡ ending (means plan runner.drawing.words (offered ++ items))
 
 -- a call that took these pieces and gave these slices
 abbrev pub GoesOn : RunnerView → List Item → List Slice → RunnerView → Type 0

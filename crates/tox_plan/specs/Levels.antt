@@ -4,7 +4,7 @@ use Rattle.tox_time.specs.declared.slice.Slice.{Slice}
 use Rattle.tox_time.specs.declared.item.Item.{Item}
 use Rattle.tox_time.specs.declared.ending.Ending.{Ending}
 use Rattle.tox_time.specs.Table.{final_of}
-use Rattle.tox_words.specs.Draw.{draw}
+use Rattle.tox_words.specs.Draw.{Draws}
 use Rattle.tox_defs.specs.declared.op.Op.{Op}
 use Rattle.tox_defs.specs.declared.op.Op.TheVariants.{Mute}
 use Rattle.tox_defs.specs.declared.level.Level.{Level}
@@ -36,10 +36,10 @@ ops_of [] = []
 ops_of (level ∷ levels) = ops_of levels ++ level.op ∷ []
 
 -- what the levels give from `start` on, if the source gives the rest of its piece and then these items
-abbrev pub to_come_from : List ℕ → ℕ → List Level → Slice → List Item → List Item
-to_come_from words start [] source items = rest_of start source.span.stop source.instant ++ items
-to_come_from words start (level ∷ levels) source items =
-    level_gives (draw words) start level (to_come_from words level.stop levels source items)
+abbrev pub to_come_from : Draws → ℕ → List Level → Slice → List Item → List Item
+to_come_from draws start [] source items = rest_of start source.span.stop source.instant ++ items
+to_come_from draws start (level ∷ levels) source items =
+    level_gives draws start level (to_come_from draws level.stop levels source items)
 
 -- a level whose reader stands at `start`, and that lets something through unless its ending is known
 pub record IsLevel (start : ℕ) (level : Level) : Type 0 where
@@ -74,19 +74,19 @@ AreDrained start (level ∷ levels) source =
     (level.stop ≡ start) × (level.ending ≡ None) × AreDrained level.stop levels source
 
 -- the piece is the next of what is to come, and the rest is to come after it
-pub record IsNext (words : List ℕ) (start : ℕ) (old new : List Level)
+pub record IsNext (draws : Draws) (start : ℕ) (old new : List Level)
     (source piece : Slice) : Type 0 where
   pub begins : piece.span.start ≡ start
   pub some : start < piece.span.stop
   pub nested : AreNested piece.span.stop new source
   pub gives : (items : List Item)
-      → to_come_from words start old source items
-      ≡ as_chunk piece ∷ to_come_from words piece.span.stop new source items
+      → to_come_from draws start old source items
+      ≡ as_chunk piece ∷ to_come_from draws piece.span.stop new source items
 
 -- this ending is to come and nothing else, whatever the source gives
-abbrev pub OnlyEnds : List ℕ → ℕ → List Level → Slice → Ending → Type 0
-OnlyEnds words start levels source ending =
-    (items : List Item) → to_come_from words start levels source items ≡ final_of ending ∷ []
+abbrev pub OnlyEnds : Draws → ℕ → List Level → Slice → Ending → Type 0
+OnlyEnds draws start levels source ending =
+    (items : List Item) → to_come_from draws start levels source items ≡ final_of ending ∷ []
 
 -- some level's ending is known
 abbrev pub HaveEnded : List Level → Type 0
@@ -98,9 +98,9 @@ abbrev pub AreOpenUnless : Bool → List Level → Type 0
 AreOpenUnless ended levels = ended ≡ false → HaveEnded levels → ⊥
 
 -- a pull brought the ending, which some level keeps
-pub record IsTheEnd (words : List ℕ) (start : ℕ) (old new : List Level) (source : Slice)
+pub record IsTheEnd (draws : Draws) (start : ℕ) (old new : List Level) (source : Slice)
     (ending : Ending) : Type 0 where
-  pub only : OnlyEnds words start old source ending
+  pub only : OnlyEnds draws start old source ending
   pub kept : HaveEnded new
 
 -- a piece, if one comes, begins where the reader stands
@@ -111,13 +111,13 @@ IsFrom start (End ending) = Unit {0}
 IsFrom start Nothing = Unit {0}
 
 -- what one level gave
-abbrev pub MatchGiven : List ℕ → ℕ → Level → Level → Pulled → Type 0
-MatchGiven words start old new (Piece piece) = IsNextPiece (draw words) start old new piece
-MatchGiven words start old new (End ending) = IsAtEnd (draw words) start old new ending
-MatchGiven words start old new Nothing = ⊥
+abbrev pub MatchGiven : Draws → ℕ → Level → Level → Pulled → Type 0
+MatchGiven draws start old new (Piece piece) = IsNextPiece draws start old new piece
+MatchGiven draws start old new (End ending) = IsAtEnd draws start old new ending
+MatchGiven draws start old new Nothing = ⊥
 
 -- what a pull brought
-abbrev pub MatchPulled : List ℕ → ℕ → List Level → List Level → Slice → Pulled → Type 0
-MatchPulled words start old new source (Piece piece) = IsNext words start old new source piece
-MatchPulled words start old new source (End ending) = IsTheEnd words start old new source ending
-MatchPulled words start old new source Nothing = (new ≡ old) × AreDrained start old source
+abbrev pub MatchPulled : Draws → ℕ → List Level → List Level → Slice → Pulled → Type 0
+MatchPulled draws start old new source (Piece piece) = IsNext draws start old new source piece
+MatchPulled draws start old new source (End ending) = IsTheEnd draws start old new source ending
+MatchPulled draws start old new source Nothing = (new ≡ old) × AreDrained start old source

@@ -5,7 +5,7 @@ use Rattle.tox_plan.specs.RunnerView.{RunnerView, IsRunning}
 abbrev pub running : Inside → RunnerView
 running runner = record {
   levels = runner.levels.items;
-  words = runner.words.now;
+  drawing = runner.drawing;
   position = runner.position;
   piece = runner.piece;
   latest = runner.latest;

@@ -6,6 +6,7 @@ use Rattle.tox_time.specs.declared.item.Item.TheVariants.{Chunk, Closed, Reset, 
 use Rattle.tox_time.specs.declared.ending.Ending.{Ending}
 use Rattle.tox_time.specs.declared.arrivals.ArrivalFault.{ArrivalFault}
 use Rattle.tox_time.specs.Arrivals.{piece_fault}
+use Rattle.tox_words.specs.Draw.{DrawingView, draws_of}
 use Rattle.tox_defs.specs.declared.level.Level.{Level}
 use Rattle.tox_defs.specs.Look.{as_chunk}
 use Rattle.tox_defs.specs.Level.{ending_or}
@@ -15,7 +16,7 @@ use Rattle.tox_plan.specs.Levels.{to_come_from, AreNested, AreDrained, HaveEnded
 pub record RunnerView : Type 0 where
   -- the levels, the last operation first
   pub levels : List Level
-  pub words : List ℕ
+  pub drawing : DrawingView
   -- where the next slice begins
   pub position : ℕ
   -- the piece that was offered last, and the last instant
@@ -48,7 +49,7 @@ abbrev pub to_come : RunnerView → List Item → List Item
 to_come runner items =
     ending_or runner.ending
     (found_chunk runner.lookahead
-    ++ to_come_from runner.words (reader_at runner.position runner.lookahead)
+    ++ to_come_from (draws_of runner.drawing) (reader_at runner.position runner.lookahead)
     runner.levels runner.piece items)
 
 -- the ending that an idle runner knows
@@ -102,7 +103,7 @@ pub record IsRunning (runner : RunnerView) : Type 0 where
   pub reached : runner.position ≤ runner.piece.span.stop
   pub here : runner.idle ≡ false → runner.piece.span.start ≤ runner.position
   pub few : runner.piece.span.stop ≤ 2 ^ 40
-  pub few_levels : length runner.levels ≤ 16
+  pub few_levels : length runner.levels ≤ 32
   pub few_cuts : runner.cuts ≤ runner.position
   pub few_pieces : runner.pieces ≤ runner.piece.span.stop
   pub counted : AreCounted runner

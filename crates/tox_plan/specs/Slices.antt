@@ -30,7 +30,7 @@ pub record KeepsPiece (old new : Slices) : Type 0 where
   pub lends : new.piece.now ≡ old.piece.now
   pub piece : new.runner.piece ≡ old.runner.piece
   pub latest : new.runner.latest ≡ old.runner.latest
-  pub words : new.runner.words ≡ old.runner.words
+  pub drawing : new.runner.drawing ≡ old.runner.drawing
   pub ops : ops_of new.runner.levels ≡ ops_of old.runner.levels
   pub finished : new.runner.finished ≡ old.runner.finished
   pub pieces : new.runner.pieces ≡ old.runner.pieces

@@ -2,6 +2,7 @@
 //! unread bytes are `level[k-1].stop..level[k].stop`.
 ghost use Rattle.std.specs.Prelude.{◌≡◌, ℕ, ◌+◌, ◌^◌, ◌<◌, ◌≤◌, List, [], ◌∷◌, ◌++◌, length, take, drop, All, None, false};
 ghost use Rattle.tox_time.specs.declared.slice.Slice.{Slice as OneSlice};
+ghost use Rattle.tox_words.specs.Draw.{Draws, draws_of};
 ghost use Rattle.tox_defs.specs.declared.level.Level.{Level as OneLevel};
 ghost use Rattle.tox_defs.specs.Op.{is_mute};
 ghost use Rattle.tox_defs.specs.Level.{IsSound};
@@ -9,7 +10,7 @@ ghost use Rattle.tox_plan.specs.Levels.{AreNested, AreOpenUnless, IsRead, Begins
 
 use tox_defs::{Emission, Level};
 use tox_time::{Ending, Slice, Span};
-use tox_words::Words;
+use tox_words::Drawing;
 
 /// What a pull at the levels brings.
 #[derive(Clone, Copy, Debug, PartialEq, Eq)]
@@ -34,7 +35,7 @@ pub(crate) struct PullStats {
 /// The rest of a source's piece, of which the bytes from `start` on are unread.
 fn pull_source(start: u64, source: &Slice) -> Pulled
     requires { start ≤ source.now.span.stop }
-    ensures { (words : List ℕ) → MatchPulled words start [] [] source.now result }
+    ensures { (draws : Draws) → MatchPulled draws start [] [] source.now result }
 {
     if start == source.span.stop {
         return Pulled::Nothing;
@@ -56,13 +57,13 @@ pub(crate) fn pull(
     levels: &mut [Level],
     start: u64,
     source: &Slice,
-    words: &Words,
+    drawing: &Drawing<'_>,
     looks: &mut PullStats,
 ) -> Pulled
     requires nested { AreNested start levels.old source.now }
     requires few { source.now.span.stop ≤ 2 ^ 40 }
     requires room { looks.old.turns + length levels.old < 2 ^ 64 }
-    ensures pulled { MatchPulled words.now start levels.old levels.new source.now result }
+    ensures pulled { MatchPulled (draws_of drawing.now) start levels.old levels.new source.now result }
     ensures ops { ops_of levels.new ≡ ops_of levels.old }
     ensures turns { looks.new.turns ≤ looks.old.turns + length levels.old }
     ensures more { looks.old.turns ≤ looks.new.turns }
@@ -72,8 +73,8 @@ pub(crate) fn pull(
 {
     let read = count_read(levels, start);
     let (read, unread) = levels.split_at_mut(read);
-    let mut pulled = pull_nearest(unread, start, source, words, looks);
-    pass(read, start, &mut pulled, words, looks);
+    let mut pulled = pull_nearest(unread, start, source, drawing, looks);
+    pass(read, start, &mut pulled, drawing, looks);
     pulled
 }
 
@@ -98,13 +99,13 @@ fn pull_nearest(
     levels: &mut [Level],
     start: u64,
     source: &Slice,
-    words: &Words,
+    drawing: &Drawing<'_>,
     looks: &mut PullStats,
 ) -> Pulled
     requires nested { AreNested start levels.old source.now }
     requires unread { BeginsUnread start levels.old }
     requires room { looks.old.turns + length levels.old < 2 ^ 64 }
-    ensures pulled { MatchPulled words.now start levels.old levels.new source.now result }
+    ensures pulled { MatchPulled (draws_of drawing.now) start levels.old levels.new source.now result }
     ensures from { source.now.span.stop ≤ 2 ^ 40 → IsFrom start result }
     ensures ops { ops_of levels.new ≡ ops_of levels.old }
     ensures turns { looks.new.turns ≤ looks.old.turns + length levels.old }
@@ -120,25 +121,31 @@ fn pull_nearest(
     if let Some(ending) = level.ending {
         return Pulled::End(ending);
     }
-    advance(level, start, words, looks)
+    advance(level, start, drawing, looks)
 }
 
 /// Passes what comes from upstream through levels that have nothing left, the last of them first.
-fn pass(levels: &mut [Level], start: u64, pulled: &mut Pulled, words: &Words, looks: &mut PullStats)
+fn pass(
+    levels: &mut [Level],
+    start: u64,
+    pulled: &mut Pulled,
+    drawing: &Drawing<'_>,
+    looks: &mut PullStats,
+)
     requires read { All (IsRead start) levels.old }
     requires from { IsFrom start pulled.old }
     requires room { looks.old.turns + length levels.old < 2 ^ 64 }
     ensures pulled { (source : OneSlice) (old new : List OneLevel)
-        → MatchPulled words.now start old new source pulled.old
-        → MatchPulled words.now start (levels.old ++ old) (levels.new ++ new) source pulled.new }
+        → MatchPulled (draws_of drawing.now) start old new source pulled.old
+        → MatchPulled (draws_of drawing.now) start (levels.old ++ old) (levels.new ++ new) source pulled.new }
     ensures ops { ops_of levels.new ≡ ops_of levels.old }
     ensures turns { looks.new.turns ≡ looks.old.turns + length levels.old }
     ensures ended { (upstream : List OneLevel) → AreOpenUnless looks.old.ended upstream
         → AreOpenUnless looks.new.ended (levels.new ++ upstream) }
 {
     if let Some((level, downstream)) = levels.split_last_mut() {
-        pass_one(level, start, pulled, words, looks);
-        pass(downstream, start, pulled, words, looks);
+        pass_one(level, start, pulled, drawing, looks);
+        pass(downstream, start, pulled, drawing, looks);
     }
 }
 
@@ -147,15 +154,15 @@ fn pass_one(
     level: &mut Level,
     start: u64,
     pulled: &mut Pulled,
-    words: &Words,
+    drawing: &Drawing<'_>,
     looks: &mut PullStats,
 )
     requires read { IsRead start level.old }
     requires from { IsFrom start pulled.old }
     requires room { looks.old.turns + 1 < 2 ^ 64 }
     ensures pulled { (source : OneSlice) (old new : List OneLevel)
-        → MatchPulled words.now start old new source pulled.old
-        → MatchPulled words.now start (level.old ∷ old) (level.new ∷ new) source pulled.new }
+        → MatchPulled (draws_of drawing.now) start old new source pulled.old
+        → MatchPulled (draws_of drawing.now) start (level.old ∷ old) (level.new ∷ new) source pulled.new }
     ensures from { IsFrom start pulled.new }
     ensures op { level.new.op ≡ level.old.op }
     ensures turns { looks.new.turns ≡ looks.old.turns + 1 }
@@ -167,7 +174,7 @@ fn pass_one(
         Pulled::Piece(piece) => {
             level.stop = piece.span.stop;
             level.instant = piece.instant;
-            *pulled = advance(level, start, words, looks);
+            *pulled = advance(level, start, drawing, looks);
         }
         Pulled::End(ending) => *pulled = Pulled::End(level.op.map_ending(&level.state, &ending)),
         Pulled::Nothing => {}
@@ -176,19 +183,19 @@ fn pass_one(
 
 /// The next piece of a level's rest, or its ending. It is inlined as [`Level::advance`] is, which is all the work of a look.
 #[inline(always)]
-fn advance(level: &mut Level, start: u64, words: &Words, looks: &mut PullStats) -> Pulled
+fn advance(level: &mut Level, start: u64, drawing: &Drawing<'_>, looks: &mut PullStats) -> Pulled
     requires some { start < level.old.stop }
     requires heard { is_mute level.old.op ≡ false }
     requires open { level.old.ending ≡ None }
     requires sound { IsSound start level.old }
-    ensures given { MatchGiven words.now start level.old level.new result }
+    ensures given { MatchGiven (draws_of drawing.now) start level.old level.new result }
     ensures from { IsFrom start result }
     ensures op { level.new.op ≡ level.old.op }
     ensures turns { looks.new.turns ≡ looks.old.turns }
     ensures ended { (upstream : List OneLevel) → AreOpenUnless looks.old.ended upstream
         → AreOpenUnless looks.new.ended (level.new ∷ upstream) }
 {
-    let advanced = level.advance(start, words);
+    let advanced = level.advance(start, drawing);
     looks.ended |= level.ending.is_some();
     match advanced {
         Emission::Piece(piece) => Pulled::Piece(piece),

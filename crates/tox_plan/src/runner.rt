@@ -20,7 +20,7 @@ use std::marker::Model;
 use tox_compile::Plan;
 use tox_defs::{Level, MAX_TOXICS};
 use tox_time::{ArrivalFault, Ending, MAX_BYTES, Micros, Slice, Span};
-use tox_words::Words;
+use tox_words::{Drawing, Words};
 
 /// A plan at work on one stream: it is offered pieces one at a time, and cuts them into slices.
 ///
@@ -28,7 +28,7 @@ use tox_words::Words;
 #[derive(Drop)]
 pub struct Runner<'w> {
     levels: ArrayVec<Level, MAX_TOXICS>,
-    words: &'w Words,
+    drawing: Drawing<'w>,
     position: u64,
     piece: Slice,
     latest: Micros,
@@ -60,19 +60,21 @@ impl<'w> Runner<'w> {
         ensures to_come { (items : List OneItem) → IsStream items
             → to_come result items ≡ means plan words.now items }
         ensures start { (result.idle ≡ true) × (result.finished ≡ false) × (result.position ≡ 0)
-            × (result.piece ≡ no_piece) × (result.latest ≡ 0) × (result.words ≡ words.now) }
+            × (result.piece ≡ no_piece) × (result.latest ≡ 0)
+            × (result.drawing ≡ record { lanes = plan.lanes; words = words.now }) }
         ensures counters { (result.turns ≡ 0) × (result.cuts ≡ 0) × (result.pieces ≡ 0)
             × (length result.levels ≡ length plan.ops) }
         ensures levels { result.levels ≡ levels_at_start plan.ops }
         ensures ops { ops_of result.levels ≡ plan.ops }
         ensures given { HasGiven plan [] [] result }
     {
+        let drawing = Drawing::new(plan.lanes(), words);
         let mut levels = ArrayVec::new();
         push_levels(&mut levels, plan.ops());
         let ending = ending_of_read(&levels);
         Runner {
             levels,
-            words,
+            drawing,
             position: 0,
             piece: Slice {
                 span: Span { start: 0, stop: 0 },
@@ -120,7 +122,7 @@ impl<'w> Runner<'w> {
             ((self.new.turns ≡ self.old.turns) × (self.new.cuts ≡ self.old.cuts)
             × (self.new.pieces ≡ self.old.pieces + 1)) }
         ensures kept { OnOk result
-            ((self.new.words ≡ self.old.words) × (self.new.finished ≡ self.old.finished)
+            ((self.new.drawing ≡ self.old.drawing) × (self.new.finished ≡ self.old.finished)
             × (self.new.ending ≡ self.old.ending) × (self.new.levels ≡ self.old.levels)) }
         ensures given { OnOk result
             (GoesOn self.old (as_chunk (next_piece self.old len instant) ∷ []) [] self.new) }
@@ -168,7 +170,7 @@ impl<'w> Runner<'w> {
             ((self.new.idle ≡ true) × (self.new.position ≡ self.old.position)
             × (self.new.cuts ≡ self.old.cuts)
             × ((items : List OneItem) → to_come self.new items ≡ to_come self.old items)) }
-        ensures kept { (self.new.words ≡ self.old.words) × (self.new.finished ≡ self.old.finished)
+        ensures kept { (self.new.drawing ≡ self.old.drawing) × (self.new.finished ≡ self.old.finished)
             × (self.new.piece ≡ self.old.piece) × (self.new.latest ≡ self.old.latest)
             × (self.new.pieces ≡ self.old.pieces)
             × (length self.new.levels ≡ length self.old.levels) }
@@ -178,14 +180,14 @@ impl<'w> Runner<'w> {
         ensures given { MatchOption result (GoesOn self.old [] [] self.new)
             (λ slice. GoesOn self.old [] (slice ∷ []) self.new) }
         ensures lasting { (plan : Ops) (offered : List OneItem) (given : List OneSlice)
-            → HasGiven plan offered given self.new → IsLasting plan self.new.words offered given }
+            → HasGiven plan offered given self.new → IsLasting plan self.new.drawing.words offered given }
         ensures later { IfSome result
             (λ slice. (plan : Ops) (offered : List OneItem) (given : List OneSlice) → IsPlan plan
             → IsStream (offered ++ Quiet ∷ []) → HasGiven plan offered given self.old
             → AreAfter slice.instant (table (to_come self.new (Quiet ∷ [])))) }
         ensures whole { IfNone result
             ((plan : Ops) (offered : List OneItem) (given : List OneSlice)
-            → HasGiven plan offered given self.old → IsWhole plan self.old.words offered given) }
+            → HasGiven plan offered given self.old → IsWhole plan self.old.drawing.words offered given) }
     {
         let mut slice = self.cut()?;
         while let Some(stop) = self.cut_at(&slice.instant) {
@@ -266,7 +268,7 @@ impl<'w> Runner<'w> {
             &mut self.levels,
             self.position,
             &self.piece,
-            self.words,
+            &self.drawing,
             &mut self.looks,
         ) {
             Pulled::Piece(cut) => {

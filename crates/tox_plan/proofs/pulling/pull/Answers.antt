@@ -1,5 +1,6 @@
 -- The nearest level that has something gives it, and the levels in front of it pass it on.
 use Rattle.std.proofs.Common.{rules, ◌≡◌, ◌++◌, ap, sym, subst, ◌∙◌}
+use Rattle.tox_words.specs.Draw.{draws_of}
 use Rattle.tox_plan.specs.Levels.{MatchPulled, HaveEnded, ops_of}
 use Rattle.tox_plan.proofs.LevelLemmas.{ops_of-append, ended-behind}
 use Rattle.tox_plan.proofs.pulling.pull.Goals as goal
@@ -9,7 +10,7 @@ parts c = search rules
 
 pub returns-clause-pulled : goal.returns-clause-pulled
 returns-clause-pulled c =
-    subst (λ levels. MatchPulled c.args.words.now c.args.start levels (c.pass.new.levels ++ c.pull_nearest-pulled.new.levels) c.args.source.now c.pass.new.pulled) (parts c)
+    subst (λ levels. MatchPulled (draws_of c.args.drawing.now) c.args.start levels (c.pass.new.levels ++ c.pull_nearest-pulled.new.levels) c.args.source.now c.pass.new.pulled) (parts c)
     (c.pass.ensures.pulled c.args.source.now c.split_at_mut-read.result.1.now c.pull_nearest-pulled.new.levels c.pull_nearest-pulled.ensures.pulled)
 
 pub returns-clause-ops : goal.returns-clause-ops

@@ -1,6 +1,7 @@
 -- A found cut is the last one where it stops with the piece and no level keeps an ending.
 use Rattle.std.proofs.Common.{rules, ◌≡◌, true, false, None, length, sym, subst, ◌∙◌}
 use Rattle.std.proofs.lemmas.Bool.{eqb-true, not-true}
+use Rattle.tox_words.specs.Draw.{draws_of}
 use Rattle.tox_plan.specs.Levels.{AreDrained, AreOpenUnless, IsNext}
 use Rattle.tox_plan.specs.RunnerInside.{running}
 use Rattle.tox_plan.proofs.Looking.{refill-whole, drained-behind, IsRunning-after_found}
@@ -12,7 +13,7 @@ invariant_of-self c =
     let same : length c.pull.new.levels ≡ length c.self.inside.levels.items = search rules in
     let unread : c.self.inside.drained ≡ false = search rules in
     let unfound : c.self.inside.lookahead ≡ None = search rules in
-    let next : IsNext c.self.inside.words.now c.self.inside.position c.self.inside.levels.items c.pull.new.levels c.self.inside.piece c.in-Piece.cut = search rules in
+    let next : IsNext (draws_of c.self.inside.drawing) c.self.inside.position c.self.inside.levels.items c.pull.new.levels c.self.inside.piece c.in-Piece.cut = search rules in
     let unended : AreOpenUnless c.pull.new.looks.ended c.pull.new.levels =
     c.pull.ensures.ended (subst (λ levels. AreOpenUnless c.self.inside.looks.ended levels) (sym c.deref_mut.ensures.value) c.self.invariant.unended) in
     let drained : c.if-cut-self.self ≡ true → AreDrained c.in-Piece.cut.span.stop c.pull.new.levels c.self.inside.piece = (λ last.

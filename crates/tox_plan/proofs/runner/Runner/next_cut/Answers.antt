@@ -38,7 +38,7 @@ pub returns-clause-given : goal.returns-clause-given
 returns-clause-given c =
     let on = c.loop-stop.invariant in
     let none = c.in_default.ensures.none in
-    given-cut c.args.self.now c.cut_at.new.self c.loop-stop.slice (c.cut_at.ensures.kept.words ∙ on.kept.words)
+    given-cut c.args.self.now c.cut_at.new.self c.loop-stop.slice (c.cut_at.ensures.kept.drawing ∙ on.kept.drawing)
     (IsCut-same c.args.self.now c.loop-stop.self c.cut_at.new.self c.loop-stop.slice on.cut none.0 none.2)
 
 pub returns-clause-later : goal.returns-clause-later

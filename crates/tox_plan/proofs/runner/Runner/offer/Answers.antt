@@ -23,7 +23,7 @@ returns-clause-to_come c =
     (omega arith))
 
 pub returns-clause-given : goal.returns-clause-given
-returns-clause-given c = given-offer c.args.self.now _ (as_chunk (next_piece c.args.self.now c.args.len c.args.instant)) (ap (λ runner. runner.words) c.self.view_is) (returns-clause-to_come c)
+returns-clause-given c = given-offer c.args.self.now _ (as_chunk (next_piece c.args.self.now c.args.len c.args.instant)) (ap (λ runner. runner.drawing) c.self.view_is) (returns-clause-to_come c)
 
 pub returns-clause-unread : goal.returns-clause-unread
 returns-clause-unread c =
