@@ -14,7 +14,7 @@ use Rattle.tox_time.specs.Time.{plus, micros_of}
 use Rattle.tox_time.specs.Stream.{span_len, IsStreamFrom}
 use Rattle.tox_time.specs.Table.{final_of}
 use Rattle.tox_time.specs.Neighbours.{LiesInChunk, AreNeighbours}
-use Rattle.tox_words.specs.Draw.{draw}
+use Rattle.tox_words.specs.Draw.{Draws}
 use Rattle.tox_defs.specs.declared.state.State.{State}
 use Rattle.tox_defs.specs.declared.toxic.Toxic.{Toxic}
 use Rattle.tox_defs.specs.declared.toxic.Toxic.TheVariants.{Latency, Bandwidth, SlowClose, Timeout, ResetPeer, Slicer, LimitData}
@@ -27,7 +27,7 @@ use Rattle.tox_defs.specs.toxics.LimitData.{first_bytes, limit_gives}
 use Rattle.tox_defs.specs.toxics.ResetPeer.{is_before}
 use Rattle.tox_defs.specs.toxics.Timeout.{mute_gives}
 use Rattle.tox_defs.specs.declared.applied.Placed.{Placed}
-use Rattle.tox_defs.specs.Flow.{toxic_giving, toxic_reaction, toxic_until, applied, chain_flow}
+use Rattle.tox_defs.specs.Flow.{toxic_giving, toxic_reaction, toxic_until, applied, chain_draws, chain_flow}
 use Rattle.tox_defs.specs.toxics.Timeout.{timeout_ending}
 use Rattle.tox_defs.specs.Varied.{varied}
 use Rattle.tox_defs.specs.Laws.{toxic_flow}
@@ -205,16 +205,16 @@ flow_within millis giving gives state (item ∷ items) =
     (react_within state.done millis giving state item items gives)
     (later_within item items (flow_from (until millis (counted giving)) answer.state items) (flow_within millis giving gives answer.state items))
 
-toxics_within : (toxics : List Placed) (words : List ℕ) (items : List Item) → LieWithin items (flow_through (map (λ placed. toxic_reaction placed.toxic (draw words placed.place)) toxics) items)
-toxics_within [] words items = themselves_within items
-toxics_within (placed ∷ toxics) words items =
-    let given = toxic_flow placed.toxic (draw words placed.place) items in
-    through_within items given (flow_through (map (λ placed. toxic_reaction placed.toxic (draw words placed.place)) toxics) given)
-    (flow_within (toxic_until placed.toxic) (toxic_giving placed.toxic (draw words placed.place)) (toxic_within placed.toxic (draw words placed.place)) first_state items)
-    (toxics_within toxics words given)
+toxics_within : (toxics : List Placed) (draws : Draws) (items : List Item) → LieWithin items (flow_through (map (λ placed. toxic_reaction placed.toxic (draws placed.place)) toxics) items)
+toxics_within [] draws items = themselves_within items
+toxics_within (placed ∷ toxics) draws items =
+    let given = toxic_flow placed.toxic (draws placed.place) items in
+    through_within items given (flow_through (map (λ placed. toxic_reaction placed.toxic (draws placed.place)) toxics) given)
+    (flow_within (toxic_until placed.toxic) (toxic_giving placed.toxic (draws placed.place)) (toxic_within placed.toxic (draws placed.place)) first_state items)
+    (toxics_within toxics draws given)
 
 pub chain_within : (chain : Toxics) (words : List ℕ) (items : List Item) → LieWithin items (chain_flow chain words items)
-chain_within chain words items = toxics_within (applied chain words) words items
+chain_within chain words items = toxics_within (applied chain words) (chain_draws chain words) items
 
 -- slices that show a stream of such chunks are neighbours
 pub neighbours_shown : (items : List Item) (position since : ℕ) (slices : List Slice) (ending : Ending) → IsStreamFrom position since (shown slices (Some ending))

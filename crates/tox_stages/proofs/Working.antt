@@ -7,7 +7,7 @@ use Rattle.tox_defs.specs.declared.position.StreamPosition.{StreamPosition}
 use Rattle.tox_defs.specs.declared.state.State.{State}
 use Rattle.tox_defs.specs.StreamPosition.{first_position, fits, position_after}
 use Rattle.tox_defs.specs.Reaction.{Answer, Reaction, first_state, react, flow, flow_from, state_from}
-use Rattle.tox_words.specs.Draw.{draw}
+use Rattle.tox_words.specs.Draw.{DrawingView, draws_of}
 use Rattle.tox_defs.specs.Op.{op_reaction}
 use Rattle.tox_defs.specs.Stage.{Staged, reaction_of, taken}
 use Rattle.tox_defs.proofs.FlowLemmas.{flow_from-append, state_from-append}
@@ -30,7 +30,7 @@ state_from-last reaction state items item = state_from-append reaction state ite
 -- a stage that took all items so far, and whose flow was sent
 pub record HasWorked (stage : Staged) (items given : List Item) (s : Staged) : Type 0 where
   pub same_op : s.op ≡ stage.op
-  pub same_words : s.words ≡ stage.words
+  pub same_drawing : s.drawing ≡ stage.drawing
   pub idle : s.pending ≡ []
   pub unended : s.place.ended ≡ false
   pub place : s.place ≡ place_behind first_position items
@@ -41,8 +41,8 @@ pub record HasWorked (stage : Staged) (items given : List Item) (s : Staged) : T
 reacts : (stage : Staged) (items given : List Item) (s : Staged) (item : Item) → HasWorked stage items given s
     → react (reaction_of s) s.state item ≡ react (reaction_of stage) (state_from (reaction_of stage) first_state items) item
 reacts stage items given s item h =
-    ap (λ op. react (op_reaction op (draw s.words)) s.state item) h.same_op
-    ∙ ap (λ words. react (op_reaction stage.op (draw words)) s.state item) h.same_words
+    ap (λ op. react (op_reaction op (draws_of s.drawing)) s.state item) h.same_op
+    ∙ ap (λ (drawing : DrawingView). react (op_reaction stage.op (draws_of drawing)) s.state item) h.same_drawing
     ∙ ap (λ state. react (reaction_of stage) state item) h.state
 
 pub flowed_more : (stage : Staged) (items given : List Item) (s : Staged) (item : Item) (more : List Item) → HasWorked stage items given s → more ≡ given ++ (taken s item).pending
@@ -65,7 +65,7 @@ worked_on stage items given s item t all more h chunk is received is_sent =
     ap (λ (s : Staged). s.place) is ∙ ap (λ place. position_after place item) h.place ∙ sym (place_behind-last first_position items item) ∙ ap (place_behind first_position) (sym received) in
     record {
       same_op = ap (λ (s : Staged). s.op) is ∙ h.same_op;
-      same_words = ap (λ (s : Staged). s.words) is ∙ h.same_words;
+      same_drawing = ap (λ (s : Staged). s.drawing) is ∙ h.same_drawing;
       idle = ap (λ (s : Staged). s.pending) is;
       unended = ap (λ (place : StreamPosition). place.ended) place ∙ ended_behind first_position all refl ∙ ap has_final received ∙ has_final-last items item (unended_items stage items given s h) ∙ chunk;
       place = place;

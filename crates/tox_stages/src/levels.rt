@@ -4,6 +4,7 @@ ghost use Rattle.rtrb.specs.Ring.{sent, received, SameProducer, SameConsumer};
 ghost use Rattle.tox_time.specs.Arrivals.{arrival_list};
 ghost use Rattle.tox_time.specs.Neighbours.{AreNeighbours};
 ghost use Rattle.tox_time.specs.Table.{IsOutcomeOf};
+ghost use Rattle.tox_words.specs.Draw.{draw_in};
 ghost use Rattle.tox_defs.specs.Flow.{IsPlaced, chain_flow, placed_reaction};
 ghost use Rattle.tox_network.specs.Shown.{shown};
 ghost use Rattle.tox_stages.specs.AtRest.{IsNetworkAtRest};
@@ -23,13 +24,14 @@ use std::thread;
 use std::thread::{PromisedHandle, Scope, Threads};
 use tox_defs::{Chain, Placed};
 use tox_time::{Arrivals, Gate, Item, Outcome};
-use tox_words::Words;
+use tox_words::{Lanes, Words};
 
 /// What all levels share.
 #[derive(Drop)]
 struct Pipeline<'s, R, G> {
     rt: &'s R,
     alloc: Global,
+    lanes: Lanes,
     words: &'s Words,
     arrivals: &'s Arrivals,
     cap: usize,
@@ -50,18 +52,21 @@ fn spawn<'s, E: 's, R: Threads + Wait + Sync, G: Gate>(
     consumer: Consumer<Item>,
     producer: Producer<Item>,
 ) -> Option<PromisedHandle<Ends, SendsFlowOf<'s>>>
-    requires placed { IsPlaced placed }
+    requires placed { IsPlaced pipeline.now.lanes placed }
     requires fresh { (received consumer ≡ []) × (sent producer ≡ []) }
     ensures { IfSome result (λ worker. (worker.promise.placed ≡ placed)
+        × (worker.promise.lanes ≡ pipeline.now.lanes)
         × (worker.promise.words.now ≡ pipeline.now.words.now)
         × (worker.promise.consumer.value ≡ consumer) × (worker.promise.producer.value ≡ producer)) }
 {
     let rt = pipeline.rt;
     let gate = pipeline.gate;
+    let lanes = pipeline.lanes;
     let words = pipeline.words;
     let (own, before, behind) = (parkers.own, parkers.before, parkers.behind);
     let promise = SendsFlowOf {
         placed,
+        lanes,
         words,
         consumer: Snapshot::of(&consumer),
         producer: Snapshot::of(&producer),
@@ -69,10 +74,10 @@ fn spawn<'s, E: 's, R: Threads + Wait + Sync, G: Gate>(
     let worker = scope.spawn_with(
         promise,
         move || -> Ends
-            requires { IsPlaced placed × (received consumer ≡ []) × (sent producer ≡ []) }
+            requires { IsPlaced lanes placed × (received consumer ≡ []) × (sent producer ≡ []) }
             ensures consumer { SameConsumer consumer result.consumer }
             ensures producer { SameProducer producer result.producer }
-            ensures flow { SendsFlow (placed_reaction words.entry.now placed)
+            ensures flow { SendsFlow (placed_reaction (draw_in lanes words.entry.now) placed)
                 (received result.consumer) (sent result.producer) }
         {
             let parkers = Parkers::new(own, before, behind);
@@ -81,6 +86,7 @@ fn spawn<'s, E: 's, R: Threads + Wait + Sync, G: Gate>(
                 gate,
                 stage_number,
                 placed,
+                lanes,
                 words,
                 &parkers,
                 consumer,
@@ -100,10 +106,11 @@ fn start<'s, E: 's, R: Threads + Wait + Sync, G: Gate>(
     placed: &Placed,
     consumer: Consumer<Item>,
 ) -> Result<Started<'s>, StageFault>
-    requires placed { IsPlaced placed.now }
+    requires placed { IsPlaced pipeline.now.lanes placed.now }
     requires fresh { received consumer ≡ [] }
     ensures { IfOk result
-        (λ started. IsWorkerOf started.0.promise placed.now pipeline.now.words.now consumer started.1) }
+        (λ started. IsWorkerOf started.0.promise placed.now pipeline.now.lanes pipeline.now.words.now
+        consumer started.1) }
 {
     let Ok((producer, next)) = RingBuffer::new(pipeline.alloc, pipeline.cap) else {
         return Err(StageFault::OutOfMemory);
@@ -135,14 +142,14 @@ fn level<'s, E: 's, R: Threads + Wait + Sync, G: Gate>(
     consumer: Consumer<Item>,
 ) -> Result<(Consumer<Item>, Outcome), StageFault>
     requires fresh { (sent first.old ≡ []) × (received consumer ≡ []) }
-    requires toxics { All IsPlaced toxics.now }
-    requires stages { stage_number + length toxics.now ≤ 16 }
+    requires toxics { All (IsPlaced pipeline.now.lanes) toxics.now }
+    requires stages { stage_number + length toxics.now ≤ 32 }
     ensures first { SameProducer first.old first.new }
     ensures consumer { IfOk result (λ ended. SameConsumer consumer ended.0) }
     ensures stream { IfOk result (λ _. IsLinkStream (arrival_list pipeline.now.arrivals.now)) }
     ensures sent { IfOk result (λ _. sent first.new ≡ arrival_list pipeline.now.arrivals.now) }
     ensures delivered { IfOk result
-        (λ ended. Delivers (map (placed_reaction pipeline.now.words.now) toxics.now)
+        (λ ended. Delivers (map (placed_reaction (draw_in pipeline.now.lanes pipeline.now.words.now)) toxics.now)
         (received ended.0) (shown ended.1.slices (Some ended.1.ending))) }
 {
     let rt = pipeline.rt;
@@ -220,6 +227,7 @@ pub fn run_stages<R: Threads + Wait + Sync, G: Gate>(
             let pipeline = Pipeline {
                 rt,
                 alloc,
+                lanes: chain.lanes(),
                 words,
                 arrivals,
                 cap,

@@ -68,7 +68,7 @@ impl<'p> Parkers<'p> {
 /// What each thread sleeps on: source and sink on the first, and the worker of stage k on the one after k others.
 #[derive(Drop)]
 pub(crate) struct Circle {
-    parkers: [Sleeper; 17],
+    parkers: [Sleeper; 33],
 }
 
 impl Circle {
@@ -81,14 +81,14 @@ impl Circle {
 
     /// For source and sink, with these workers between them.
     pub(crate) fn ends(&self, workers: usize) -> Parkers<'_>
-        requires { workers ≤ 16 }
+        requires { workers ≤ 32 }
     {
         Parkers::new(&self.parkers[0], &self.parkers[workers], &self.parkers[1])
     }
 
     /// For the worker of a stage, with these workers behind it.
     pub(crate) fn worker(&self, stage_number: usize, later: usize) -> Parkers<'_>
-        requires { stage_number + 1 + later ≤ 16 }
+        requires { stage_number + 1 + later ≤ 32 }
     {
         let behind = if later == 0 { 0 } else { stage_number + 2 };
         Parkers::new(

@@ -1,6 +1,7 @@
 //! The worker of one stage.
 ghost use Rattle.std.specs.Prelude.{◌≡◌, [], ◌++◌};
 ghost use Rattle.rtrb.specs.Ring.{sent, received, SameProducer, SameConsumer};
+ghost use Rattle.tox_words.specs.Draw.{draw_in};
 ghost use Rattle.tox_defs.specs.Flow.{IsPlaced, placed_reaction};
 ghost use Rattle.tox_stages.specs.Passing.{SendsFlow};
 
@@ -12,7 +13,7 @@ use std::sync::Wait;
 use std::thread::Promise;
 use tox_defs::{Placed, Stage};
 use tox_time::{Gate, Item, MAX_BYTES};
-use tox_words::Words;
+use tox_words::{Lanes, Words};
 
 /// The two ends that a worker hands back.
 #[derive(Drop)]
@@ -25,6 +26,7 @@ pub(crate) struct Ends {
 #[derive(Drop)]
 pub(crate) struct SendsFlowOf<'w> {
     pub(crate) placed: Placed,
+    pub(crate) lanes: Lanes,
     pub(crate) words: &'w Words,
     pub(crate) consumer: Snapshot<Consumer<Item>>,
     pub(crate) producer: Snapshot<Producer<Item>>,
@@ -34,7 +36,7 @@ impl<'w> Promise<Ends> for SendsFlowOf<'w> {
     ghost kept_by = { λ promise ends.
         SameConsumer promise.consumer.value ends.consumer
         × SameProducer promise.producer.value ends.producer
-        × SendsFlow (placed_reaction promise.words.now promise.placed)
+        × SendsFlow (placed_reaction (draw_in promise.lanes promise.words.now) promise.placed)
         (received ends.consumer) (sent ends.producer) };
 }
 
@@ -62,19 +64,20 @@ pub(crate) fn work<R: Wait, G: Gate>(
     gate: &G,
     stage_number: usize,
     placed: Placed,
+    lanes: Lanes,
     words: &Words,
     parkers: &Parkers<'_>,
     consumer: Consumer<Item>,
     producer: Producer<Item>,
 ) -> Ends
-    requires placed { IsPlaced placed }
+    requires placed { IsPlaced lanes placed }
     requires fresh { (received consumer ≡ []) × (sent producer ≡ []) }
     ensures consumer { SameConsumer consumer result.consumer }
     ensures producer { SameProducer producer result.producer }
-    ensures flow { SendsFlow (placed_reaction words.now placed) (received result.consumer)
+    ensures flow { SendsFlow (placed_reaction (draw_in lanes words.now) placed) (received result.consumer)
         (sent result.producer) }
 {
-    let mut stage = Stage::new(placed.toxic, placed.place, words);
+    let mut stage = Stage::new(placed.toxic, lanes, placed.place, words);
     let mut consumer = consumer;
     let mut producer = producer;
     for nth in 0..=MAX_BYTES {

@@ -2,7 +2,7 @@
 use Rattle.std.proofs.Common.{◌≡◌, ◌++◌, Some, map, ◌∙◌, subst}
 use Rattle.rtrb.specs.Ring.{received, known_items}
 use Rattle.tox_time.specs.Arrivals.{arrival_list}
-use Rattle.tox_defs.specs.Flow.{placed_reaction, reactions_of}
+use Rattle.tox_defs.specs.Flow.{chain_draws, placed_reaction, reactions_of}
 use Rattle.tox_network.specs.Shown.{shown}
 use Rattle.tox_network.proofs.ShownItems.{outcome_shown}
 use Rattle.tox_stages.specs.Passing.{PassesOn, Delivers}
@@ -20,7 +20,7 @@ returns g c =
     let below = received c.in_ok-consumer.consumer in
     let known = known_items c.slots_beside.new.self in
     let ring : below ++ known ≡ items = cc (c.slots_beside.ensures.fifo, c.slots_beside.ensures.looked.1, c.slots_beside.ensures.producer.1, c.in_ok-consumer.ensures.sent) in
-    let passes : PassesOn (reactions_of chain words) items delivered = from_ring (reactions_of chain words) items below known delivered c.in_ok-consumer.ensures.stream ring (subst (λ toxics. Delivers (map (placed_reaction words) toxics) below delivered) (c.deref.ensures.0 ∙ c.applied-toxics.ensures.value) c.in_ok-consumer.ensures.delivered) in
+    let passes : PassesOn (reactions_of chain words) items delivered = from_ring (reactions_of chain words) items below known delivered c.in_ok-consumer.ensures.stream ring (subst (λ toxics. Delivers (map (placed_reaction (chain_draws chain words)) toxics) below delivered) (c.deref.ensures.0 ∙ c.applied-toxics.ensures.value) (rw c.lanes.ensures at c.in_ok-consumer.ensures.delivered)) in
     record {
       flow = outcome_shown outcome _ passes.flowed;
       neighbours = delivered_neighbours chain words items outcome c.applied-toxics.ensures.chain passes;
