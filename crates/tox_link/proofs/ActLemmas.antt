@@ -73,7 +73,7 @@ module _ (core : CoreView) (last : Ending) where
         position = refl;
       };
       emptied = quiet-emptied;
-      words = refl;
+      drawing = refl;
       ops = refl;
       ended = refl;
       bytes = refl;
@@ -87,7 +87,7 @@ module _ (core : CoreView) (last : Ending) where
 pub keeps-after : (core middle new : CoreView) (now : ℕ) → Looked (record core { latest = now }) middle → ((last : Ending) → core_ending core ≡ Some last → core_ending middle ≡ Some last)
     → KeepsCore middle new → KeepsCore core new
 keeps-after core middle new now looked known kept = record {
-  words = kept.words ∙ looked.words;
+  drawing = kept.drawing ∙ looked.drawing;
   ops = kept.ops ∙ looked.ops;
   ended = kept.ended ∙ looked.ended;
   bytes = kept.bytes ∙ looked.bytes;

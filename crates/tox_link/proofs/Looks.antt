@@ -36,7 +36,7 @@ pub looked-none : (core : CoreView) → Looked core core
 looked-none core = record {
   output = λ items. same-refl (remaining_output core items);
   position = refl;
-  words = refl;
+  drawing = refl;
   ops = refl;
   end = refl;
   ended = refl;
@@ -51,7 +51,7 @@ pub looked-both : (a b c : CoreView) → Looked a b → Looked b c → Looked a 
 looked-both a b c first second = record {
   output = λ items. same-both (remaining_output c items) (remaining_output b items) (remaining_output a items) (second.output items) (first.output items);
   position = second.position ∙ first.position;
-  words = second.words ∙ first.words;
+  drawing = second.drawing ∙ first.drawing;
   ops = second.ops ∙ first.ops;
   end = second.end ∙ first.end;
   ended = second.ended ∙ first.ended;
@@ -107,7 +107,7 @@ pub record Cuts (old new : RunnerView) (found : Option Slice) : Type 0 where
   pub none : HasNoChunk (to_come old (Quiet ∷ [])) → IsNone found
   pub drained : IsNone found → HasNoChunk (to_come old (Quiet ∷ []))
   pub idle : IfNone found (Stays old new)
-  pub words : new.words ≡ old.words
+  pub drawing : new.drawing ≡ old.drawing
   pub finished : new.finished ≡ old.finished
   pub piece : new.piece ≡ old.piece
   pub latest : new.latest ≡ old.latest
@@ -128,7 +128,7 @@ pub cuts_of : (old new : RunnerView) (found : Option Slice) → IfSome found (Is
     → IfSome found (λ slice. BeginsApart slice.instant (to_come new (Quiet ∷ [])))
     → IsNone found ↔ HasNoChunk (to_come old (Quiet ∷ []))
     → IfNone found ((new.idle ≡ true) × (new.position ≡ old.position) × (new.cuts ≡ old.cuts) × ((items : List Item) → to_come new items ≡ to_come old items))
-    → (new.words ≡ old.words) × (new.finished ≡ old.finished) × (new.piece ≡ old.piece) × (new.latest ≡ old.latest) × (new.pieces ≡ old.pieces) × (length new.levels ≡ length old.levels)
+    → (new.drawing ≡ old.drawing) × (new.finished ≡ old.finished) × (new.piece ≡ old.piece) × (new.latest ≡ old.latest) × (new.pieces ≡ old.pieces) × (length new.levels ≡ length old.levels)
     → ops_of new.levels ≡ ops_of old.levels → Cuts old new found
 cuts_of old new found some place apart none idle kept ops = record {
   some = some;
@@ -137,7 +137,7 @@ cuts_of old new found some place apart none idle kept ops = record {
   none = none.1;
   drained = none.0;
   idle = stays_of old new found idle;
-  words = kept.0;
+  drawing = kept.0;
   finished = kept.1;
   piece = kept.2;
   latest = kept.3;
@@ -187,7 +187,7 @@ module _ (core : CoreView) (new : RunnerView) (found : Option Slice) where
     looked-cut = record {
       output = output found refl;
       position = place found refl;
-      words = cuts.words;
+      drawing = cuts.drawing;
       ops = cuts.ops;
       end = refl;
       ended = refl;
@@ -255,7 +255,7 @@ module _ (core : CoreView) (new : RunnerView) (piece : WaitingPiece) (rest : Lis
     pub offered : new.piece ≡ next_piece core.runner piece.len piece.instant
     pub latest : new.latest ≡ piece.instant
     pub gives : (items : List Item) → to_come new items ≡ to_come core.runner (as_chunk (next_piece core.runner piece.len piece.instant) ∷ items)
-    pub words : new.words ≡ core.runner.words
+    pub drawing : new.drawing ≡ core.runner.drawing
     pub finished : new.finished ≡ core.runner.finished
     pub levels : new.levels ≡ core.runner.levels
 
@@ -272,7 +272,7 @@ module _ (core : CoreView) (new : RunnerView) (piece : WaitingPiece) (rest : Lis
           ∙ offers.gives (arrivals_from (core.runner.piece.span.stop + piece.len) rest (end_or core.end items))
           ∙ sym (ap (λ waiting. to_come core.runner (arrivals_from core.runner.piece.span.stop waiting (end_or core.end items))) offers.waiting)));
       position = ap (λ position. start_of core.found position) offers.position;
-      words = offers.words;
+      drawing = offers.drawing;
       ops = ap ops_of offers.levels;
       end = refl;
       ended = refl;
@@ -322,7 +322,7 @@ module _ (core : CoreView) (piece : WaitingPiece) (rest : List WaitingPiece) (fa
     looked-refusal = record {
       output = λ items. same-of _ _ (ap (λ rest. found_chunk core.found ++ rest) (over-same core.runner (over_by invariant.total) _ _));
       position = refl;
-      words = refl;
+      drawing = refl;
       ops = refl;
       end = refl;
       ended = refl;

@@ -89,7 +89,7 @@ pub record LeavesOutput (old new : CoreView) (now : ℕ) : Type 0 where
 
 -- only the front of the waiting pieces is dropped, and no piece that waits is added
 pub record KeepsCore (old new : CoreView) : Type 0 where
-  pub words : new.runner.words ≡ old.runner.words
+  pub drawing : new.runner.drawing ≡ old.runner.drawing
   pub ops : ops_of new.runner.levels ≡ ops_of old.runner.levels
   pub ended : new.ended ≡ old.ended
   pub bytes : new.bytes ≡ old.bytes
@@ -101,7 +101,7 @@ pub record KeepsCore (old new : CoreView) : Type 0 where
 pub record Looked (old new : CoreView) : Type 0 where
   pub output : (items : List Item) → SameResult (remaining_output new items) (remaining_output old items)
   pub position : core_position new ≡ core_position old
-  pub words : new.runner.words ≡ old.runner.words
+  pub drawing : new.runner.drawing ≡ old.runner.drawing
   pub ops : ops_of new.runner.levels ≡ ops_of old.runner.levels
   pub end : new.end ≡ old.end
   pub ended : new.ended ≡ old.ended
@@ -126,7 +126,7 @@ pub record IsEmptied (core : CoreView) : Type 0 where
 pub record Settled (old new : CoreView) (now : ℕ) : Type 0 where
   pub leaves : LeavesOutput old new now
   pub emptied : IsEmptied new
-  pub words : new.runner.words ≡ old.runner.words
+  pub drawing : new.runner.drawing ≡ old.runner.drawing
   pub ops : ops_of new.runner.levels ≡ ops_of old.runner.levels
   pub ended : new.ended ≡ old.ended
   pub bytes : new.bytes ≡ old.bytes
@@ -141,7 +141,7 @@ pub record HandsOnEnd (old new : CoreView) : Type 0 where
   pub position : core_position new ≡ core_position old
   pub emptied : IsEmptied new
   pub end : new.end ≡ None
-  pub words : new.runner.words ≡ old.runner.words
+  pub drawing : new.runner.drawing ≡ old.runner.drawing
   pub ops : ops_of new.runner.levels ≡ ops_of old.runner.levels
   pub ended : new.ended ≡ old.ended
   pub bytes : new.bytes ≡ old.bytes

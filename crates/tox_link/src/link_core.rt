@@ -61,7 +61,7 @@ impl<'w> LinkCore<'w> {
             × (core.ended ≡ false) × (core.bytes ≡ 0) × (core.latest ≡ 0)
             × (core_position core ≡ 0)) }
         ensures plan { IfOk result (λ core. (ops_of core.runner.levels ≡ plan.ops)
-            × (core.runner.words ≡ words.now)) }
+            × (core.runner.drawing ≡ record { lanes = plan.lanes; words = words.now })) }
     {
         let waiting = VecDeque::with_capacity(alloc, MAX_PIECES)?;
         let deadline = plan.deadline();

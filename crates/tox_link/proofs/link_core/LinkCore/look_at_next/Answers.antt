@@ -35,7 +35,7 @@ offers c = record {
   offered = c.in-Ok.ensures.offered.2;
   latest = c.in-Ok.ensures.offered.3;
   gives = c.in-Ok.ensures.to_come;
-  words = c.in-Ok.ensures.kept.0;
+  drawing = c.in-Ok.ensures.kept.0;
   finished = c.in-Ok.ensures.kept.1;
   levels = c.in-Ok.ensures.kept.3;
 }
