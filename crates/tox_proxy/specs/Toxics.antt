@@ -1,7 +1,9 @@
 -- Chains as a command line gives them: one short form for each toxic.
 use Rattle.std.specs.Prelude.{ℕ, ◌+◌, List, [], ◌∷◌, ◌++◌, length, nat_lt, Result, Ok, Err, if◌then◌else◌}
 use Rattle.tox_time.specs.Steps.{◌>>=◌}
-use Rattle.tox_defs.specs.Chain.{Toxics, max_toxics}
+use Rattle.tox_words.specs.declared.lanes.Lanes.{Lanes}
+use Rattle.tox_words.specs.Draw.{lane_count}
+use Rattle.tox_defs.specs.Chain.{Toxics}
 use Rattle.tox_defs.specs.Short.{short_of}
 use Rattle.tox_defs.specs.declared.toxic.Toxic.{Toxic}
 use Rattle.tox_defs.specs.declared.fault.ShortFault.{ShortFault}
@@ -12,8 +14,9 @@ use Rattle.tox_proxy.specs.declared.toxics.ToxicsFault.TheVariants.{Short, TooMa
 abbrev pub with_read : ℕ → Toxics → Result (Toxic × ℕ) ShortFault → Result Toxics ToxicsFault
 with_read n chain (Err fault) = Err (Short fault n)
 with_read n chain (Ok read) =
-    if nat_lt (length chain.entries) max_toxics
+    if nat_lt (length chain.entries) lane_count chain.lanes
     then Ok (record {
+      lanes = chain.lanes;
       entries = chain.entries
           ++ record { toxic = read.0; toxicity = read.1 } ∷ [];
     })
@@ -28,6 +31,6 @@ abbrev pub with_shorts : ℕ → List (List ℕ) → Toxics → Result Toxics To
 with_shorts n [] chain = Ok chain
 with_shorts n (text ∷ texts) chain = with_short n chain text >>= with_shorts (n + 1) texts
 
--- the chain of the toxics that short forms name, or the first fault with its number from 1
-abbrev pub chain_of : List (List ℕ) → Result Toxics ToxicsFault
-chain_of texts = with_shorts 1 texts (record { entries = [] })
+-- the chain of so many lanes with the toxics that short forms name, or the first fault with its number from 1
+abbrev pub chain_of : Lanes → List (List ℕ) → Result Toxics ToxicsFault
+chain_of lanes texts = with_shorts 1 texts (record { lanes = lanes; entries = [] })

@@ -3,7 +3,7 @@ ghost use Rattle.std.specs.Prelude.{◌≡◌, ◌+◌, IfOk, IfErr, OnOk, map};
 ghost use Rattle.tox_proxy.specs.Toxics.{chain_of, with_short};
 
 use thiserror::Error;
-use tox_defs::{Chain, ShortFault, read_short};
+use tox_defs::{Chain, Lanes, ShortFault, read_short};
 
 /// Why short forms make no chain. Each names its short form by its number from 1.
 #[derive(Clone, Copy, Debug, PartialEq, Eq, Error)]
@@ -16,12 +16,12 @@ pub enum ToxicsFault {
     TooMany(usize),
 }
 
-/// The chain of the toxics that short forms name, in order; or the first fault, from the left.
-pub fn read_chain(texts: &[&str]) -> Result<Chain, ToxicsFault>
-    ensures ok { IfOk result (λ chain. chain_of (map (λ text. text.now) texts.now) ≡ Ok chain) }
-    ensures fault { IfErr result (λ e. chain_of (map (λ text. text.now) texts.now) ≡ Err e) }
+/// The chain of so many lanes with the toxics that short forms name, in order; or the first fault, from the left.
+pub fn read_chain(lanes: Lanes, texts: &[&str]) -> Result<Chain, ToxicsFault>
+    ensures ok { IfOk result (λ chain. chain_of lanes (map (λ text. text.now) texts.now) ≡ Ok chain) }
+    ensures fault { IfErr result (λ e. chain_of lanes (map (λ text. text.now) texts.now) ≡ Err e) }
 {
-    let mut chain = Chain::new();
+    let mut chain = Chain::with_lanes(lanes);
     let mut number = 0;
     for text in texts {
         number += 1;

@@ -3,7 +3,7 @@ use std::process::Abort;
 use std::test::Fail;
 use tox_defs::{Stage, Toxic, read_short};
 use tox_time::{Item, Micros, Span};
-use tox_words::Words;
+use tox_words::{Lanes, Words};
 
 fn at(micros: u64) -> Micros {
     Micros::ZERO.after(micros)
@@ -18,7 +18,7 @@ fn chunk(start: u64, stop: u64, micros: u64) -> Item {
 fn compare(rt: &impl Abort, words: &Words, text: &str, taken: &[Item], expected: &[Item]) {
     let (toxic, _) = read_short(text).expect(&rt, "a short form");
     assert!(rt; toxic.check().is_ok());
-    let mut stage = Stage::new(toxic, 0, words);
+    let mut stage = Stage::new(toxic, Lanes::Sixteen, 0, words);
     let mut place = 0usize;
     for item in taken {
         assert!(rt; stage.is_idle());
@@ -69,7 +69,7 @@ fn a_new_stage_takes_what_begins_a_stream(rt: HostRuntime) -> Result<(), Fail> {
     let words = Words::from_list(rt.alloc(), &[0])?;
     let toxic = Toxic::SlowClose { delay: 0 };
     assert!(rt; toxic.check().is_ok());
-    let stage = Stage::new(toxic, 15, &words);
+    let stage = Stage::new(toxic, Lanes::ThirtyTwo, 31, &words);
     let cases = [
         (chunk(1, 2, 0), false),
         (chunk(0, 0, 0), false),

@@ -11,7 +11,7 @@ use tox_defs::{Chain, Toxic};
 use tox_plan::deliver;
 use tox_rows::table_of;
 use tox_time::{Arrivals, Micros};
-use tox_words::Words;
+use tox_words::{Lanes, Words};
 
 /// A number from 0 up to, and without, the bound.
 pub fn below(generator: &mut Lcg64Xsh32, bound: u32) -> u32
@@ -58,9 +58,13 @@ fn slicer(generator: &mut Lcg64Xsh32) -> Toxic {
     }
 }
 
-/// A chain of up to 5 toxics, of which a timeout comes seldom.
+/// A chain of 16 or 32 lanes and up to 5 toxics, of which a timeout comes seldom.
 fn chain(rt: &impl Abort, generator: &mut Lcg64Xsh32) -> Chain {
-    let mut chain = Chain::new();
+    let lanes = match below(generator, 2) {
+        0 => Lanes::Sixteen,
+        _ => Lanes::ThirtyTwo,
+    };
+    let mut chain = Chain::with_lanes(lanes);
     for _ in 0..below(generator, 6) {
         let toxic = toxic(generator);
         if !matches!(toxic, Toxic::Timeout { .. }) || below(generator, 6) == 0 {

@@ -3,7 +3,7 @@ use std::alloc::{AllocError, Global};
 use std::process::Abort;
 use tox_defs::{Chain, Stage};
 use tox_time::{Arrivals, Ending, Item, Outcome, Slice, SliceList};
-use tox_words::Words;
+use tox_words::{Drawing, Words};
 
 /// What one stage gives for these items.
 fn staged(
@@ -36,11 +36,18 @@ pub fn staged_items(
     if !matches!(items.last(), Some(Item::Closed(_))) {
         items.push(Item::Quiet)?;
     }
+    let lanes = chain.lanes();
+    let drawing = Drawing::new(lanes, words);
     for (lane, entry) in chain.entries().iter().enumerate() {
-        if entry.is_applied(lane, words) {
-            assert!(rt; lane < 16);
+        if entry.is_applied(lane, &drawing) {
+            assert!(rt; lane < lanes.count());
             assert!(rt; entry.toxic.check().is_ok());
-            items = staged(rt, alloc, Stage::new(entry.toxic, lane, words), &items)?;
+            items = staged(
+                rt,
+                alloc,
+                Stage::new(entry.toxic, lanes, lane, words),
+                &items,
+            )?;
         }
     }
     Ok(items)

@@ -1,12 +1,12 @@
 //! Chains made from short forms.
 use std::process::Abort;
 use std::test::Fail;
-use tox_defs::{Chain, TooManyToxics, Toxic};
+use tox_defs::{Chain, Lanes, TooManyToxics, Toxic};
 use tox_proxy::{ToxicsFault, read_chain};
 
 /// The chain of these short forms.
 pub fn chain_of(rt: &impl Abort, toxics: &[&str]) -> Chain {
-    read_chain(toxics).expect(rt, "short forms")
+    read_chain(Lanes::Sixteen, toxics).expect(rt, "short forms")
 }
 
 /// Adds a toxic to a chain that has room.
@@ -17,18 +17,24 @@ pub fn push(rt: &impl Abort, chain: &mut Chain, toxic: Toxic, toxicity: u16) {
 }
 
 #[test]
-fn a_seventeenth_toxic_is_refused(rt: HostRuntime) {
+fn a_chain_has_a_toxic_for_each_lane(rt: HostRuntime) {
     let toxic = Toxic::LimitData { bytes: 5 };
-    let mut chain = Chain::new();
-    assert!(rt; chain.is_empty());
-    for toxicity in 0..16 {
-        push(&rt, &mut chain, toxic, toxicity);
+    for (mut chain, most) in [
+        (Chain::new(), 16),
+        (Chain::with_lanes(Lanes::ThirtyTwo), 32),
+    ] {
+        assert!(rt; chain.is_empty());
+        for toxicity in 0..most {
+            assert!(rt; !chain.is_full());
+            push(&rt, &mut chain, toxic, toxicity);
+        }
+        assert!(rt; chain.is_full());
+        assert!(rt; toxic.check().is_ok());
+        assert_eq!(rt; chain.push(toxic, most), Err(TooManyToxics));
+        assert_eq!(rt; chain.len(), usize::from(most));
+        assert_eq!(rt; chain.toxicity(15), 15);
+        assert_eq!(rt; chain.toxic(15), toxic);
     }
-    assert!(rt; toxic.check().is_ok());
-    assert_eq!(rt; chain.push(toxic, 16), Err(TooManyToxics));
-    assert_eq!(rt; chain.len(), 16);
-    assert_eq!(rt; chain.toxicity(15), 15);
-    assert_eq!(rt; chain.toxic(15), toxic);
 }
 
 #[test]
@@ -47,10 +53,16 @@ fn the_first_fault_of_short_forms_is_told(rt: HostRuntime) -> Result<(), Fail> {
         ),
     ];
     for (texts, want) in cases {
-        let fault = read_chain(&texts).err().expect(&rt, "a fault");
+        let fault = read_chain(Lanes::Sixteen, &texts)
+            .err()
+            .expect(&rt, "a fault");
         assert_eq!(rt; format!(in rt.alloc(); "{fault}")?.as_str(), want);
     }
-    let fault = read_chain(&["latency"; 17]).err().expect(&rt, "a fault");
-    assert_eq!(rt; fault, ToxicsFault::TooMany(17));
+    for (lanes, number) in [(Lanes::Sixteen, 17), (Lanes::ThirtyTwo, 33)] {
+        let fault = read_chain(lanes, &["latency"; 33])
+            .err()
+            .expect(&rt, "a fault");
+        assert_eq!(rt; fault, ToxicsFault::TooMany(number));
+    }
     Ok(())
 }

@@ -5,8 +5,8 @@ use crate::chains::chain_of;
 use std::alloc::Global;
 use std::process::Abort;
 use std::test::Fail;
-use tox_defs::Chain;
-use tox_proxy::{DryFault, MAX_INPUT, dry_run};
+use tox_defs::{Chain, Lanes};
+use tox_proxy::{DryFault, MAX_INPUT, dry_run, read_chain};
 use tox_time::{EndFault, MemorySink, MemorySource, Source};
 use tox_words::Words;
 
@@ -241,6 +241,27 @@ fn toxics_are_met_by_their_words(rt: HostRuntime) -> Result<(), Fail> {
         let chain = chain_of(&rt, toxics);
         let written = run(rt.alloc(), &chain, &words, read, 1)?;
         assert_eq!(rt; written.as_str(), want, "{toxics:?} on {read}");
+    }
+    Ok(())
+}
+
+#[test]
+fn a_chain_draws_from_its_lanes(rt: HostRuntime) -> Result<(), Fail> {
+    let words = Words::from_list(rt.alloc(), &[0, 10, 0])?;
+    let cases = [
+        (Lanes::Sixteen, "15000 0..1 61\n15000 1..2 62\nopen\n"),
+        (Lanes::ThirtyTwo, "5000 0..1 61\n16000 1..2 62\nopen\n"),
+    ];
+    for (lanes, want) in cases {
+        let chain = read_chain(lanes, &["latency:latency=10,jitter=5"])?;
+        let written = run(
+            rt.alloc(),
+            &chain,
+            &words,
+            "0 data 61\n1000 data 62\n",
+            ROOM,
+        )?;
+        assert_eq!(rt; written.as_str(), want, "{lanes:?}");
     }
     Ok(())
 }

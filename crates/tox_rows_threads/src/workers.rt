@@ -2,7 +2,7 @@
 use crate::gates::Log;
 use std::alloc::Global;
 use std::test::Fail;
-use tox_defs::Chain;
+use tox_defs::{Chain, Lanes, Toxic};
 use tox_rows::{Meeting, chain_of};
 use tox_stages::run_stages;
 use tox_time::{Arrivals, Ending, Micros, OpenGate, Slice, Span};
@@ -49,6 +49,26 @@ fn a_slicer_draws_its_sizes(rt: HostRuntime) -> Result<(), Fail> {
     let outcome = run_stages(&rt, rt.alloc(), &chain, &words, &arrivals, 1, &OpenGate)?;
     let expected = [slice(0, 2, 10), slice(2, 5, 20)];
     assert_eq!(rt; outcome.slices.as_slice(), expected.as_slice());
+    assert_eq!(rt; outcome.ending, Ending::StillOpen);
+    Ok(())
+}
+
+#[test]
+fn a_chain_may_have_thirty_two_workers(rt: HostRuntime) -> Result<(), Fail> {
+    let words = Words::from_list(rt.alloc(), &[0])?;
+    let arrivals = bytes_at_zero(rt.alloc(), 1)?;
+    let latency = Toxic::Latency {
+        latency: 1,
+        jitter: 0,
+        until: 0,
+    };
+    let mut chain = Chain::with_lanes(Lanes::ThirtyTwo);
+    assert!(rt; latency.check().is_ok());
+    for _ in 0..32 {
+        assert!(rt; chain.push(latency, 1000).is_ok());
+    }
+    let outcome = run_stages(&rt, rt.alloc(), &chain, &words, &arrivals, 1, &OpenGate)?;
+    assert_eq!(rt; outcome.slices.as_slice(), [slice(0, 1, 32_000)].as_slice());
     assert_eq!(rt; outcome.ending, Ending::StillOpen);
     Ok(())
 }

@@ -2,9 +2,11 @@
 use Rattle.std.specs.Prelude.{ℕ, Bool, true, false, List, ◌++◌, codes, decimal, flat_map}
 use Rattle.std.specs.List.{enumerate_from, zip}
 use Rattle.tox_time.specs.declared.stream.Stream.{Stream}
+use Rattle.tox_words.specs.Draw.{Draws}
 use Rattle.tox_words.specs.Seeded.{seeded_words}
 use Rattle.tox_config.specs.Proxy.{Proxy}
 use Rattle.tox_defs.specs.Applied.{is_applied}
+use Rattle.tox_defs.specs.Flow.{chain_draws}
 use Rattle.tox_defs.specs.Printed.{printed_short}
 use Rattle.tox_defs.specs.declared.chain.Entry.{Entry}
 use Rattle.tox_script.specs.Covering.{toxics_for}
@@ -28,20 +30,20 @@ abbrev pub applied_word : Bool → List ℕ
 applied_word true = codes "applied"
 applied_word false = codes "skipped"
 
--- the line of a named toxic at a place of its chain, under some words
-abbrev pub toxic_line : List ℕ → ℕ → Entry → List ℕ → List ℕ
-toxic_line words place entry name =
-    decimal place ++ codes " " ++ applied_word (is_applied entry place words) ++ codes " "
+-- the line of a named toxic at a place of its chain, under what its lanes draw
+abbrev pub toxic_line : Draws → ℕ → Entry → List ℕ → List ℕ
+toxic_line draws place entry name =
+    decimal place ++ codes " " ++ applied_word (is_applied entry place draws) ++ codes " "
     ++ printed_short entry.toxic entry.toxicity ++ codes " " ++ name ++ codes "\n"
 
 -- the lines of named toxics, in order
-abbrev pub toxics_text : List ℕ → List Entry → List (List ℕ) → List ℕ
-toxics_text words entries names =
-    flat_map (λ placed. toxic_line words placed.0 placed.1.0 placed.1.1)
+abbrev pub toxics_text : Draws → List Entry → List (List ℕ) → List ℕ
+toxics_text draws entries names =
+    flat_map (λ placed. toxic_line draws placed.0 placed.1.0 placed.1.1)
     (enumerate_from 0 (zip entries names))
 
 -- what a numbered connection of a proxy meets on a stream, under the words of a seed
 abbrev pub pick_text : Proxy → Rules → ℕ → Stream → ℕ → List ℕ
 pick_text proxy script conn stream seed =
     let met : NamedToxics = toxics_for proxy.name conn stream script in
-    proxy_line proxy ++ toxics_text (seeded_words seed conn stream) met.chain.entries met.names
+    proxy_line proxy ++ toxics_text (chain_draws met.chain (seeded_words seed conn stream)) met.chain.entries met.names

@@ -1,6 +1,7 @@
 //! What a numbered connection meets.
 ghost use Rattle.std.specs.Prelude.{◌≡◌, ◌≢◌, ◌≤◌, ◌++◌, [], false, true, length, map, string_bytes, OnOk, OnErr, IfErr, Err};
 ghost use Rattle.std.specs.Io.KnownBytes.{append_known};
+ghost use Rattle.tox_words.specs.Draw.{draws_of};
 ghost use Rattle.tox_text.specs.PickText.{applied_word, enabled_word, pick_text, proxy_line, toxic_line, toxics_text};
 ghost use Rattle.tox_text.specs.PrintingPick.{Leaves};
 ghost use Rattle.tox_text.specs.Writing.{Prints, Writes};
@@ -14,7 +15,7 @@ use tox_config::ProxyDef;
 use tox_defs::Entry;
 use tox_script::Script;
 use tox_time::{EndFault, Sink, Stream};
-use tox_words::Words;
+use tox_words::{Drawing, Words};
 
 /// Why what a connection meets was not printed.
 #[derive(Clone, Copy, Debug, PartialEq, Eq, Error)]
@@ -55,9 +56,11 @@ pub fn print_pick<W: Sink>(
         return Err(PrintPickFault::OutOfMemory);
     };
     let name = proxy.name.as_str();
-    let entries = script.chain(name, conn, stream).entries();
+    let chain = script.chain(name, conn, stream);
     let names = script.names(name, conn, stream);
-    if write_pick(&mut Buffer::new(), writer, proxy, &words, entries, names).is_err() {
+    let drawing = Drawing::new(chain.lanes(), &words);
+    let mut buffer = Buffer::new();
+    if write_pick(&mut buffer, writer, proxy, &drawing, chain.entries(), names).is_err() {
         return Err(PrintPickFault::WriteFault);
     }
     Ok(())
@@ -68,7 +71,7 @@ fn write_pick<W: Sink>(
     buffer: &mut Buffer,
     writer: &mut W,
     proxy: &ProxyDef,
-    words: &Words,
+    drawing: &Drawing<'_>,
     entries: &[Entry],
     names: &[String],
 ) -> Result<(), EndFault>
@@ -76,9 +79,9 @@ fn write_pick<W: Sink>(
     requires empty { buffer.old ≡ [] }
     requires one_each { length names.now ≡ length entries.now }
     ensures { Writes result (W.written writer.old) (W.written writer.new) (W.failed writer.new)
-        (proxy_line proxy.now ++ toxics_text words.now entries.now (map string_bytes names.now)) }
+        (proxy_line proxy.now ++ toxics_text (draws_of drawing.now) entries.now (map string_bytes names.now)) }
 {
-    print_lines(buffer, writer, proxy, words, entries, names)?;
+    print_lines(buffer, writer, proxy, drawing, entries, names)?;
     buffer.flush(writer)
 }
 
@@ -86,7 +89,7 @@ fn print_lines<W: Sink>(
     buffer: &mut Buffer,
     writer: &mut W,
     proxy: &ProxyDef,
-    words: &Words,
+    drawing: &Drawing<'_>,
     entries: &[Entry],
     names: &[String],
 ) -> Result<(), EndFault>
@@ -94,10 +97,10 @@ fn print_lines<W: Sink>(
     requires one_each { length names.now ≡ length entries.now }
     ensures { Prints result (W.written writer.old) buffer.old (W.written writer.new) buffer.new
         (W.failed writer.new)
-        (proxy_line proxy.now ++ toxics_text words.now entries.now (map string_bytes names.now)) }
+        (proxy_line proxy.now ++ toxics_text (draws_of drawing.now) entries.now (map string_bytes names.now)) }
 {
     print_proxy(buffer, writer, proxy)?;
-    print_toxics(buffer, writer, words, entries, names)
+    print_toxics(buffer, writer, drawing, entries, names)
 }
 
 /// Prints the line of a proxy.
@@ -126,17 +129,17 @@ fn enabled_word(enabled: bool) -> &'static [u8]
 fn print_toxics<W: Sink>(
     buffer: &mut Buffer,
     writer: &mut W,
-    words: &Words,
+    drawing: &Drawing<'_>,
     entries: &[Entry],
     names: &[String],
 ) -> Result<(), EndFault>
     requires working { W.failed writer.old ≡ false }
     requires one_each { length names.now ≡ length entries.now }
     ensures { Prints result (W.written writer.old) buffer.old (W.written writer.new) buffer.new
-        (W.failed writer.new) (toxics_text words.now entries.now (map string_bytes names.now)) }
+        (W.failed writer.new) (toxics_text (draws_of drawing.now) entries.now (map string_bytes names.now)) }
 {
     for (place, entry) in entries.iter().enumerate() {
-        print_toxic(buffer, writer, words, place, entry, &names[place])?;
+        print_toxic(buffer, writer, drawing, place, entry, &names[place])?;
     }
     Ok(())
 }
@@ -145,19 +148,19 @@ fn print_toxics<W: Sink>(
 fn print_toxic<W: Sink>(
     buffer: &mut Buffer,
     writer: &mut W,
-    words: &Words,
+    drawing: &Drawing<'_>,
     place: usize,
     entry: &Entry,
     name: &str,
 ) -> Result<(), EndFault>
     requires { W.failed writer.old ≡ false }
     ensures { Prints result (W.written writer.old) buffer.old (W.written writer.new) buffer.new
-        (W.failed writer.new) (toxic_line words.now place entry.now name.now) }
+        (W.failed writer.new) (toxic_line (draws_of drawing.now) place entry.now name.now) }
 {
     buffer.put_number(writer, place as u64, b" ")?;
     buffer.put_all(
         writer,
-        &[applied_word(entry.is_applied(place, words)), b" "],
+        &[applied_word(entry.is_applied(place, drawing)), b" "],
     )?;
     print_short(buffer, writer, entry)?;
     buffer.put_all(writer, &[b" ", name.as_bytes(), b"\n"])

@@ -9,7 +9,7 @@ use clap::{Arg, ArgAction, ArgMatches, Command, Error, value_parser};
 use std::alloc::{AllocError, Global};
 use std::convert::AsStr;
 use tox_proxy::PickRequest;
-use tox_words::MAX_CONNECTIONS;
+use tox_words::{Lanes, MAX_CONNECTIONS};
 
 /// The version, and the kit that proves and builds it.
 const VERSION: &str = "0.1.0 (rattle-kit-13b logic dac8208d650f15bf)";
@@ -37,16 +37,25 @@ pub fn read<'a, S: AsStr>(alloc: Global, words: &'a [S]) -> Result<Task<'a>, Err
     }
 }
 
-/// The words and toxics that a command is given.
+/// The lanes, words and toxics that a command is given.
 fn link_of<'a>(alloc: Global, given: &ArgMatches<'a>) -> Result<LinkArguments<'a>, AllocError> {
     let toxics = match given.get_strs("toxics") {
         Some(toxics) => Vec::from_slice(alloc, toxics)?,
         None => Vec::new(alloc),
     };
     Ok(LinkArguments {
+        lanes: lanes_of(given),
         words: given.get_str("words"),
         toxics,
     })
+}
+
+/// The lanes of the chain. `clap` has rejected other values.
+fn lanes_of(given: &ArgMatches<'_>) -> Lanes {
+    match given.get_str("lanes") {
+        Some("32") => Lanes::ThirtyTwo,
+        _ => Lanes::Sixteen,
+    }
 }
 
 fn pick_task<'a>(alloc: Global, given: &ArgMatches<'a>) -> Result<Task<'a>, Error> {
@@ -118,6 +127,7 @@ fn dry<'a>(alloc: Global) -> Result<Command<'a>, AllocError> {
     Command::new(alloc, "dry")
         .about("Prints when each byte would leave, and how the link would end")
         .after_help(help::DRY)
+        .arg(lanes_argument(alloc))?
         .arg(words_argument(alloc))?
         .arg(toxics_argument(alloc))
 }
@@ -126,6 +136,7 @@ fn plan<'a>(alloc: Global) -> Result<Command<'a>, AllocError> {
     Command::new(alloc, "plan")
         .about("Prints what the toxics are compiled into")
         .after_help(help::PLAN)
+        .arg(lanes_argument(alloc))?
         .arg(words_argument(alloc))?
         .arg(toxics_argument(alloc))
 }
@@ -140,6 +151,7 @@ fn stages<'a>(alloc: Global) -> Result<Command<'a>, AllocError> {
         .about("Prints what `dry` prints, by a thread for each toxic")
         .after_help(help::STAGES)
         .arg(cap)?
+        .arg(lanes_argument(alloc))?
         .arg(words_argument(alloc))?
         .arg(toxics_argument(alloc))
 }
@@ -217,6 +229,14 @@ fn needed<'a>(alloc: Global, name: &'a str, value: &'a str, help: &'a str) -> Ar
         .required(true)
 }
 
+fn lanes_argument<'a>(alloc: Global) -> Arg<'a> {
+    Arg::new(alloc, "lanes")
+        .long("lanes")
+        .value_name("L")
+        .help("How many lanes share the random words: 16 or 32 [default: 16]")
+        .value_parser(ValueParser::from(&["16", "32"][..]))
+}
+
 fn words_argument<'a>(alloc: Global) -> Arg<'a> {
     Arg::new(alloc, "words").long("words").value_name("W").help(
         "The random words: 1 to 4096 numbers up to 4294967295, parted by commas [default: 0]",
@@ -226,7 +246,7 @@ fn words_argument<'a>(alloc: Global) -> Arg<'a> {
 fn toxics_argument<'a>(alloc: Global) -> Arg<'a> {
     Arg::new(alloc, "toxics")
         .value_name("TOXIC")
-        .help("The toxics that the link meets, in order, at most 16")
+        .help("The toxics that the link meets, in order, at most one for each lane")
         .num_args(0..)
         .action(ArgAction::Append)
 }

@@ -3,11 +3,12 @@ use crate::fault::Fault;
 use std::alloc::Global;
 use tox_defs::Chain;
 use tox_proxy::read_chain;
-use tox_words::{Words, WordsFault};
+use tox_words::{Lanes, Words, WordsFault};
 
 /// What `dry`, `plan` and `stages` are given.
 #[derive(Debug, Drop)]
 pub struct LinkArguments<'a> {
+    pub lanes: Lanes,
     pub words: Option<&'a str>,
     pub toxics: Vec<&'a str>,
 }
@@ -23,7 +24,7 @@ impl<'a> LinkArguments<'a> {
     /// Reads the words, then the toxics from the left.
     pub fn read(&self, alloc: Global) -> Result<Link, Fault> {
         let words = words_of(alloc, self.words).map_err(Fault::Words)?;
-        let chain = read_chain(&self.toxics).map_err(Fault::Toxics)?;
+        let chain = read_chain(self.lanes, &self.toxics).map_err(Fault::Toxics)?;
         Ok(Link { words, chain })
     }
 }
