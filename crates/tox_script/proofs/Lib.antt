@@ -1,4 +1,5 @@
 pub mod ByStream
+pub mod Decimals
 pub mod Mapped
 pub mod Renamed
 pub mod Tables

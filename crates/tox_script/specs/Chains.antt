@@ -3,7 +3,7 @@ use Rattle.std.specs.Prelude.{ℕ, ◌||◌, Bool, List, length, nat_le, Result}
 use Rattle.tox_time.specs.declared.stream.Stream.{Stream}
 use Rattle.tox_time.specs.declared.stream.Stream.TheVariants.{Upstream, Downstream}
 use Rattle.tox_defs.specs.declared.chain.Entry.{Entry}
-use Rattle.tox_defs.specs.Chain.{max_toxics}
+use Rattle.tox_defs.specs.Chain.{Toxics}
 use Rattle.tox_script.specs.Fields.{is_among}
 use Rattle.tox_script.specs.NamedChain.{NamedToxics, nothing, with_toxic}
 use Rattle.tox_script.specs.Toxic.{NamedToxic}
@@ -11,10 +11,12 @@ use Rattle.tox_script.specs.Toxics.{unless_refused}
 use Rattle.tox_script.specs.declared.chains.Chains.{Chains}
 use Rattle.tox_script.specs.declared.fault.Location.{Location}
 use Rattle.tox_script.specs.declared.fault.ScriptFault.{ScriptFault}
+use Rattle.tox_words.specs.declared.lanes.Lanes.{Lanes}
+use Rattle.tox_words.specs.Draw.{lane_count}
 
--- no toxic
-abbrev pub no_chains : Chains
-no_chains = record { upstream = nothing; downstream = nothing }
+-- no toxic on either stream
+abbrev pub no_chains : Lanes → Chains
+no_chains lanes = record { upstream = nothing lanes; downstream = nothing lanes }
 
 -- the toxics of a stream
 abbrev pub on : Stream → Chains → NamedToxics
@@ -24,6 +26,10 @@ on Downstream chains = chains.downstream
 -- whether a toxic of either stream has a name
 abbrev pub has_name : List ℕ → Chains → Bool
 has_name name chains = is_among chains.upstream.names name || is_among chains.downstream.names name
+
+-- whether each lane has its toxic
+abbrev pub is_full : Toxics → Bool
+is_full chain = nat_le (lane_count chain.lanes) (length chain.entries)
 
 -- one more toxic on a stream
 abbrev pub pushed : Stream → Entry → List ℕ → Chains → Chains
@@ -37,5 +43,5 @@ abbrev pub put_toxic : Location → NamedToxic → Chains → Result Chains Scri
 put_toxic at toxic chains =
     unless_refused at
     (has_name toxic.name chains)
-    (nat_le max_toxics (length (on toxic.stream chains).chain.entries))
+    (is_full (on toxic.stream chains).chain)
     (pushed toxic.stream toxic.entry toxic.name chains)

@@ -7,6 +7,7 @@ use Rattle.tox_script.specs.Chains.{no_chains, on}
 use Rattle.tox_script.specs.NamedChain.{NamedToxics}
 use Rattle.tox_script.specs.Rule.{Rule, Rules}
 use Rattle.tox_script.specs.declared.chains.Chains.{Chains}
+use Rattle.tox_words.specs.declared.lanes.Lanes.{Lanes}
 
 -- whether a connection comes before an end; there may be none
 abbrev pub is_up_to : ℕ → Option ℕ → Bool
@@ -22,14 +23,14 @@ covers proxy conn rule =
 abbrev pub covering : List ℕ → ℕ → Rules → Option Rule
 covering proxy conn script = find (covers proxy conn) script.rules
 
--- the chains of a rule; none where there is no rule
-abbrev pub chains_in : Option Rule → Chains
-chains_in None = no_chains
-chains_in (Some rule) = rule.chains
+-- the chains of a rule; no toxic on so many lanes where there is no rule
+abbrev pub chains_in : Lanes → Option Rule → Chains
+chains_in lanes None = no_chains lanes
+chains_in lanes (Some rule) = rule.chains
 
 -- the chains that a connection of a proxy meets
 abbrev pub chains_for : List ℕ → ℕ → Rules → Chains
-chains_for proxy conn script = chains_in (covering proxy conn script)
+chains_for proxy conn script = chains_in script.settings.lanes (covering proxy conn script)
 
 -- the toxics that a connection of a proxy meets on a stream
 abbrev pub toxics_for : List ℕ → ℕ → Stream → Rules → NamedToxics

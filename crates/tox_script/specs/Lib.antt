@@ -1,4 +1,7 @@
 pub mod Fields
+pub mod Settings
+pub mod Document
+pub mod Toxicity
 pub mod ToxicFields
 pub mod Attributes
 pub mod Toxic

@@ -9,6 +9,7 @@ use Rattle.tox_script.specs.declared.fault.Field.{Field}
 use Rattle.tox_script.specs.declared.fault.Field.TheVariants as field
 use Rattle.tox_script.specs.declared.fault.ScriptFault.{ScriptFault}
 use Rattle.tox_script.specs.declared.fault.ScriptFault.TheVariants as fault
+use Rattle.tox_script.specs.declared.settings.Settings.{Settings}
 
 -- the fields of a rule's table
 pub record RuleFields : Type 0 where
@@ -47,13 +48,14 @@ pub record Rule : Type 0 where
   pub last : Option ℕ
   pub chains : Chains
 
--- what a script is seen as: its rules in the file's order
+-- what a script is seen as: its settings, and its rules in the file's order
 pub record Rules : Type 0 where
+  pub settings : Settings
   pub rules : List Rule
 
 -- the rule of the table of a number, or its first fault
-abbrev pub rule_of : ℕ → Data → Result Rule ScriptFault
-rule_of number d = do
+abbrev pub rule_of : Settings → ℕ → Data → Result Rule ScriptFault
+rule_of settings number d = do
   fields ← map_err (fault.Field (record { rule = number; toxic = 0 })) (rule_fields d)
-  chains ← read_chains number fields.toxics
+  chains ← read_chains settings number fields.toxics
   Ok (record { proxy = fields.proxy; first = fields.first; last = fields.last; chains = chains })

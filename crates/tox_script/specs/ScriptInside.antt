@@ -5,10 +5,10 @@ use Rattle.tox_script.specs.Rule.{Rules}
 use Rattle.tox_script.specs.Views.{rule_view}
 use Rattle.tox_script.specs.declared.script.Script.TheInside.{Inside}
 
--- the rules in order
+-- the settings, and the rules in order
 abbrev pub rules_of : Inside → Rules
-rules_of script = record { rules = map rule_view script.rules.items }
+rules_of script = record { settings = script.settings; rules = map rule_view script.rules.items }
 
 -- what a connection meets that no rule covers
 abbrev pub HasNothing : Inside → Type 0
-HasNothing script = script.nothing ≡ no_chains
+HasNothing script = script.nothing ≡ no_chains script.settings.lanes

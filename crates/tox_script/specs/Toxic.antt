@@ -1,6 +1,5 @@
 -- The toxic that a table's fields stand for.
-use Rattle.std.specs.Prelude.{ℕ, ◌++◌, List, codes, Option, Some, None, unwrap_or, Result, Ok, ok_or}
-use Rattle.toml.specs.Data.{Data}
+use Rattle.std.specs.Prelude.{ℕ, ◌++◌, List, codes, unwrap_or, Result, Ok, ok_or}
 use Rattle.tox_time.specs.declared.stream.Stream.{Stream}
 use Rattle.tox_defs.specs.Kind.{kind_of, name_of}
 use Rattle.tox_defs.specs.declared.chain.Entry.{Entry}
@@ -8,10 +7,11 @@ use Rattle.tox_defs.specs.declared.kind.Kind.{Kind}
 use Rattle.tox_defs.specs.declared.fault.ToxicFault.{ToxicFault}
 use Rattle.tox_defs.specs.declared.fault.ToxicFault.TheVariants.{ToxicityNotThousandths, UnknownType}
 use Rattle.tox_script.specs.Attributes.{toxic_with}
-use Rattle.tox_script.specs.Fields.{whole_between}
 use Rattle.tox_time.specs.Steps.{◌>>=◌}
 use Rattle.tox_time.specs.StreamName.{stream_name}
 use Rattle.tox_script.specs.ToxicFields.{ToxicFields}
+use Rattle.tox_script.specs.Toxicity.{toxicity_in}
+use Rattle.tox_script.specs.declared.version.Version.{Version}
 
 -- a toxic of a rule: its stream, its entry in a chain, and its name
 pub record NamedToxic : Type 0 where
@@ -19,20 +19,15 @@ pub record NamedToxic : Type 0 where
   pub entry : Entry
   pub name : List ℕ
 
--- the toxicity of a toxic: a whole number up to 1000, which an absent one is
-abbrev pub toxicity_in : Option Data → Option ℕ
-toxicity_in None = Some 1000
-toxicity_in (Some d) = whole_between 0 1000 d
-
 -- the name of a toxic that tells none: its type's and its stream's
 abbrev pub default_name : Kind → Stream → List ℕ
 default_name kind stream = name_of kind ++ codes "_" ++ stream_name stream
 
 -- the toxic that fields stand for, or why there is none
-abbrev pub named_toxic : ToxicFields → Result NamedToxic ToxicFault
-named_toxic fields = do
+abbrev pub named_toxic : Version → ToxicFields → Result NamedToxic ToxicFault
+named_toxic version fields = do
   kind ← ok_or (kind_of fields.type_name) UnknownType
-  toxicity ← ok_or (toxicity_in fields.toxicity) ToxicityNotThousandths
+  toxicity ← ok_or (toxicity_in version fields.toxicity) ToxicityNotThousandths
   toxic ← toxic_with kind fields.attributes
   Ok (record {
     stream = fields.stream;

@@ -1,13 +1,20 @@
 -- What the reader's structs stand for.
 use Rattle.std.specs.Prelude.{option_map, string_bytes, unwrap_or}
 use Rattle.toml.specs.View.{items_view, view}
+use Rattle.tox_script.specs.Document.{DocumentFields}
 use Rattle.tox_script.specs.Rule.{Rule, RuleFields}
 use Rattle.tox_script.specs.Toxic.{NamedToxic, default_name}
 use Rattle.tox_script.specs.ToxicFields.{ToxicFields}
+use Rattle.tox_script.specs.declared.document.DocumentFields.{DocumentFields as LentDocumentFields}
 use Rattle.tox_script.specs.declared.named_toxic.NamedToxic.{NamedToxic as LentToxic}
 use Rattle.tox_script.specs.declared.rule.Rule.{Rule as OwnedRule}
 use Rattle.tox_script.specs.declared.rule_fields.RuleFields.{RuleFields as LentRuleFields}
 use Rattle.tox_script.specs.declared.toxic_fields.ToxicFields.{ToxicFields as LentFields}
+
+-- the fields that a document's lent ones stand for
+abbrev pub document_view : LentDocumentFields → DocumentFields
+document_view fields =
+    record { settings = fields.settings; rules = items_view fields.rules.now }
 
 -- the fields that lent ones stand for
 abbrev pub fields_view : LentFields → ToxicFields

@@ -1,9 +1,8 @@
 //! The chains of a rule, one for each stream.
-ghost use Rattle.std.specs.Prelude.{◌≡◌, ◌≢◌, ◌<◌, length, string_bytes, OnOk, IfOk, IfErr, Ok, Err};
+ghost use Rattle.std.specs.Prelude.{◌≡◌, ◌≢◌, false, string_bytes, OnOk, IfOk, IfErr, Ok, Err};
 ghost use Rattle.toml.specs.View.{items_view, view};
 ghost use Rattle.tox_defs.specs.Chain.{IsEntry};
-ghost use Rattle.tox_defs.specs.Chain.{max_toxics};
-ghost use Rattle.tox_script.specs.Chains.{has_name, no_chains, on, pushed, put_toxic};
+ghost use Rattle.tox_script.specs.Chains.{has_name, is_full, no_chains, on, pushed, put_toxic};
 ghost use Rattle.tox_script.specs.Toxics.{read_chains, toxic_at};
 ghost use Rattle.tox_script.specs.Views.{toxic_view};
 ghost use Rattle.tox_script.specs.declared.fault.ScriptFault.TheVariants.{OutOfMemory};
@@ -11,10 +10,12 @@ ghost use Rattle.tox_script.specs.declared.fault.ScriptFault.TheVariants.{OutOfM
 use crate::fault::{Location, ScriptFault};
 use crate::named_chain::NamedChain;
 use crate::named_toxic::NamedToxic;
+use crate::settings::Settings;
 use crate::toxic_fields::ToxicFields;
+use crate::version::Version;
 use std::alloc::{AllocError, Global};
 use toml::Value;
-use tox_defs::Entry;
+use tox_defs::{Entry, Lanes};
 use tox_time::Stream;
 
 /// The toxics of a rule by their streams.
@@ -25,29 +26,35 @@ pub(crate) struct Chains {
 }
 
 impl Chains {
-    /// No toxic.
-    pub(crate) fn new(alloc: Global) -> Chains
-        ensures { result ≡ no_chains }
+    /// No toxic, on so many lanes.
+    pub(crate) fn new(alloc: Global, lanes: Lanes) -> Chains
+        ensures { result ≡ no_chains lanes }
     {
         Chains {
-            upstream: NamedChain::new(alloc),
-            downstream: NamedChain::new(alloc),
+            upstream: NamedChain::new(alloc, lanes),
+            downstream: NamedChain::new(alloc, lanes),
         }
     }
 
     /// The toxics of the tables of a rule, whose number is told, or their first fault.
-    pub(crate) fn read(alloc: Global, tables: &[Value], rule: usize) -> Result<Chains, ScriptFault>
-        ensures ok { IfOk result (λ chains. read_chains rule (items_view tables.now) ≡ Ok chains) }
+    pub(crate) fn read(
+        alloc: Global,
+        settings: Settings,
+        tables: &[Value],
+        rule: usize,
+    ) -> Result<Chains, ScriptFault>
+        ensures ok { IfOk result
+            (λ chains. read_chains settings rule (items_view tables.now) ≡ Ok chains) }
         ensures err { IfErr result (λ fault. fault ≢ OutOfMemory
-            → read_chains rule (items_view tables.now) ≡ Err fault) }
+            → read_chains settings rule (items_view tables.now) ≡ Err fault) }
     {
-        let mut chains = Chains::new(alloc);
+        let mut chains = Chains::new(alloc, settings.lanes);
         for (index, table) in tables.iter().enumerate() {
             let at = Location {
                 rule,
                 toxic: index + 1,
             };
-            let toxic = read_toxic(table, at)?;
+            let toxic = read_toxic(settings.version, table, at)?;
             chains.put(alloc, &toxic, at)?;
         }
         Ok(chains)
@@ -96,7 +103,7 @@ impl Chains {
     /// Adds a toxic behind the others of a stream that has room.
     fn push(&mut self, stream: Stream, entry: Entry, name: String) -> Result<(), AllocError>
         requires fits { IsEntry entry }
-        requires room { length (on stream self.old).chain.entries < max_toxics }
+        requires room { is_full (on stream self.old).chain ≡ false }
         ensures { OnOk result (self.new ≡ pushed stream entry (string_bytes name) self.old) }
     {
         match stream {
@@ -107,12 +114,13 @@ impl Chains {
 }
 
 /// The toxic of a table at a location.
-fn read_toxic(table: &Value, at: Location) -> Result<NamedToxic<'_>, ScriptFault>
-    ensures ok { IfOk result (λ toxic. toxic_at at (view table.now) ≡ Ok (toxic_view toxic)) }
-    ensures err { IfErr result (λ fault. toxic_at at (view table.now) ≡ Err fault) }
+fn read_toxic(version: Version, table: &Value, at: Location) -> Result<NamedToxic<'_>, ScriptFault>
+    ensures ok { IfOk result
+        (λ toxic. toxic_at version at (view table.now) ≡ Ok (toxic_view toxic)) }
+    ensures err { IfErr result (λ fault. toxic_at version at (view table.now) ≡ Err fault) }
     ensures fits { IfOk result (λ toxic. IsEntry toxic.entry) }
 {
     let fields = ToxicFields::read(table).map_err(|field| ScriptFault::Field(at, field))?;
-    let toxic = NamedToxic::of(&fields).map_err(|fault| ScriptFault::Toxic(at, fault))?;
+    let toxic = NamedToxic::of(version, &fields).map_err(|fault| ScriptFault::Toxic(at, fault))?;
     Ok(toxic)
 }

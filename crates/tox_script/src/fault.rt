@@ -9,6 +9,12 @@ use tox_defs::ToxicFault;
 /// A field of one of a script's tables that isn't as it must be.
 #[derive(Clone, Copy, Debug, PartialEq, Eq, Error)]
 pub enum Field {
+    /// The document's version: 1 or 2.
+    #[error("version")]
+    Version,
+    /// The lanes of the chains of a document of version 2: 16 or 32.
+    #[error("lanes")]
+    Lanes,
     /// The document's rules: an array of tables.
     #[error("rule")]
     Rule,

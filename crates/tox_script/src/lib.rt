@@ -3,6 +3,7 @@
 
 mod attributes;
 mod chains;
+mod document;
 mod fault;
 mod fields;
 mod named_chain;
@@ -10,9 +11,13 @@ mod named_toxic;
 mod rule;
 mod rule_fields;
 mod script;
+mod settings;
 #[cfg(test)]
 mod tests;
 mod toxic_fields;
+mod toxicity;
+mod version;
 
 pub use fault::{Field, Location, ScriptFault};
 pub use script::{Script, read_script};
+pub use version::Version;

@@ -1,12 +1,12 @@
 //! A chain with the names of its toxics.
 ghost use Rattle.std.specs.Prelude.{◌≡◌, ◌<◌, length, map, string_bytes, nat_le, OnOk, OnErr};
 ghost use Rattle.tox_defs.specs.Chain.{IsEntry};
-ghost use Rattle.tox_defs.specs.Chain.{max_toxics};
 ghost use Rattle.tox_script.specs.Fields.{is_among};
+ghost use Rattle.tox_words.specs.Draw.{lane_count};
 
 use std::alloc::{AllocError, Global};
 use std::marker::Model;
-use tox_defs::{Chain, Entry, MAX_TOXICS};
+use tox_defs::{Chain, Entry, Lanes};
 
 /// The toxics of one stream of a rule in the file's order, each with its name.
 #[derive(Drop)]
@@ -30,12 +30,12 @@ impl Model for NamedChain {
 impl NamedChain {
     ghost use Rattle.tox_script.specs.NamedChain.{nothing, with_toxic};
 
-    /// No toxic.
-    pub(crate) fn new(alloc: Global) -> NamedChain
-        ensures { result ≡ nothing }
+    /// No toxic, on so many lanes.
+    pub(crate) fn new(alloc: Global, lanes: Lanes) -> NamedChain
+        ensures { result ≡ nothing lanes }
     {
         NamedChain {
-            chain: Chain::new(),
+            chain: Chain::with_lanes(lanes),
             names: Vec::new(alloc),
         }
     }
@@ -62,15 +62,16 @@ impl NamedChain {
     }
 
     pub(crate) fn is_full(&self) -> bool
-        ensures { result ≡ nat_le max_toxics (length self.now.chain.entries) }
+        ensures { result
+            ≡ nat_le (lane_count self.now.chain.lanes) (length self.now.chain.entries) }
     {
-        self.chain.len() >= MAX_TOXICS
+        self.chain.is_full()
     }
 
     /// Adds a toxic behind the others. A refusal leaves them unchanged.
     pub(crate) fn push(&mut self, entry: Entry, name: String) -> Result<(), AllocError>
         requires fits { IsEntry entry }
-        requires room { length self.old.chain.entries < max_toxics }
+        requires room { length self.old.chain.entries < lane_count self.old.chain.lanes }
         ensures ok { OnOk result (self.new ≡ with_toxic entry (string_bytes name) self.old) }
         ensures err { OnErr result (self.new ≡ self.old) }
     {

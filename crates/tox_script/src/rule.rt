@@ -9,6 +9,7 @@ ghost use Rattle.tox_script.specs.declared.fault.ScriptFault.TheVariants.{OutOfM
 use crate::chains::Chains;
 use crate::fault::{Location, ScriptFault};
 use crate::rule_fields::RuleFields;
+use crate::settings::Settings;
 use std::alloc::Global;
 use toml::Value;
 
@@ -23,17 +24,23 @@ pub(crate) struct Rule {
 
 impl Rule {
     /// The rule of a table, whose number is told, or its first fault.
-    pub(crate) fn read(alloc: Global, table: &Value, number: usize) -> Result<Rule, ScriptFault>
-        ensures ok { IfOk result (λ rule. rule_of number (view table.now) ≡ Ok (rule_view rule)) }
+    pub(crate) fn read(
+        alloc: Global,
+        settings: Settings,
+        table: &Value,
+        number: usize,
+    ) -> Result<Rule, ScriptFault>
+        ensures ok { IfOk result
+            (λ rule. rule_of settings number (view table.now) ≡ Ok (rule_view rule)) }
         ensures err { IfErr result (λ fault. fault ≢ OutOfMemory
-            → rule_of number (view table.now) ≡ Err fault) }
+            → rule_of settings number (view table.now) ≡ Err fault) }
     {
         let at = Location {
             rule: number,
             toxic: 0,
         };
         let fields = RuleFields::read(table).map_err(|field| ScriptFault::Field(at, field))?;
-        let chains = Chains::read(alloc, fields.toxics, number)?;
+        let chains = Chains::read(alloc, settings, fields.toxics, number)?;
         Ok(Rule {
             proxy: String::from_str(alloc, fields.proxy)?,
             first: fields.first,

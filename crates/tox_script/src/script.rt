@@ -3,13 +3,15 @@ ghost use Rattle.std.specs.Prelude.{◌≡◌, ◌≢◌, [], length, map, strin
 ghost use Rattle.std.specs.Str.{is_utf8};
 ghost use Rattle.toml.specs.View.{items_view, view};
 ghost use Rattle.tox_script.specs.Views.{rule_view};
-ghost use Rattle.tox_script.specs.Script.{document_rules, rules_from, script_of, toml_of};
+ghost use Rattle.tox_script.specs.Script.{rules_from, script_of, toml_of};
 ghost use Rattle.tox_script.specs.declared.fault.ScriptFault.TheVariants.{NotToml, OutOfMemory};
 
 use crate::chains::Chains;
-use crate::fault::{Field, Location, ScriptFault};
-use crate::fields::{has_only, tables_of};
+use crate::document::DocumentFields;
+use crate::fault::{Location, ScriptFault};
 use crate::rule::Rule;
+use crate::settings::Settings;
+use crate::version::Version;
 use std::alloc::Global;
 use std::marker::Model;
 use toml::Value;
@@ -19,6 +21,7 @@ use tox_time::Stream;
 /// Which toxics each connection of each proxy meets: those of the first rule that covers it, and else none.
 #[derive(Drop)]
 pub struct Script {
+    settings: Settings,
     rules: Vec<Rule>,
     nothing: Chains,
 }
@@ -37,6 +40,13 @@ impl Model for Script {
 
 impl Script {
     ghost use Rattle.tox_script.specs.Covering.{chains_for, covering, toxics_for};
+
+    /// The version that the document tells; 1 where it tells none.
+    pub fn version(&self) -> Version
+        ensures { result ≡ self.now.settings.version }
+    {
+        self.settings.version
+    }
 
     /// The toxics that a connection of a proxy meets on a stream, in the file's order.
     pub fn chain(&self, proxy: &str, conn: u64, stream: Stream) -> &Chain
@@ -75,7 +85,8 @@ impl Script {
 
 /// The script of a TOML document.
 ///
-/// The document has the key `rule` alone: an array of tables. A rule has `proxy`, `first`, optional `last` and optional
+/// The document has optional `version`, 1 or 2, in version 2 optional `lanes`, 16 or 32, and `rule`: an array of tables.
+/// Without `version` it has version 1, whose chains have 16 lanes; without `lanes` version 2 has 32. A rule has `proxy`, `first`, optional `last` and optional
 /// `toxic`, an array of tables. A toxic has `type`, and optional `name`, `stream`, `toxicity` and `attributes`. Without
 /// `last` a rule has no upper end. A toxic's stream is downstream where none is told, its toxicity 1000, each of its
 /// attributes 0, and its name the type, `_` and the stream.
@@ -93,10 +104,11 @@ pub fn read_script(alloc: Global, bytes: &[u8]) -> Result<Script, ScriptFault>
 {
     let document = read_toml(alloc, bytes)?;
     let at = Location { rule: 0, toxic: 0 };
-    let tables = document_rules(&document).map_err(|field| ScriptFault::Field(at, field))?;
+    let fields = DocumentFields::read(&document).map_err(|field| ScriptFault::Field(at, field))?;
     Ok(Script {
-        rules: read_rules(alloc, tables)?,
-        nothing: Chains::new(alloc),
+        settings: fields.settings,
+        rules: read_rules(alloc, fields.settings, fields.rules)?,
+        nothing: Chains::new(alloc, fields.settings.lanes),
     })
 }
 
@@ -117,29 +129,16 @@ fn read_toml(alloc: Global, bytes: &[u8]) -> Result<Value, ScriptFault>
     }
 }
 
-/// The tables of the rules.
-fn document_rules(document: &Value) -> Result<&[Value], Field>
-    ensures ok { IfOk result
-        (λ tables. document_rules (view document.now) ≡ Ok (items_view tables.now)) }
-    ensures err { IfErr result (λ field. document_rules (view document.now) ≡ Err field) }
-{
-    let tables = tables_of(document, "rule", Field::Rule)?;
-    if !has_only(document, &["rule"]) {
-        return Err(Field::Unknown);
-    }
-    Ok(tables)
-}
-
 /// The rules of some tables, or the first fault.
-fn read_rules(alloc: Global, tables: &[Value]) -> Result<Vec<Rule>, ScriptFault>
+fn read_rules(alloc: Global, settings: Settings, tables: &[Value]) -> Result<Vec<Rule>, ScriptFault>
     ensures ok { IfOk result
-        (λ rules. rules_from [] (items_view tables.now) ≡ Ok (map rule_view rules.items)) }
+        (λ rules. rules_from settings [] (items_view tables.now) ≡ Ok (map rule_view rules.items)) }
     ensures err { IfErr result (λ fault. fault ≢ OutOfMemory
-        → rules_from [] (items_view tables.now) ≡ Err fault) }
+        → rules_from settings [] (items_view tables.now) ≡ Err fault) }
 {
     let mut rules = Vec::new(alloc);
     for (index, table) in tables.iter().enumerate() {
-        rules.push(Rule::read(alloc, table, index + 1)?)?;
+        rules.push(Rule::read(alloc, settings, table, index + 1)?)?;
     }
     Ok(rules)
 }

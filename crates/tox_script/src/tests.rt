@@ -1,4 +1,6 @@
 //! Scripts with what they give.
+mod versions;
+
 use crate::{ScriptFault, read_script};
 use std::alloc::{AllocError, Global};
 use std::test::Fail;

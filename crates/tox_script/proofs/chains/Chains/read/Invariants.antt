@@ -3,4 +3,4 @@ use Rattle.tox_script.proofs.ToxicTurns.{IsReached}
 use Rattle.tox_script.proofs.chains.Chains.read.Given as goal
 
 abbrev pub invariant-loop-index : goal.invariant-loop-index
-invariant-loop-index l = IsReached l.rule l.tables l.index l.chains
+invariant-loop-index l = IsReached l.settings l.rule l.tables l.index l.chains

@@ -1,0 +1,9 @@
+//! Versions of scripts.
+
+/// The version of a script. Version 2 chooses the lanes of its chains, and may tell a toxicity as a decimal text.
+#[derive(Clone, Copy, Debug, Default, PartialEq, Eq)]
+pub enum Version {
+    #[default]
+    One,
+    Two,
+}
