@@ -14,7 +14,7 @@ use Rattle.tox_proxy.specs.declared.toxics.ToxicsFault.TheVariants.{Short, TooMa
 abbrev pub with_read : ℕ → Toxics → Result (Toxic × ℕ) ShortFault → Result Toxics ToxicsFault
 with_read n chain (Err fault) = Err (Short fault n)
 with_read n chain (Ok read) =
-    if nat_lt (length chain.entries) lane_count chain.lanes
+    if nat_lt (length chain.entries) (lane_count chain.lanes)
     then Ok (record {
       lanes = chain.lanes;
       entries = chain.entries
