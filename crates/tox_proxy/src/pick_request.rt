@@ -43,6 +43,16 @@ pub enum PickFault<'a> {
     Print(PrintPickFault),
 }
 
+impl<'a> From<SetupFault<'a>> for PickFault<'a> {
+    ghost use Rattle.tox_proxy.specs.declared.pick_request.PickFault.TheVariants as pick;
+
+    ghost from_gives = { λ cause fault. fault ≡ pick.Setup cause };
+
+    fn from(fault: SetupFault<'a>) -> PickFault<'a> {
+        PickFault::Setup(fault)
+    }
+}
+
 impl<'a> From<PrintPickFault> for PickFault<'a> {
     ghost use Rattle.tox_proxy.specs.declared.pick_request.PickFault.TheVariants as pick;
 
@@ -81,7 +91,7 @@ impl<'a> PickRequest<'a> {
         let Some(stream) = Stream::of_name(self.stream) else {
             return Err(PickFault::BadStream);
         };
-        let setup = read_setup(files, alloc, self.config, self.script).map_err(PickFault::Setup)?;
+        let setup = read_setup(files, alloc, self.config, self.script)?;
         let Some(proxy) = find_proxy(&setup.proxies, self.proxy) else {
             return Err(PickFault::UnknownProxy(self.proxy));
         };

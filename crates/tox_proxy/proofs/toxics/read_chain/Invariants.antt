@@ -6,5 +6,5 @@ use Rattle.tox_proxy.proofs.toxics.read_chain.Given as goal
 abbrev pub invariant-loop-text : goal.invariant-loop-text
 invariant-loop-text l = record {
   count : l.number ≡ l.text-index;
-  rest : with_shorts (l.number + 1) (map (λ text. text.now) (drop l.text-index l.texts)) l.chain ≡ chain_of l.lanes (map (λ text. text.now) l.texts);
+  rest : with_shorts (l.number + 1) (map (λ text. text.now) (drop l.text-index l.texts)) l.chain ≡ chain_of l.fn.lanes (map (λ text. text.now) l.texts);
 }

@@ -14,7 +14,7 @@ returns-in_err-print_pick-clause-fault g c =
     let request = c.args.self.now in
     let setup = c.in_ok-setup.setup in
     let named : stream_named request.stream.now ≡ Some c.in-Some.stream = search rules in
-    let set_up : IsSetUp (g.F.NamedFiles.known c.args.files.now request.config.now) (g.F.NamedFiles.known c.args.files.now request.script.now) setup.proxies.items setup.script = search rules in
+    let set_up : IsSetUp (g.F.NamedFiles.known c.args.files.now request.config.now) (g.F.NamedFiles.known c.args.files.now request.script.now) setup.proxies.items setup.script = c.in_ok-setup.ensures.ok in
     let found : find (is_named request.proxy.now) setup.proxies.items ≡ Some c.in-Some-find_proxy.proxy.now = search rules in
     let answers : Answers (g.F.NamedFiles.known c.args.files.now) request (pick_text c.in-Some-find_proxy.proxy.now setup.script request.conn c.in-Some.stream request.seed) =
     record { stream = c.in-Some.stream; named = named; proxies = setup.proxies.items; rules = setup.script; set_up = set_up; proxy = c.in-Some-find_proxy.proxy.now; found = found; spelled = refl } in
@@ -26,7 +26,7 @@ returns-clause-ok g c =
     let request = c.args.self.now in
     let setup = c.in_ok-setup.setup in
     let named : stream_named request.stream.now ≡ Some c.in-Some.stream = search rules in
-    let set_up : IsSetUp (g.F.NamedFiles.known c.args.files.now request.config.now) (g.F.NamedFiles.known c.args.files.now request.script.now) setup.proxies.items setup.script = search rules in
+    let set_up : IsSetUp (g.F.NamedFiles.known c.args.files.now request.config.now) (g.F.NamedFiles.known c.args.files.now request.script.now) setup.proxies.items setup.script = c.in_ok-setup.ensures.ok in
     let found : find (is_named request.proxy.now) setup.proxies.items ≡ Some c.in-Some-find_proxy.proxy.now = search rules in
     let answers : Answers (g.F.NamedFiles.known c.args.files.now) request (pick_text c.in-Some-find_proxy.proxy.now setup.script request.conn c.in-Some.stream request.seed) =
     record { stream = c.in-Some.stream; named = named; proxies = setup.proxies.items; rules = setup.script; set_up = set_up; proxy = c.in-Some-find_proxy.proxy.now; found = found; spelled = refl } in
