@@ -1,16 +1,20 @@
 //! A table of words with the lanes that share it.
-ghost use Rattle.std.specs.Prelude.{◌≡◌};
-ghost use Rattle.tox_words.specs.Draw.{draws_of};
+ghost use Rattle.std.specs.Prelude.{◌≡◌, ◌<◌, ◌≤◌, ◌+◌, ◌*◌, ◌%◌};
+ghost use Rattle.tox_words.specs.Draw.{draws_of, lane_count};
+ghost use Rattle.tox_words.specs.Table.{max_words};
 
 use crate::lanes::Lanes;
 use crate::words::Words;
 use std::marker::Model;
 
+/// The most lanes that share a table.
+const MAX_LANES: usize = 32;
+
 /// What the lanes of a link draw from its table.
 #[derive(Debug, Drop)]
 pub struct Drawing<'w> {
     lanes: Lanes,
-    words: &'w Words,
+    words: &'w [u32],
 }
 
 impl<'w> Model for Drawing<'w> {
@@ -18,7 +22,11 @@ impl<'w> Model for Drawing<'w> {
 
     ghost Value = { DrawingView };
 
+    ghost use Rattle.tox_words.specs.Table.{IsWordTable};
+
     ghost view = { λ d. record { lanes = d.lanes; words = d.words.now } };
+
+    ghost invariant = { λ d. IsWordTable d.words.now };
 }
 
 impl<'w> Drawing<'w> {
@@ -26,13 +34,30 @@ impl<'w> Drawing<'w> {
     pub fn new(lanes: Lanes, words: &'w Words) -> Drawing<'w>
         ensures { result ≡ record { lanes = lanes; words = words.now } }
     {
-        Drawing { lanes, words }
+        Drawing {
+            lanes,
+            words: words.as_slice(),
+        }
     }
 
     /// The `j`-th word of a lane, both from 0. Total: any lane, any turn.
     pub fn draw(&self, lane: usize, j: u64) -> u32
         ensures { result ≡ draws_of self.now lane j }
     {
-        self.words.draw_in(self.lanes, lane, j)
+        self.words[place_of(self.lanes, lane, j, self.words.len())]
     }
+}
+
+/// The index of the `j`-th word of a lane in a table of `len` words. The common case costs one division.
+fn place_of(lanes: Lanes, lane: usize, j: u64, len: usize) -> usize
+    requires some { 0 < len }
+    requires most { len ≤ max_words }
+    ensures { result ≡ (lane + lane_count lanes * j) % len }
+{
+    let count = lanes.count();
+    if lane < MAX_LANES && j < u64::MAX / MAX_LANES as u64 {
+        return ((lane as u64 + count as u64 * j) % len as u64) as usize;
+    }
+    let turn = (j % len as u64) as usize;
+    (lane % len + count * turn) % len
 }

@@ -1,12 +1,13 @@
 //! Word tables, and the words that lanes draw from them.
 ghost use Rattle.std.specs.Prelude.{◌≡◌, ◌≢◌, ◌<◌, ◌≤◌, ◌+◌, ◌*◌, ◌%◌, IfOk, IfErr, IsOk, IsOkUnless, length};
-ghost use Rattle.tox_words.specs.Draw.{draw, draw_in, lane_count};
+ghost use Rattle.tox_words.specs.Draw.{draw, draw_in};
 ghost use Rattle.tox_words.specs.Seeded.{seeded_words};
-ghost use Rattle.tox_words.specs.Table.{IsWordTable, max_words, table_of};
+ghost use Rattle.tox_words.specs.Table.{IsWordTable, table_of};
 ghost use Rattle.tox_words.specs.WordsText.{table_of_text};
 ghost use Rattle.tox_words.specs.declared.words.TheConstants.{MAX_CONNECTIONS};
 ghost use Rattle.tox_words.specs.declared.fault.WordsFault.TheVariants.{OutOfMemory};
 
+use crate::drawing::Drawing;
 use crate::fault::WordsFault;
 use crate::lanes::Lanes;
 use crate::seed::seeded_words;
@@ -20,9 +21,6 @@ pub const MAX_WORDS: usize = 4096;
 
 /// The most connections of a proxy, which number from 1.
 pub const MAX_CONNECTIONS: u64 = 1_000_000;
-
-/// The most lanes that share a table.
-const MAX_LANES: usize = 32;
 
 /// A table of 1 to [`MAX_WORDS`] words of 32 bits.
 #[derive(Debug, Drop)]
@@ -114,6 +112,14 @@ impl Words {
         self.words.len()
     }
 
+    /// The words in order.
+    pub(crate) fn as_slice(&self) -> &[u32]
+        ensures value { result.now ≡ self.now }
+        ensures table { IsWordTable self.now }
+    {
+        &self.words
+    }
+
     /// The `j`-th word of a lane of 16, both from 0.
     pub fn draw(&self, lane: usize, j: u64) -> u32
         ensures { result ≡ draw self.now lane j }
@@ -126,20 +132,6 @@ impl Words {
     pub fn draw_in(&self, lanes: Lanes, lane: usize, j: u64) -> u32
         ensures { result ≡ draw_in lanes self.now lane j }
     {
-        self.words[place_of(lanes, lane, j, self.len())]
+        Drawing::new(lanes, self).draw(lane, j)
     }
-}
-
-/// The index of the `j`-th word of a lane in a table of `len` words. The common case costs one division.
-fn place_of(lanes: Lanes, lane: usize, j: u64, len: usize) -> usize
-    requires some { 0 < len }
-    requires most { len ≤ max_words }
-    ensures { result ≡ (lane + lane_count lanes * j) % len }
-{
-    let count = lanes.count();
-    if lane < MAX_LANES && j < u64::MAX / MAX_LANES as u64 {
-        return ((lane as u64 + count as u64 * j) % len as u64) as usize;
-    }
-    let turn = (j % len as u64) as usize;
-    (lane % len + count * turn) % len
 }

@@ -1,7 +1,7 @@
 -- Reckoned within the table, the place is the same.
 use Rattle.std.proofs.Common.{◌∙◌, ap, ◌+◌, ◌*◌, ◌%◌}
 use Rattle.tox_words.proofs.Turns.{reduced_place}
-use Rattle.tox_words.proofs.words.place_of.Goals as goal
+use Rattle.tox_words.proofs.drawing.place_of.Goals as goal
 
 pub returns : goal.returns
 returns c =
