@@ -45,5 +45,8 @@ pub use serve_runtime::ServeRuntime;
 pub use serving::serve;
 pub use setup::{Setup, SetupFault, find_proxy, read_setup};
 pub use stages::stages_run;
-pub use tox_text::{DryFault, PrintPickFault, WriteFault, print_pick, print_plan};
+pub use tox_text::{
+    DryFault, PrintMigratedFault, PrintPickFault, WriteFault, print_migrated, print_pick,
+    print_plan,
+};
 pub use toxics::{ToxicsFault, read_chain};

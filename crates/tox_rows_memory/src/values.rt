@@ -5,7 +5,7 @@ use std::test::Fail;
 use std::{env, fs, process};
 use tox_config::{ConfigFault, read_populate};
 use tox_proxy::{FileFault, read_file};
-use tox_script::{ScriptFault, read_script};
+use tox_script::{ScriptFault, migrate, read_script};
 use tox_time::{ArrivalFault, Arrivals, Micros, Stream};
 use tox_words::{Words, WordsFault};
 
@@ -85,5 +85,19 @@ fn files_are_refused_memory(rt: HostRuntime) -> Result<(), Fail> {
     fs::remove_file(&rt, name.as_str())?;
     eprintln!(rt; "refused {config}, {script} and {file} times")?;
     assert!(rt; 0 < config && 0 < script && 0 < file);
+    Ok(())
+}
+
+#[test]
+fn a_migration_is_refused_memory(rt: HostRuntime) -> Result<(), Fail> {
+    let alloc = rt.alloc();
+    let refused = refusals(alloc, || {
+        answer_of(
+            &migrate(alloc, SCRIPT.as_bytes()),
+            &ScriptFault::OutOfMemory,
+        )
+    })?;
+    eprintln!(rt; "refused {refused} times")?;
+    assert!(rt; 0 < refused);
     Ok(())
 }

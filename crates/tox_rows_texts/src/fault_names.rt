@@ -5,7 +5,7 @@ use std::test::Fail;
 use tox_config::ConfigFault;
 use tox_defs::{ShortFault, TooManyToxics};
 use tox_network::StepFault;
-use tox_proxy::{DryFault, FileFault, PrintPickFault, ToxicsFault, WriteFault};
+use tox_proxy::{DryFault, FileFault, PrintMigratedFault, PrintPickFault, ToxicsFault, WriteFault};
 use tox_script::ScriptFault;
 use tox_time::ArrivalFault;
 use tox_words::WordsFault;
@@ -27,6 +27,17 @@ fn faults_print_their_names(rt: HostRuntime) -> Result<(), Fail> {
         (name(alloc, &ConfigFault::OutOfMemory)?, "C0 OutOfMemory"),
         (name(alloc, &ConfigFault::TooMany(64))?, "C8 TooMany 64"),
         (name(alloc, &ScriptFault::OutOfMemory)?, "S0 OutOfMemory"),
+        (
+            name(
+                alloc,
+                &PrintMigratedFault::Script(ScriptFault::AlreadyVersion2),
+            )?,
+            "M1 AlreadyVersion2",
+        ),
+        (
+            name(alloc, &PrintMigratedFault::WriteFault)?,
+            "L4 WriteFault",
+        ),
         (name(alloc, &ShortFault::DoubleKey)?, "Q2 DoubleKey"),
         (name(alloc, &TooManyToxics)?, "S9 TooManyToxics"),
         (

@@ -10,6 +10,8 @@ mod ends;
 #[cfg(test)]
 mod fault_names;
 #[cfg(test)]
+mod migrations;
+#[cfg(test)]
 mod picks;
 #[cfg(test)]
 mod plan_texts;

@@ -1,6 +1,12 @@
 pub mod ByStream
 pub mod Decimals
 pub mod Mapped
+pub mod Steps
+pub mod Shallow
+pub mod AcceptedToxic
+pub mod AcceptedRule
+pub mod Migrating
+pub mod Migrated
 pub mod Renamed
 pub mod Tables
 pub mod Texts

@@ -12,5 +12,6 @@ pub mod Chains
 pub mod Rule
 pub mod Script
 pub mod Covering
+pub mod Migrated
 pub mod Views
 pub mod ScriptInside

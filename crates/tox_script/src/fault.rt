@@ -73,6 +73,9 @@ pub enum ScriptFault {
     /// The chain of the toxic's stream is full.
     #[error("S9 TooManyToxics {} {}", .0.rule, .0.toxic)]
     TooManyToxics(Location),
+    /// A script that is to be migrated has version 2.
+    #[error("M1 AlreadyVersion2")]
+    AlreadyVersion2,
     /// A growth was refused. It may stand in place of a later fault.
     #[error("S0 OutOfMemory")]
     OutOfMemory,

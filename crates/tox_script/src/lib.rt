@@ -1,11 +1,13 @@
 //! Scripts: which toxics each numbered connection of a proxy meets.
 #![tactic(auto)]
 
+mod ascending;
 mod attributes;
 mod chains;
 mod document;
 mod fault;
 mod fields;
+mod migration;
 mod named_chain;
 mod named_toxic;
 mod rule;
@@ -19,5 +21,6 @@ mod toxicity;
 mod version;
 
 pub use fault::{Field, Location, ScriptFault};
+pub use migration::migrate;
 pub use script::{Script, read_script};
 pub use version::Version;

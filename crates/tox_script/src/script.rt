@@ -3,7 +3,7 @@ ghost use Rattle.std.specs.Prelude.{◌≡◌, ◌≢◌, [], length, map, strin
 ghost use Rattle.std.specs.Str.{is_utf8};
 ghost use Rattle.toml.specs.View.{items_view, view};
 ghost use Rattle.tox_script.specs.Views.{rule_view};
-ghost use Rattle.tox_script.specs.Script.{rules_from, script_of, toml_of};
+ghost use Rattle.tox_script.specs.Script.{rules_from, script_in, script_of, toml_of};
 ghost use Rattle.tox_script.specs.declared.fault.ScriptFault.TheVariants.{NotToml, OutOfMemory};
 
 use crate::chains::Chains;
@@ -85,11 +85,12 @@ impl Script {
 
 /// The script of a TOML document.
 ///
-/// The document has optional `version`, 1 or 2, in version 2 optional `lanes`, 16 or 32, and `rule`: an array of tables.
-/// Without `version` it has version 1, whose chains have 16 lanes; without `lanes` version 2 has 32. A rule has `proxy`, `first`, optional `last` and optional
-/// `toxic`, an array of tables. A toxic has `type`, and optional `name`, `stream`, `toxicity` and `attributes`. Without
-/// `last` a rule has no upper end. A toxic's stream is downstream where none is told, its toxicity 1000, each of its
-/// attributes 0, and its name the type, `_` and the stream.
+/// The document has optional `version`, 1 or 2, in version 2 optional `lanes`, 16 or 32, and optional `rule`: an array of
+/// tables. Without `version` it has version 1, whose chains have 16 lanes; without `lanes` version 2 has 32. A rule has
+/// `proxy`, `first`, optional `last` and optional `toxic`, an array of tables. A toxic has `type`, and optional `name`,
+/// `stream`, `toxicity` and `attributes`. Without `last` a rule has no upper end. A toxic's stream is downstream where
+/// none is told, its toxicity 1000, each of its attributes 0, and its name the type, `_` and the stream. In version 2 a
+/// toxicity may be a text: a decimal number from 0 to 1 with up to three digits behind the point.
 ///
 /// # Errors
 ///
@@ -103,8 +104,17 @@ pub fn read_script(alloc: Global, bytes: &[u8]) -> Result<Script, ScriptFault>
     ensures memory { result ≡ Err OutOfMemory → IsTrue (is_utf8 bytes.now) }
 {
     let document = read_toml(alloc, bytes)?;
+    script_in(alloc, &document)
+}
+
+/// The script of a document that was read.
+pub(crate) fn script_in(alloc: Global, document: &Value) -> Result<Script, ScriptFault>
+    ensures ok { IfOk result (λ script. script_in (Some (view document.now)) ≡ Ok script) }
+    ensures err { IfErr result (λ fault. fault ≢ OutOfMemory
+        → script_in (Some (view document.now)) ≡ Err fault) }
+{
     let at = Location { rule: 0, toxic: 0 };
-    let fields = DocumentFields::read(&document).map_err(|field| ScriptFault::Field(at, field))?;
+    let fields = DocumentFields::read(document).map_err(|field| ScriptFault::Field(at, field))?;
     Ok(Script {
         settings: fields.settings,
         rules: read_rules(alloc, fields.settings, fields.rules)?,
@@ -113,7 +123,7 @@ pub fn read_script(alloc: Global, bytes: &[u8]) -> Result<Script, ScriptFault>
 }
 
 /// The document, as a table.
-fn read_toml(alloc: Global, bytes: &[u8]) -> Result<Value, ScriptFault>
+pub(crate) fn read_toml(alloc: Global, bytes: &[u8]) -> Result<Value, ScriptFault>
     ensures ok { IfOk result (λ document. toml_of bytes.now ≡ Some (view document)) }
     ensures err { IfErr result
         (λ fault. fault ≢ OutOfMemory → (fault ≡ NotToml) × (toml_of bytes.now ≡ None)) }

@@ -10,3 +10,4 @@ pub mod ShortForm
 pub mod Names
 pub mod PickText
 pub mod PrintingPick
+pub mod PrintingMigrated

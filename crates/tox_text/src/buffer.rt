@@ -123,7 +123,7 @@ impl Buffer {
 }
 
 /// Writes all the bytes.
-fn write_all<W: Sink>(writer: &mut W, bytes: &[u8]) -> Result<(), EndFault>
+pub(crate) fn write_all<W: Sink>(writer: &mut W, bytes: &[u8]) -> Result<(), EndFault>
     requires { W.failed writer.old ≡ false }
     ensures { Writes result (W.written writer.old) (W.written writer.new)
         (W.failed writer.new) bytes.now }

@@ -21,6 +21,8 @@ pub enum Task<'a> {
     Plan(LinkArguments<'a>),
     Stages(Cap, LinkArguments<'a>),
     Pick(PickRequest<'a>),
+    /// The name of a script file.
+    Migrate(&'a str),
     Serve(ServeArguments<'a>),
 }
 
@@ -32,6 +34,7 @@ pub fn read<'a, S: AsStr>(alloc: Global, words: &'a [S]) -> Result<Task<'a>, Err
         Some(("plan", given)) => Ok(Task::Plan(link_of(alloc, given)?)),
         Some(("stages", given)) => Ok(Task::Stages(cap_of(given), link_of(alloc, given)?)),
         Some(("pick", given)) => pick_task(alloc, given),
+        Some(("migrate", given)) => migrate_task(alloc, given),
         Some(("serve", given)) => serve_task(alloc, given),
         _ => Err(toxi(alloc)?.error(ErrorKind::MissingSubcommand, "a command is required")?),
     }
@@ -84,6 +87,16 @@ fn pick_of<'a>(given: &ArgMatches<'a>) -> Option<PickRequest<'a>> {
     })
 }
 
+fn migrate_task<'a>(alloc: Global, given: &ArgMatches<'a>) -> Result<Task<'a>, Error> {
+    match given.get_str("script") {
+        Some(script) => Ok(Task::Migrate(script)),
+        None => Err(toxi(alloc)?.error(
+            ErrorKind::MissingRequiredArgument,
+            "migrate needs a script",
+        )?),
+    }
+}
+
 fn serve_task<'a>(alloc: Global, given: &ArgMatches<'a>) -> Result<Task<'a>, Error> {
     match serve_of(given) {
         Some(arguments) => Ok(Task::Serve(arguments)),
@@ -120,6 +133,7 @@ fn toxi<'a>(alloc: Global) -> Result<Command<'a>, AllocError> {
         .subcommand(plan(alloc)?)?
         .subcommand(stages(alloc)?)?
         .subcommand(pick(alloc)?)?
+        .subcommand(migrate(alloc)?)?
         .subcommand(serve(alloc)?)
 }
 
@@ -173,6 +187,13 @@ fn pick<'a>(alloc: Global) -> Result<Command<'a>, AllocError> {
         .arg(conn)?
         .arg(needed(alloc, "stream", "STREAM", "upstream or downstream"))?
         .arg(seed_argument(alloc))
+}
+
+fn migrate<'a>(alloc: Global) -> Result<Command<'a>, AllocError> {
+    Command::new(alloc, "migrate")
+        .about("Prints a script of version 1 as a script of version 2")
+        .after_help(help::MIGRATE)
+        .arg(script_argument(alloc))
 }
 
 fn serve<'a>(alloc: Global) -> Result<Command<'a>, AllocError> {

@@ -108,6 +108,28 @@ prints
   proxy a listen localhost:0 upstream localhost:1 enabled
   0 applied latency:latency=100,jitter=0,toxicity=1000 latency_downstream";
 
+/// Below the options of `toxi migrate`.
+pub const MIGRATE: &str = "\
+The script is one of version 1; see `toxi pick --help`. What is printed has version 2 and 16 lanes, and gives each connection
+the same toxics with the same names. Comments are lost.
+
+Example, with the script of `toxi pick --help` as script.toml:
+  toxi migrate --script script.toml
+prints
+  lanes = 16
+  version = 2
+
+  [[rule]]
+  first = 2
+  last = 3
+  proxy = \"a\"
+
+  [[rule.toxic]]
+  type = \"latency\"
+
+  [rule.toxic.attributes]
+  latency = 100";
+
 /// Below the options of `toxi serve`.
 pub const SERVE: &str = "\
 The files are those of `toxi pick`; see `toxi pick --help`. Each enabled proxy is listened for, and each connection to it

@@ -6,6 +6,7 @@ mod dry;
 mod fault;
 mod help;
 mod link;
+mod migrate;
 mod pick;
 mod plan;
 mod serve;
@@ -63,6 +64,7 @@ fn perform<
         Task::Plan(link) => tell(rt, plan::plan(rt, link)),
         Task::Stages(cap, link) => tell(rt, stages::stages(rt, cap, link)),
         Task::Pick(request) => tell(rt, pick::pick(rt, request)),
+        Task::Migrate(script) => tell(rt, migrate::migrate(rt, script)),
         Task::Serve(arguments) => serve_files(rt, arguments),
     }
 }

@@ -1,6 +1,6 @@
 //! Versions of scripts, with their lanes and toxicities.
-use super::{ACCEPTED, EXAMPLE, outcome};
-use crate::{Version, read_script};
+use super::{ACCEPTED, EXAMPLE, joined, outcome};
+use crate::{ScriptFault, Version, migrate, read_script};
 use std::alloc::{AllocError, Global};
 use std::test::Fail;
 use tox_defs::Lanes;
@@ -152,5 +152,57 @@ fn each_chain_has_the_lanes_of_its_script(rt: HostRuntime) -> Result<(), Fail> {
         let uncovered = script.chain("b", 1, Stream::Downstream).lanes();
         assert_eq!(rt; uncovered, lanes, "of {head}");
     }
+    Ok(())
+}
+
+#[test]
+fn a_migrated_script_gives_the_same_chains(rt: HostRuntime) -> Result<(), Fail> {
+    let alloc = rt.alloc();
+    let text = migrate(alloc, EXAMPLE.as_bytes())?;
+    let before = read_script(alloc, EXAMPLE.as_bytes())?;
+    let after = read_script(alloc, text.as_bytes())?;
+    assert_eq!(rt; after.version(), Version::Two);
+    let chain = after.chain("a", 3, Stream::Downstream);
+    assert_eq!(rt; chain.lanes(), Lanes::Sixteen);
+    assert_eq!(rt;
+        chain.entries(),
+        before.chain("a", 3, Stream::Downstream).entries()
+    );
+    let names = joined(alloc, after.names("a", 3, Stream::Downstream))?;
+    assert_eq!(rt; names.as_str(), "latency_downstream limit_data_downstream");
+    assert_eq!(rt;
+        migrate(alloc, text.as_bytes()).err(),
+        Some(ScriptFault::AlreadyVersion2)
+    );
+    Ok(())
+}
+
+/// Scripts that aren't migrated, each with its fault.
+const UNMIGRATED: [(&str, &str); 4] = [
+    ("version = 2", "M1 AlreadyVersion2"),
+    ("version = 2\nx = 1", "S2 Field 0 0 unknown"),
+    ("version = 3", "S2 Field 0 0 version"),
+    ("x =", "S1 NotToml"),
+];
+
+#[test]
+fn each_script_that_is_not_migrated_has_its_fault(rt: HostRuntime) -> Result<(), Fail> {
+    for (script, expected) in UNMIGRATED {
+        let fault = migrate(rt.alloc(), script.as_bytes())
+            .err()
+            .ok_or("no fault")?;
+        let line = format!(in rt.alloc(); "{fault}")?;
+        assert_eq!(rt; line.as_str(), expected, "of {script}");
+    }
+    Ok(())
+}
+
+#[test]
+fn a_script_without_rules_is_migrated(rt: HostRuntime) -> Result<(), Fail> {
+    let text = migrate(rt.alloc(), b"")?;
+    let script = read_script(rt.alloc(), text.as_bytes())?;
+    assert_eq!(rt; script.version(), Version::Two);
+    let lanes = script.chain("a", 1, Stream::Upstream).lanes();
+    assert_eq!(rt; lanes, Lanes::Sixteen);
     Ok(())
 }
