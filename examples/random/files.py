@@ -3,7 +3,7 @@ import json
 import re
 import tomllib
 
-from manual import TYPES, Fault, check_values, is_applied, words_of_seed
+from manual import MAX_TOXICS, TYPES, Fault, check_values, is_applied, words_of_seed
 
 STREAMS = ("upstream", "downstream")
 
@@ -110,7 +110,7 @@ def read_toxic(table, rule, number, chains, names):
     name = table.get("name", f"{kind}_{stream}")
     if name in names:
         fault("S8")
-    if len(chains[stream]) == 16:
+    if len(chains[stream]) == MAX_TOXICS:
         fault("S9")
     names.add(name)
     chains[stream].append((name, (kind, values, toxicity)))

@@ -1,5 +1,5 @@
 """Random texts that the program reads: good ones, and good ones with some parts changed."""
-from manual import TYPES
+from manual import MAX_TOXICS, TYPES
 
 NUMBERS = ["0", "1", "2", "1000", "65535", "65536", "999999", "1000000", "3600000", "3600001", "4294967295", "4294967296", "1" * 19]
 
@@ -117,7 +117,7 @@ def script(random, names):
             fields.append(f"last = {number(random, first, 1_000_000)}")
         random.shuffle(fields)
         lines += ["[[rule]]", *fields]
-        for _ in range(random.choice((0, 1, 1, 2, 3, 18))):
+        for _ in range(random.choice((0, 1, 1, 2, 3, MAX_TOXICS + 2))):
             lines += toxic(random)
     pool = [*'[]{}",=#. \n\\09-e', "[[rule]]", "[rule]", "rule", "first = 1\n", "x = 1\n", "'''", "1979-05-27", "inf", "true", "é"]
     return changed(random, "\n".join(lines) + "\n", pool, 0.15).encode()
