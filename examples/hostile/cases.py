@@ -4,16 +4,20 @@ The line of a link follows from the rules: a source that ends or is reset closes
 writing half; a failed write breaks its stream, and shuts both sockets. The steps of a case are in an order in which only
 one of these can happen. Where a count of bytes is a range, the case says why.
 """
+import threading
 import time
 
 from ends import (
+    APERIODIC,
     BLOCK,
     are_quiet,
     flood,
     has_ended,
     read_all,
     read_count,
+    read_until_gone,
     reset,
+    send_if_taken,
     send_more,
     send_until_ended,
     send_until_full,
@@ -289,6 +293,24 @@ def limit_is_told_to_a_target_that_sends(toxi):
         begun = time.monotonic()
         send_until_refused(server)
         check(time.monotonic() - begun < 1, "the upstream learnt late that the link has ended")
+        client.close()
+        server.close()
+
+
+@case(200, ("limit_data", "bytes = 3"), stream="upstream")
+def limit_leaves_no_gap(toxi):
+    """The client's third byte closes the link as the upstream begins to flood. The client hears a front of the flood.
+
+    How the other stream ends depends on whether it had bytes to write.
+    """
+    for _ in range(200):
+        client, server = toxi.link()
+        client.sendall(b"abc")
+        sender = threading.Thread(target=send_if_taken, args=(server, APERIODIC))
+        sender.start()
+        heard = read_until_gone(client)
+        sender.join()
+        check(APERIODIC.startswith(heard), "the client heard the upstream's bytes with a gap")
         client.close()
         server.close()
 

@@ -1,5 +1,6 @@
 """The ends of links: an upstream that can go down and come back, and what a client or its server does to a connection."""
 import contextlib
+import random
 import select
 import socket
 import struct
@@ -9,6 +10,8 @@ from waiting import LIMIT, Failed, check
 
 BLOCK = bytes(range(256)) * 256
 MOST = 10_000 * len(BLOCK)
+# Bytes of which no part repeats, so that a gap is seen.
+APERIODIC = random.Random(1).randbytes(4_000_000)
 
 
 class Upstream:
@@ -89,6 +92,15 @@ def read_all(end):
     return b"".join(iter(lambda: end.recv(65536), b""))
 
 
+def read_until_gone(end):
+    """All bytes, up to an end or a reset."""
+    heard = b""
+    with contextlib.suppress(ConnectionResetError):
+        while more := end.recv(65536):
+            heard += more
+    return heard
+
+
 def byte_or_end(end):
     """The next byte, or none where the connection has ended or was reset."""
     try:
@@ -109,8 +121,13 @@ def are_quiet(*ends):
 
 def send_more(end):
     """Sends some bytes to a connection that may be gone."""
+    send_if_taken(end, b"more")
+
+
+def send_if_taken(end, said):
+    """Sends bytes to a connection that may go in the meantime."""
     with contextlib.suppress(ConnectionResetError, BrokenPipeError):
-        end.sendall(b"more")
+        end.sendall(said)
 
 
 def flood(sender, reader, seconds):

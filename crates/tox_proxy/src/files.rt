@@ -8,6 +8,7 @@ use std::alloc::Global;
 use std::fs;
 use std::rt::Files;
 use thiserror::Error;
+use tox_text::VisibleName;
 use tox_time::{Real, Source};
 
 /// Why a file was not read.
@@ -16,10 +17,10 @@ pub enum FileFault<'a> {
     #[error("P0 OutOfMemory")]
     OutOfMemory,
     /// The file of this name couldn't be opened, or a read of it failed.
-    #[error("P1 FileFault {0}")]
+    #[error("P1 FileFault {}", VisibleName(.0))]
     Unreadable(&'a str),
     /// The file of this name has more than [`MAX_INPUT`] bytes.
-    #[error("P2 FileTooLong {0}")]
+    #[error("P2 FileTooLong {}", VisibleName(.0))]
     TooLong(&'a str),
 }
 

@@ -6,7 +6,7 @@ use crate::named_files::NamedFiles;
 use crate::setup::{SetupFault, find_proxy, read_setup};
 use std::alloc::Global;
 use thiserror::Error;
-use tox_text::{PrintPickFault, print_pick};
+use tox_text::{PrintPickFault, VisibleName, print_pick};
 use tox_time::{Sink, Stream};
 
 /// A question: what does this connection of a proxy meet on a stream, by these files and this seed?
@@ -36,7 +36,7 @@ pub enum PickFault<'a> {
     #[error("{0}")]
     Setup(SetupFault<'a>),
     /// The populate file has no proxy of this name.
-    #[error("P3 UnknownProxy {0}")]
+    #[error("P3 UnknownProxy {}", VisibleName(.0))]
     UnknownProxy(&'a str),
     /// The answer was not printed.
     #[error("{0}")]

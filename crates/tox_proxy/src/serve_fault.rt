@@ -1,11 +1,12 @@
 //! Why nothing is served.
 use thiserror::Error;
+use tox_text::VisibleName;
 
 /// Why nothing is served. No connection was taken.
 #[derive(Clone, Copy, Debug, PartialEq, Eq, Error)]
 pub enum ServeFault<'a> {
     /// The address of the proxy of this name couldn't be listened at.
-    #[error("P4 ListenRefused {0}")]
+    #[error("P4 ListenRefused {}", VisibleName(.0))]
     ListenRefused(&'a str),
     /// A proxy was refused its thread.
     #[error("F1 SpawnRefused")]

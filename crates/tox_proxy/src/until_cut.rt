@@ -8,7 +8,8 @@ use std::sync::atomic::{AtomicBool, Ordering};
 
 /// A socket that is read until it is cut. What has come by then stays unread, so that closing the socket resets it.
 /// A peer that only sends isn't told of the end otherwise: a socket that was shut and then read empty leaves it waiting for
-/// room that nobody announces.
+/// room that nobody announces. A read that was under way then gives nothing, since whoever cut the socket may have dropped
+/// the bytes before it.
 #[derive(Drop)]
 pub(crate) struct UntilCut {
     socket: TcpStream,
@@ -22,13 +23,18 @@ impl UntilCut {
         let cut = cut.clone().ok()?;
         Some(UntilCut { socket, cut })
     }
+
+    fn is_cut(&self) -> bool {
+        self.cut.load(Ordering::SeqCst)
+    }
 }
 
 impl Read for UntilCut {
     fn read(&mut self, buf: &mut [u8]) -> io::Result<usize> {
-        if self.cut.load(Ordering::SeqCst) {
+        if self.is_cut() {
             return Ok(0);
         }
-        self.socket.read(buf)
+        let count = self.socket.read(buf)?;
+        if self.is_cut() { Ok(0) } else { Ok(count) }
     }
 }

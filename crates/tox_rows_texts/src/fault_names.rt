@@ -5,7 +5,10 @@ use std::test::Fail;
 use tox_config::ConfigFault;
 use tox_defs::{ShortFault, TooManyToxics};
 use tox_network::StepFault;
-use tox_proxy::{DryFault, FileFault, PrintMigratedFault, PrintPickFault, ToxicsFault, WriteFault};
+use tox_proxy::{
+    DryFault, FileFault, PickFault, PrintMigratedFault, PrintPickFault, ServeFault, ToxicsFault,
+    WriteFault,
+};
 use tox_script::ScriptFault;
 use tox_time::ArrivalFault;
 use tox_words::WordsFault;
@@ -55,6 +58,34 @@ fn faults_print_their_names(rt: HostRuntime) -> Result<(), Fail> {
         (name(alloc, &PrintPickFault::WriteFault)?, "L4 WriteFault"),
         (name(alloc, &FileFault::OutOfMemory)?, "P0 OutOfMemory"),
         (name(alloc, &FileFault::TooLong("a"))?, "P2 FileTooLong a"),
+    ];
+    for (printed, name) in &cases {
+        assert_eq!(rt; printed.as_str(), *name);
+    }
+    Ok(())
+}
+
+/// A fault is one line, whatever it names.
+#[test]
+fn faults_keep_to_their_line(rt: HostRuntime) -> Result<(), Fail> {
+    let alloc = rt.alloc();
+    let cases = [
+        (
+            name(alloc, &FileFault::Unreadable("a\n"))?,
+            "P1 FileFault a\\x0a",
+        ),
+        (
+            name(alloc, &FileFault::TooLong("\x1b[31m"))?,
+            "P2 FileTooLong \\x1b[31m",
+        ),
+        (
+            name(alloc, &PickFault::UnknownProxy("\x7fé\\"))?,
+            "P3 UnknownProxy \\x7fé\\",
+        ),
+        (
+            name(alloc, &ServeFault::ListenRefused("the\nshop"))?,
+            "P4 ListenRefused the\\x0ashop",
+        ),
     ];
     for (printed, name) in &cases {
         assert_eq!(rt; printed.as_str(), *name);

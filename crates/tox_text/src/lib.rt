@@ -22,7 +22,7 @@ pub use buffer::Buffer;
 pub use fault::{DryFault, WriteFault};
 pub use hex_pairs::decode_into;
 pub use migrated_text::{PrintMigratedFault, print_migrated};
-pub use names::print_name;
+pub use names::{VisibleName, print_name};
 pub use pick_text::{PrintPickFault, print_pick};
 pub use plan_text::print_plan;
 pub use result_line::{print_ending, print_lent};

@@ -4,7 +4,25 @@ ghost use Rattle.tox_text.specs.Names.{escaped, is_control, visible, visible_nam
 ghost use Rattle.tox_text.specs.Writing.{Prints};
 
 use crate::buffer::Buffer;
+use std::fmt;
 use tox_time::{EndFault, Sink};
+
+/// A name that keeps to its line where it is displayed, as [`print_name`] prints it.
+#[derive(Clone, Copy, Debug, PartialEq, Eq)]
+pub struct VisibleName<'a>(pub &'a str);
+
+impl<'a> fmt::Display for VisibleName<'a> {
+    fn fmt<W: fmt::Write>(&self, f: &mut fmt::Formatter<W>) -> fmt::Result {
+        for letter in self.0.chars() {
+            if letter.is_ascii_control() {
+                write!(f, "\\x{:02x}", u32::from(letter))?;
+            } else {
+                write!(f, "{letter}")?;
+            }
+        }
+        Ok(())
+    }
+}
 
 /// Prints a name between two texts. A name keeps to its line: a control character is printed as `\x` and its code in two
 /// hexadecimal digits.

@@ -16,7 +16,6 @@ use clap::Error;
 use clap::error::ErrorKind;
 use command_line::Task;
 use serve::ServeArguments;
-use std::env;
 use std::fmt::Display;
 use std::net::{Net, TcpListener, TcpStream};
 use std::process::ExitCode;
@@ -24,15 +23,22 @@ use std::rt::Files;
 use std::sync::Wait;
 use std::thread::Threads;
 use std::time::Clock;
+use std::{env, io};
 use tox_proxy::ServeRuntime;
 
 /// The status of a command line that is refused.
 const WRONG_ARGUMENTS: u8 = 2;
 
 fn main(rt: HostRuntime) -> ExitCode {
-    let Ok(arguments) = env::args(&rt) else {
-        let _ = eprintln!(rt; "error: an argument isn't UTF-8");
-        return ExitCode::from(WRONG_ARGUMENTS);
+    let arguments = match env::args(&rt) {
+        Ok(arguments) => arguments,
+        Err(error) if error.kind() == io::ErrorKind::OutOfMemory => {
+            return fail(&rt, &"L0 OutOfMemory");
+        }
+        Err(_) => {
+            let _ = eprintln!(rt; "error: an argument isn't UTF-8");
+            return ExitCode::from(WRONG_ARGUMENTS);
+        }
     };
     let Ok(arguments) = arguments.collect::<Vec<String>>(rt.alloc()) else {
         return fail(&rt, &"L0 OutOfMemory");
@@ -103,7 +109,8 @@ fn refuse<R: Print + Eprint>(rt: &R, refusal: &Error) -> ExitCode {
         return fail(rt, &"L0 OutOfMemory");
     }
     match refusal.print(rt) {
-        Ok(()) => ExitCode::from(refusal.exit_code() as u8),
-        Err(_) => fail(rt, &"L4 WriteFault"),
+        Err(_) if !refusal.use_stderr() => fail(rt, &"L4 WriteFault"),
+        // If what is wrong can't be printed, only the status tells of it.
+        _ => ExitCode::from(refusal.exit_code() as u8),
     }
 }

@@ -1,0 +1,177 @@
+"""What docs/PROFILE.md says of populate files, scripts and picks, as a plain reading of it."""
+import json
+import re
+import tomllib
+
+from manual import MAX_TOXICS, TYPES, Fault, check_values, is_applied, words_of_seed
+
+STREAMS = ("upstream", "downstream")
+
+
+def is_number(value, least, most):
+    return type(value) is int and least <= value <= most
+
+
+def is_text(value, most):
+    return isinstance(value, str) and 1 <= len(value.encode()) <= most
+
+
+def is_tables(value):
+    return isinstance(value, list) and all(isinstance(table, dict) for table in value)
+
+
+def is_address(value):
+    return (
+        isinstance(value, str)
+        and len(value) <= 255
+        and re.fullmatch("[\x21-\x7e]*:[0-9]{1,5}", value) is not None
+        and int(value.rpartition(":")[2]) <= 65535
+    )
+
+
+def depth_of(value):
+    if isinstance(value, dict):
+        value = list(value.values())
+    return 1 + max(map(depth_of, value), default=0) if isinstance(value, list) else 0
+
+
+def no_constant(text):
+    raise ValueError(text)
+
+
+def read_json(text):
+    try:
+        value = json.loads(text.decode(), parse_constant=no_constant)
+        json.dumps(value, ensure_ascii=False).encode()
+        if depth_of(value) > 127:
+            raise ValueError("depth")
+    except (ValueError, RecursionError):
+        raise Fault("C1") from None
+    return value
+
+
+def read_populate(text):
+    """The proxies by name."""
+    value = read_json(text)
+    if not isinstance(value, list):
+        raise Fault("C2")
+    proxies = {}
+    for place, proxy in enumerate(value):
+        if not isinstance(proxy, dict):
+            raise Fault("C3", place)
+        name, listen, enabled = (proxy.get(key) for key in ("name", "listen", "enabled"))
+        if not is_text(name, 255):
+            raise Fault("C4", place)
+        if listen not in (None, "") and not is_address(listen):
+            raise Fault("C5", place)
+        if not is_address(proxy.get("upstream")):
+            raise Fault("C6", place)
+        if enabled is not None and not isinstance(enabled, bool):
+            raise Fault("C7", place)
+        if name not in proxies and len(proxies) == 64:
+            raise Fault("C8", place)
+        proxies[name] = (listen or "localhost:0", proxy["upstream"], enabled is not False)
+    return proxies
+
+
+def check_fields(table, tests, rule, toxic):
+    """The first field that fails its test, or one that doesn't belong there."""
+    for field, test in tests.items():
+        if not test(table.get(field)):
+            raise Fault("S2", rule, toxic, field)
+    if not tests.keys() >= table.keys():
+        raise Fault("S2", rule, toxic, "unknown")
+
+
+def is_name(value):
+    return value is None or is_text(value, 64) and not re.search("[\0-\x1f\x7f]", value)
+
+
+def read_toxic(table, rule, number, chains, names):
+    tests = {
+        "name": is_name,
+        "type": lambda value: isinstance(value, str),
+        "stream": lambda value: value is None or isinstance(value, str) and value in STREAMS,
+        "toxicity": lambda _: True,
+        "attributes": lambda value: value is None or isinstance(value, dict),
+    }
+    check_fields(table, tests, rule, number)
+
+    def fault(code):
+        raise Fault(code, rule, number)
+
+    kind, stream, toxicity = table["type"], table.get("stream", "downstream"), table.get("toxicity", 1000)
+    if kind not in TYPES:
+        fault("S3")
+    if not is_number(toxicity, 0, 1000):
+        fault("S7")
+    given = {key: value if type(value) is int else None for key, value in table.get("attributes", {}).items()}
+    values = check_values(kind, given, fault)
+    name = table.get("name", f"{kind}_{stream}")
+    if name in names:
+        fault("S8")
+    if len(chains[stream]) == MAX_TOXICS:
+        fault("S9")
+    names.add(name)
+    chains[stream].append((name, (kind, values, toxicity)))
+
+
+def read_rule(table, number):
+    """A rule as its proxy, its first and last connection, and a chain for each stream."""
+    first = table.get("first")
+    tests = {
+        "proxy": lambda value: is_text(value, 255),
+        "first": lambda value: is_number(value, 1, 1_000_000),
+        "last": lambda value: value is None or is_number(value, first, 1_000_000),
+        "toxic": lambda value: value is None or is_tables(value),
+    }
+    check_fields(table, tests, number, 0)
+    chains, names = {stream: [] for stream in STREAMS}, set()
+    for place, toxic in enumerate(table.get("toxic", []), 1):
+        read_toxic(toxic, number, place, chains, names)
+    return table["proxy"], first, table.get("last", 1_000_000), chains
+
+
+def check_integers(value):
+    """Whole numbers have 64 bits."""
+    for part in value.values() if isinstance(value, dict) else value if isinstance(value, list) else []:
+        check_integers(part)
+    if type(value) is int and not -(2**63) <= value < 2**63:
+        raise ValueError(value)
+
+
+def read_script(text):
+    try:
+        document = tomllib.loads(text.decode())
+        check_integers(document)
+    except (ValueError, RecursionError):
+        raise Fault("S1") from None
+    check_fields(document, {"rule": lambda value: value is None or is_tables(value)}, 0, 0)
+    return [read_rule(table, number) for number, table in enumerate(document.get("rule", []), 1)]
+
+
+def shown(name):
+    return re.sub("[\0-\x1f\x7f]", lambda match: f"\\x{ord(match[0]):02x}", name)
+
+
+def short_form(kind, values, toxicity):
+    shown_values = {key: value for key, value in values.items() if key != "until" or value}
+    return kind + ":" + ",".join(f"{key}={value}" for key, value in {**shown_values, "toxicity": toxicity}.items())
+
+
+def pick_text(config, script, proxy, conn, stream, seed):
+    """What `pick` prints. The files are their bytes, or None where they can't be read."""
+    if stream not in STREAMS:
+        raise Fault("P5")
+    proxies = read_populate(config)
+    rules = read_script(script)
+    if proxy not in proxies:
+        raise Fault("P3", shown(proxy))
+    listen, upstream, enabled = proxies[proxy]
+    lines = [f"proxy {shown(proxy)} listen {listen} upstream {upstream} {'enabled' if enabled else 'disabled'}"]
+    chain = next((rule[3][stream] for rule in rules if rule[0] == proxy and rule[1] <= conn <= rule[2]), [])
+    words = words_of_seed(seed, conn, stream)
+    for place, (name, toxic) in enumerate(chain):
+        applied = "applied" if is_applied(words, place, toxic[2]) else "skipped"
+        lines.append(f"{place} {applied} {short_form(*toxic)} {shown(name)}")
+    return "".join(line + "\n" for line in lines)
