@@ -11,7 +11,7 @@ use std::test::Fail;
 use std::thread::Threads;
 use tox_compile::compile;
 use tox_defs::Chain;
-use tox_link::{Clock, Ends, Hangup, LinkEvent, LinkFault, Notes, carry};
+use tox_link::{Clock, Ends, Hangup, LinkEvent, LinkFault, LinkReport, Notes, carry};
 use tox_time::{Ending, MemorySink, MemorySource, Micros};
 use tox_words::Words;
 
@@ -52,8 +52,20 @@ impl Hangup for NoHangup {
     fn hang_up(&mut self, _ending: Ending, _source_ended: bool) {}
 }
 
-/// Carries two bytes, read one by one, with little memory. What is written is told, also by a fault. Counts in `reads_refused` a
-/// refusal after the reader's thread has read.
+/// What a link of two bytes answered, of which these were written. A fault tells how many.
+fn tried_of<S: Drop>(answer: &Result<LinkReport<S>, LinkFault>, written: &[u8]) -> Tried {
+    match answer {
+        Ok(report) if (report.taken, report.written) == (2, 2) && written == b"ab".as_slice() => {
+            Tried::Answered
+        }
+        Err(LinkFault::OutOfMemory(count)) if *count == written.len() as u64 => Tried::NoMemory,
+        Err(LinkFault::SpawnRefused(0)) if written.is_empty() => Tried::NoThread,
+        Ok(_) | Err(_) => Tried::Wrong,
+    }
+}
+
+/// Carries two bytes, read one by one, with little memory. Counts in `reads_refused` a refusal after the reader's thread has
+/// read.
 fn link<R: Threads + Wait + Copy + Send + 'static>(
     rt: &R,
     scarcity: &mut Scarcity,
@@ -83,20 +95,11 @@ fn link<R: Threads + Wait + Copy + Send + 'static>(
         &gate,
     );
     scarcity.end();
-    let written = ends.writer.bytes();
-    Ok(match answer {
-        Ok(report) if (report.taken, report.written) == (2, 2) && written == b"ab".as_slice() => {
-            Tried::Answered
-        }
-        Err(LinkFault::OutOfMemory(count)) if count == written.len() as u64 => {
-            if 0 < gate.passes() {
-                reads_refused.fetch_add(1, Ordering::SeqCst);
-            }
-            Tried::NoMemory
-        }
-        Err(LinkFault::SpawnRefused(0)) if written.is_empty() => Tried::NoThread,
-        Ok(_) | Err(_) => Tried::Wrong,
-    })
+    let tried = tried_of(&answer, ends.writer.bytes());
+    if tried == Tried::NoMemory && 0 < gate.passes() {
+        reads_refused.fetch_add(1, Ordering::SeqCst);
+    }
+    Ok(tried)
 }
 
 #[test]

@@ -9,8 +9,9 @@ const BLOCK: usize = 1 << 16;
 /// How many blocks the room has.
 const BLOCKS: usize = 32;
 
-/// Room for the stacks of seven threads. The C library gives a freed block of more than 32 MB back to the system, and keeps the
-/// stack of a thread for the next one. With 64 MB or more it would give each thread a heap of its own.
+/// The size of each of two blocks for stacks, with room for seven of 8 MB. The C library gives a freed block of more than 32 MB
+/// back to the system, and keeps stacks of ended threads for the next ones, up to 40 MB. With 64 MB or more side by side it would
+/// give each thread a heap of its own.
 const STACKS: usize = 60_000_000;
 
 /// The block of which pages are given back. The C library maps a block of more than 32 MB by itself.

@@ -15,7 +15,7 @@ use tox_proxy::serve;
 use tox_script::read_script;
 
 /// More pages than a link needs.
-const PAGES: usize = 120;
+const PAGES: usize = 100;
 
 /// What is left to the client, in 16 bytes.
 const CLIENT_SIXTEENS: usize = 4096;
@@ -105,7 +105,7 @@ fn address_of(alloc: Global, lines: &str, name: &str) -> Result<String, Fail> {
 }
 
 /// What the line of a link says.
-fn tried(alloc: Global, line: &str, number: u64) -> Result<Tried, AllocError> {
+fn link_tried(alloc: Global, line: &str, number: u64) -> Result<Tried, AllocError> {
     let start = format!(in alloc; "link a {number} up ")?;
     let Some(ends) = line.strip_prefix(start.as_str()) else {
         return Ok(Tried::Wrong);
@@ -119,14 +119,48 @@ fn tried(alloc: Global, line: &str, number: u64) -> Result<Tried, AllocError> {
     })
 }
 
-/// How often the links of a proxy were broken until one was carried, and how many connections had no link.
+/// How often the links of a proxy were broken until one was carried, and how many connections got no line.
 #[derive(Clone, Copy, Debug, PartialEq, Eq)]
 struct Served {
     links: Refusals,
     unlisted: usize,
 }
 
-/// Serves links with ever more pages, where there are stacks for as many threads as these toxics have.
+impl Served {
+    /// Whether some connections got no line, and some a broken link.
+    fn is_refused(&self) -> bool {
+        0 < self.unlisted && self.unlisted < self.links.memory
+    }
+}
+
+/// Connects again and again, with a page more each time, until a link is carried.
+fn try_links<R: Net<Stream = TcpStream> + Wait + Clock>(
+    rt: &R,
+    alloc: Global,
+    scarcity: &mut Scarcity,
+    address: &str,
+    out: &Mutex<Vec<u8>>,
+) -> Result<Served, Fail> {
+    let mut start = out.lock(rt).len();
+    let (mut number, mut unlisted) = (1u64, 0usize);
+    let links = try_each(scarcity, PAGES, |scarcity, nth| {
+        scarcity.open_pages(nth.min(1));
+        ask(rt, address)?;
+        let line = printed(rt, alloc, out, start)?;
+        if line.is_empty() {
+            unlisted = unlisted.saturating_add(1);
+            return Ok(Tried::NoMemory);
+        }
+        let tried = link_tried(alloc, &line, number)?;
+        start = start.saturating_add(line.len());
+        number = number.saturating_add(1);
+        Ok(tried)
+    })?;
+    Ok(Served { links, unlisted })
+}
+
+/// Serves links with ever more pages, where there are stacks for as many threads as these toxics have. A link has four threads.
+/// Under a larger `ulimit -s` than 10 MB the C library doesn't keep as many stacks.
 ///
 /// A link of b shows that the threads of both proxies have started. They are not waited for at the end.
 fn serve_behind<
@@ -144,16 +178,13 @@ fn serve_behind<
     let upstream = TcpListener::bind(rt, "127.0.0.1:0")?;
     let proxies = proxies(alloc, &upstream)?;
     let script = read_script(alloc, b"")?;
-    let out: Arc<Mutex<Vec<u8>>> = Arc::new(
-        alloc,
-        Mutex::new(Vec::with_capacity(alloc, OUT_SIZE)?),
-    )?;
+    let out: Vec<u8> = Vec::with_capacity(alloc, OUT_SIZE)?;
+    let out = Arc::new(alloc, Mutex::new(out))?;
     let (there, lines) = (*rt, out.clone()?);
     let mut scarcity = Scarcity::with_threads(alloc)?;
-    thread::spawn(
-        rt,
-        move || serve(&there, alloc, &proxies, &script, 1, None, &*lines).is_ok(),
-    )?;
+    thread::spawn(rt, move || {
+        serve(&there, alloc, &proxies, &script, 1, None, &*lines).is_ok()
+    })?;
     let listening = printed(rt, alloc, &out, 0)?;
     let address = address_of(alloc, &listening, "a")?;
     ask(rt, &address_of(alloc, &listening, "b")?)?;
@@ -161,22 +192,31 @@ fn serve_behind<
     thread::spawn(rt, move || echo_all(&upstream))?;
     keep_stacks(rt, alloc, toxics)?;
     scarcity.leave(alloc, CLIENT_SIXTEENS)?;
-    let mut start = out.lock(rt).len();
-    let (mut number, mut unlisted) = (1u64, 0usize);
-    let links = try_each(&mut scarcity, PAGES, |scarcity, nth| {
-        scarcity.open_pages(nth.min(1));
-        ask(rt, &address)?;
-        let line = printed(rt, alloc, &out, start)?;
-        if line.is_empty() {
-            unlisted = unlisted.saturating_add(1);
-            return Ok(Tried::NoMemory);
-        }
-        let tried = tried(alloc, &line, number)?;
-        start = start.saturating_add(line.len());
-        number = number.saturating_add(1);
-        Ok(tried)
-    })?;
-    Ok(Served { links, unlisted })
+    try_links(rt, alloc, &mut scarcity, &address, &out)
+}
+
+#[test]
+fn a_served_link_is_refused_its_thread(rt: HostRuntime) -> Result<(), Fail> {
+    let served = serve_behind(&rt, "")?;
+    eprintln!(rt; "{served:?}")?;
+    assert!(rt; !served.links.is_answered && served.is_refused());
+    Ok(())
+}
+
+#[test]
+fn a_served_link_is_refused_the_other_stream(rt: HostRuntime) -> Result<(), Fail> {
+    let served = serve_behind(&rt, "latency:latency=1")?;
+    eprintln!(rt; "{served:?}")?;
+    assert!(rt; !served.links.is_answered && served.is_refused());
+    Ok(())
+}
+
+#[test]
+fn a_served_link_is_refused_a_reader(rt: HostRuntime) -> Result<(), Fail> {
+    let served = serve_behind(&rt, "latency:latency=1 latency:latency=1")?;
+    eprintln!(rt; "{served:?}")?;
+    assert!(rt; !served.links.is_answered && served.is_refused());
+    Ok(())
 }
 
 #[test]
@@ -186,18 +226,6 @@ fn a_served_link_is_refused_memory(rt: HostRuntime) -> Result<(), Fail> {
         "latency:latency=1 latency:latency=1 latency:latency=1 latency:latency=1",
     )?;
     eprintln!(rt; "{served:?}")?;
-    assert!(rt;
-        served.links.is_answered && 0 < served.unlisted && served.unlisted < served.links.memory
-    );
-    Ok(())
-}
-
-#[test]
-fn a_served_link_is_refused_its_thread(rt: HostRuntime) -> Result<(), Fail> {
-    let served = serve_behind(&rt, "")?;
-    eprintln!(rt; "{served:?}")?;
-    assert!(rt;
-        !served.links.is_answered && 0 < served.unlisted && served.unlisted < served.links.memory
-    );
+    assert!(rt; served.links.is_answered && served.is_refused());
     Ok(())
 }
