@@ -2,12 +2,18 @@
 #![tactic(auto)]
 
 #[cfg(test)]
+mod links;
+#[cfg(test)]
 mod networks;
 #[cfg(test)]
 mod runs;
 #[cfg(test)]
 mod scarcity;
 #[cfg(test)]
-mod threads;
+mod serving;
+#[cfg(test)]
+mod stages;
+#[cfg(test)]
+mod tries;
 #[cfg(test)]
 mod values;

@@ -1,5 +1,6 @@
 //! The stage network, windows, cores and plans, with too little memory.
-use crate::scarcity::{MAX_TRIES, Scarcity, Tried, answer_of, refusals};
+use crate::scarcity::Scarcity;
+use crate::tries::{MAX_TRIES, Tried, answer_of, times_refused, try_each};
 use std::alloc::{AllocError, Global};
 use std::test::Fail;
 use tox_compile::compile;
@@ -28,17 +29,17 @@ fn a_delivery_is_refused_memory(rt: HostRuntime) -> Result<(), Fail> {
     let words = Words::from_list(alloc, &[0])?;
     let chain = chain_of("latency:latency=1 slicer:average_size=1").expect(&rt, "short forms");
     let arrivals = three(alloc)?;
-    let delivered = refusals(alloc, || {
+    let delivered = times_refused(alloc, || {
         answer_of(&deliver(alloc, &chain, &words, &arrivals), &AllocError)
     })?;
-    let network = refusals(alloc, || {
+    let network = times_refused(alloc, || {
         answer_of(
             &Network::new(alloc, &chain, &words, &arrivals, 2),
             &AllocError,
         )
     })?;
-    let window = refusals(alloc, || answer_of(&Window::new(alloc, 4), &AllocError))?;
-    let core = refusals(alloc, || {
+    let window = times_refused(alloc, || answer_of(&Window::new(alloc, 4), &AllocError))?;
+    let core = times_refused(alloc, || {
         answer_of(
             &LinkCore::new(alloc, compile(&chain, &words), &words),
             &AllocError,
@@ -68,11 +69,11 @@ fn a_book_is_refused_memory(rt: HostRuntime) -> Result<(), Fail> {
 fn settle(
     scarcity: &mut Scarcity,
     alloc: Global,
-    bytes: usize,
+    sixteens: usize,
     mut network: Network<'_>,
     expected: &[u64],
 ) -> Result<Tried, Fail> {
-    scarcity.leave(alloc, bytes)?;
+    scarcity.leave(alloc, sixteens)?;
     let answer = network.settle(&[]);
     scarcity.end();
     network.settle(&[])?;
@@ -90,19 +91,19 @@ fn a_settled_network_is_refused_memory(rt: HostRuntime) -> Result<(), Fail> {
     let words = Words::from_list(alloc, &[0])?;
     let chain = chain_of("latency:latency=1 slicer:average_size=1").expect(&rt, "short forms");
     let arrivals = three(alloc)?;
-    let expected = [1000, 1000, 2000, 2000, 3000, 3000];
     let mut scarcity = Scarcity::new(alloc)?;
-    let mut refused = 0;
-    for tries in 0..MAX_TRIES {
+    let refusals = try_each(&mut scarcity, MAX_TRIES, |scarcity, nth| {
         let network = Network::new(alloc, &chain, &words, &arrivals, 2)?;
-        let answer = settle(&mut scarcity, alloc, 16 * tries, network, &expected)?;
-        if answer.is_last()? {
-            refused = tries;
-            break;
-        }
-    }
-    eprintln!(rt; "refused {refused} times")?;
-    assert!(rt; 0 < refused);
+        settle(
+            scarcity,
+            alloc,
+            nth,
+            network,
+            &[1000, 1000, 2000, 2000, 3000, 3000],
+        )
+    })?;
+    eprintln!(rt; "{refusals:?}")?;
+    assert!(rt; refusals.is_answered && 0 < refusals.memory);
     Ok(())
 }
 

@@ -1,5 +1,6 @@
 //! Runs and picks, from text to text, with too little memory.
-use crate::scarcity::{MAX_TRIES, Scarcity, Tried, answer_of};
+use crate::scarcity::Scarcity;
+use crate::tries::{MAX_TRIES, Tried, answer_of, try_each};
 use std::alloc::Global;
 use std::test::Fail;
 use tox_config::{ProxyDef, read_populate};
@@ -31,34 +32,21 @@ proxy a listen localhost:0 upstream h:1 enabled
 0 applied latency:latency=100,jitter=0,toxicity=1000 latency_downstream
 ";
 
-/// What was written is this text after Ok, and else nothing.
-fn checked(answer: Tried, written: &[u8], text: &str) -> Tried {
-    let expected = match answer {
-        Tried::Answered => text.as_bytes(),
-        Tried::Refused | Tried::Wrong => b"",
-    };
-    if written == expected {
-        answer
-    } else {
-        Tried::Wrong
-    }
-}
-
 /// A dry run with little memory.
 fn run(
     scarcity: &mut Scarcity,
     alloc: Global,
-    bytes: usize,
+    sixteens: usize,
     chain: &Chain,
     words: &Words,
 ) -> Result<Tried, Fail> {
     let mut reader = MemorySource::new(TEXT.as_bytes().to_vec(alloc)?, 64, None);
     let mut writer = MemorySink::new(alloc, 100, 64, None)?;
-    scarcity.leave(alloc, bytes)?;
+    scarcity.leave(alloc, sixteens)?;
     let answer = dry_run(alloc, &mut reader, &mut writer, chain, words);
     scarcity.end();
     let tried = answer_of(&answer, &DryFault::OutOfMemory);
-    Ok(checked(tried, writer.bytes(), RESULT))
+    Ok(tried.writing(writer.bytes(), RESULT))
 }
 
 #[test]
@@ -67,15 +55,11 @@ fn a_dry_run_is_refused_memory(rt: HostRuntime) -> Result<(), Fail> {
     let words = Words::from_list(alloc, &[0])?;
     let chain = chain_of("latency:latency=1").expect(&rt, "a short form");
     let mut scarcity = Scarcity::new(alloc)?;
-    let mut refused = 0;
-    for tries in 0..MAX_TRIES {
-        if run(&mut scarcity, alloc, 16 * tries, &chain, &words)?.is_last()? {
-            refused = tries;
-            break;
-        }
-    }
-    eprintln!(rt; "refused {refused} times")?;
-    assert!(rt; 0 < refused);
+    let refusals = try_each(&mut scarcity, MAX_TRIES, |scarcity, nth| {
+        run(scarcity, alloc, nth, &chain, &words)
+    })?;
+    eprintln!(rt; "{refusals:?}")?;
+    assert!(rt; refusals.is_answered && 0 < refusals.memory);
     Ok(())
 }
 
@@ -83,16 +67,16 @@ fn a_dry_run_is_refused_memory(rt: HostRuntime) -> Result<(), Fail> {
 fn pick(
     scarcity: &mut Scarcity,
     alloc: Global,
-    bytes: usize,
+    sixteens: usize,
     proxy: &ProxyDef,
     script: &Script,
 ) -> Result<Tried, Fail> {
     let mut writer = MemorySink::new(alloc, 200, 64, None)?;
-    scarcity.leave(alloc, bytes)?;
+    scarcity.leave(alloc, sixteens)?;
     let answer = print_pick(alloc, &mut writer, proxy, script, 1, Stream::Downstream, 1);
     scarcity.end();
     let tried = answer_of(&answer, &PrintPickFault::OutOfMemory);
-    Ok(checked(tried, writer.bytes(), PICK))
+    Ok(tried.writing(writer.bytes(), PICK))
 }
 
 #[test]
@@ -102,14 +86,10 @@ fn a_pick_is_refused_memory(rt: HostRuntime) -> Result<(), Fail> {
     let proxy = find_proxy(&proxies, "a").ok_or("no proxy a")?;
     let script = read_script(alloc, SCRIPT.as_bytes())?;
     let mut scarcity = Scarcity::new(alloc)?;
-    let mut refused = 0;
-    for tries in 0..MAX_TRIES {
-        if pick(&mut scarcity, alloc, 16 * tries, proxy, &script)?.is_last()? {
-            refused = tries;
-            break;
-        }
-    }
-    eprintln!(rt; "refused {refused} times")?;
-    assert!(rt; 0 < refused);
+    let refusals = try_each(&mut scarcity, MAX_TRIES, |scarcity, nth| {
+        pick(scarcity, alloc, nth, proxy, &script)
+    })?;
+    eprintln!(rt; "{refusals:?}")?;
+    assert!(rt; refusals.is_answered && 0 < refusals.memory);
     Ok(())
 }

@@ -2,7 +2,6 @@
 ghost use Rattle.std.specs.Prelude.{◌≤◌};
 
 use std::alloc::{AllocError, Global};
-use std::test::Fail;
 
 /// The room for all that a call under test asks for is made of blocks of this size. Larger ones don't lie side by side.
 const BLOCK: usize = 1 << 16;
@@ -10,12 +9,16 @@ const BLOCK: usize = 1 << 16;
 /// How many blocks the room has.
 const BLOCKS: usize = 32;
 
-/// Room for the stacks of seven threads. The C library gives a freed block of more than 32 MB back to the system, and keeps the
-/// stack of a thread for the next one. With 64 MB or more it would give each thread a heap of its own.
+/// The size of each of two blocks for stacks, with room for seven of 8 MB. The C library gives a freed block of more than 32 MB
+/// back to the system, and keeps stacks of ended threads for the next ones, up to 40 MB. With 64 MB or more side by side it would
+/// give each thread a heap of its own.
 const STACKS: usize = 60_000_000;
 
-/// How often a call is tried at most.
-pub const MAX_TRIES: usize = 16_384;
+/// The block of which pages are given back. The C library maps a block of more than 32 MB by itself.
+const PAGED: usize = 34_000_000;
+
+/// The size of a page of memory.
+const PAGE: usize = 4096;
 
 /// More blocks than memory is made of.
 const MAX_BLOCKS: usize = 20_000;
@@ -29,28 +32,7 @@ const SPLITTABLE: usize = 4096;
 pub struct Scarcity {
     rest: Vec<Vec<u8>>,
     room: Vec<Vec<u8>>,
-}
-
-/// What a call returned.
-#[derive(Clone, Copy, Debug, PartialEq, Eq)]
-pub enum Tried {
-    /// The value or the fault that it returns with ample memory.
-    Answered,
-    /// Its fault for refused memory.
-    Refused,
-    /// Something else.
-    Wrong,
-}
-
-impl Tried {
-    /// Whether the call wasn't refused. Fails at a wrong answer.
-    pub fn is_last(self) -> Result<bool, Fail> {
-        match self {
-            Tried::Answered => Ok(true),
-            Tried::Refused => Ok(false),
-            Tried::Wrong => Err("another answer than with ample memory".into()),
-        }
-    }
+    paged: Vec<u8>,
 }
 
 /// Takes blocks of a size until one is refused.
@@ -84,12 +66,12 @@ impl Scarcity {
         Scarcity::keep(alloc, 0)
     }
 
-    /// Takes all memory but the room and the stacks of seven threads. Threads that run before the first `leave` keep theirs.
+    /// Takes all memory but the room and the stacks of fourteen threads. Threads that run before the first `leave` keep theirs.
     pub fn with_threads(alloc: Global) -> Result<Scarcity, AllocError> {
         Scarcity::keep(alloc, STACKS)
     }
 
-    /// Takes all memory but the room and a block of `stacks` bytes.
+    /// Takes all memory but the room and two blocks of `stacks` bytes, with the block of pages between them.
     fn keep(alloc: Global, stacks: usize) -> Result<Scarcity, AllocError> {
         let mut rest: Vec<Vec<u8>> = Vec::with_capacity(alloc, MAX_BLOCKS)?;
         let mut room: Vec<Vec<u8>> = Vec::with_capacity(alloc, MAX_BLOCKS)?;
@@ -97,13 +79,16 @@ impl Scarcity {
             room.push(Vec::with_capacity(alloc, BLOCK)?)?;
         }
         room.push(Vec::with_capacity(alloc, stacks)?)?;
+        let paged = Vec::with_capacity(alloc, PAGED)?;
+        room.push(Vec::with_capacity(alloc, stacks)?)?;
         take_all(alloc, 30, &mut rest);
         room.clear();
-        Ok(Scarcity { rest, room })
+        Ok(Scarcity { rest, room, paged })
     }
 
-    /// Takes the room too, but for about `bytes` bytes that lie side by side.
-    pub fn leave(&mut self, alloc: Global, bytes: usize) -> Result<(), AllocError> {
+    /// Takes the room too, but for about so many times 16 bytes, which lie side by side.
+    pub fn leave(&mut self, alloc: Global, sixteens: usize) -> Result<(), AllocError> {
+        let bytes = sixteens.saturating_mul(16);
         let block: Vec<u8> = Vec::with_capacity(alloc, bytes.saturating_add(SPLITTABLE))?;
         take_all(alloc, 16, &mut self.room);
         drop(block);
@@ -111,33 +96,23 @@ impl Scarcity {
         Ok(())
     }
 
+    /// Takes the room too, but for so many pages. Once a process has had a second thread, a request that finds no heap takes whole
+    /// pages.
+    pub fn leave_pages(&mut self, alloc: Global, pages: usize) -> Result<(), AllocError> {
+        self.leave(alloc, 0)?;
+        self.open_pages(pages);
+        Ok(())
+    }
+
+    /// Leaves so many pages more, of which 8,000 can be had in all.
+    pub fn open_pages(&mut self, pages: usize) {
+        let size = self.paged.capacity();
+        self.paged
+            .shrink_to(size.saturating_sub(pages.saturating_mul(PAGE)));
+    }
+
     /// Gives the room back.
     pub fn end(&mut self) {
         self.room.clear();
     }
-}
-
-/// What an answer is, where this fault stands for refused memory.
-pub fn answer_of<T, E: PartialEq + Drop>(answer: &Result<T, E>, memory: &E) -> Tried {
-    match answer {
-        Ok(_) => Tried::Answered,
-        Err(fault) if fault == memory => Tried::Refused,
-        Err(_) => Tried::Wrong,
-    }
-}
-
-/// Makes a call with no memory, then with 16 bytes more each time, until it isn't refused. Returns how often it was.
-pub fn refusals<Call: Fn() -> Tried + Drop>(alloc: Global, call: Call) -> Result<usize, Fail>
-    requires { Call.IsAlwaysCallable call }
-{
-    let mut scarcity = Scarcity::new(alloc)?;
-    for refused in 0..MAX_TRIES {
-        scarcity.leave(alloc, 16 * refused)?;
-        let answer = call();
-        scarcity.end();
-        if answer.is_last()? {
-            return Ok(refused);
-        }
-    }
-    Err("refused whatever is left".into())
 }

@@ -1,5 +1,6 @@
 //! Lists and files, read with too little memory.
-use crate::scarcity::{Scarcity, answer_of, refusals};
+use crate::scarcity::Scarcity;
+use crate::tries::{answer_of, times_refused};
 use std::rt::{Env, Files};
 use std::test::Fail;
 use std::{env, fs, process};
@@ -26,14 +27,14 @@ attributes = { latency = 100 }
 fn words_are_refused_memory(rt: HostRuntime) -> Result<(), Fail> {
     let alloc = rt.alloc();
     let memory = WordsFault::OutOfMemory;
-    let listed = refusals(alloc, || {
+    let listed = times_refused(alloc, || {
         answer_of(&Words::from_list(alloc, &[1, 2, 3]), &memory)
     })?;
-    let written = refusals(
+    let written = times_refused(
         alloc,
         || answer_of(&Words::from_text(alloc, "1,2,3"), &memory),
     )?;
-    let seeded = refusals(alloc, || {
+    let seeded = times_refused(alloc, || {
         answer_of(&Words::from_seed(alloc, 1, 1, Stream::Upstream), &memory)
     })?;
     eprintln!(rt; "refused {listed}, {written} and {seeded} times")?;
@@ -63,13 +64,13 @@ fn arrivals_are_refused_memory(rt: HostRuntime) -> Result<(), Fail> {
 #[test]
 fn files_are_refused_memory(rt: HostRuntime) -> Result<(), Fail> {
     let alloc = rt.alloc();
-    let config = refusals(alloc, || {
+    let config = times_refused(alloc, || {
         answer_of(
             &read_populate(alloc, CONFIG.as_bytes()),
             &ConfigFault::OutOfMemory,
         )
     })?;
-    let script = refusals(alloc, || {
+    let script = times_refused(alloc, || {
         answer_of(
             &read_script(alloc, SCRIPT.as_bytes()),
             &ScriptFault::OutOfMemory,
@@ -79,7 +80,7 @@ fn files_are_refused_memory(rt: HostRuntime) -> Result<(), Fail> {
     let id = process::id(rt.process());
     let name = format!(in alloc; "{}/toxi-{id}-memory", folder.as_str())?;
     fs::write(&rt, name.as_str(), CONFIG)?;
-    let file = refusals(alloc, || {
+    let file = times_refused(alloc, || {
         answer_of(&read_file(&rt, alloc, &name), &FileFault::OutOfMemory)
     })?;
     fs::remove_file(&rt, name.as_str())?;

@@ -1,0 +1,214 @@
+//! Running stages, with too little memory and too few threads.
+use crate::scarcity::Scarcity;
+use crate::tries::{Refusals, Tried, try_each};
+use std::alloc::Global;
+use std::sync::Wait;
+use std::sync::atomic::{AtomicU64, Ordering};
+use std::test::Fail;
+use std::thread::Threads;
+use tox_defs::Chain;
+use tox_proxy::{DryFault, StagesFault, stages_run};
+use tox_rows::{chain_of, table_of};
+use tox_stages::{StageFault, run_stages};
+use tox_time::{Arrivals, Ending, Gate, MemorySink, MemorySource, Micros, OpenGate};
+use tox_words::Words;
+
+const TWO_LATENCIES: &str = "latency:latency=1 latency:latency=2";
+
+const TEXT: &str = "0 data 61\n0 data 62\n";
+
+const RESULT: &str = "3000 0..1 61\n3000 1..2 62\nopen\n";
+
+/// More pages than running stages need.
+const PAGES: usize = 60;
+
+/// A gate that counts who passes.
+#[derive(Drop)]
+pub struct Counting {
+    passes: AtomicU64,
+}
+
+impl Counting {
+    pub fn new() -> Counting {
+        Counting {
+            passes: AtomicU64::new(0),
+        }
+    }
+
+    pub fn passes(&self) -> u64 {
+        self.passes.load(Ordering::SeqCst)
+    }
+}
+
+impl Gate for Counting {
+    fn pass(&self, _stage: usize, _nth: u64) {
+        self.passes.fetch_add(1, Ordering::SeqCst);
+    }
+}
+
+/// The arrivals of the text.
+fn two(alloc: Global) -> Result<Arrivals, Fail> {
+    let mut arrivals = Arrivals::new(alloc);
+    arrivals.push(1, Micros::ZERO)?;
+    arrivals.push(1, Micros::ZERO)?;
+    Ok(arrivals)
+}
+
+/// Running stages with little memory. Nobody passes the gate once they have answered.
+fn run<R: Threads + Wait + Sync>(
+    rt: &R,
+    scarcity: &mut Scarcity,
+    alloc: Global,
+    pages: usize,
+    chain: &Chain,
+    arrivals: &Arrivals,
+) -> Result<Tried, Fail> {
+    let words = Words::from_list(alloc, &[0])?;
+    let gate = Counting::new();
+    scarcity.leave_pages(alloc, pages)?;
+    let answer = run_stages(rt, alloc, chain, &words, arrivals, 1, &gate);
+    let passes = gate.passes();
+    scarcity.end();
+    if gate.passes() != passes {
+        return Ok(Tried::Wrong);
+    }
+    match answer {
+        Ok(outcome) => {
+            let table = table_of(alloc, &outcome)?;
+            let is_right = table.as_slice() == [3000, 3000].as_slice()
+                && outcome.ending == Ending::StillOpen;
+            Ok(if is_right {
+                Tried::Answered
+            } else {
+                Tried::Wrong
+            })
+        }
+        Err(StageFault::OutOfMemory) => Ok(Tried::NoMemory),
+        Err(StageFault::SpawnRefused) => Ok(Tried::NoThread),
+    }
+}
+
+/// The same from text to text. Nothing is written after a refusal.
+fn run_text<R: Threads + Wait + Sync>(
+    rt: &R,
+    scarcity: &mut Scarcity,
+    alloc: Global,
+    pages: usize,
+    chain: &Chain,
+) -> Result<Tried, Fail> {
+    let words = Words::from_list(alloc, &[0])?;
+    let mut reader = MemorySource::new(TEXT.as_bytes().to_vec(alloc)?, 64, None);
+    let mut writer = MemorySink::new(alloc, 100, 64, None)?;
+    scarcity.leave_pages(alloc, pages)?;
+    let answer = stages_run(
+        rt,
+        alloc,
+        &mut reader,
+        &mut writer,
+        chain,
+        &words,
+        1,
+        &OpenGate,
+    );
+    scarcity.end();
+    let tried = match answer {
+        Ok(()) => Tried::Answered,
+        Err(
+            StagesFault::Dry(DryFault::OutOfMemory) | StagesFault::Stages(StageFault::OutOfMemory),
+        ) => Tried::NoMemory,
+        Err(StagesFault::Stages(StageFault::SpawnRefused)) => Tried::NoThread,
+        Err(StagesFault::Dry(_)) => Tried::Wrong,
+    };
+    Ok(tried.writing(writer.bytes(), RESULT))
+}
+
+/// Runs as many threads as there are toxics. The C library keeps their stacks for the next ones.
+pub fn keep_stacks<R: Threads + Wait + Sync>(
+    rt: &R,
+    alloc: Global,
+    toxics: &str,
+) -> Result<(), Fail> {
+    let words = Words::from_list(alloc, &[0])?;
+    let chain = chain_of(toxics).ok_or("no short forms")?;
+    let arrivals = two(alloc)?;
+    run_stages(rt, alloc, &chain, &words, &arrivals, 1, &OpenGate)?;
+    Ok(())
+}
+
+/// A process without memory but for the stacks of as many threads as there are toxics.
+pub fn with_stacks<R: Threads + Wait + Sync>(
+    rt: &R,
+    alloc: Global,
+    toxics: &str,
+) -> Result<Scarcity, Fail> {
+    let scarcity = Scarcity::with_threads(alloc)?;
+    keep_stacks(rt, alloc, toxics)?;
+    Ok(scarcity)
+}
+
+/// Runs two stages where there are stacks for as many threads as these toxics have.
+fn run_behind<R: Threads + Wait + Sync + AllocGlobal>(
+    rt: &R,
+    toxics: &str,
+) -> Result<Refusals, Fail> {
+    let alloc = rt.alloc();
+    let chain = chain_of(TWO_LATENCIES).ok_or("no short forms")?;
+    let arrivals = two(alloc)?;
+    let mut scarcity = with_stacks(rt, alloc, toxics)?;
+    try_each(&mut scarcity, PAGES, |scarcity, pages| {
+        run(rt, scarcity, alloc, pages, &chain, &arrivals)
+    })
+}
+
+/// The same from text to text.
+fn run_text_behind<R: Threads + Wait + Sync + AllocGlobal>(
+    rt: &R,
+    toxics: &str,
+) -> Result<Refusals, Fail> {
+    let alloc = rt.alloc();
+    let chain = chain_of(TWO_LATENCIES).ok_or("no short forms")?;
+    let mut scarcity = with_stacks(rt, alloc, toxics)?;
+    try_each(&mut scarcity, PAGES, |scarcity, pages| {
+        run_text(rt, scarcity, alloc, pages, &chain)
+    })
+}
+
+#[test]
+fn running_stages_are_refused_each_thread(rt: HostRuntime) -> Result<(), Fail> {
+    let refusals = run_behind(&rt, "")?;
+    eprintln!(rt; "{refusals:?}")?;
+    assert!(rt; !refusals.is_answered && 0 < refusals.memory && 0 < refusals.threads);
+    Ok(())
+}
+
+#[test]
+fn running_stages_are_refused_the_second_thread(rt: HostRuntime) -> Result<(), Fail> {
+    let refusals = run_behind(&rt, "latency:latency=1")?;
+    eprintln!(rt; "{refusals:?}")?;
+    assert!(rt; !refusals.is_answered && 0 < refusals.memory && 0 < refusals.threads);
+    Ok(())
+}
+
+#[test]
+fn running_stages_are_refused_memory(rt: HostRuntime) -> Result<(), Fail> {
+    let refusals = run_behind(&rt, TWO_LATENCIES)?;
+    eprintln!(rt; "{refusals:?}")?;
+    assert!(rt; refusals.is_answered && 0 < refusals.memory);
+    Ok(())
+}
+
+#[test]
+fn a_text_in_threads_is_refused_the_second_thread(rt: HostRuntime) -> Result<(), Fail> {
+    let refusals = run_text_behind(&rt, "latency:latency=1")?;
+    eprintln!(rt; "{refusals:?}")?;
+    assert!(rt; !refusals.is_answered && 0 < refusals.memory && 0 < refusals.threads);
+    Ok(())
+}
+
+#[test]
+fn a_text_in_threads_is_refused_memory(rt: HostRuntime) -> Result<(), Fail> {
+    let refusals = run_text_behind(&rt, TWO_LATENCIES)?;
+    eprintln!(rt; "{refusals:?}")?;
+    assert!(rt; refusals.is_answered && 0 < refusals.memory);
+    Ok(())
+}
