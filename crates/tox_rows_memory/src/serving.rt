@@ -160,7 +160,7 @@ fn try_links<R: Net<Stream = TcpStream> + Wait + Clock>(
 }
 
 /// Serves links with ever more pages, where there are stacks for as many threads as these toxics have. A link has four threads.
-/// Under a larger `ulimit -s` than 10 MB the C library doesn't keep as many stacks.
+/// Under a `ulimit -s` of 10 MB or more the C library keeps fewer stacks, and no link is carried.
 ///
 /// A link of b shows that the threads of both proxies have started. They are not waited for at the end.
 fn serve_behind<
