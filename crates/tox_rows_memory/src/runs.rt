@@ -5,9 +5,11 @@ use std::alloc::Global;
 use std::test::Fail;
 use tox_config::{ProxyDef, read_populate};
 use tox_defs::Chain;
-use tox_proxy::{DryFault, PrintPickFault, dry_run, find_proxy, print_pick};
+use tox_proxy::{
+    DryFault, PrintMigratedFault, PrintPickFault, dry_run, find_proxy, print_migrated, print_pick,
+};
 use tox_rows::chain_of;
-use tox_script::{Script, read_script};
+use tox_script::{Script, ScriptFault, read_script};
 use tox_time::{MemorySink, MemorySource, Stream};
 use tox_words::Words;
 
@@ -30,6 +32,21 @@ attributes = { latency = 100 }
 const PICK: &str = "\
 proxy a listen localhost:0 upstream h:1 enabled
 0 applied latency:latency=100,jitter=0,toxicity=1000 latency_downstream
+";
+
+const MIGRATED: &str = "\
+lanes = 16
+version = 2
+
+[[rule]]
+first = 1
+proxy = \"a\"
+
+[[rule.toxic]]
+type = \"latency\"
+
+[rule.toxic.attributes]
+latency = 100
 ";
 
 /// A dry run with little memory.
@@ -88,6 +105,28 @@ fn a_pick_is_refused_memory(rt: HostRuntime) -> Result<(), Fail> {
     let mut scarcity = Scarcity::new(alloc)?;
     let refusals = try_each(&mut scarcity, MAX_TRIES, |scarcity, nth| {
         pick(scarcity, alloc, nth, proxy, &script)
+    })?;
+    eprintln!(rt; "{refusals:?}")?;
+    assert!(rt; refusals.is_answered && 0 < refusals.memory);
+    Ok(())
+}
+
+/// A migration with little memory.
+fn migration(scarcity: &mut Scarcity, alloc: Global, sixteens: usize) -> Result<Tried, Fail> {
+    let mut writer = MemorySink::new(alloc, 200, 64, None)?;
+    scarcity.leave(alloc, sixteens)?;
+    let answer = print_migrated(alloc, &mut writer, SCRIPT.as_bytes());
+    scarcity.end();
+    let memory = PrintMigratedFault::Script(ScriptFault::OutOfMemory);
+    Ok(answer_of(&answer, &memory).writing(writer.bytes(), MIGRATED))
+}
+
+#[test]
+fn a_printed_migration_is_refused_memory(rt: HostRuntime) -> Result<(), Fail> {
+    let alloc = rt.alloc();
+    let mut scarcity = Scarcity::new(alloc)?;
+    let refusals = try_each(&mut scarcity, MAX_TRIES, |scarcity, nth| {
+        migration(scarcity, alloc, nth)
     })?;
     eprintln!(rt; "{refusals:?}")?;
     assert!(rt; refusals.is_answered && 0 < refusals.memory);

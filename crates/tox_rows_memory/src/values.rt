@@ -92,7 +92,7 @@ fn files_are_refused_memory(rt: HostRuntime) -> Result<(), Fail> {
 #[test]
 fn a_migration_is_refused_memory(rt: HostRuntime) -> Result<(), Fail> {
     let alloc = rt.alloc();
-    let refused = refusals(alloc, || {
+    let refused = times_refused(alloc, || {
         answer_of(
             &migrate(alloc, SCRIPT.as_bytes()),
             &ScriptFault::OutOfMemory,
