@@ -35,6 +35,19 @@ pub struct Scarcity {
     paged: Vec<u8>,
 }
 
+/// How many pages of its stack a test has used before it takes all memory. A stack that grows later would find none to map.
+const STACK_PAGES: u8 = 48;
+
+/// Uses so many pages of the stack. What it returns depends on each, so that none is left out.
+fn use_stack(pages: u8) -> u8 {
+    let page = [pages; PAGE];
+    if pages == 0 {
+        return page[0];
+    }
+    let below = use_stack(pages - 1);
+    page[usize::from(below)] ^ below
+}
+
 /// Takes blocks of a size until one is refused.
 fn take_blocks(alloc: Global, size: usize, blocks: &mut Vec<Vec<u8>>) {
     for _ in 0..MAX_BLOCKS {
@@ -73,6 +86,7 @@ impl Scarcity {
 
     /// Takes all memory but the room and two blocks of `stacks` bytes, with the block of pages between them.
     fn keep(alloc: Global, stacks: usize) -> Result<Scarcity, AllocError> {
+        use_stack(STACK_PAGES);
         let mut rest: Vec<Vec<u8>> = Vec::with_capacity(alloc, MAX_BLOCKS)?;
         let mut room: Vec<Vec<u8>> = Vec::with_capacity(alloc, MAX_BLOCKS)?;
         for _ in 0..BLOCKS {
