@@ -3,7 +3,7 @@ import json
 import re
 import tomllib
 
-from manual import MAX_TOXICS, TYPES, Fault, check_values, is_applied, words_of_seed
+from manual import TYPES, Fault, check_values, is_applied, words_of_seed
 
 STREAMS = ("upstream", "downstream")
 
@@ -87,7 +87,15 @@ def is_name(value):
     return value is None or is_text(value, 64) and not re.search("[\0-\x1f\x7f]", value)
 
 
-def read_toxic(table, rule, number, chains, names):
+def read_toxicity(value, version):
+    """The thousandths of a toxicity, or None for what is none."""
+    if version == 2 and isinstance(value, str) and re.fullmatch(r"0(\.[0-9]{1,3})?|1(\.0{1,3})?", value):
+        return round(1000 * float(value))
+    return value if is_number(value, 0, 1000) else None
+
+
+def read_toxic(table, settings, rule, number, chains, names):
+    version, lanes = settings
     tests = {
         "name": is_name,
         "type": lambda value: isinstance(value, str),
@@ -100,23 +108,24 @@ def read_toxic(table, rule, number, chains, names):
     def fault(code):
         raise Fault(code, rule, number)
 
-    kind, stream, toxicity = table["type"], table.get("stream", "downstream"), table.get("toxicity", 1000)
+    kind, stream = table["type"], table.get("stream", "downstream")
+    toxicity = read_toxicity(table.get("toxicity", 1000), version)
     if kind not in TYPES:
         fault("S3")
-    if not is_number(toxicity, 0, 1000):
+    if toxicity is None:
         fault("S7")
     given = {key: value if type(value) is int else None for key, value in table.get("attributes", {}).items()}
     values = check_values(kind, given, fault)
     name = table.get("name", f"{kind}_{stream}")
     if name in names:
         fault("S8")
-    if len(chains[stream]) == MAX_TOXICS:
+    if len(chains[stream]) == lanes:
         fault("S9")
     names.add(name)
     chains[stream].append((name, (kind, values, toxicity)))
 
 
-def read_rule(table, number):
+def read_rule(table, settings, number):
     """A rule as its proxy, its first and last connection, and a chain for each stream."""
     first = table.get("first")
     tests = {
@@ -128,7 +137,7 @@ def read_rule(table, number):
     check_fields(table, tests, number, 0)
     chains, names = {stream: [] for stream in STREAMS}, set()
     for place, toxic in enumerate(table.get("toxic", []), 1):
-        read_toxic(toxic, number, place, chains, names)
+        read_toxic(toxic, settings, number, place, chains, names)
     return table["proxy"], first, table.get("last", 1_000_000), chains
 
 
@@ -141,13 +150,28 @@ def check_integers(value):
 
 
 def read_script(text):
+    """The version and the lanes of a script, and its rules."""
     try:
         document = tomllib.loads(text.decode())
         check_integers(document)
     except (ValueError, RecursionError):
         raise Fault("S1") from None
-    check_fields(document, {"rule": lambda value: value is None or is_tables(value)}, 0, 0)
-    return [read_rule(table, number) for number, table in enumerate(document.get("rule", []), 1)]
+    version = document.get("version", 1)
+    tests = {"version": lambda value: value is None or is_number(value, 1, 2)}
+    if version == 2:
+        tests["lanes"] = lambda value: value is None or type(value) is int and value in (16, 32)
+    tests["rule"] = lambda value: value is None or is_tables(value)
+    check_fields(document, tests, 0, 0)
+    settings = version, document.get("lanes", 32) if version == 2 else 16
+    return *settings, [read_rule(table, settings, number) for number, table in enumerate(document.get("rule", []), 1)]
+
+
+def migrated(script):
+    """What a migrated script reads as."""
+    version, lanes, rules = read_script(script)
+    if version == 2:
+        raise Fault("M1")
+    return 2, lanes, rules
 
 
 def shown(name):
@@ -164,7 +188,7 @@ def pick_text(config, script, proxy, conn, stream, seed):
     if stream not in STREAMS:
         raise Fault("P5")
     proxies = read_populate(config)
-    rules = read_script(script)
+    _, _, rules = read_script(script)
     if proxy not in proxies:
         raise Fault("P3", shown(proxy))
     listen, upstream, enabled = proxies[proxy]

@@ -8,9 +8,6 @@ from toxics import HORIZON, give
 MAX_MILLIS = 3_600_000
 MAX_INPUT = 16_777_216
 MAX_BYTES = 2**40
-MAX_TOXICS = 16
-# How far apart the words of a toxic stand in the table.
-LANES = 16
 
 # The attributes of each type with their least and greatest values. A variation that is too large has a fault of its own.
 TYPES = {
@@ -35,7 +32,7 @@ NAMES = {
     "S5": "OutOfRange", "S6": "Variation", "S7": "ToxicityNotThousandths", "S8": "DoubleName", "S9": "TooManyToxics",
     "C1": "NotJson", "C2": "NotArray", "C3": "NotObject", "C4": "Name", "C5": "Listen", "C6": "Upstream", "C7": "Enabled",
     "C8": "TooMany", "P1": "FileFault", "P2": "FileTooLong", "P3": "UnknownProxy", "P4": "ListenRefused", "P5": "BadStream",
-    "F1": "SpawnRefused",
+    "F1": "SpawnRefused", "M1": "AlreadyVersion2",
 }  # fmt: skip
 
 
@@ -98,11 +95,11 @@ def read_short(text, number):
     return kind, check_values(kind, given, fault), toxicity
 
 
-def read_chain(texts):
+def read_chain(texts, lanes):
     chain = []
     for place, text in enumerate(texts):
         toxic = read_short(text, place + 1)
-        if place >= MAX_TOXICS:
+        if place >= lanes:
             raise Fault("S9", place + 1)
         chain.append(toxic)
     return chain
@@ -142,20 +139,20 @@ def is_applied(words, place, toxicity):
     return words[place % len(words)] % 1000 < toxicity
 
 
-def delivered(words, chain, items):
-    """What a chain gives of a list of items."""
+def delivered(words, lanes, chain, items):
+    """What a chain of so many lanes gives of a list of items."""
     for place, (kind, values, toxicity) in enumerate(chain):
         if is_applied(words, place, toxicity):
-            items = list(give(kind, values, lambda j, lane=place: words[(lane + LANES * j) % len(words)], items))
+            items = list(give(kind, values, lambda j, lane=place: words[(lane + lanes * j) % len(words)], items))
     return items
 
 
-def result_text(words, chain, pieces, end):
+def result_text(words, lanes, chain, pieces, end):
     """What `dry` prints."""
     text = b"".join(piece for _, piece in pieces)
     stops = list(accumulate(len(piece) for _, piece in pieces))
     items = [(instant, (stop - len(piece), stop)) for (instant, piece), stop in zip(pieces, stops)]
-    *items, (instant, ending) = delivered(words, chain, [*items, (end, "open" if end is None else "closed")])
+    *items, (instant, ending) = delivered(words, lanes, chain, [*items, (end, "open" if end is None else "closed")])
     runs = []
     for at, (start, stop) in items:
         if runs and runs[-1][0] == at and start not in stops:

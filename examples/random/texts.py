@@ -1,6 +1,7 @@
 """Random texts that the program reads: good ones, and good ones with some parts changed."""
-from manual import MAX_TOXICS, TYPES
+from manual import TYPES
 
+TOXICITIES = [0, 1, 300, 500, 999, 1000, "1_000", 1001, 0.5, *map(repr, ("0", "1", "0.25", "0.007", "1.00", "1.001", ".5", "0.0005"))]
 NUMBERS = ["0", "1", "2", "1000", "65535", "65536", "999999", "1000000", "3600000", "3600001", "4294967295", "4294967296", "1" * 19]
 
 
@@ -99,7 +100,7 @@ def toxic(random):
     if random.random() < 0.3:
         lines.append(f'stream = "{random.choice(("upstream", "downstream"))}"')
     if random.random() < 0.3:
-        lines.append(f"toxicity = {random.choice((0, 1, 300, 500, 999, 1000, '1_000', 1001, 0.5))}")
+        lines.append(f"toxicity = {random.choice(TOXICITIES)}")
     if random.random() < 0.8:
         name = random.choice(("né", "a b", "x" * 64, "x" * 65, *(f"name {place}" for place in range(40))))
         lines.append(f"name = {quoted(name)}")
@@ -110,6 +111,10 @@ def toxic(random):
 def script(random, names):
     """A script whose rules are for these proxies and for others."""
     lines = ["# A script."]
+    if random.random() < 0.5:
+        lines.append(f"version = {random.choice((1, 2, 2, 2, 2, 2, 2, 2, 3))}")
+        if random.random() < 0.5:
+            lines.append(f"lanes = {random.choice((16, 32, 32, 32, 17))}")
     for _ in range(random.randrange(4)):
         first = number(random, 1, 1_000_000)
         fields = [f"proxy = {quoted(random.choice([*names, 'none']))}", f"first = {first}"]
@@ -117,7 +122,7 @@ def script(random, names):
             fields.append(f"last = {number(random, first, 1_000_000)}")
         random.shuffle(fields)
         lines += ["[[rule]]", *fields]
-        for _ in range(random.choice((0, 1, 1, 2, 3, MAX_TOXICS + 2))):
+        for _ in range(random.choice((0, 1, 1, 2, 3, 18, 34))):
             lines += toxic(random)
     pool = [*'[]{}",=#. \n\\09-e', "[[rule]]", "[rule]", "rule", "first = 1\n", "x = 1\n", "'''", "1979-05-27", "inf", "true", "é"]
     return changed(random, "\n".join(lines) + "\n", pool, 0.15).encode()
