@@ -6,8 +6,6 @@ mod entry;
 mod fault;
 mod populate;
 mod proxy;
-#[cfg(test)]
-mod tests;
 
 pub use fault::ConfigFault;
 pub use populate::read_populate;

@@ -3,8 +3,6 @@
 
 mod lent;
 mod piece;
-#[cfg(test)]
-mod tests;
 mod window;
 
 pub use lent::Lent;

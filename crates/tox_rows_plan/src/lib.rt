@@ -16,4 +16,6 @@ mod slices;
 #[cfg(test)]
 mod staged;
 #[cfg(test)]
+mod windows;
+#[cfg(test)]
 mod worked;

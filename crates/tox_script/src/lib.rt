@@ -14,8 +14,6 @@ mod rule;
 mod rule_fields;
 mod script;
 mod settings;
-#[cfg(test)]
-mod tests;
 mod toxic_fields;
 mod toxicity;
 mod version;

@@ -5,8 +5,6 @@ mod drawing;
 mod fault;
 mod lanes;
 mod seed;
-#[cfg(test)]
-mod tests;
 mod text;
 mod words;
 

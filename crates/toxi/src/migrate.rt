@@ -23,5 +23,8 @@ pub fn migrate<'a, R: Files + Print + AllocGlobal>(
 ) -> Result<(), MigrateFault<'a>> {
     let bytes = read_file(rt, rt.alloc(), script).map_err(MigrateFault::File)?;
     let mut writer = Real::new(io::writer(rt));
-    print_migrated(rt.alloc(), &mut writer, &bytes).map_err(MigrateFault::Print)
+    match print_migrated(rt.alloc(), &mut writer, &bytes) {
+        Ok(()) => Ok(()),
+        Err(fault) => Err(MigrateFault::Print(fault)),
+    }
 }

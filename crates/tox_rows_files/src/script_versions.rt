@@ -1,9 +1,9 @@
 //! Versions of scripts, with their lanes and toxicities.
-use super::{ACCEPTED, EXAMPLE, joined, outcome};
-use crate::{ScriptFault, Version, migrate, read_script};
+use crate::scripts::{ACCEPTED, EXAMPLE, joined, outcome};
 use std::alloc::{AllocError, Global};
 use std::test::Fail;
 use tox_defs::Lanes;
+use tox_script::{ScriptFault, Version, migrate, read_script};
 use tox_time::Stream;
 
 /// Documents, each with its fault.
@@ -92,7 +92,10 @@ fn a_text_is_a_toxicity_in_version_2(rt: HostRuntime) -> Result<(), Fail> {
             Some(thousandths) => {
                 let script = read_script(alloc, script.as_bytes())?;
                 let chain = script.chain("a", 3, Stream::Downstream);
-                assert_eq!(rt; chain.entries()[1].toxicity, thousandths, "of {toxicity}");
+                let [_, second] = chain.entries() else {
+                    return Err("not two toxics".into());
+                };
+                assert_eq!(rt; second.toxicity, thousandths, "of {toxicity}");
             }
             None => {
                 let outcome = outcome(alloc, script.as_str())?;

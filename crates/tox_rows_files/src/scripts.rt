@@ -1,13 +1,11 @@
 //! Scripts with what they give.
-mod versions;
-
-use crate::{ScriptFault, read_script};
 use std::alloc::{AllocError, Global};
 use std::test::Fail;
 use tox_defs::{Entry, Toxic};
+use tox_script::{ScriptFault, read_script};
 use tox_time::Stream;
 
-const ACCEPTED: &str = "accepted";
+pub const ACCEPTED: &str = "accepted";
 
 /// Scripts, each with its fault.
 const SCRIPTS: [(&str, &str); 27] = [
@@ -169,7 +167,7 @@ const TOXICS: [(&str, &str); 34] = [
 ];
 
 /// A script's fault, in words.
-fn outcome(alloc: Global, script: &str) -> Result<String, AllocError> {
+pub fn outcome(alloc: Global, script: &str) -> Result<String, AllocError> {
     match read_script(alloc, script.as_bytes()) {
         Ok(_) => String::from_str(alloc, ACCEPTED),
         Err(fault) => format!(in alloc; "{fault}"),
@@ -255,7 +253,7 @@ fn a_stream_has_16_toxics(rt: HostRuntime) -> Result<(), Fail> {
 }
 
 /// A rule for two connections, with two toxics.
-const EXAMPLE: &str = r#"
+pub const EXAMPLE: &str = r#"
 [[rule]]
 proxy = "a"
 first = 2
@@ -321,7 +319,7 @@ const CONNECTIONS: [(&str, &str, u64, &str, &str); 11] = [
 ];
 
 /// Names with a space between two.
-fn joined(alloc: Global, names: &[String]) -> Result<String, AllocError> {
+pub fn joined(alloc: Global, names: &[String]) -> Result<String, AllocError> {
     let mut text = String::new(alloc);
     for (place, name) in names.iter().enumerate() {
         if place > 0 {

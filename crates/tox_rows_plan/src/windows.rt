@@ -1,9 +1,9 @@
 //! A window from outside: what it holds after each call.
 ghost use Rattle.std.specs.Prelude.{◌≡◌, IfOk};
 
-use crate::{Piece, Window};
 use std::alloc::{AllocError, Global};
 use std::test::Fail;
+use tox_lend::{Piece, Window};
 use tox_time::Micros;
 
 fn piece(alloc: Global, start: u64, bytes: &[u8]) -> Result<Piece, AllocError>

@@ -1,9 +1,9 @@
 //! Populate files with what they give.
 ghost use Rattle.std.specs.Prelude.{◌<◌};
 
-use crate::{ConfigFault, ProxyDef, read_populate};
 use std::alloc::{AllocError, Global};
 use std::test::Fail;
+use tox_config::{ConfigFault, ProxyDef, read_populate};
 
 /// Files, each with its proxies, one a line, or its fault.
 const FILES: [(&str, &str); 32] = [

@@ -1,8 +1,8 @@
 //! Worked word tables and draws.
-use crate::{Drawing, Lanes, MAX_WORDS, Words, WordsFault};
 use std::alloc::{AllocError, Global};
 use std::test::Fail;
 use tox_time::Stream;
+use tox_words::{Drawing, Lanes, MAX_WORDS, Words, WordsFault};
 
 fn repeated(alloc: Global, part: &str, count: usize) -> Result<String, AllocError> {
     let mut text = String::new(alloc);
