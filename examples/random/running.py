@@ -5,7 +5,7 @@ import subprocess
 
 SECONDS = 20
 MEMORY = 256 << 20
-FAULT = re.compile(r"toxi: (A[1-4]|L[1-4]|W[1-3]|Q[12]|S[1-9]|C[1-8]|P[1-5]|F1|M1|[LWCSPF]0) [A-Za-z]+( [^\n]+)?\n")
+FAULT = re.compile(r"toxi: (A[1-4]|L[1-4]|W[1-3]|Q[12]|S[1-9]|C[1-8]|P[1-5]|F1|M1|[LWCSPF]0) [A-Za-z0-9]+( [^\n]+)?\n")
 
 
 class Run:

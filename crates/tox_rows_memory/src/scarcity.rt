@@ -35,17 +35,16 @@ pub struct Scarcity {
     paged: Vec<u8>,
 }
 
-/// How many pages of its stack a test has used before it takes all memory. A stack that grows later would find none to map.
-const STACK_PAGES: u8 = 48;
+/// How much of its stack a test has used before it takes all memory. A stack that grows later finds none to map.
+const STACK: usize = 196_608;
 
-/// Uses so many pages of the stack. What it returns depends on each, so that none is left out.
-fn use_stack(pages: u8) -> u8 {
-    let page = [pages; PAGE];
-    if pages == 0 {
-        return page[0];
+/// Uses the stack. What was written there is kept, so that no compiler leaves it out.
+fn use_stack(alloc: Global) -> Result<Vec<u8>, AllocError> {
+    let mut bytes = [0; STACK];
+    for (place, byte) in bytes.iter_mut().enumerate() {
+        *byte = (place % 251) as u8;
     }
-    let below = use_stack(pages - 1);
-    page[usize::from(below)] ^ below
+    bytes.to_vec(alloc)
 }
 
 /// Takes blocks of a size until one is refused.
@@ -86,8 +85,8 @@ impl Scarcity {
 
     /// Takes all memory but the room and two blocks of `stacks` bytes, with the block of pages between them.
     fn keep(alloc: Global, stacks: usize) -> Result<Scarcity, AllocError> {
-        use_stack(STACK_PAGES);
         let mut rest: Vec<Vec<u8>> = Vec::with_capacity(alloc, MAX_BLOCKS)?;
+        rest.push(use_stack(alloc)?)?;
         let mut room: Vec<Vec<u8>> = Vec::with_capacity(alloc, MAX_BLOCKS)?;
         for _ in 0..BLOCKS {
             room.push(Vec::with_capacity(alloc, BLOCK)?)?;
