@@ -29,17 +29,22 @@ fn a_delivery_is_refused_memory(rt: HostRuntime) -> Result<(), Fail> {
     let words = Words::from_list(alloc, &[0])?;
     let chain = chain_of("latency:latency=1 slicer:average_size=1").expect(&rt, "short forms");
     let arrivals = three(alloc)?;
-    let delivered = times_refused(alloc, || {
+    let mut scarcity = Scarcity::new(alloc)?;
+    let delivered = times_refused(&mut scarcity, alloc, || {
         answer_of(&deliver(alloc, &chain, &words, &arrivals), &AllocError)
     })?;
-    let network = times_refused(alloc, || {
+    let network = times_refused(&mut scarcity, alloc, || {
         answer_of(
             &Network::new(alloc, &chain, &words, &arrivals, 2),
             &AllocError,
         )
     })?;
-    let window = times_refused(alloc, || answer_of(&Window::new(alloc, 4), &AllocError))?;
-    let core = times_refused(alloc, || {
+    let window = times_refused(
+        &mut scarcity,
+        alloc,
+        || answer_of(&Window::new(alloc, 4), &AllocError),
+    )?;
+    let core = times_refused(&mut scarcity, alloc, || {
         answer_of(
             &LinkCore::new(alloc, compile(&chain, &words), &words),
             &AllocError,

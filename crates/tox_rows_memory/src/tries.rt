@@ -88,11 +88,14 @@ pub fn try_each<Try: FnMut(&mut Scarcity, usize) -> Result<Tried, Fail>>(
 }
 
 /// Makes a call with no memory, then with 16 bytes more each time, until it isn't refused. Returns how often it was.
-pub fn times_refused<Call: Fn() -> Tried + Drop>(alloc: Global, call: Call) -> Result<usize, Fail>
+pub fn times_refused<Call: Fn() -> Tried + Drop>(
+    scarcity: &mut Scarcity,
+    alloc: Global,
+    call: Call,
+) -> Result<usize, Fail>
     requires { Call.IsAlwaysCallable call }
 {
-    let mut scarcity = Scarcity::new(alloc)?;
-    let refusals = try_each(&mut scarcity, MAX_TRIES, |scarcity, nth| {
+    let refusals = try_each(scarcity, MAX_TRIES, |scarcity, nth| {
         scarcity.leave(alloc, nth)?;
         let answer = call();
         scarcity.end();

@@ -27,14 +27,16 @@ attributes = { latency = 100 }
 fn words_are_refused_memory(rt: HostRuntime) -> Result<(), Fail> {
     let alloc = rt.alloc();
     let memory = WordsFault::OutOfMemory;
-    let listed = times_refused(alloc, || {
+    let mut scarcity = Scarcity::new(alloc)?;
+    let listed = times_refused(&mut scarcity, alloc, || {
         answer_of(&Words::from_list(alloc, &[1, 2, 3]), &memory)
     })?;
     let written = times_refused(
+        &mut scarcity,
         alloc,
         || answer_of(&Words::from_text(alloc, "1,2,3"), &memory),
     )?;
-    let seeded = times_refused(alloc, || {
+    let seeded = times_refused(&mut scarcity, alloc, || {
         answer_of(&Words::from_seed(alloc, 1, 1, Stream::Upstream), &memory)
     })?;
     eprintln!(rt; "refused {listed}, {written} and {seeded} times")?;
@@ -64,13 +66,14 @@ fn arrivals_are_refused_memory(rt: HostRuntime) -> Result<(), Fail> {
 #[test]
 fn files_are_refused_memory(rt: HostRuntime) -> Result<(), Fail> {
     let alloc = rt.alloc();
-    let config = times_refused(alloc, || {
+    let mut scarcity = Scarcity::new(alloc)?;
+    let config = times_refused(&mut scarcity, alloc, || {
         answer_of(
             &read_populate(alloc, CONFIG.as_bytes()),
             &ConfigFault::OutOfMemory,
         )
     })?;
-    let script = times_refused(alloc, || {
+    let script = times_refused(&mut scarcity, alloc, || {
         answer_of(
             &read_script(alloc, SCRIPT.as_bytes()),
             &ScriptFault::OutOfMemory,
@@ -80,7 +83,7 @@ fn files_are_refused_memory(rt: HostRuntime) -> Result<(), Fail> {
     let id = process::id(rt.process());
     let name = format!(in alloc; "{}/toxi-{id}-memory", folder.as_str())?;
     fs::write(&rt, name.as_str(), CONFIG)?;
-    let file = times_refused(alloc, || {
+    let file = times_refused(&mut scarcity, alloc, || {
         answer_of(&read_file(&rt, alloc, &name), &FileFault::OutOfMemory)
     })?;
     fs::remove_file(&rt, name.as_str())?;
@@ -92,7 +95,8 @@ fn files_are_refused_memory(rt: HostRuntime) -> Result<(), Fail> {
 #[test]
 fn a_migration_is_refused_memory(rt: HostRuntime) -> Result<(), Fail> {
     let alloc = rt.alloc();
-    let refused = times_refused(alloc, || {
+    let mut scarcity = Scarcity::new(alloc)?;
+    let refused = times_refused(&mut scarcity, alloc, || {
         answer_of(
             &migrate(alloc, SCRIPT.as_bytes()),
             &ScriptFault::OutOfMemory,
