@@ -1,38 +1,11 @@
 //! Migrated scripts, and what connections meet by them.
+use crate::picks::{CONFIG, MET, ROOM, SCRIPT};
 use std::alloc::Global;
 use std::test::Fail;
 use tox_config::read_populate;
 use tox_proxy::{PrintMigratedFault, find_proxy, print_migrated, print_pick};
 use tox_script::{ScriptFault, read_script};
 use tox_time::{MemorySink, Stream};
-
-/// Room for what is written here.
-const ROOM: usize = 1000;
-
-const CONFIG: &str = "[{\"name\":\"a\",\"upstream\":\"localhost:1\"}]";
-
-const SCRIPT: &str = "\
-[[rule]]
-proxy = \"a\"
-first = 2
-last = 3
-
-[[rule.toxic]]
-type = \"latency\"
-attributes = { latency = 100 }
-
-[[rule.toxic]]
-type = \"limit_data\"
-toxicity = 0
-attributes = { bytes = 7 }
-";
-
-/// What connection 3 meets downstream.
-const MET: &str = "\
-proxy a listen localhost:0 upstream localhost:1 enabled
-0 applied latency:latency=100,jitter=0,toxicity=1000 latency_downstream
-1 skipped limit_data:bytes=7,toxicity=0 limit_data_downstream
-";
 
 /// The pick text of connection 3 downstream.
 fn pick_of(alloc: Global, script: &[u8]) -> Result<String, Fail> {

@@ -15,11 +15,11 @@ use tox_script::read_script;
 use tox_time::{MemorySink, Stream};
 
 /// Room for what any pick here writes.
-const ROOM: usize = 1000;
+pub const ROOM: usize = 1000;
 
-const CONFIG: &str = "[{\"name\":\"a\",\"upstream\":\"localhost:1\"}]";
+pub const CONFIG: &str = "[{\"name\":\"a\",\"upstream\":\"localhost:1\"}]";
 
-const SCRIPT: &str = "\
+pub const SCRIPT: &str = "\
 [[rule]]
 proxy = \"a\"
 first = 2
@@ -36,7 +36,7 @@ attributes = { bytes = 7 }
 ";
 
 /// What connections 2 and 3 meet downstream.
-const MET: &str = "\
+pub const MET: &str = "\
 proxy a listen localhost:0 upstream localhost:1 enabled
 0 applied latency:latency=100,jitter=0,toxicity=1000 latency_downstream
 1 skipped limit_data:bytes=7,toxicity=0 limit_data_downstream
