@@ -48,15 +48,15 @@ impl<'w> Drawing<'w> {
     }
 }
 
-/// The index of the `j`-th word of a lane in a table of `len` words. The common case costs one division.
+/// The index of the `j`-th word of a lane in a table of `len` words. The common case costs one division, of 32 bits.
 fn place_of(lanes: Lanes, lane: usize, j: u64, len: usize) -> usize
     requires some { 0 < len }
     requires most { len ≤ max_words }
     ensures { result ≡ (lane + lane_count lanes * j) % len }
 {
     let count = lanes.count();
-    if lane < MAX_LANES && j < u64::MAX / MAX_LANES as u64 {
-        return ((lane as u64 + count as u64 * j) % len as u64) as usize;
+    if lane < MAX_LANES && j < (u32::MAX / MAX_LANES as u32) as u64 {
+        return ((lane as u32 + count as u32 * j as u32) % len as u32) as usize;
     }
     let turn = (j % len as u64) as usize;
     (lane % len + count * turn) % len
