@@ -1,5 +1,5 @@
 //! Chains: the toxics of one stream of a link, each with its toxicity.
-ghost use Rattle.std.specs.Prelude.{◌≡◌, ℕ, ◌+◌, ◌<◌, ◌≤◌, ◌↔◌, List, [], ◌∷◌, ◌++◌, length, nat_le, slice_get, Some, IsTrue, IsOk, OnOk, OnErr, IsSomeAnd};
+ghost use Rattle.std.specs.Prelude.{◌≡◌, ℕ, ◌+◌, ◌<◌, ◌≤◌, ◌↔◌, List, [], ◌∷◌, ◌++◌, length, slice_get, Some, IsTrue, IsOk, OnOk, OnErr, IsSomeAnd};
 ghost use Rattle.tox_words.specs.declared.lanes.Lanes.TheVariants.{Sixteen};
 ghost use Rattle.tox_words.specs.Draw.{draws_of, lane_count};
 ghost use Rattle.tox_defs.specs.Applied.{is_applied};
@@ -71,7 +71,7 @@ impl Model for Chain {
 
 impl Chain {
     ghost use Rattle.tox_defs.specs.Toxic.{IsInRange};
-    ghost use Rattle.tox_defs.specs.Chain.{IsChain};
+    ghost use Rattle.tox_defs.specs.Chain.{IsChain, is_full};
     ghost use Rattle.tox_defs.specs.Flow.{chain_flow};
     ghost use Rattle.tox_defs.specs.Laws.{IsKeptBy};
     ghost use Rattle.tox_time.specs.declared.item.Item.{Item as OneItem};
@@ -120,7 +120,7 @@ impl Chain {
 
     /// Whether each lane has its toxic.
     pub fn is_full(&self) -> bool
-        ensures { result ≡ nat_le (lane_count self.now.lanes) (length self.now.entries) }
+        ensures { result ≡ is_full self.now }
     {
         self.len() >= self.lanes.count()
     }

@@ -7,7 +7,8 @@ use Rattle.std.proofs.lemmas.List.Elements.{filter-append}
 use Rattle.std.proofs.lemmas.List.Sums.{length-filter}
 use Rattle.tox_time.specs.declared.stream.Stream.{Stream}
 use Rattle.tox_time.specs.declared.stream.Stream.TheVariants.{Upstream, Downstream}
-use Rattle.tox_script.specs.Chains.{has_name, is_full, on, pushed, put_toxic}
+use Rattle.tox_defs.specs.Chain.{is_full}
+use Rattle.tox_script.specs.Chains.{has_name, on, pushed, put_toxic}
 use Rattle.tox_time.specs.Steps.{◌>>=◌}
 use Rattle.tox_script.specs.NamedChain.{NamedToxics, with_toxic}
 use Rattle.tox_time.specs.StreamName.{same_stream}

@@ -1,9 +1,9 @@
 -- The toxics of a rule so far, by their streams.
-use Rattle.std.specs.Prelude.{ℕ, ◌||◌, Bool, List, length, nat_le, Result}
+use Rattle.std.specs.Prelude.{ℕ, ◌||◌, Bool, List, Result}
 use Rattle.tox_time.specs.declared.stream.Stream.{Stream}
 use Rattle.tox_time.specs.declared.stream.Stream.TheVariants.{Upstream, Downstream}
 use Rattle.tox_defs.specs.declared.chain.Entry.{Entry}
-use Rattle.tox_defs.specs.Chain.{Toxics}
+use Rattle.tox_defs.specs.Chain.{is_full}
 use Rattle.tox_script.specs.Fields.{is_among}
 use Rattle.tox_script.specs.NamedChain.{NamedToxics, nothing, with_toxic}
 use Rattle.tox_script.specs.Toxic.{NamedToxic}
@@ -12,7 +12,6 @@ use Rattle.tox_script.specs.declared.chains.Chains.{Chains}
 use Rattle.tox_script.specs.declared.fault.Location.{Location}
 use Rattle.tox_script.specs.declared.fault.ScriptFault.{ScriptFault}
 use Rattle.tox_words.specs.declared.lanes.Lanes.{Lanes}
-use Rattle.tox_words.specs.Draw.{lane_count}
 
 -- no toxic on either stream
 abbrev pub no_chains : Lanes → Chains
@@ -26,10 +25,6 @@ on Downstream chains = chains.downstream
 -- whether a toxic of either stream has a name
 abbrev pub has_name : List ℕ → Chains → Bool
 has_name name chains = is_among chains.upstream.names name || is_among chains.downstream.names name
-
--- whether each lane has its toxic
-abbrev pub is_full : Toxics → Bool
-is_full chain = nat_le (lane_count chain.lanes) (length chain.entries)
 
 -- one more toxic on a stream
 abbrev pub pushed : Stream → Entry → List ℕ → Chains → Chains

@@ -1,8 +1,8 @@
 //! The chains of a rule, one for each stream.
 ghost use Rattle.std.specs.Prelude.{◌≡◌, ◌≢◌, false, string_bytes, OnOk, IfOk, IfErr, Ok, Err};
 ghost use Rattle.toml.specs.View.{items_view, view};
-ghost use Rattle.tox_defs.specs.Chain.{IsEntry};
-ghost use Rattle.tox_script.specs.Chains.{has_name, is_full, no_chains, on, pushed, put_toxic};
+ghost use Rattle.tox_defs.specs.Chain.{IsEntry, is_full};
+ghost use Rattle.tox_script.specs.Chains.{has_name, no_chains, on, pushed, put_toxic};
 ghost use Rattle.tox_script.specs.Toxics.{read_chains, toxic_at};
 ghost use Rattle.tox_script.specs.Views.{toxic_view};
 ghost use Rattle.tox_script.specs.declared.fault.ScriptFault.TheVariants.{OutOfMemory};

@@ -1,8 +1,7 @@
 //! A chain with the names of its toxics.
-ghost use Rattle.std.specs.Prelude.{◌≡◌, ◌<◌, length, map, string_bytes, nat_le, OnOk, OnErr};
-ghost use Rattle.tox_defs.specs.Chain.{IsEntry};
+ghost use Rattle.std.specs.Prelude.{◌≡◌, false, length, map, string_bytes, OnOk, OnErr};
+ghost use Rattle.tox_defs.specs.Chain.{IsEntry, is_full};
 ghost use Rattle.tox_script.specs.Fields.{is_among};
-ghost use Rattle.tox_words.specs.Draw.{lane_count};
 
 use std::alloc::{AllocError, Global};
 use std::marker::Model;
@@ -62,8 +61,7 @@ impl NamedChain {
     }
 
     pub(crate) fn is_full(&self) -> bool
-        ensures { result
-            ≡ nat_le (lane_count self.now.chain.lanes) (length self.now.chain.entries) }
+        ensures { result ≡ is_full self.now.chain }
     {
         self.chain.is_full()
     }
@@ -71,7 +69,7 @@ impl NamedChain {
     /// Adds a toxic behind the others. A refusal leaves them unchanged.
     pub(crate) fn push(&mut self, entry: Entry, name: String) -> Result<(), AllocError>
         requires fits { IsEntry entry }
-        requires room { length self.old.chain.entries < lane_count self.old.chain.lanes }
+        requires room { is_full self.old.chain ≡ false }
         ensures ok { OnOk result (self.new ≡ with_toxic entry (string_bytes name) self.old) }
         ensures err { OnErr result (self.new ≡ self.old) }
     {
