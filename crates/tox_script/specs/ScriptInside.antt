@@ -7,7 +7,8 @@ use Rattle.tox_script.specs.declared.script.Script.TheInside.{Inside}
 
 -- the settings, and the rules in order
 abbrev pub rules_of : Inside → Rules
-rules_of script = record { settings = script.settings; rules = map rule_view script.rules.items }
+rules_of script =
+    record { settings = script.settings; rules = map (rule_view script.settings.lanes) script.rules.items }
 
 -- what a connection meets that no rule covers
 abbrev pub HasNothing : Inside → Type 0

@@ -1,15 +1,19 @@
 -- What the reader's structs stand for.
-use Rattle.std.specs.Prelude.{option_map, string_bytes, unwrap_or}
+use Rattle.std.specs.declared.alloc.Global.{Global}
+use Rattle.std.specs.Prelude.{Box, Option, Some, None, option_map, string_bytes, unwrap_or}
 use Rattle.toml.specs.View.{items_view, view}
+use Rattle.tox_script.specs.Chains.{no_chains}
 use Rattle.tox_script.specs.Document.{DocumentFields}
 use Rattle.tox_script.specs.Rule.{Rule, RuleFields}
 use Rattle.tox_script.specs.Toxic.{NamedToxic, default_name}
 use Rattle.tox_script.specs.ToxicFields.{ToxicFields}
+use Rattle.tox_script.specs.declared.chains.Chains.{Chains}
 use Rattle.tox_script.specs.declared.document.DocumentFields.{DocumentFields as LentDocumentFields}
 use Rattle.tox_script.specs.declared.named_toxic.NamedToxic.{NamedToxic as LentToxic}
 use Rattle.tox_script.specs.declared.rule.Rule.{Rule as OwnedRule}
 use Rattle.tox_script.specs.declared.rule_fields.RuleFields.{RuleFields as LentRuleFields}
 use Rattle.tox_script.specs.declared.toxic_fields.ToxicFields.{ToxicFields as LentFields}
+use Rattle.tox_words.specs.declared.lanes.Lanes.{Lanes}
 
 -- the fields that a document's lent ones stand for
 abbrev pub document_view : LentDocumentFields → DocumentFields
@@ -44,11 +48,16 @@ rule_fields_view fields = record {
   toxics = items_view fields.toxics.now;
 }
 
--- the rule that one with a text of its own stands for
-abbrev pub rule_view : OwnedRule → Rule
-rule_view rule = record {
+-- the chains that a rule of so many lanes holds: it holds none where it has no toxic
+abbrev pub held_chains : Lanes → Option (Box Chains Global) → Chains
+held_chains lanes None = no_chains lanes
+held_chains lanes (Some chains) = chains.value
+
+-- the rule that one with a text of its own stands for: its chains have so many lanes
+abbrev pub rule_view : Lanes → OwnedRule → Rule
+rule_view lanes rule = record {
   proxy = string_bytes rule.proxy;
   first = rule.first;
   last = rule.last;
-  chains = rule.chains;
+  chains = held_chains lanes rule.chains;
 }

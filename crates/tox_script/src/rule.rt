@@ -1,10 +1,14 @@
 //! A rule of a script.
-ghost use Rattle.std.specs.Prelude.{◌≡◌, ◌≢◌, IfOk, IfErr, Ok, Err};
-ghost use Rattle.toml.specs.View.{view};
+ghost use Rattle.std.specs.Prelude.{◌≡◌, ◌≢◌, IfOk, IfErr, Ok, Err, option_map, unwrap_or};
+ghost use Rattle.toml.specs.View.{items_view, view};
+ghost use Rattle.tox_script.specs.Chains.{no_chains};
 ghost use Rattle.tox_script.specs.Covering.{covers, is_up_to};
 ghost use Rattle.tox_script.specs.Rule.{rule_of};
-ghost use Rattle.tox_script.specs.Views.{rule_view};
+ghost use Rattle.tox_script.specs.Toxics.{read_chains};
+ghost use Rattle.tox_script.specs.Views.{held_chains, rule_view};
 ghost use Rattle.tox_script.specs.declared.fault.ScriptFault.TheVariants.{OutOfMemory};
+ghost use Rattle.tox_words.specs.declared.lanes.Lanes.{Lanes};
+ghost use Rattle.tox_words.specs.declared.lanes.Lanes.TheVariants.{Sixteen};
 
 use crate::chains::Chains;
 use crate::fault::{Location, ScriptFault};
@@ -19,7 +23,7 @@ pub(crate) struct Rule {
     proxy: String,
     first: u64,
     last: Option<u64>,
-    chains: Chains,
+    chains: Option<Box<Chains>>,
 }
 
 impl Rule {
@@ -31,7 +35,7 @@ impl Rule {
         number: usize,
     ) -> Result<Rule, ScriptFault>
         ensures ok { IfOk result
-            (λ rule. rule_of settings number (view table.now) ≡ Ok (rule_view rule)) }
+            (λ rule. rule_of settings number (view table.now) ≡ Ok (rule_view settings.lanes rule)) }
         ensures err { IfErr result (λ fault. fault ≢ OutOfMemory
             → rule_of settings number (view table.now) ≡ Err fault) }
     {
@@ -40,7 +44,7 @@ impl Rule {
             toxic: 0,
         };
         let fields = RuleFields::read(table).map_err(|field| ScriptFault::Field(at, field))?;
-        let chains = Chains::read(alloc, settings, fields.toxics, number)?;
+        let chains = read_chains(alloc, settings, fields.toxics, number)?;
         Ok(Rule {
             proxy: String::from_str(alloc, fields.proxy)?,
             first: fields.first,
@@ -51,7 +55,8 @@ impl Rule {
 
     /// Whether a connection of a proxy is the rule's.
     pub(crate) fn covers(&self, proxy: &str, conn: u64) -> bool
-        ensures { result ≡ covers proxy.now conn (rule_view self.now) }
+        // `covers` reads no chains, so the lanes don't matter.
+        ensures { result ≡ covers proxy.now conn (rule_view Sixteen self.now) }
     {
         self.proxy.as_str() == proxy && self.first <= conn && self.is_up_to(conn)
     }
@@ -66,9 +71,30 @@ impl Rule {
         }
     }
 
-    pub(crate) fn chains(&self) -> &Chains
-        ensures { result.now ≡ (rule_view self.now).chains }
+    /// The toxics, where there are any.
+    pub(crate) fn chains(&self) -> Option<&Chains>
+        ensures { (lanes : Lanes) → (rule_view lanes self.now).chains
+            ≡ unwrap_or (option_map (λ chains. chains.now) result) (no_chains lanes) }
     {
-        &self.chains
+        self.chains.as_deref()
     }
+}
+
+/// The toxics of the tables of a rule, whose number is told. A rule without toxics takes no memory for chains.
+fn read_chains(
+    alloc: Global,
+    settings: Settings,
+    tables: &[Value],
+    rule: usize,
+) -> Result<Option<Box<Chains>>, ScriptFault>
+    ensures ok { IfOk result (λ chains. read_chains settings rule (items_view tables.now)
+        ≡ Ok (held_chains settings.lanes chains)) }
+    ensures err { IfErr result (λ fault. fault ≢ OutOfMemory
+        → read_chains settings rule (items_view tables.now) ≡ Err fault) }
+{
+    if tables.is_empty() {
+        return Ok(None);
+    }
+    let chains = Chains::read(alloc, settings, tables, rule)?;
+    Ok(Some(Box::new(alloc, chains)?))
 }

@@ -69,14 +69,14 @@ impl Script {
         ensures { result.now ≡ chains_for proxy.now conn self.now }
     {
         match self.covering(proxy, conn) {
-            Some(rule) => rule.chains(),
+            Some(rule) => rule.chains().unwrap_or(&self.nothing),
             None => &self.nothing,
         }
     }
 
     /// The first rule that covers a connection of a proxy.
     fn covering(&self, proxy: &str, conn: u64) -> Option<&Rule>
-        ensures { option_map (λ rule. rule_view rule.now) result
+        ensures { option_map (λ rule. rule_view self.now.settings.lanes rule.now) result
             ≡ covering proxy.now conn self.now }
     {
         self.rules.iter().find(|rule| rule.covers(proxy, conn))
@@ -142,7 +142,8 @@ pub(crate) fn read_toml(alloc: Global, bytes: &[u8]) -> Result<Value, ScriptFaul
 /// The rules of some tables, or the first fault.
 fn read_rules(alloc: Global, settings: Settings, tables: &[Value]) -> Result<Vec<Rule>, ScriptFault>
     ensures ok { IfOk result
-        (λ rules. rules_from settings [] (items_view tables.now) ≡ Ok (map rule_view rules.items)) }
+        (λ rules. rules_from settings [] (items_view tables.now)
+        ≡ Ok (map (rule_view settings.lanes) rules.items)) }
     ensures err { IfErr result (λ fault. fault ≢ OutOfMemory
         → rules_from settings [] (items_view tables.now) ≡ Err fault) }
 {
