@@ -1,6 +1,5 @@
 //! Chains made from short forms.
 use std::process::Abort;
-use std::test::Fail;
 use tox_defs::{Chain, Lanes, TooManyToxics, Toxic};
 use tox_proxy::{ToxicsFault, read_chain};
 
@@ -38,31 +37,11 @@ fn a_chain_has_a_toxic_for_each_lane(rt: HostRuntime) {
 }
 
 #[test]
-fn the_first_fault_of_short_forms_is_told(rt: HostRuntime) -> Result<(), Fail> {
-    let cases = [
-        (["latency", "latency:", "noop"], "Q1 BadForm 2"),
-        (["noop", "latency:", "latency"], "S3 UnknownType 1"),
-        (["latency", "latency", "bandwidth"], "S5 OutOfRange 3"),
-        (
-            ["latency", "slow_close:until=1", "noop"],
-            "S4 UnknownAttribute 2",
-        ),
-        (
-            ["latency:latency=1,until=3600001", "noop", "noop"],
-            "S5 OutOfRange 1",
-        ),
-    ];
-    for (texts, want) in cases {
-        let fault = read_chain(Lanes::Sixteen, &texts)
-            .err()
-            .expect(&rt, "a fault");
-        assert_eq!(rt; format!(in rt.alloc(); "{fault}")?.as_str(), want);
-    }
+fn short_forms_are_one_for_each_lane(rt: HostRuntime) {
     for (lanes, number) in [(Lanes::Sixteen, 17), (Lanes::ThirtyTwo, 33)] {
         let fault = read_chain(lanes, &["latency"; 33])
             .err()
             .expect(&rt, "a fault");
         assert_eq!(rt; fault, ToxicsFault::TooMany(number));
     }
-    Ok(())
 }

@@ -1,12 +1,10 @@
-//! Tests of texts and files, and of what is printed of faults.
+//! Tests of words, files and texts, and of what is printed of faults. Most rows stand in `examples/rows`, which the program runs.
 #![tactic(auto)]
 
 #[cfg(test)]
 mod chains;
 #[cfg(test)]
 mod dry;
-#[cfg(test)]
-mod ends;
 #[cfg(test)]
 mod fault_names;
 #[cfg(test)]
@@ -15,3 +13,9 @@ mod migrations;
 mod picks;
 #[cfg(test)]
 mod plan_texts;
+#[cfg(test)]
+mod populate_files;
+#[cfg(test)]
+mod scripts;
+#[cfg(test)]
+mod words;

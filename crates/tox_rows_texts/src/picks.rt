@@ -1,4 +1,4 @@
-//! What numbered connections meet, by files and a seed.
+//! Picks whose writer fails, whose files are in memory, and files of the longest length.
 ghost use Rattle.std.specs.Prelude.{◌≡◌, false};
 
 use std::alloc::Global;
@@ -42,9 +42,6 @@ proxy a listen localhost:0 upstream localhost:1 enabled
 1 skipped limit_data:bytes=7,toxicity=0 limit_data_downstream
 ";
 
-/// What the others meet.
-const NOTHING: &str = "proxy a listen localhost:0 upstream localhost:1 enabled\n";
-
 /// What is printed of connection 3 downstream to a writer that takes at most so many bytes a call, and fails at one.
 fn print_to(alloc: Global, writer: &mut MemorySink) -> Result<Result<(), PrintPickFault>, Fail>
     requires { writer.old.failed ≡ false }
@@ -53,17 +50,6 @@ fn print_to(alloc: Global, writer: &mut MemorySink) -> Result<Result<(), PrintPi
     let script = read_script(alloc, SCRIPT.as_bytes())?;
     let proxy = find_proxy(&proxies, "a").ok_or("no proxy a")?;
     Ok(print_pick(alloc, writer, proxy, &script, 3, Stream::Downstream, 1))
-}
-
-#[test]
-fn a_toxicity_with_a_point_is_refused(rt: HostRuntime) -> Result<(), Fail> {
-    let script = SCRIPT.replace(rt.alloc(), "toxicity = 0", "toxicity = 0.5")?;
-    let fault = read_script(rt.alloc(), script.as_bytes())
-        .err()
-        .ok_or("no fault")?;
-    let line = format!(in rt.alloc(); "{fault}")?;
-    assert_eq!(rt; line.as_str(), "S7 ToxicityNotThousandths 1 2");
-    Ok(())
 }
 
 #[test]
@@ -80,28 +66,6 @@ fn each_write_of_a_pick_may_fail(rt: HostRuntime) -> Result<(), Fail> {
     let mut writer = MemorySink::new(rt.alloc(), ROOM, 10, Some(20))?;
     assert_eq!(rt; print_to(rt.alloc(), &mut writer)?, Ok(()));
     assert_eq!(rt; writer.bytes(), MET.as_bytes());
-    Ok(())
-}
-
-#[test]
-fn a_name_keeps_to_its_line(rt: HostRuntime) -> Result<(), Fail> {
-    let config = r#"[{"name":"a\n\u007fb\\","upstream":"localhost:1"}]"#;
-    let proxies = read_populate(rt.alloc(), config.as_bytes())?;
-    let script = read_script(rt.alloc(), b"")?;
-    let proxy = find_proxy(&proxies, "a\n\x7fb\\").ok_or("no such proxy")?;
-    let mut writer = MemorySink::new(rt.alloc(), ROOM, ROOM, None)?;
-    print_pick(
-        rt.alloc(),
-        &mut writer,
-        proxy,
-        &script,
-        1,
-        Stream::Upstream,
-        1,
-    )?;
-    let line = r"proxy a\x0a\x7fb\ listen localhost:0 upstream localhost:1 enabled";
-    let want = format!(in rt.alloc(); "{line}\n")?;
-    assert_eq!(rt; writer.bytes(), want.as_bytes());
     Ok(())
 }
 
@@ -125,40 +89,6 @@ fn answer_of(
         Ok(()) => Ok(written),
         Err(fault) => Ok(format!(in rt.alloc(); "{written}{fault}")?),
     }
-}
-
-#[test]
-fn connections_meet_what_covers_them(rt: HostRuntime) -> Result<(), Fail> {
-    let id = process::id(rt.process());
-    let config = path_of(&rt, id, "covers.json")?;
-    let script = path_of(&rt, id, "covers.toml")?;
-    fs::write(&rt, config.as_str(), CONFIG)?;
-    fs::write(&rt, script.as_str(), SCRIPT)?;
-    let cases = [
-        ("a", 1, "downstream", NOTHING),
-        ("a", 2, "downstream", MET),
-        ("a", 3, "downstream", MET),
-        ("a", 4, "downstream", NOTHING),
-        ("a", 3, "upstream", NOTHING),
-        ("b", 3, "downstream", "P3 UnknownProxy b"),
-        ("a", 3, "x", "P5 BadStream"),
-    ];
-    for (proxy, conn, stream, want) in cases {
-        assert!(rt; 1 <= conn && conn <= 1_000_000);
-        let request = PickRequest {
-            config: config.as_str(),
-            script: script.as_str(),
-            proxy,
-            conn,
-            stream,
-            seed: 1,
-        };
-        let answer = answer_of(&rt, &RealFiles::new(&rt), &request)?;
-        assert_eq!(rt; answer.as_str(), want, "{proxy} {conn} {stream}");
-    }
-    fs::remove_file(&rt, config.as_str())?;
-    fs::remove_file(&rt, script.as_str())?;
-    Ok(())
 }
 
 #[test]
@@ -187,80 +117,6 @@ fn files_in_memory_answer_too(rt: HostRuntime) -> Result<(), Fail> {
         let answer = answer_of(&rt, &memory, &request)?;
         assert_eq!(rt; answer.as_str(), want, "{config} {script}");
     }
-    Ok(())
-}
-
-/// What connection 1 of a proxy b meets upstream by these files, or the first fault.
-fn first_fault_of(
-    rt: &(impl Files + AllocGlobal),
-    config: &str,
-    script: &str,
-) -> Result<String, Fail> {
-    let request = PickRequest {
-        config,
-        script,
-        proxy: "b",
-        conn: 1,
-        stream: "upstream",
-        seed: u64::MAX,
-    };
-    answer_of(rt, &RealFiles::new(rt), &request)
-}
-
-#[test]
-fn the_first_fault_is_told(rt: HostRuntime) -> Result<(), Fail> {
-    let id = process::id(rt.process());
-    let config = path_of(&rt, id, "faults.json")?;
-    let script = path_of(&rt, id, "faults.toml")?;
-    let missing = format!(in rt.alloc(); "P1 FileFault {config}")?;
-    assert_eq!(rt;
-        first_fault_of(&rt, config.as_str(), script.as_str())?,
-        missing
-    );
-    fs::write(&rt, config.as_str(), "{}")?;
-    let refused = first_fault_of(&rt, config.as_str(), script.as_str())?;
-    assert_eq!(rt; refused.as_str(), "C2 NotArray");
-    fs::write(&rt, config.as_str(), "[]")?;
-    let missing = format!(in rt.alloc(); "P1 FileFault {script}")?;
-    assert_eq!(rt;
-        first_fault_of(&rt, config.as_str(), script.as_str())?,
-        missing
-    );
-    fs::write(&rt, script.as_str(), "rule = 1")?;
-    let refused = first_fault_of(&rt, config.as_str(), script.as_str())?;
-    assert_eq!(rt; refused.as_str(), "S2 Field 0 0 rule");
-    fs::write(&rt, script.as_str(), "")?;
-    let unknown = first_fault_of(&rt, config.as_str(), script.as_str())?;
-    assert_eq!(rt; unknown.as_str(), "P3 UnknownProxy b");
-    fs::remove_file(&rt, config.as_str())?;
-    fs::remove_file(&rt, script.as_str())?;
-    Ok(())
-}
-
-/// The stream is read first: these files are missing.
-#[test]
-fn a_bad_stream_is_told_before_the_files(rt: HostRuntime) -> Result<(), Fail> {
-    let request = PickRequest {
-        config: "",
-        script: "",
-        proxy: "b",
-        conn: 1,
-        stream: "x",
-        seed: 0,
-    };
-    assert_eq!(rt;
-        answer_of(&rt, &RealFiles::new(&rt), &request)?.as_str(),
-        "P5 BadStream"
-    );
-    Ok(())
-}
-
-#[test]
-fn a_folder_is_no_file(rt: HostRuntime) -> Result<(), Fail> {
-    let folder = env::temp_dir(&rt)?;
-    let name = folder.as_str();
-    let fault = read_file(&rt, rt.alloc(), name).err();
-    assert_eq!(rt; fault, Some(FileFault::Unreadable(name)));
     Ok(())
 }
 

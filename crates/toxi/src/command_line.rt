@@ -138,21 +138,17 @@ fn toxi<'a>(alloc: Global) -> Result<Command<'a>, AllocError> {
 }
 
 fn dry<'a>(alloc: Global) -> Result<Command<'a>, AllocError> {
-    Command::new(alloc, "dry")
+    let dry = Command::new(alloc, "dry")
         .about("Prints when each byte would leave, and how the link would end")
-        .after_help(help::DRY)
-        .arg(lanes_argument(alloc))?
-        .arg(words_argument(alloc))?
-        .arg(toxics_argument(alloc))
+        .after_help(help::DRY);
+    with_link(alloc, dry)
 }
 
 fn plan<'a>(alloc: Global) -> Result<Command<'a>, AllocError> {
-    Command::new(alloc, "plan")
+    let plan = Command::new(alloc, "plan")
         .about("Prints what the toxics are compiled into")
-        .after_help(help::PLAN)
-        .arg(lanes_argument(alloc))?
-        .arg(words_argument(alloc))?
-        .arg(toxics_argument(alloc))
+        .after_help(help::PLAN);
+    with_link(alloc, plan)
 }
 
 fn stages<'a>(alloc: Global) -> Result<Command<'a>, AllocError> {
@@ -161,10 +157,16 @@ fn stages<'a>(alloc: Global) -> Result<Command<'a>, AllocError> {
         .value_name("N")
         .help("The room of each ring, in items: 1 to 1024 [default: 4]")
         .value_parser(ValueParser::unsigned(1, MAX_CAP as u64));
-    Command::new(alloc, "stages")
+    let stages = Command::new(alloc, "stages")
         .about("Prints what `dry` prints, by a thread for each toxic")
         .after_help(help::STAGES)
-        .arg(cap)?
+        .arg(cap)?;
+    with_link(alloc, stages)
+}
+
+/// A command with the lanes, words and toxics of a link.
+fn with_link<'a>(alloc: Global, command: Command<'a>) -> Result<Command<'a>, AllocError> {
+    command
         .arg(lanes_argument(alloc))?
         .arg(words_argument(alloc))?
         .arg(toxics_argument(alloc))
