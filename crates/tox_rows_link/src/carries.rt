@@ -112,14 +112,17 @@ fn without_end(
     alloc: Global,
     events: &[LinkEvent],
 ) -> Result<(Vec<LinkEvent>, Option<(usize, u64)>), AllocError> {
-    let mut others = Vec::new(alloc);
-    let mut end = None;
-    for event in events {
-        match event {
-            LinkEvent::SourceEnd(instant) => end = Some((others.len(), instant.get())),
-            _ => others.extend_from_slice(&[*event])?,
-        }
-    }
+    let mut others = Vec::from_slice(alloc, events)?;
+    let place = events
+        .iter()
+        .position(|event| matches!(event, LinkEvent::SourceEnd(_)));
+    let end = match place {
+        Some(place) if place < others.len() => match others.remove(place) {
+            LinkEvent::SourceEnd(instant) => Some((place, instant.get())),
+            _ => None,
+        },
+        _ => None,
+    };
     Ok((others, end))
 }
 
