@@ -1,10 +1,12 @@
-//! Tests of what stands below plans: arrivals, ends, short forms, stages and the stage network.
+//! Tests of what stands below plans: arrivals, ends, short forms, stages, the stage network and running stages.
 #![tactic(auto)]
 
 #[cfg(test)]
 mod arrivals;
 #[cfg(test)]
 mod ends;
+#[cfg(test)]
+mod gates;
 #[cfg(test)]
 mod network;
 #[cfg(test)]
@@ -13,3 +15,7 @@ mod short_forms;
 mod slice_lists;
 #[cfg(test)]
 mod stages;
+#[cfg(test)]
+mod threads;
+#[cfg(test)]
+mod workers;
