@@ -7,7 +7,7 @@ use Rattle.tox_time.specs.declared.ending.Ending.{Ending}
 use Rattle.tox_time.specs.Stream.{IsStreamFrom}
 use Rattle.tox_time.specs.Table.{final_of, table}
 use Rattle.tox_compile.specs.Meaning.{deadline_of}
-use Rattle.tox_plan.specs.Levels.{ops_of}
+use Rattle.tox_plan.specs.OpCursors.{ops_of}
 use Rattle.tox_plan.specs.RunnerView.{HasNoChunk, to_come, found_chunk, known_ending}
 use Rattle.tox_plan.proofs.RunnerOutput.{final-no_chunk}
 use Rattle.tox_link.specs.declared.waiting.WaitingPiece.{WaitingPiece}
@@ -64,7 +64,7 @@ module _ (core : CoreView) (last : Ending) where
     quiet-emptied = record { found = emptied.found; waiting = emptied.waiting; drained = record { idle = emptied.drained.idle; none = final-no_chunk last } }
 
     pub settled-quiet : (now d : ℕ) → core_deadline core ≡ Some d → d ≤ now
-        → ((e position since : ℕ) (items : List Item) → deadline_of (ops_of core.runner.levels) ≡ Some e → e ≤ since → IsStreamFrom position since items → to_come core.runner items ≡ final_of last ∷ [])
+        → ((e position since : ℕ) (items : List Item) → deadline_of (ops_of core.runner.cursors) ≡ Some e → e ≤ since → IsStreamFrom position since items → to_come core.runner items ≡ final_of last ∷ [])
         → Settled core after_quiet now
     settled-quiet now d is passed same = record {
       leaves = record {

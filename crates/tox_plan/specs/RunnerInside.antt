@@ -4,7 +4,7 @@ use Rattle.tox_plan.specs.RunnerView.{RunnerView, IsRunning}
 
 abbrev pub running : Inside → RunnerView
 running runner = record {
-  levels = runner.levels.items;
+  cursors = runner.cursors.items;
   drawing = runner.drawing;
   position = runner.position;
   piece = runner.piece;

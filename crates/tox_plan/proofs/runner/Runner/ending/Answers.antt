@@ -1,4 +1,4 @@
--- The ending is known exactly where the source's end was told, or some level's ending is known.
+-- The ending is known exactly where the source's end was told, or some cursor's ending is known.
 use Rattle.tox_plan.specs.RunnerInside.{running}
 use Rattle.tox_plan.proofs.KnownEndings.{ended_exactly}
 use Rattle.tox_plan.proofs.runner.Runner.ending.Goals as goal
