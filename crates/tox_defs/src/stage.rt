@@ -43,7 +43,7 @@ impl<'w> Model for Stage<'w> {
 impl<'w> Stage<'w> {
     ghost use Rattle.tox_defs.specs.Stage.{first_stage, taken, MatchEmitted};
 
-    /// The stage of a toxic at this place of its chain, before its first item. It draws from the lane of that number, of so many.
+    /// The stage of a toxic at this place of its chain, before its first item. It draws from the lane of that number.
     pub fn new(toxic: Toxic, lanes: Lanes, lane: usize, words: &'w Words) -> Stage<'w>
         requires in_range { IsInRange toxic }
         requires place { lane < lane_count lanes }

@@ -9,10 +9,10 @@ use Rattle.tox_words.specs.Draw.{Draws}
 use Rattle.tox_defs.specs.declared.op_cursor.OpCursor.{OpCursor}
 use Rattle.tox_defs.specs.Op.{op_giving, is_mute}
 use Rattle.tox_defs.specs.Look.{as_chunk}
-use Rattle.tox_defs.specs.OpCursor.{cursor_gives, IsSound, IsNextPiece, IsAtEnd}
-use Rattle.tox_plan.specs.declared.pulling.Pulled.{Pulled}
-use Rattle.tox_plan.specs.declared.pulling.Pulled.TheVariants.{Piece, End, Nothing}
-use Rattle.tox_plan.specs.OpCursors.{to_come_from, AreNested, AreDrained, AreRead, IsNext, IsFrom, MatchGiven, MatchPulled, OnlyEnds}
+use Rattle.tox_defs.specs.OpCursor.{cursor_gives, IsSound, IsNextPiece, IsAtEnd, MatchEmission}
+use Rattle.tox_defs.specs.declared.op_cursor.Emission.{Emission}
+use Rattle.tox_defs.specs.declared.op_cursor.Emission.TheVariants.{Piece, End}
+use Rattle.tox_plan.specs.OpCursors.{to_come_from, AreNested, AreDrained, AreRead, IsNext, IsFrom, MatchPulled, OnlyEnds}
 use Rattle.tox_plan.proofs.CursorLemmas.{nested-below, cursor_gives-filled, cursor_gives-final}
 
 -- the first cursor's next piece
@@ -69,19 +69,18 @@ knows-none cursor upstream known knows is running draws start source nested read
     (read.0, running, drained)
 
 -- what a cursor that has nothing left gives for the piece that comes from upstream
-pub passed-piece : (draws : Draws) (start : ℕ) (old new : List OpCursor) (cursor later : OpCursor) (source piece : Slice) (given : Pulled) → cursor.ending ≡ None → cursor.stop ≡ start → is_mute cursor.op ≡ false
-    → IsNext draws start old new source piece → MatchGiven draws start (filled cursor piece) later given → MatchPulled draws start (cursor ∷ old) (later ∷ new) source given
+pub passed-piece : (draws : Draws) (start : ℕ) (old new : List OpCursor) (cursor later : OpCursor) (source piece : Slice) (given : Emission) → cursor.ending ≡ None → cursor.stop ≡ start → is_mute cursor.op ≡ false
+    → IsNext draws start old new source piece → MatchEmission draws start (filled cursor piece) later given → MatchPulled draws start (cursor ∷ old) (later ∷ new) source (Some given)
 passed-piece draws start old new cursor later source piece (Piece found) running read heard next given = filled-piece draws start old new cursor source piece running read next later found heard given
 passed-piece draws start old new cursor later source piece (End ending) running read heard next given = record {
   only = filled-end draws start old new cursor source piece running read next later ending given;
   kept = inl (ap is_some given.ended);
 }
-passed-piece draws start old new cursor later source piece Nothing running read heard next given = absurd given
 
 -- a piece that comes begins where the reader stands
-pub pulled-from : (draws : Draws) (start : ℕ) (old new : List OpCursor) (source : Slice) (given : Pulled) → source.span.stop ≤ 2 ^ 40 → MatchPulled draws start old new source given → IsFrom start given
-pulled-from draws start old new source (Piece piece) few next =
+pub pulled-from : (draws : Draws) (start : ℕ) (old new : List OpCursor) (source : Slice) (given : Option Emission) → source.span.stop ≤ 2 ^ 40 → MatchPulled draws start old new source given → IsFrom start given
+pulled-from draws start old new source None few nothing = tt
+pulled-from draws start old new source (Some (Piece piece)) few next =
     let below : piece.span.stop ≤ source.span.stop = nested-below piece.span.stop new source next.nested in
     (next.begins, omega (arith, next.begins, next.some), omega (arith, below, few))
-pulled-from draws start old new source (End ending) few end = tt
-pulled-from draws start old new source Nothing few nothing = tt
+pulled-from draws start old new source (Some (End ending)) few end = tt

@@ -3,10 +3,10 @@ use Rattle.std.proofs.Common.{◌≡◌, ℕ, Bool, true, false, List, [], ◌�
 use Rattle.std.specs.Prelude.{is_some, IsSome, IfSome}
 use Rattle.tox_time.specs.declared.slice.Slice.{Slice}
 use Rattle.tox_time.specs.declared.item.Item.{Item}
-use Rattle.tox_time.specs.declared.item.Item.TheVariants.{Quiet}
+use Rattle.tox_time.specs.declared.item.Item.TheVariants.{Chunk, Closed, Reset, Quiet}
 use Rattle.tox_time.specs.declared.ending.Ending.{Ending}
 use Rattle.tox_time.specs.declared.ending.Ending.TheVariants.{StillOpen, Closed as ClosedEnding, Reset as ResetEnding}
-use Rattle.tox_time.specs.Table.{final_of}
+use Rattle.tox_time.specs.Table.{final_of, table}
 use Rattle.tox_words.specs.Draw.{Draws, draws_of}
 use Rattle.tox_defs.specs.declared.op_cursor.OpCursor.{OpCursor}
 use Rattle.tox_defs.specs.Look.{as_chunk}
@@ -72,6 +72,13 @@ pub final-no_chunk : (ending : Ending) → HasNoChunk (final_of ending ∷ [])
 final-no_chunk StillOpen = tt
 final-no_chunk (ClosedEnding t) = tt
 final-no_chunk (ResetEnding t) = tt
+
+pub no_chunk-table : (items : List Item) → HasNoChunk items → table items ≡ []
+no_chunk-table [] none = refl
+no_chunk-table (Chunk span t ∷ items) none = absurd none
+no_chunk-table (Closed t ∷ items) none = no_chunk-table items none
+no_chunk-table (Reset t ∷ items) none = no_chunk-table items none
+no_chunk-table (Quiet ∷ items) none = no_chunk-table items none
 
 -- no chunk comes any more from drained cursors, once the source says nothing more
 pub drained-no_chunk : (draws : Draws) (start : ℕ) (cursors : List OpCursor) (source : Slice) → AreNested start cursors source → AreDrained start cursors source → HasNoChunk (to_come_from draws start cursors source (Quiet ∷ []))

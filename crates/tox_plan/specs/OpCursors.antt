@@ -11,9 +11,9 @@ use Rattle.tox_defs.specs.declared.op_cursor.OpCursor.{OpCursor}
 use Rattle.tox_defs.specs.Reaction.{first_state}
 use Rattle.tox_defs.specs.Op.{is_mute}
 use Rattle.tox_defs.specs.Look.{as_chunk, rest_of}
-use Rattle.tox_defs.specs.OpCursor.{cursor_gives, IsSound, IsNextPiece, IsAtEnd}
-use Rattle.tox_plan.specs.declared.pulling.Pulled.{Pulled}
-use Rattle.tox_plan.specs.declared.pulling.Pulled.TheVariants.{Piece, End, Nothing}
+use Rattle.tox_defs.specs.OpCursor.{cursor_gives, IsSound}
+use Rattle.tox_defs.specs.declared.op_cursor.Emission.{Emission}
+use Rattle.tox_defs.specs.declared.op_cursor.Emission.TheVariants.{Piece, End}
 
 -- the ending that an operation has from the start
 abbrev pub ending_at_start : Op → Option Ending
@@ -104,20 +104,14 @@ pub record IsTheEnd (draws : Draws) (start : ℕ) (old new : List OpCursor) (sou
   pub kept : HaveEnded new
 
 -- a piece, if one comes, begins where the reader stands
-abbrev pub IsFrom : ℕ → Pulled → Type 0
-IsFrom start (Piece piece) =
+abbrev pub IsFrom : ℕ → Option Emission → Type 0
+IsFrom start None = Unit {0}
+IsFrom start (Some (Piece piece)) =
     (piece.span.start ≡ start) × (start < piece.span.stop) × (piece.span.stop ≤ 2 ^ 40)
-IsFrom start (End ending) = Unit {0}
-IsFrom start Nothing = Unit {0}
-
--- what one cursor gave
-abbrev pub MatchGiven : Draws → ℕ → OpCursor → OpCursor → Pulled → Type 0
-MatchGiven draws start old new (Piece piece) = IsNextPiece draws start old new piece
-MatchGiven draws start old new (End ending) = IsAtEnd draws start old new ending
-MatchGiven draws start old new Nothing = ⊥
+IsFrom start (Some (End ending)) = Unit {0}
 
 -- what a pull brought
-abbrev pub MatchPulled : Draws → ℕ → List OpCursor → List OpCursor → Slice → Pulled → Type 0
-MatchPulled draws start old new source (Piece piece) = IsNext draws start old new source piece
-MatchPulled draws start old new source (End ending) = IsTheEnd draws start old new source ending
-MatchPulled draws start old new source Nothing = (new ≡ old) × AreDrained start old source
+abbrev pub MatchPulled : Draws → ℕ → List OpCursor → List OpCursor → Slice → Option Emission → Type 0
+MatchPulled draws start old new source None = (new ≡ old) × AreDrained start old source
+MatchPulled draws start old new source (Some (Piece piece)) = IsNext draws start old new source piece
+MatchPulled draws start old new source (Some (End ending)) = IsTheEnd draws start old new source ending

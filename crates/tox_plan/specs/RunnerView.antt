@@ -75,7 +75,7 @@ round_due read (Some cut) round = 0
 round_due read None round = if read then 0 else round
 
 -- each turn looks at one operation: at most one round of looks for a cut or an offered piece.
--- A runner that may have to look has a round in hand.
+-- While a look may be due, one round of the bound is unused.
 abbrev pub AreCounted : RunnerView → Type 0
 AreCounted runner =
     round_due runner.drained runner.lookahead (length runner.cursors) + runner.turns

@@ -1,4 +1,4 @@
-//! How cursors that have nothing left end.
+//! The endings of cursors that have nothing left.
 ghost use Rattle.std.specs.Prelude.{◌≡◌, ℕ, ◌<◌, List, [], ◌∷◌, None, IsSome, MatchOption};
 ghost use Rattle.tox_time.specs.Table.{final_of};
 ghost use Rattle.tox_time.specs.declared.slice.Slice.{Slice as OneSlice};
@@ -8,7 +8,7 @@ ghost use Rattle.tox_plan.specs.OpCursors.{AreNested, AreDrained, AreRead, HaveE
 use tox_defs::OpCursor;
 use tox_time::Ending;
 
-/// The ending that cursors which have nothing left give for one that comes from the source.
+/// The ending that these cursors, which have nothing left, give for the source's ending.
 pub(crate) fn last_of(cursors: &[OpCursor], ending: &Ending) -> Ending
     ensures { (draws : Draws) (start : ℕ) (source : OneSlice) → AreNested start cursors.now source
         → AreDrained start cursors.now source
@@ -23,7 +23,7 @@ pub(crate) fn last_of(cursors: &[OpCursor], ending: &Ending) -> Ending
     }
 }
 
-/// The ending that is known, if there is one, of cursors whose chunks are read.
+/// The ending that these cursors already know, if any. Their chunks are read to the end.
 pub(crate) fn ending_of_read(cursors: &[OpCursor]) -> Option<Ending>
     ensures kept { IsSome result → HaveEnded cursors.now }
     ensures known { (draws : Draws) (start : ℕ) (source : OneSlice)

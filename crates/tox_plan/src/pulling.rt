@@ -1,29 +1,18 @@
 //! The next piece through the cursors of a plan. The cursors stand last operation first, and their ends nest: cursor k's
 //! unread bytes are `cursor[k-1].stop..cursor[k].stop`.
-ghost use Rattle.std.specs.Prelude.{◌≡◌, ℕ, ◌+◌, ◌^◌, ◌<◌, ◌≤◌, List, [], ◌∷◌, ◌++◌, length, take, drop, All, None, false};
+ghost use Rattle.std.specs.Prelude.{◌≡◌, ℕ, ◌+◌, ◌^◌, ◌<◌, ◌≤◌, List, [], ◌∷◌, ◌++◌, length, take, drop, All, None, Some, false};
 ghost use Rattle.tox_time.specs.declared.slice.Slice.{Slice as OneSlice};
 ghost use Rattle.tox_words.specs.Draw.{Draws, draws_of};
 ghost use Rattle.tox_defs.specs.declared.op_cursor.OpCursor.{OpCursor as OneCursor};
 ghost use Rattle.tox_defs.specs.Op.{is_mute};
-ghost use Rattle.tox_defs.specs.OpCursor.{IsSound};
-ghost use Rattle.tox_plan.specs.OpCursors.{AreNested, AreOpenUnless, IsRead, BeginsUnread, IsFrom, MatchGiven, MatchPulled, ops_of};
+ghost use Rattle.tox_defs.specs.OpCursor.{IsSound, MatchEmission};
+ghost use Rattle.tox_plan.specs.OpCursors.{AreNested, AreOpenUnless, IsRead, BeginsUnread, IsFrom, MatchPulled, ops_of};
 
 use tox_defs::{Emission, OpCursor};
-use tox_time::{Ending, Slice, Span};
+use tox_time::{Slice, Span};
 use tox_words::Drawing;
 
-/// What a pull at the cursors brings.
-#[derive(Clone, Copy, Debug, PartialEq, Eq)]
-pub(crate) enum Pulled {
-    /// The next piece.
-    Piece(Slice),
-    /// The ending: no piece comes any more, whatever the source gives.
-    End(Ending),
-    /// Nothing, until the source has another piece.
-    Nothing,
-}
-
-/// What the looks at cursors counted and found.
+/// Counts the looks at cursors, and notes whether one found an ending.
 #[derive(Clone, Copy, Debug, PartialEq, Eq)]
 pub(crate) struct PullStats {
     /// How often a cursor was looked at.
@@ -33,21 +22,21 @@ pub(crate) struct PullStats {
 }
 
 /// The rest of a source's piece, of which the bytes from `start` on are unread.
-fn pull_source(start: u64, source: &Slice) -> Pulled
+fn pull_source(start: u64, source: &Slice) -> Option<Emission>
     requires { start ≤ source.now.span.stop }
     ensures { (draws : Draws) → MatchPulled draws start [] [] source.now result }
 {
     if start == source.span.stop {
-        return Pulled::Nothing;
+        return None;
     }
     let span = Span {
         start,
         stop: source.span.stop,
     };
-    Pulled::Piece(Slice {
+    Some(Emission::Piece(Slice {
         span,
         instant: source.instant,
-    })
+    }))
 }
 
 /// Pulls the next piece through the cursors, where the reader of the first one stands at `start`: the nearest cursor
@@ -59,7 +48,7 @@ pub(crate) fn pull(
     source: &Slice,
     drawing: &Drawing<'_>,
     looks: &mut PullStats,
-) -> Pulled
+) -> Option<Emission>
     requires nested { AreNested start cursors.old source.now }
     requires few { source.now.span.stop ≤ 2 ^ 40 }
     requires room { looks.old.turns + length cursors.old < 2 ^ 64 }
@@ -101,7 +90,7 @@ fn pull_nearest(
     source: &Slice,
     drawing: &Drawing<'_>,
     looks: &mut PullStats,
-) -> Pulled
+) -> Option<Emission>
     requires nested { AreNested start cursors.old source.now }
     requires unread { BeginsUnread start cursors.old }
     requires room { looks.old.turns + length cursors.old < 2 ^ 64 }
@@ -119,16 +108,16 @@ fn pull_nearest(
     };
     looks.turns += 1;
     if let Some(ending) = cursor.ending {
-        return Pulled::End(ending);
+        return Some(Emission::End(ending));
     }
-    advance(cursor, start, drawing, looks)
+    Some(advance(cursor, start, drawing, looks))
 }
 
 /// Passes what comes from upstream through cursors that have nothing left, the last of them first.
 fn pass(
     cursors: &mut [OpCursor],
     start: u64,
-    pulled: &mut Pulled,
+    pulled: &mut Option<Emission>,
     drawing: &Drawing<'_>,
     looks: &mut PullStats,
 )
@@ -153,7 +142,7 @@ fn pass(
 fn pass_one(
     cursor: &mut OpCursor,
     start: u64,
-    pulled: &mut Pulled,
+    pulled: &mut Option<Emission>,
     drawing: &Drawing<'_>,
     looks: &mut PullStats,
 )
@@ -171,34 +160,35 @@ fn pass_one(
 {
     looks.turns += 1;
     match *pulled {
-        Pulled::Piece(piece) => {
+        Some(Emission::Piece(piece)) => {
             cursor.stop = piece.span.stop;
             cursor.instant = piece.instant;
-            *pulled = advance(cursor, start, drawing, looks);
+            *pulled = Some(advance(cursor, start, drawing, looks));
         }
-        Pulled::End(ending) => *pulled = Pulled::End(cursor.op.map_ending(&cursor.state, &ending)),
-        Pulled::Nothing => {}
+        Some(Emission::End(ending)) => {
+            let ending = cursor.op.map_ending(&cursor.state, &ending);
+            *pulled = Some(Emission::End(ending));
+        }
+        None => {}
     }
 }
 
-/// The next piece of a cursor's rest, or its ending. It is inlined as [`OpCursor::advance`] is, which is all the work of a look.
+/// The next piece of a cursor's rest, or its ending. Inlined for the reason that [`OpCursor::advance`] is: it does all the work of a
+/// look.
 #[inline(always)]
-fn advance(cursor: &mut OpCursor, start: u64, drawing: &Drawing<'_>, looks: &mut PullStats) -> Pulled
+fn advance(cursor: &mut OpCursor, start: u64, drawing: &Drawing<'_>, looks: &mut PullStats) -> Emission
     requires some { start < cursor.old.stop }
     requires heard { is_mute cursor.old.op ≡ false }
     requires open { cursor.old.ending ≡ None }
     requires sound { IsSound start cursor.old }
-    ensures given { MatchGiven (draws_of drawing.now) start cursor.old cursor.new result }
-    ensures from { IsFrom start result }
+    ensures given { MatchEmission (draws_of drawing.now) start cursor.old cursor.new result }
+    ensures from { IsFrom start (Some result) }
     ensures op { cursor.new.op ≡ cursor.old.op }
     ensures turns { looks.new.turns ≡ looks.old.turns }
     ensures ended { (upstream : List OneCursor) → AreOpenUnless looks.old.ended upstream
         → AreOpenUnless looks.new.ended (cursor.new ∷ upstream) }
 {
-    let advanced = cursor.advance(start, drawing);
+    let emission = cursor.advance(start, drawing);
     looks.ended |= cursor.ending.is_some();
-    match advanced {
-        Emission::Piece(piece) => Pulled::Piece(piece),
-        Emission::End(ending) => Pulled::End(ending),
-    }
+    emission
 }

@@ -13,12 +13,12 @@ ghost use Rattle.tox_plan.specs.Cuts.{IsCut, IsOneCut, KeepsOffers, BeginsApart,
 ghost use Rattle.tox_plan.specs.Given.{HasGiven, GoesOn, IsLasting, IsWhole, AreAfter};
 
 use crate::cursor_endings::{ending_of_read, last_of};
-use crate::pulling::{PullStats, Pulled, pull};
+use crate::pulling::{PullStats, pull};
 use crate::starting::push_cursors;
 use arrayvec::ArrayVec;
 use std::marker::Model;
 use tox_compile::Plan;
-use tox_defs::{MAX_TOXICS, OpCursor};
+use tox_defs::{Emission, MAX_TOXICS, OpCursor};
 use tox_time::{ArrivalFault, Ending, MAX_BYTES, Micros, Slice, Span};
 use tox_words::{Drawing, Words};
 
@@ -47,9 +47,9 @@ impl<'w> Model for Runner<'w> {
 
     ghost Value = { RunnerView };
 
-    ghost use Rattle.tox_plan.specs.RunnerInside.{running, IsKept};
+    ghost use Rattle.tox_plan.specs.RunnerInside.{runner_view, IsKept};
 
-    ghost view = { running };
+    ghost view = { runner_view };
 
     ghost invariant = { IsKept };
 }
@@ -196,7 +196,7 @@ impl<'w> Runner<'w> {
         Some(slice)
     }
 
-    /// The next cut by itself. Where none is left the runner is then idle.
+    /// The next cut, not joined to its neighbours. If none is left the runner is then idle.
     fn cut(&mut self) -> Option<Slice>
         ensures some { IfSome result
             (λ cut. IsOneCut self.old self.new cut × (self.new.idle ≡ false)) }
@@ -217,7 +217,7 @@ impl<'w> Runner<'w> {
         Some(cut)
     }
 
-    /// Where the next cut stops, if it leaves at this instant; it is then given.
+    /// Gives the next cut if it leaves at this instant, and returns where it stops.
     fn cut_at(&mut self, instant: &Micros) -> Option<u64>
         ensures some { IfSome result
             (λ stop. IsOneCut self.old self.new
@@ -271,15 +271,15 @@ impl<'w> Runner<'w> {
             &self.drawing,
             &mut self.looks,
         ) {
-            Pulled::Piece(cut) => {
+            Some(Emission::Piece(cut)) => {
                 self.drained = cut.span.stop == self.piece.span.stop && !self.looks.ended;
                 self.lookahead = Some(cut);
             }
-            Pulled::End(ending) => {
+            Some(Emission::End(ending)) => {
                 self.ending = Some(ending);
                 self.drained = true;
             }
-            Pulled::Nothing => self.drained = true,
+            None => self.drained = true,
         }
     }
 
@@ -296,7 +296,7 @@ impl<'w> Runner<'w> {
         ending
     }
 
-    /// Finishes without an end of the source. Returns the link's ending. If the plan has a deadline, the link ends so
+    /// Finishes without an end of the source. Returns the link's ending. If the plan has a deadline, that is the ending
     /// whatever arrives at or after it.
     pub fn quiet(&mut self) -> Ending
         requires { self.old.idle ≡ true }

@@ -1,6 +1,5 @@
 -- A known ending that comes from upstream leaves the cursor as its operation's ending.
 use Rattle.std.proofs.Common.{rules, ◌≡◌, ◌∷◌, Some, None, sym, subst}
-use Rattle.tox_words.specs.Draw.{Draws}
 use Rattle.tox_plan.proofs.Pulls.{Knows, knows-some, knows-none}
 use Rattle.tox_plan.proofs.cursor_endings.+ending_of_read.Goals as goal
 
