@@ -59,8 +59,8 @@ takes_last draws (first ∷ second ∷ ops) op fits fits' =
 -- a delay that does nothing
 delay_same : (draws : Draws) (fixed latency jitter lane until : ℕ) (items : List Item) → IsNormal latency jitter → fixed ≡ 0 → jitter ≡ 0 → IsStream items
     → flow (op_reaction (Delay fixed latency jitter lane until) draws) items ≡ items
-delay_same draws fixed latency jitter lane until items normal none still stream =
-    ap (λ giving. flow (stopping until (counted giving)) items) (giving-fixed fixed latency jitter lane until draws normal still)
+delay_same draws fixed latency jitter lane until items normal none no_jitter stream =
+    ap (λ giving. flow (stopping until (counted giving)) items) (giving-fixed fixed latency jitter lane until draws normal no_jitter)
     ∙ delay_vanishes (λ chunk. 1000 * fixed) (λ i. omega arith) until items 0 0 0 0 0 0 (omega arith) stream
 
 -- what vanishes changes no stream

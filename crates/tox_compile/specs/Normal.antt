@@ -37,7 +37,7 @@ joined (Cutoff instant) (Cutoff other) = Some (Cutoff (min instant other))
 joined (Mute end) op = Some (Mute (after_mute op end))
 joined first second = None
 
--- the one, or where there is none the two
+-- the joined operation, or both where no rule joins them
 abbrev pub one_or_two : Option Op → Op → Op → List Op
 one_or_two (Some one) first second = one ∷ []
 one_or_two None first second = first ∷ second ∷ []

@@ -4,5 +4,5 @@
 mod normal;
 mod plan;
 
-pub use plan::{Plan, compile};
+pub use plan::{Plan, compile, earlier};
 pub use tox_defs::Op;

@@ -72,7 +72,7 @@ fn deadline_of(ops: &[Op]) -> Option<Micros>
 }
 
 /// The earlier of an instant and an optional one.
-fn earlier(instant: Micros, other: Option<Micros>) -> Micros
+pub fn earlier(instant: Micros, other: Option<Micros>) -> Micros
     ensures { earlier instant other ≡ Some result }
 {
     match other {

@@ -67,8 +67,8 @@ names_of-append : (ys xs : List Proxy) (k : ℕ) → k < length (entries_of xs) 
 names_of-append [] xs k within = rw append-nil refl
 names_of-append (y ∷ ys) xs k within =
     let more = entries_of-push xs y in
-    let still : k < length (entries_of (xs ++ y ∷ [])) = omega (arith, ap length more, length-put y (entries_of xs)) in
-    ap (λ ps. slice_get (names_of ps) k) (sym (append_assoc xs (y ∷ []) ys)) ∙ names_of-append ys (xs ++ y ∷ []) k still
+    let below : k < length (entries_of (xs ++ y ∷ [])) = omega (arith, ap length more, length-put y (entries_of xs)) in
+    ap (λ ps. slice_get (names_of ps) k) (sym (append_assoc xs (y ∷ []) ys)) ∙ names_of-append ys (xs ++ y ∷ []) k below
     ∙ ap (λ es. slice_get (map (λ p. p.name) es) k) more ∙ name-put y (entries_of xs) k within
 
 -- a name is among the entries where it is among the proxies

@@ -44,7 +44,7 @@ impl<'a> Entry<'a> {
         })
     }
 
-    /// A definition with texts of its own.
+    /// The proxy, with its texts copied.
     pub(crate) fn to_def(&self, alloc: Global) -> Result<ProxyDef, AllocError>
         ensures { IfOk result (λ def. def ≡ entry_view self.now) }
     {
@@ -57,7 +57,7 @@ impl<'a> Entry<'a> {
     }
 }
 
-/// The name, where it is a text of 1 to 255 bytes.
+/// The name. None if it is absent or isn't a text of 1 to 255 bytes.
 fn name_of(value: &Value) -> Option<&str>
     ensures { option_map (λ name. name.now) result ≡ name_of (view value.now) }
 {
@@ -69,7 +69,7 @@ fn name_of(value: &Value) -> Option<&str>
     }
 }
 
-/// Where the proxy listens, where that is an address or left to the default.
+/// The address to listen at: the member's, or the default if it is absent or null. None if it is no address.
 fn listen_of(value: &Value) -> Option<&str>
     ensures { option_map (λ listen. listen.now) result ≡ listen_of (view value.now) }
 {
@@ -79,7 +79,7 @@ fn listen_of(value: &Value) -> Option<&str>
     }
 }
 
-/// Where a text says to listen: the empty one says nothing of it.
+/// The address to listen at that a text gives: the default if it is empty. None if it is no address.
 fn listen_text(text: &str) -> Option<&str>
     ensures { option_map (λ listen. listen.now) result ≡ listen_text text.now }
 {
@@ -92,7 +92,7 @@ fn listen_text(text: &str) -> Option<&str>
     }
 }
 
-/// Where the proxy connects to, where that is an address.
+/// The address to connect to. None if it is absent or no address.
 fn upstream_of(value: &Value) -> Option<&str>
     ensures { option_map (λ upstream. upstream.now) result ≡ upstream_of (view value.now) }
 {
@@ -104,7 +104,7 @@ fn upstream_of(value: &Value) -> Option<&str>
     }
 }
 
-/// Whether the proxy is enabled, which it is where nothing is said of it.
+/// Whether the proxy is enabled: true if the member is absent or null. None if it is no boolean.
 fn enabled_of(value: &Value) -> Option<bool>
     ensures { result ≡ enabled_of (view value.now) }
 {

@@ -18,10 +18,10 @@ pub enum ConfigFault {
     /// The name is no text of 1 to 255 bytes.
     #[error("C4 Name {0}")]
     Name(usize),
-    /// The place to listen is no address, and is not left to the default.
+    /// `listen` is no address, and neither absent, null nor empty.
     #[error("C5 Listen {0}")]
     Listen(usize),
-    /// The place to connect to is no address.
+    /// `upstream` is absent or no address.
     #[error("C6 Upstream {0}")]
     Upstream(usize),
     /// The member `enabled` is neither true, false nor null.
@@ -30,7 +30,7 @@ pub enum ConfigFault {
     /// The object at this place has the 65th name.
     #[error("C8 TooMany {0}")]
     TooMany(usize),
-    /// A growth was refused. It may stand in place of a later fault.
+    /// Out of memory. It may stand in place of a later fault.
     #[error("C0 OutOfMemory")]
     OutOfMemory,
 }

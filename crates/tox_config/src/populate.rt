@@ -30,7 +30,7 @@ pub fn read_populate(alloc: Global, bytes: &[u8]) -> Result<Vec<ProxyDef>, Confi
     ensures distinct { IfOk result
         (λ defs. IsDistinct bytes_eq (map (λ def. def.name) defs.items)) }
     ensures few { IfOk result (λ defs. vec_len defs ≤ most_names) }
-    // What is no text is refused before memory is asked for.
+    // Bytes that are not UTF-8 are refused before any request for memory.
     ensures memory { result ≡ Err OutOfMemory
         → IsTrue (is_utf8 bytes.now) × (0 < length bytes.now) }
 {

@@ -1,7 +1,7 @@
 pub mod FlowLemmas
 pub mod Drawn
 pub mod Cutting
-pub mod Levels
+pub mod OpCursors
 pub mod Stopping
 pub mod OpOf
 pub mod Stages

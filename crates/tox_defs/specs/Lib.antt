@@ -13,7 +13,7 @@ pub mod Flow
 pub mod Op
 pub mod Look
 pub mod StreamPosition
-pub mod Level
+pub mod OpCursor
 pub mod Stage
 pub mod StageInside
 pub mod Laws

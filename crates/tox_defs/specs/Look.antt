@@ -52,7 +52,7 @@ pub record IsFront (rest piece : Slice) : Type 0 where
   pub some : piece.span.start < piece.span.stop
   pub within : piece.span.stop ≤ rest.span.stop
 
--- the found piece, if any, is a front of the rest, and all of it where it is late
+-- the found piece, if any, is a prefix of the rest, and all of it where it is late
 abbrev pub IsFrontOf : Slice → Look → Type 0
 IsFrontOf rest (Piece piece) = IsFront rest piece
 IsFrontOf rest (LastPiece piece ending) = IsFront rest piece

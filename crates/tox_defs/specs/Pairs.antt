@@ -1,4 +1,4 @@
--- The pairs of a short form: `key=value`, parted by commas.
+-- The pairs of a short form: `key=value`, separated by commas.
 use Rattle.std.specs.Prelude.{ℕ, ◌&&◌, ◌||◌, ◌==◌, Bool, List, length, Option, is_some, option_and_then, nat_lt, count_by}
 use Rattle.std.specs.Char.{is_ascii_lowercase}
 use Rattle.std.specs.List.{after_first, before_first, find, list_all, list_any, slice_split}

@@ -46,7 +46,7 @@ printed_pairs toxic toxicity =
     (zip (attributes_of (type_of toxic) ++ codes "toxicity" ∷ [])
     (values_of toxic ++ toxicity ∷ [])))
 
--- the type, a colon, and the pairs parted by commas
+-- the type, a colon, and the pairs separated by commas
 abbrev pub printed_short : Toxic → ℕ → List ℕ
 printed_short toxic toxicity =
     name_of (type_of toxic) ++ codes ":" ++ join_with_byte 44 (printed_pairs toxic toxicity)

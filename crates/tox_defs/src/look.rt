@@ -27,7 +27,7 @@ pub(crate) enum Look {
 
 impl Op {
     /// Finds the next piece that the operation gives for the rest of a chunk. Not inlining this, the toxics' looks
-    /// and [`Level::advance`](crate::Level::advance) makes each look 25 % slower. Asking whether the rest is late before the
+    /// and [`OpCursor::advance`](crate::OpCursor::advance) makes each look 25 % slower. Asking whether the rest is late before the
     /// dispatch, by another one, makes it 10 to 20 % slower.
     #[inline(always)]
     pub(crate) fn look(&self, state: &State, rest: &Slice, drawing: &Drawing<'_>) -> Look

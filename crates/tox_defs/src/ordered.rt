@@ -5,7 +5,7 @@ ghost use Rattle.tox_defs.specs.Ordered.{in_order};
 
 use tox_time::{Ending, Micros};
 
-/// The ending, not before an instant.
+/// The ending, put off to an instant if it would come before it.
 pub(crate) fn in_order(since: Micros, ending: &Ending) -> Ending
     ensures { final_of result ≡ in_order since (final_of ending.now) }
 {

@@ -19,7 +19,7 @@ const MAX_TOXICITY: u64 = 1000;
 
 /// The toxic that a short form names, with its toxicity in thousandths.
 ///
-/// A short form is a type, or a type, a colon and one or more `key=value` parted by commas, where
+/// A short form is a type, or a type, a colon and one or more `key=value` separated by commas, where
 /// a key is an attribute of the type, or `toxicity`. A type and a key are made of `a` to `z` and
 /// `_`, and a value of 1 to 18 decimal digits. An attribute that is absent is 0, and an absent
 /// toxicity 1000.

@@ -9,7 +9,7 @@ ghost use Rattle.tox_defs.specs.Laws.{HasLaw, KeepsStreams};
 ghost use Rattle.tox_time.specs.declared.item.Item.{Item as OneItem};
 ghost use Rattle.tox_time.specs.Stream.{IsStream, arrived};
 
-use crate::level::{Emission, Level};
+use crate::op_cursor::{Emission, OpCursor};
 use crate::op::Op;
 use crate::position::StreamPosition;
 use crate::toxic::Toxic;
@@ -22,7 +22,7 @@ use tox_words::{Drawing, Lanes, Words};
 /// It keeps the unread rest of its last chunk and no list of items.
 #[derive(Drop)]
 pub struct Stage<'w> {
-    level: Level,
+    cursor: OpCursor,
     start: u64,
     drawing: Drawing<'w>,
     place: StreamPosition,
@@ -43,7 +43,7 @@ impl<'w> Model for Stage<'w> {
 impl<'w> Stage<'w> {
     ghost use Rattle.tox_defs.specs.Stage.{first_stage, taken, MatchEmitted};
 
-    /// The stage of a toxic at this place of its chain, before its first item. It draws from the lane of that number, of so many.
+    /// The stage of a toxic at this place of its chain, before its first item. It draws from the lane of that number.
     pub fn new(toxic: Toxic, lanes: Lanes, lane: usize, words: &'w Words) -> Stage<'w>
         requires in_range { IsInRange toxic }
         requires place { lane < lane_count lanes }
@@ -57,7 +57,7 @@ impl<'w> Stage<'w> {
             ≡ toxic_reaction toxic (draw_in lanes words.now lane) }
     {
         Stage {
-            level: Level::new(&Op::of(&toxic, lane)),
+            cursor: OpCursor::new(&Op::of(&toxic, lane)),
             start: 0,
             drawing: Drawing::new(lanes, words),
             place: StreamPosition::start(),
@@ -68,7 +68,7 @@ impl<'w> Stage<'w> {
     pub fn is_idle(&self) -> bool
         ensures { IsTrue result ↔ (self.now.pending ≡ []) }
     {
-        self.level.ending.is_none() && self.start == self.level.stop
+        self.cursor.ending.is_none() && self.start == self.cursor.stop
     }
 
     /// Whether the item may follow those taken so far.
@@ -87,13 +87,13 @@ impl<'w> Stage<'w> {
         self.place = self.place.after(&item);
         let ending = match item {
             Item::Chunk(span, instant) => {
-                self.level.stop = span.stop;
-                self.level.instant = instant;
-                if self.level.state.done {
+                self.cursor.stop = span.stop;
+                self.cursor.instant = instant;
+                if self.cursor.state.done {
                     self.start = span.stop;
-                } else if self.level.op.is_mute() {
+                } else if self.cursor.op.is_mute() {
                     self.start = span.stop;
-                    self.level.state.add_chunk();
+                    self.cursor.state.add_chunk();
                 }
                 return;
             }
@@ -101,10 +101,10 @@ impl<'w> Stage<'w> {
             Item::Reset(instant) => Ending::Reset(instant),
             Item::Quiet => Ending::StillOpen,
         };
-        if !self.level.state.done {
-            let last = self.level.op.map_ending(&self.level.state, &ending);
-            self.level.state.add_ending(&last);
-            self.level.ending = Some(last);
+        if !self.cursor.state.done {
+            let last = self.cursor.op.map_ending(&self.cursor.state, &ending);
+            self.cursor.state.add_ending(&last);
+            self.cursor.ending = Some(last);
         }
     }
 
@@ -112,17 +112,17 @@ impl<'w> Stage<'w> {
     pub fn emit(&mut self) -> Option<Item>
         ensures { MatchEmitted self.old self.new result }
     {
-        if self.level.ending.is_none() && self.start < self.level.stop {
-            if let Emission::Piece(piece) = self.level.advance(self.start, &self.drawing) {
+        if self.cursor.ending.is_none() && self.start < self.cursor.stop {
+            if let Emission::Piece(piece) = self.cursor.advance(self.start, &self.drawing) {
                 self.start = piece.span.stop;
                 return Some(Item::Chunk(piece.span, piece.instant));
             }
         }
-        let Some(ending) = self.level.ending else {
+        let Some(ending) = self.cursor.ending else {
             return None;
         };
-        self.level.ending = None;
-        self.start = self.level.stop;
+        self.cursor.ending = None;
+        self.start = self.cursor.stop;
         Some(ending.to_item())
     }
 }

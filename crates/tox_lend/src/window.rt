@@ -11,7 +11,7 @@ use std::marker::Model;
 
 /// At most a set number of nonempty pieces, each of which starts where the one before it stops.
 ///
-/// Its room is reserved when it is made: no later call takes memory. Giving up the first piece moves no other one.
+/// Its room is reserved when it is made: no later call takes memory. Dropping the first piece moves no other one.
 #[derive(Debug, Drop)]
 pub struct Window {
     held: VecDeque<Piece>,
@@ -73,7 +73,7 @@ impl Window {
         self.held.push_back_reserved(piece);
     }
 
-    /// Gives up each piece that ends at or before a position, and no other.
+    /// Drops each piece that ends at or before a position, and no other.
     pub fn drop_before(&mut self, position: u64)
         ensures { self.new
             ≡ record self.old {
@@ -96,7 +96,7 @@ impl Window {
         self.held.pop_front()
     }
 
-    /// The piece that has this position, or None if it holds none that has.
+    /// The piece that has this position, or None if no held piece has it.
     pub fn piece(&self, position: u64) -> Option<&Piece>
         ensures { option_copied result ≡ find (has_position position) self.now.held }
     {

@@ -7,19 +7,12 @@ use Rattle.tox_time.specs.declared.ending.Ending.{Ending}
 use Rattle.tox_time.specs.Stream.{IsStreamFrom}
 use Rattle.tox_time.specs.Table.{final_of, table}
 use Rattle.tox_compile.specs.Meaning.{deadline_of}
-use Rattle.tox_plan.specs.Levels.{ops_of}
+use Rattle.tox_plan.specs.OpCursors.{ops_of}
 use Rattle.tox_plan.specs.RunnerView.{HasNoChunk, to_come, found_chunk, known_ending}
-use Rattle.tox_plan.proofs.RunnerOutput.{final-no_chunk}
+use Rattle.tox_plan.proofs.RunnerOutput.{final-no_chunk, no_chunk-table}
 use Rattle.tox_link.specs.declared.waiting.WaitingPiece.{WaitingPiece}
 use Rattle.tox_link.specs.Core.{CoreView, KeepsCore, Looked, IsEmptied, Settled, remaining_output, arrivals_from, end_or, next_instant, core_ending, ending_behind, core_deadline}
 use Rattle.tox_link.proofs.Looks.{same-of}
-
-no_chunk-table : (items : List Item) → HasNoChunk items → table items ≡ []
-no_chunk-table [] none = refl
-no_chunk-table (Chunk span t ∷ items) none = absurd none
-no_chunk-table (Closed t ∷ items) none = no_chunk-table items none
-no_chunk-table (Reset t ∷ items) none = no_chunk-table items none
-no_chunk-table (Quiet ∷ items) none = no_chunk-table items none
 
 -- the remaining output of a core that keeps nothing
 pub output-emptied : (core : CoreView) → IsEmptied core → core.end ≡ None → (items : List Item) → remaining_output core items ≡ to_come core.runner items
@@ -64,7 +57,7 @@ module _ (core : CoreView) (last : Ending) where
     quiet-emptied = record { found = emptied.found; waiting = emptied.waiting; drained = record { idle = emptied.drained.idle; none = final-no_chunk last } }
 
     pub settled-quiet : (now d : ℕ) → core_deadline core ≡ Some d → d ≤ now
-        → ((e position since : ℕ) (items : List Item) → deadline_of (ops_of core.runner.levels) ≡ Some e → e ≤ since → IsStreamFrom position since items → to_come core.runner items ≡ final_of last ∷ [])
+        → ((e position since : ℕ) (items : List Item) → deadline_of (ops_of core.runner.cursors) ≡ Some e → e ≤ since → IsStreamFrom position since items → to_come core.runner items ≡ final_of last ∷ [])
         → Settled core after_quiet now
     settled-quiet now d is passed same = record {
       leaves = record {

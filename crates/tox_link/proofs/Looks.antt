@@ -11,7 +11,7 @@ use Rattle.tox_time.specs.Stream.{span_len}
 use Rattle.tox_time.specs.Table.{SameResult, table, ending}
 use Rattle.std.proofs.lemmas.List.{append-nil}
 use Rattle.tox_defs.specs.Look.{as_chunk}
-use Rattle.tox_plan.specs.Levels.{ops_of}
+use Rattle.tox_plan.specs.OpCursors.{ops_of}
 use Rattle.tox_plan.specs.Cuts.{IsCut, IsWithin, BeginsApart}
 use Rattle.tox_plan.specs.RunnerView.{RunnerView, HasNoChunk, to_come, found_chunk, next_piece, offer_answer}
 use Rattle.tox_plan.specs.Delivering.{PreservesOutput}
@@ -111,7 +111,7 @@ pub record Cuts (old new : RunnerView) (found : Option Slice) : Type 0 where
   pub finished : new.finished ≡ old.finished
   pub piece : new.piece ≡ old.piece
   pub latest : new.latest ≡ old.latest
-  pub ops : ops_of new.levels ≡ ops_of old.levels
+  pub ops : ops_of new.cursors ≡ ops_of old.cursors
 
 stands_of : (old new : RunnerView) (found : Option Slice) → IfSome found (λ slice. (slice.span.start ≡ old.position) × (new.position ≡ slice.span.stop) × (new.idle ≡ false)) → IfSome found (Stands old new)
 stands_of old new None place = tt
@@ -128,8 +128,8 @@ pub cuts_of : (old new : RunnerView) (found : Option Slice) → IfSome found (Is
     → IfSome found (λ slice. BeginsApart slice.instant (to_come new (Quiet ∷ [])))
     → IsNone found ↔ HasNoChunk (to_come old (Quiet ∷ []))
     → IfNone found ((new.idle ≡ true) × (new.position ≡ old.position) × (new.cuts ≡ old.cuts) × ((items : List Item) → to_come new items ≡ to_come old items))
-    → (new.drawing ≡ old.drawing) × (new.finished ≡ old.finished) × (new.piece ≡ old.piece) × (new.latest ≡ old.latest) × (new.pieces ≡ old.pieces) × (length new.levels ≡ length old.levels)
-    → ops_of new.levels ≡ ops_of old.levels → Cuts old new found
+    → (new.drawing ≡ old.drawing) × (new.finished ≡ old.finished) × (new.piece ≡ old.piece) × (new.latest ≡ old.latest) × (new.pieces ≡ old.pieces) × (length new.cursors ≡ length old.cursors)
+    → ops_of new.cursors ≡ ops_of old.cursors → Cuts old new found
 cuts_of old new found some place apart none idle kept ops = record {
   some = some;
   place = stands_of old new found place;
@@ -257,7 +257,7 @@ module _ (core : CoreView) (new : RunnerView) (piece : WaitingPiece) (rest : Lis
     pub gives : (items : List Item) → to_come new items ≡ to_come core.runner (as_chunk (next_piece core.runner piece.len piece.instant) ∷ items)
     pub drawing : new.drawing ≡ core.runner.drawing
     pub finished : new.finished ≡ core.runner.finished
-    pub levels : new.levels ≡ core.runner.levels
+    pub cursors : new.cursors ≡ core.runner.cursors
 
   module _ (offers : Offers) where
     count_offer : (idle old : Bool) → idle ≡ false → old ≡ true → length rest + (if idle then 0 else 1) ≤ length (piece ∷ rest) + (if old then 0 else 1)
@@ -273,7 +273,7 @@ module _ (core : CoreView) (new : RunnerView) (piece : WaitingPiece) (rest : Lis
           ∙ sym (ap (λ waiting. to_come core.runner (arrivals_from core.runner.piece.span.stop waiting (end_or core.end items))) offers.waiting)));
       position = ap (λ position. start_of core.found position) offers.position;
       drawing = offers.drawing;
-      ops = ap ops_of offers.levels;
+      ops = ap ops_of offers.cursors;
       end = refl;
       ended = refl;
       bytes = refl;

@@ -127,7 +127,7 @@ none-told : (side : WriterSide) (end : ReadEnd) → side.source ≡ NotReached �
 none-told side end source told = let none = ap read_end_of source in cc
 
 ended-open : (side : WriterSide) → side.ended ≡ true → side.ended ≡ false → ⊥
-ended-open side ended still = cc
+ended-open side ended unended = cc
 
 none-known : (core : CoreView) → core_ending core ≡ None → IsSome (core_ending core) → ⊥
 none-known core none known = cc
@@ -145,7 +145,7 @@ sound-dropped old new before messages message sound going known came core window
       (subst (λ heard. AreOf heard old.window.held) (sym grown) (parts-grow old.window.stop (bytes_of before) (bytes_of (message ∷ [])) old.window.held sound.joined (omega (arith, sound.stop, sound.few)) sound.parts));
   few = let bytes = ap (λ (core : CoreView). core.bytes) core in let all = ap length grown ∙ length-append (bytes_of before) (bytes_of (message ∷ [])) in omega (arith, bytes, all, sound.few);
   live = λ _ unknown. absurd (none-known old.core (ap core_ending (sym core) ∙ unknown) known);
-  going = λ still. ap (λ (core : CoreView). core.ended) core ∙ sound.going (sym ended ∙ still);
+  going = λ unended. ap (λ (core : CoreView). core.ended) core ∙ sound.going (sym ended ∙ unended);
   whole = λ end told. absurd (open-source old before end sound going (ap read_end_of (sym source) ∙ told));
 }
   where
@@ -215,8 +215,8 @@ sound-ended old new before messages end sound going came ended counts position w
   start = subst (λ (window : Pieces). start_of window.stop window.held ≤ core_position new.core) (sym window) (omega (arith, position, sound.start));
   parts = subst (λ (window : Pieces). AreOf (bytes_of messages) window.held) (sym window) (subst (λ heard. AreOf heard old.window.held) (sym same) sound.parts);
   few = omega (arith, all, counts, sound.few);
-  live = λ still unknown. absurd (ended-open new ended still);
-  going = λ still. absurd (ended-open new ended still);
+  live = λ unended unknown. absurd (ended-open new ended unended);
+  going = λ unended. absurd (ended-open new ended unended);
   whole = λ last said.
       let is = told last said in
       record { ended = ended; bytes = counts ∙ sound.live going is.1 ∙ sym all; before = before; last = came ∙ ap (λ last. before ++ End last ∷ []) (sym is.0) };
@@ -243,8 +243,8 @@ sound-step old new messages sound kept written within stop left ended source = r
   start = left.start;
   parts = left.parts;
   few = omega (arith, kept.bytes, sound.few);
-  live = λ still none. kept.bytes ∙ sound.live (sym ended ∙ still) (unknown-before old.core new.core kept none);
-  going = λ still. kept.ended ∙ sound.going (sym ended ∙ still);
+  live = λ unended none. kept.bytes ∙ sound.live (sym ended ∙ unended) (unknown-before old.core new.core kept none);
+  going = λ unended. kept.ended ∙ sound.going (sym ended ∙ unended);
   whole = λ end told.
       let all = sound.whole end (ap read_end_of (sym source) ∙ told) in
       record { ended = ended ∙ all.ended; bytes = kept.bytes ∙ all.bytes; before = all.before; last = all.last };
@@ -280,8 +280,8 @@ sound-fresh side fresh = record {
   start = subst (λ held. start_of side.window.stop held ≤ core_position side.core) (sym fresh.held) (omega (arith, fresh.stop));
   parts = subst (AreOf (came side)) (sym fresh.held) tt;
   few = omega (arith, fresh.bytes);
-  live = λ still none. fresh.bytes ∙ sym (ap (λ messages. length (bytes_of messages)) fresh.received);
-  going = λ still. fresh.going;
+  live = λ unended none. fresh.bytes ∙ sym (ap (λ messages. length (bytes_of messages)) fresh.received);
+  going = λ unended. fresh.going;
   whole = λ end told. absurd (none-told side end fresh.source told);
 }
 

@@ -7,7 +7,7 @@ use Rattle.tox_time.specs.declared.ending.Ending.{Ending}
 use Rattle.tox_time.specs.Stream.{IsStreamFrom, span_len}
 use Rattle.tox_time.specs.Table.{SameResult, table, ending}
 use Rattle.tox_compile.specs.Meaning.{deadline_of}
-use Rattle.tox_plan.specs.Levels.{ops_of}
+use Rattle.tox_plan.specs.OpCursors.{ops_of}
 use Rattle.tox_plan.specs.Cuts.{IsWithin, BeginsApart}
 use Rattle.tox_plan.specs.RunnerView.{RunnerView, HasNoChunk, found_chunk, to_come, known_ending}
 use Rattle.tox_link.specs.declared.waiting.WaitingPiece.{WaitingPiece}
@@ -66,7 +66,7 @@ core_position core = start_of core.found core.runner.position
 
 -- the plan's deadline
 abbrev pub core_deadline : CoreView → Option ℕ
-core_deadline core = deadline_of (ops_of core.runner.levels)
+core_deadline core = deadline_of (ops_of core.runner.cursors)
 
 -- the instant of the first byte of a list, if it has one
 abbrev pub next_instant : List Item → Option ℕ
@@ -90,7 +90,7 @@ pub record LeavesOutput (old new : CoreView) (now : ℕ) : Type 0 where
 -- only the front of the waiting pieces is dropped, and no piece that waits is added
 pub record KeepsCore (old new : CoreView) : Type 0 where
   pub drawing : new.runner.drawing ≡ old.runner.drawing
-  pub ops : ops_of new.runner.levels ≡ ops_of old.runner.levels
+  pub ops : ops_of new.runner.cursors ≡ ops_of old.runner.cursors
   pub ended : new.ended ≡ old.ended
   pub bytes : new.bytes ≡ old.bytes
   pub waiting : (dropped : List WaitingPiece) × (old.waiting ≡ dropped ++ new.waiting)
@@ -102,7 +102,7 @@ pub record Looked (old new : CoreView) : Type 0 where
   pub output : (items : List Item) → SameResult (remaining_output new items) (remaining_output old items)
   pub position : core_position new ≡ core_position old
   pub drawing : new.runner.drawing ≡ old.runner.drawing
-  pub ops : ops_of new.runner.levels ≡ ops_of old.runner.levels
+  pub ops : ops_of new.runner.cursors ≡ ops_of old.runner.cursors
   pub end : new.end ≡ old.end
   pub ended : new.ended ≡ old.ended
   pub bytes : new.bytes ≡ old.bytes
@@ -127,7 +127,7 @@ pub record Settled (old new : CoreView) (now : ℕ) : Type 0 where
   pub leaves : LeavesOutput old new now
   pub emptied : IsEmptied new
   pub drawing : new.runner.drawing ≡ old.runner.drawing
-  pub ops : ops_of new.runner.levels ≡ ops_of old.runner.levels
+  pub ops : ops_of new.runner.cursors ≡ ops_of old.runner.cursors
   pub ended : new.ended ≡ old.ended
   pub bytes : new.bytes ≡ old.bytes
   pub latest : new.latest ≡ old.latest
@@ -142,7 +142,7 @@ pub record HandsOnEnd (old new : CoreView) : Type 0 where
   pub emptied : IsEmptied new
   pub end : new.end ≡ None
   pub drawing : new.runner.drawing ≡ old.runner.drawing
-  pub ops : ops_of new.runner.levels ≡ ops_of old.runner.levels
+  pub ops : ops_of new.runner.cursors ≡ ops_of old.runner.cursors
   pub ended : new.ended ≡ old.ended
   pub bytes : new.bytes ≡ old.bytes
   pub latest : new.latest ≡ old.latest

@@ -6,7 +6,7 @@ ghost use Rattle.tox_time.specs.Arrivals.{piece_fault};
 ghost use Rattle.tox_time.specs.Stream.{IsStream};
 ghost use Rattle.tox_time.specs.Table.{final_of};
 ghost use Rattle.tox_compile.specs.Meaning.{means};
-ghost use Rattle.tox_plan.specs.Levels.{ops_of};
+ghost use Rattle.tox_plan.specs.OpCursors.{ops_of};
 ghost use Rattle.tox_plan.specs.RunnerView.{answer_of, no_piece};
 ghost use Rattle.tox_link.specs.Core.{remaining_output, core_ending, core_position, core_deadline, kept_count, next_instant, KeepsCore, Looked, IsDrained, IsEmptied, Settled, HandsOnEnd};
 ghost use Rattle.tox_link.specs.Acts.{idle_act, IsSliceAct, After, Answered};
@@ -60,7 +60,7 @@ impl<'w> LinkCore<'w> {
         ensures start { IfOk result (λ core. (core.waiting ≡ []) × (core.runner.idle ≡ true)
             × (core.ended ≡ false) × (core.bytes ≡ 0) × (core.latest ≡ 0)
             × (core_position core ≡ 0)) }
-        ensures plan { IfOk result (λ core. (ops_of core.runner.levels ≡ plan.ops)
+        ensures plan { IfOk result (λ core. (ops_of core.runner.cursors ≡ plan.ops)
             × (core.runner.drawing ≡ record { lanes = plan.lanes; words = words.now })) }
     {
         let waiting = VecDeque::with_capacity(alloc, MAX_PIECES)?;

@@ -5,11 +5,11 @@ use Rattle.std.proofs.lemmas.Option.{none-some, same_Some}
 use Rattle.tox_network.specs.declared.moves.Move.{Move}
 use Rattle.tox_network.specs.NetworkState.{NetworkState}
 use Rattle.tox_network.specs.Moves.{after, entering, leaving}
-use Rattle.tox_network.specs.Still.{to_enter, coming, still, moves_left}
+use Rattle.tox_network.specs.EventualDelivery.{to_enter, coming, eventual_delivery, moves_left}
 use Rattle.tox_network.specs.Runs.{after_all, IsRun}
 use Rattle.tox_network.specs.Rings.{sent_in, given_in}
 use Rattle.tox_network.proofs.Coming.{IsShaped}
-use Rattle.tox_network.proofs.Kept.{keeps_stages, keeps_shape, keeps_still, enters, leaves, one_less}
+use Rattle.tox_network.proofs.Kept.{keeps_stages, keeps_shape, keeps_eventual_delivery, enters, leaves, one_less}
 
 -- a step that led on
 pub went_on : {A B : Type 0} (f : A → Option B) (o : Option A) (y : B) → option_and_then f o ≡ Some y → (x : A) × (o ≡ Some x) × (f x ≡ Some y)
@@ -31,10 +31,10 @@ run_stages cap n t moves h =
     run_keeps cap (λ u. length u.stages ≡ length n.stages) (λ u v move g p. keeps_stages cap u v move g ∙ p) n t moves refl h
 
 -- the eventual delivery is the same in a whole run
-pub run_still : (cap : ℕ) (n t : NetworkState) (moves : List Move) → IsShaped n → IsRun cap n moves t → still t ≡ still n
-run_still cap n t moves shaped h =
-    let P : NetworkState → Type 0 = λ u. IsShaped u × (still u ≡ still n) in
-    (run_keeps cap P (λ u v move g p. (keeps_shape cap u v move p.0 g, keeps_still cap u v move p.0 g ∙ p.1)) n t moves (shaped, refl) h).1
+pub run_eventual_delivery : (cap : ℕ) (n t : NetworkState) (moves : List Move) → IsShaped n → IsRun cap n moves t → eventual_delivery t ≡ eventual_delivery n
+run_eventual_delivery cap n t moves shaped h =
+    let P : NetworkState → Type 0 = λ u. IsShaped u × (eventual_delivery u ≡ eventual_delivery n) in
+    (run_keeps cap P (λ u v move g p. (keeps_shape cap u v move p.0 g, keeps_eventual_delivery cap u v move p.0 g ∙ p.1)) n t moves (shaped, refl) h).1
 
 -- the moves made and the moves still to make are together the same
 pub run_moves : (cap : ℕ) (n t : NetworkState) (moves : List Move) → IsShaped n → IsRun cap n moves t → length moves + moves_left t ≡ moves_left n

@@ -7,7 +7,7 @@ use Rattle.tox_time.specs.declared.item.Item.{Item}
 use Rattle.tox_defs.specs.Reaction.{flow_from}
 use Rattle.tox_network.specs.NetworkState.{NetworkState, queue}
 use Rattle.tox_network.specs.Moves.{reacted}
-use Rattle.tox_network.specs.Still.{to_give, coming}
+use Rattle.tox_network.specs.EventualDelivery.{to_give, coming}
 use Rattle.tox_network.proofs.Replaced.{slice_get-set_same, slice_get-set_other}
 use Rattle.tox_network.proofs.MoveForms.{Arrives, Takes, Puts, Delivers}
 

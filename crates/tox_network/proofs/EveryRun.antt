@@ -10,24 +10,24 @@ use Rattle.tox_defs.specs.Flow.{reactions_of}
 use Rattle.tox_defs.specs.Reaction.{Reaction, flow, flow_through}
 use Rattle.tox_network.specs.declared.moves.Move.{Move}
 use Rattle.tox_network.specs.NetworkState.{NetworkState, start, queue}
-use Rattle.tox_network.specs.Still.{coming, still, moves_left, IsEmpty}
+use Rattle.tox_network.specs.EventualDelivery.{coming, eventual_delivery, moves_left, IsEmpty}
 use Rattle.tox_network.specs.Runs.{IsRun, IsAtRest, RestingRun}
 use Rattle.tox_network.specs.Rings.{Ring, PassOn, sent_in, given_in, IsRunOf}
 use Rattle.tox_network.specs.RunLaws.{HasRunLaws}
 use Rattle.tox_network.proofs.Streams.{few_in_front}
 use Rattle.tox_network.proofs.Kept.{HasRoomKept, keeps_room}
-use Rattle.tox_network.proofs.AlongRuns.{run_keeps, run_shape, run_still, run_moves, run_sent, run_given}
-use Rattle.tox_network.proofs.Starting.{start_queue, start_stages, start_shaped, start_enters, start_coming, start_still, start_moves}
-use Rattle.tox_network.proofs.Resting.{rest_empty, empty_still, empty_moves_left, empty_coming, empty_to_enter, comes_to_rest}
+use Rattle.tox_network.proofs.AlongRuns.{run_keeps, run_shape, run_eventual_delivery, run_moves, run_sent, run_given}
+use Rattle.tox_network.proofs.Starting.{start_queue, start_stages, start_shaped, start_enters, start_coming, start_eventual_delivery, start_moves}
+use Rattle.tox_network.proofs.Resting.{rest_empty, empty_eventual_delivery, empty_moves_left, empty_coming, empty_to_enter, comes_to_rest}
 
 -- the eventual delivery is the flow
-pub every_still : (cap : ℕ) (reactions : List Reaction) (arrivals : List Item) (moves : List Move) (n : NetworkState) → IsRun cap (start reactions arrivals) moves n → still n ≡ flow_through reactions arrivals
-every_still cap reactions arrivals moves n run =
-    run_still cap (start reactions arrivals) n moves (start_shaped reactions arrivals) run ∙ start_still reactions arrivals
+pub every_eventual_delivery : (cap : ℕ) (reactions : List Reaction) (arrivals : List Item) (moves : List Move) (n : NetworkState) → IsRun cap (start reactions arrivals) moves n → eventual_delivery n ≡ flow_through reactions arrivals
+every_eventual_delivery cap reactions arrivals moves n run =
+    run_eventual_delivery cap (start reactions arrivals) n moves (start_shaped reactions arrivals) run ∙ start_eventual_delivery reactions arrivals
 
 -- what is delivered is a prefix of it
 pub every_prefix : (cap : ℕ) (reactions : List Reaction) (arrivals : List Item) (moves : List Move) (n : NetworkState) → IsRun cap (start reactions arrivals) moves n → IsPrefix n.delivered (flow_through reactions arrivals)
-every_prefix cap reactions arrivals moves n run = (coming n (length n.stages), every_still cap reactions arrivals moves n run)
+every_prefix cap reactions arrivals moves n run = (coming n (length n.stages), every_eventual_delivery cap reactions arrivals moves n run)
 
 -- at rest nothing waits
 pub every_rest_empty : (cap : ℕ) (reactions : List Reaction) (arrivals : List Item) (moves : List Move) (n : NetworkState) → 1 ≤ cap → IsRun cap (start reactions arrivals) moves n → IsAtRest cap n → IsEmpty n
@@ -37,7 +37,7 @@ every_rest_empty cap reactions arrivals moves n room run rest =
 -- at rest the whole flow is delivered
 pub every_rest_delivers : (cap : ℕ) (reactions : List Reaction) (arrivals : List Item) (moves : List Move) (n : NetworkState) → 1 ≤ cap → IsRun cap (start reactions arrivals) moves n → IsAtRest cap n → n.delivered ≡ flow_through reactions arrivals
 every_rest_delivers cap reactions arrivals moves n room run rest =
-    sym (empty_still n (every_rest_empty cap reactions arrivals moves n room run rest)) ∙ every_still cap reactions arrivals moves n run
+    sym (empty_eventual_delivery n (every_rest_empty cap reactions arrivals moves n room run rest)) ∙ every_eventual_delivery cap reactions arrivals moves n run
 
 -- at rest no move is left of those of the start
 pub every_rest_moves : (cap : ℕ) (reactions : List Reaction) (arrivals : List Item) (moves : List Move) (n : NetworkState) → 1 ≤ cap → IsRun cap (start reactions arrivals) moves n → IsAtRest cap n → length moves ≡ moves_left (start reactions arrivals)
@@ -124,7 +124,7 @@ pub run_laws : (chain : Toxics) (words : List ℕ) (items : List Item) → IsCha
 run_laws chain words items fits stream =
     let reactions = reactions_of chain words in
     record {
-      still = λ cap moves n room run. every_still cap reactions items moves n run;
+      eventual = λ cap moves n room run. every_eventual_delivery cap reactions items moves n run;
       prefix = λ cap moves n room run. every_prefix cap reactions items moves n run;
       room = λ cap moves n room run. every_queue_within cap reactions items moves n run;
       short = λ cap moves n room run. every_run_short cap reactions items moves n (arrived items + 1) (few_in_front chain words items fits stream) run;

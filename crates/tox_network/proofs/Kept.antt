@@ -10,7 +10,7 @@ use Rattle.tox_network.specs.declared.moves.Move.{Move}
 use Rattle.tox_network.specs.declared.moves.Move.TheVariants.{Arrive, Take, Put, Deliver}
 use Rattle.tox_network.specs.NetworkState.{NetworkState, queue, unsent_of, unsent_at}
 use Rattle.tox_network.specs.Moves.{reacted, after, only_at, entering, leaving}
-use Rattle.tox_network.specs.Still.{to_give, to_enter, coming, still, sum_to, moves_left}
+use Rattle.tox_network.specs.EventualDelivery.{to_give, to_enter, coming, eventual_delivery, sum_to, moves_left}
 use Rattle.tox_network.proofs.MoveForms.{arrives, takes, puts, delivers}
 use Rattle.tox_network.proofs.Coming.{IsShaped, taken_arrivals, taken_coming, taken_coming_at, taken_given, taken_stage, put_coming, put_given, put_stage, arrived_coming, arrived_stages, delivered_coming, delivered_coming_last, delivered_stages}
 
@@ -170,8 +170,8 @@ delivers_what_leaves cap n t Deliver h =
 
 -- The eventual delivery
 
-pub keeps_still : (cap : ℕ) (n t : NetworkState) (move : Move) → IsShaped n → after cap n move ≡ Some t → still t ≡ still n
-keeps_still cap n t move shaped h =
+pub keeps_eventual_delivery : (cap : ℕ) (n t : NetworkState) (move : Move) → IsShaped n → after cap n move ≡ Some t → eventual_delivery t ≡ eventual_delivery n
+keeps_eventual_delivery cap n t move shaped h =
     let last = length n.stages in
     ap (λ k. t.delivered ++ coming t k) (keeps_stages cap n t move h)
     ∙ ap (λ items. items ++ coming t last) (delivers_what_leaves cap n t move h)

@@ -10,7 +10,7 @@ use Rattle.tox_network.specs.declared.moves.Move.{Move}
 use Rattle.tox_network.specs.declared.moves.Move.TheVariants.{Arrive, Take, Put, Deliver}
 use Rattle.tox_network.specs.NetworkState.{NetworkState, StageState, queue, unsent_of, unsent_at}
 use Rattle.tox_network.specs.Moves.{after, arrive, take_first, take_at, put_first, put_at, deliver}
-use Rattle.tox_network.specs.Still.{to_give, to_enter, coming, still, sum_to, moves_left, IsEmpty}
+use Rattle.tox_network.specs.EventualDelivery.{to_give, to_enter, coming, eventual_delivery, sum_to, moves_left, IsEmpty}
 use Rattle.tox_network.specs.Runs.{after_all, IsAtRest, RestingRun}
 use Rattle.tox_network.specs.Possible.{if_any, possible, possible_before}
 use Rattle.tox_network.proofs.Coming.{IsShaped}
@@ -37,8 +37,8 @@ empty_to_enter n e zero = e.arrivals
 empty_to_enter n e (suc k) = ap (to_give (slice_get n.stages k)) (empty_coming n e k) ∙ nothing_given (slice_get n.stages k) (e.unsent k)
 
 -- and all is delivered
-pub empty_still : (n : NetworkState) → IsEmpty n → still n ≡ n.delivered
-empty_still n e = ap (λ items. n.delivered ++ items) (empty_coming n e (length n.stages)) ∙ append-nil n.delivered
+pub empty_eventual_delivery : (n : NetworkState) → IsEmpty n → eventual_delivery n ≡ n.delivered
+empty_eventual_delivery n e = ap (λ items. n.delivered ++ items) (empty_coming n e (length n.stages)) ∙ append-nil n.delivered
 
 sum_to-zero : (f : ℕ → ℕ) (k : ℕ) → ((j : ℕ) → f j ≡ 0) → sum_to f k ≡ 0
 sum_to-zero f zero each = each 0

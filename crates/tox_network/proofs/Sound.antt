@@ -23,13 +23,13 @@ use Rattle.tox_defs.proofs.Places.{AllFit-stream}
 use Rattle.tox_network.specs.declared.moves.Move.{Move}
 use Rattle.tox_network.specs.NetworkState.{NetworkState, StageState, idle_stage, start, queue}
 use Rattle.tox_network.specs.Moves.{after, leaving}
-use Rattle.tox_network.specs.Still.{coming, still, moves_left, most_moves}
+use Rattle.tox_network.specs.EventualDelivery.{coming, eventual_delivery, moves_left, most_moves}
 use Rattle.tox_network.specs.Runs.{IsAtRest}
 use Rattle.tox_network.specs.NetworkView.{NetworkView, stage_of, placed_stage, state_of, IsStart, IsStep, IsSound}
 use Rattle.tox_network.proofs.Coming.{IsShaped, coming_first}
-use Rattle.tox_network.proofs.Kept.{keeps_stages, keeps_shape, keeps_still, leaves, one_less}
-use Rattle.tox_network.proofs.Starting.{start_coming, start_still, start_moves}
-use Rattle.tox_network.proofs.Resting.{rest_empty, empty_still}
+use Rattle.tox_network.proofs.Kept.{keeps_stages, keeps_shape, keeps_eventual_delivery, leaves, one_less}
+use Rattle.tox_network.proofs.Starting.{start_coming, start_eventual_delivery, start_moves}
+use Rattle.tox_network.proofs.Resting.{rest_empty, empty_eventual_delivery}
 use Rattle.tox_network.proofs.Streams.{kept_by_front, few_in_front, no_final_before}
 
 pub stage_count : (network : NetworkView) → length (state_of network).stages ≡ length network.stages
@@ -74,7 +74,7 @@ sound_after old new move sound made cap arrived steps places =
           let within : k ≤ length n.stages = let here = slice_get_within old.stages k moved.0 moved.1 in let same = stage_count old in omega arith in
           let fit : AllFit moved.0.place (leaving n move k ++ coming t k) = subst (AllFit moved.0.place) (leaves old.cap n t move shaped made k within) (sound.fits k moved.0 moved.1) in
           AllFit-behind moved.0.place (leaving n move k) (coming t k) stage.place fit moved.2;
-      whole = subst IsStream (sym (keeps_still old.cap n t move shaped made)) sound.whole;
+      whole = subst IsStream (sym (keeps_eventual_delivery old.cap n t move shaped made)) sound.whole;
       few = subst (λ bound. new.steps + moves_left t ≤ bound) (sym most) (omega arith);
       small = subst (λ bound. bound < 2 ^ 64) (sym most) sound.small;
     }
@@ -87,7 +87,7 @@ step_made old new move sound made cap arrived steps =
       counted = steps;
       cap = cap;
       arrived = arrived;
-      still = keeps_still old.cap (state_of old) (state_of new) move shaped made;
+      eventual = keeps_eventual_delivery old.cap (state_of old) (state_of new) move shaped made;
       left = one_less old.cap (state_of old) (state_of new) move shaped made;
     }
 
@@ -108,7 +108,7 @@ no_final_yet network item rest sound first =
 pub final_at_rest : (network : NetworkView) → IsSound network → IsAtRest network.cap (state_of network) → has_final network.delivered ≡ true
 final_at_rest network sound rest =
     let empty = rest_empty network.cap (state_of network) sound.room (sound_shape network sound) rest in
-    final_of_stream 0 0 network.delivered (subst IsStream (empty_still (state_of network) empty) sound.whole)
+    final_of_stream 0 0 network.delivered (subst IsStream (empty_eventual_delivery (state_of network) empty) sound.whole)
 
 -- The start
 
@@ -178,7 +178,7 @@ sound_start cap chain words items room fits stream bytes =
           (subst (AllFit first_position) (sym comes) (AllFit-stream 0 0 (flow_through (take k reactions) items) kept.stream (omega (arith, kept.bytes))));
       whole =
           let kept = kept_by_front chain words (length reactions) items fits stream in
-          subst IsStream (sym (ap still is ∙ start_still reactions items ∙ ap (λ all. flow_through all items) (sym (take_all (length reactions) reactions (omega arith))))) kept.stream;
+          subst IsStream (sym (ap eventual_delivery is ∙ start_eventual_delivery reactions items ∙ ap (λ all. flow_through all items) (sym (take_all (length reactions) reactions (omega arith))))) kept.stream;
       few = subst (λ stages. 0 + moves_left (state_of network) ≤ most_moves stages items) (sym count) (subst (λ n. 0 + moves_left n ≤ most_moves (length reactions) items) (sym is) (omega arith));
       small = omega arith;
     }

@@ -7,7 +7,7 @@ use Rattle.std.proofs.lemmas.Option.{none-some, same_Some, slice_get-map, slice_
 use Rattle.tox_time.specs.declared.item.Item.{Item}
 use Rattle.tox_defs.specs.Reaction.{Reaction, flow, flow_through}
 use Rattle.tox_network.specs.NetworkState.{NetworkState, idle_stage, start, queue}
-use Rattle.tox_network.specs.Still.{to_give, to_enter, coming, still, sum_to, moves_left}
+use Rattle.tox_network.specs.EventualDelivery.{to_give, to_enter, coming, eventual_delivery, sum_to, moves_left}
 use Rattle.tox_network.proofs.Coming.{IsShaped}
 
 pub start_stages : (reactions : List Reaction) (arrivals : List Item) → length (start reactions arrivals).stages ≡ length reactions
@@ -57,8 +57,8 @@ start_enters reactions arrivals (suc k) l =
 pub start_coming : (reactions : List Reaction) (arrivals : List Item) (k : ℕ) → k ≤ length reactions → coming (start reactions arrivals) k ≡ flow_through (take k reactions) arrivals
 start_coming reactions arrivals k l = start_queued reactions arrivals k ∙ start_enters reactions arrivals k l
 
-pub start_still : (reactions : List Reaction) (arrivals : List Item) → still (start reactions arrivals) ≡ flow_through reactions arrivals
-start_still reactions arrivals =
+pub start_eventual_delivery : (reactions : List Reaction) (arrivals : List Item) → eventual_delivery (start reactions arrivals) ≡ flow_through reactions arrivals
+start_eventual_delivery reactions arrivals =
     ap (coming (start reactions arrivals)) (start_stages reactions arrivals)
     ∙ start_coming reactions arrivals (length reactions) (omega arith)
     ∙ ap (λ all. flow_through all arrivals) (take_all (length reactions) reactions (omega arith))

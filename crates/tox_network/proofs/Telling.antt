@@ -9,7 +9,7 @@ use Rattle.tox_network.specs.declared.moves.Move.{Move}
 use Rattle.tox_network.specs.declared.moves.Move.TheVariants.{Take, Put}
 use Rattle.tox_network.specs.NetworkState.{queue, unsent_of}
 use Rattle.tox_network.specs.Moves.{after}
-use Rattle.tox_network.specs.Still.{IsEmpty}
+use Rattle.tox_network.specs.EventualDelivery.{IsEmpty}
 use Rattle.tox_network.specs.Runs.{IsAtRest}
 use Rattle.tox_network.specs.Possible.{if_any, possible, possible_before}
 use Rattle.tox_network.specs.NetworkView.{NetworkView, state_of, IsSound}

@@ -1,6 +1,6 @@
 pub mod NetworkState
 pub mod Moves
-pub mod Still
+pub mod EventualDelivery
 pub mod Runs
 pub mod Possible
 pub mod Rings

@@ -2,8 +2,8 @@
 use Rattle.tox_network.specs.declared.network.Network.TheInside.{Inside}
 use Rattle.tox_network.specs.NetworkView.{NetworkView, IsSound}
 
-abbrev pub running : Inside → NetworkView
-running network = record {
+abbrev pub network_view : Inside → NetworkView
+network_view network = record {
   cap = network.queues.room;
   arrived = network.waiting.arrived;
   steps = network.steps;
@@ -14,4 +14,4 @@ running network = record {
 }
 
 abbrev pub IsKept : Inside → Type 0
-IsKept network = IsSound (running network)
+IsKept network = IsSound (network_view network)

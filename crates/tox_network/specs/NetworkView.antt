@@ -12,7 +12,7 @@ use Rattle.tox_defs.specs.Stage.{Staged, first_stage, reaction_of}
 use Rattle.tox_network.specs.declared.moves.Move.{Move}
 use Rattle.tox_network.specs.NetworkState.{NetworkState, StageState, start, queue}
 use Rattle.tox_network.specs.Moves.{after}
-use Rattle.tox_network.specs.Still.{coming, still, moves_left, most_moves}
+use Rattle.tox_network.specs.EventualDelivery.{coming, eventual_delivery, moves_left, most_moves}
 
 -- what a network is seen as: the room of each queue, all arrivals, the moves made, and the parts of its state
 pub record NetworkView : Type 0 where
@@ -57,7 +57,7 @@ pub record IsStep (move : Move) (old new : NetworkView) : Type 0 where
   pub cap : new.cap ≡ old.cap
   pub arrived : new.arrived ≡ old.arrived
   -- no move changes the eventual delivery, and each is one less of those still to make
-  pub still : still (state_of new) ≡ still (state_of old)
+  pub eventual : eventual_delivery (state_of new) ≡ eventual_delivery (state_of old)
   pub left : moves_left (state_of old) ≡ moves_left (state_of new) + 1
 
 -- the next item to be delivered is a chunk
@@ -75,7 +75,7 @@ pub record IsSound (network : NetworkView) : Type 0 where
   pub fits : (k : ℕ) (stage : Staged) → slice_get network.stages k ≡ Some stage
       → AllFit stage.place (coming (state_of network) k)
   -- what was delivered and will be is a stream
-  pub whole : IsStream (still (state_of network))
+  pub whole : IsStream (eventual_delivery (state_of network))
   pub few : network.steps + moves_left (state_of network)
       ≤ most_moves (length network.stages) network.arrived
   pub small : most_moves (length network.stages) network.arrived < 2 ^ 64

@@ -1,4 +1,4 @@
--- The move that is made where none is asked for.
+-- The default move: the possible one nearest to the output.
 use Rattle.std.specs.Prelude.{ℕ, zero, suc, List, [], ◌∷◌, length, Option, Some, None}
 use Rattle.tox_time.specs.declared.item.Item.{Item}
 use Rattle.tox_network.specs.declared.moves.Move.{Move}

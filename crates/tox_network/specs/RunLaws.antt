@@ -7,13 +7,13 @@ use Rattle.tox_defs.specs.Flow.{reactions_of, chain_flow}
 use Rattle.tox_network.specs.declared.moves.Move.{Move}
 use Rattle.tox_network.specs.NetworkState.{NetworkState, start, queue}
 use Rattle.tox_network.specs.Runs.{IsRun, RestingRun, OfEveryRun, OfEveryRest}
-use Rattle.tox_network.specs.Still.{still, moves_left, most_moves, IsEmpty}
+use Rattle.tox_network.specs.EventualDelivery.{eventual_delivery, moves_left, most_moves, IsEmpty}
 use Rattle.tox_network.specs.Rings.{Ring, PassOn, IsRunOf}
 
 -- what the runs of a chain's network keep and what they come to
 pub record HasRunLaws (chain : Toxics) (words : List ℕ) (items : List Item) : Type 0 where
   -- the eventual delivery is the chain's flow at every moment, so what is delivered is a prefix of it
-  pub still : OfEveryRun chain words items (λ moves n. still n ≡ chain_flow chain words items)
+  pub eventual : OfEveryRun chain words items (λ moves n. eventual_delivery n ≡ chain_flow chain words items)
   pub prefix : OfEveryRun chain words items
       (λ moves n. IsPrefix n.delivered (chain_flow chain words items))
   -- no queue ever holds more items than it has room for

@@ -8,7 +8,7 @@ use Rattle.tox_network.specs.Runs.{IsRun}
 use Rattle.tox_network.specs.Possible.{possible}
 use Rattle.tox_network.specs.NetworkView.{NetworkView, state_of, HasChunkFirst}
 
--- the move of a turn: the listed one where it is possible, else the one that is made unasked
+-- the move of a turn: the listed one where it is possible, else the default move
 abbrev pub turn : ℕ → Option Move → NetworkState → Option Move
 turn cap (Some move) n = if is_some (after cap n move) then Some move else possible n
 turn cap None n = possible n

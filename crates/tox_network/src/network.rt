@@ -7,7 +7,7 @@ ghost use Rattle.tox_network.specs.declared.moves.Move.TheVariants.{Arrive, Take
 ghost use Rattle.tox_network.specs.Moves.{after};
 ghost use Rattle.tox_network.specs.RunLaws.{HasRunLaws};
 ghost use Rattle.tox_network.specs.Runs.{IsAtRest};
-ghost use Rattle.tox_network.specs.Still.{IsEmpty, most_moves};
+ghost use Rattle.tox_network.specs.EventualDelivery.{IsEmpty, most_moves};
 ghost use Rattle.tox_network.specs.Possible.{possible, possible_before};
 ghost use Rattle.tox_network.specs.Settling.{turn, Settles, IsRefusedAt};
 ghost use Rattle.tox_network.specs.Shown.{shown};
@@ -39,9 +39,9 @@ impl<'a> Model for Network<'a> {
 
     ghost Value = { NetworkView };
 
-    ghost use Rattle.tox_network.specs.NetworkInside.{running, IsKept};
+    ghost use Rattle.tox_network.specs.NetworkInside.{network_view, IsKept};
 
-    ghost view = { running };
+    ghost view = { network_view };
 
     ghost invariant = { IsKept };
 }

@@ -13,19 +13,19 @@ use Rattle.tox_time.specs.Stream.{has_final, IsStreamFrom}
 use Rattle.tox_words.specs.Draw.{Draws, draws_of}
 use Rattle.tox_defs.specs.declared.op.Op.{Op}
 use Rattle.tox_defs.specs.declared.op.Op.TheVariants.{Delay, Pace, Slow, Mute, Cutoff, Slicing, Limit}
-use Rattle.tox_defs.specs.declared.level.Level.{Level}
+use Rattle.tox_defs.specs.declared.op_cursor.OpCursor.{OpCursor}
 use Rattle.tox_defs.specs.declared.state.State.{State}
 use Rattle.tox_defs.specs.Reaction.{flow_from}
 use Rattle.tox_defs.specs.toxics.ResetPeer.{is_before, cutoff_gives}
 use Rattle.tox_defs.specs.Op.{op_reaction, is_mute}
-use Rattle.tox_defs.specs.Level.{level_gives}
+use Rattle.tox_defs.specs.OpCursor.{cursor_gives}
 use Rattle.tox_defs.proofs.FlowLemmas.{Continues-counted, flow_from-done}
-use Rattle.tox_defs.proofs.Levels.{rest_of-read, level_gives-running}
+use Rattle.tox_defs.proofs.OpCursors.{rest_of-read, cursor_gives-running}
 use Rattle.tox_compile.specs.Meaning.{deadline_of, earlier}
-use Rattle.tox_plan.specs.Levels.{to_come_from, ops_of, AreNested, AreDrained}
+use Rattle.tox_plan.specs.OpCursors.{to_come_from, ops_of, AreNested, AreDrained}
 use Rattle.tox_plan.specs.RunnerView.{RunnerView, IsRunning, reader_at, to_come}
 use Rattle.tox_plan.proofs.Late.{AreLate, IsLateOp, late-stream, late-flow, final-flow}
-use Rattle.tox_plan.proofs.LevelLemmas.{to_come_from-read}
+use Rattle.tox_plan.proofs.CursorLemmas.{to_come_from-read}
 use Rattle.tox_plan.proofs.RunnerOutput.{to_come-unfound, to_come-ended, idle-unfound, idle-drained}
 
 -- no operation cuts anything off before an instant
@@ -121,28 +121,28 @@ stop-snoc d [] op (inr none) = absurd none
 stop-snoc d (first ∷ ops) op (inl stop) = inl (inl stop)
 stop-snoc d (first ∷ ops) op (inr stop) = elim (stop-snoc d ops op stop) [ inl others ↦ inl (inr others) | inr last ↦ inr last ]
 
--- a level that has nothing left gives what its operation gives
-gives-drained : (draws : Draws) (start : ℕ) (level : Level) (items : List Item) → level.stop ≡ start → level.ending ≡ None
-    → level_gives draws start level items ≡ flow_from (op_reaction level.op draws) level.state items
-gives-drained draws start level items read running =
-    level_gives-running draws start level items running
-    ∙ ap (λ rest. flow_from (op_reaction level.op draws) level.state (rest ++ items)) (rest_of-read start level.stop level.instant (omega (arith, read)))
+-- a cursor that has nothing left gives what its operation gives
+gives-drained : (draws : Draws) (start : ℕ) (cursor : OpCursor) (items : List Item) → cursor.stop ≡ start → cursor.ending ≡ None
+    → cursor_gives draws start cursor items ≡ flow_from (op_reaction cursor.op draws) cursor.state items
+gives-drained draws start cursor items read running =
+    cursor_gives-running draws start cursor items running
+    ∙ ap (λ rest. flow_from (op_reaction cursor.op draws) cursor.state (rest ++ items)) (rest_of-read start cursor.stop cursor.instant (omega (arith, read)))
 
--- a late list that has a final stays one through drained levels that cut nothing off
+-- a late list that has a final stays one through drained cursors that cut nothing off
 pub record IsLater (d : ℕ) (items : List Item) : Type 0 where
   pub late : AreLate d items
   pub final : has_final items ≡ true
 
-late-levels : (d : ℕ) (draws : Draws) (start : ℕ) (levels : List Level) (source : Slice) (items : List Item) → d ≤ horizon → AreNested start levels source → AreDrained start levels source
-    → AreLateOps d (ops_of levels) → IsLater d items → IsLater d (to_come_from draws start levels source items)
-late-levels d draws start [] source items fits nested drained from later = subst (λ items. IsLater d items) (sym (to_come_from-read draws start source items drained)) later
-late-levels d draws start (level ∷ levels) source items fits nested drained from later =
-    let split = late_ops-snoc d (ops_of levels) level.op from in
-    let above : IsLater d (to_come_from draws level.stop levels source items) = late-levels d draws level.stop levels source items fits nested.1 drained.2 split.0 later in
-    subst (λ items. IsLater d items) (sym (gives-drained draws start level _ drained.0 drained.1))
+late-cursors : (d : ℕ) (draws : Draws) (start : ℕ) (cursors : List OpCursor) (source : Slice) (items : List Item) → d ≤ horizon → AreNested start cursors source → AreDrained start cursors source
+    → AreLateOps d (ops_of cursors) → IsLater d items → IsLater d (to_come_from draws start cursors source items)
+late-cursors d draws start [] source items fits nested drained from later = subst (λ items. IsLater d items) (sym (to_come_from-read draws start source items drained)) later
+late-cursors d draws start (cursor ∷ cursors) source items fits nested drained from later =
+    let split = late_ops-snoc d (ops_of cursors) cursor.op from in
+    let above : IsLater d (to_come_from draws cursor.stop cursors source items) = late-cursors d draws cursor.stop cursors source items fits nested.1 drained.2 split.0 later in
+    subst (λ items. IsLater d items) (sym (gives-drained draws start cursor _ drained.0 drained.1))
     (record {
-      late = late-flow d level.op draws fits (nested.0.heard drained.1) split.1 level.state _ above.late;
-      final = final-flow level.op draws level.state _ (nested.0.sound.running drained.1) above.final;
+      late = late-flow d cursor.op draws fits (nested.0.heard drained.1) split.1 cursor.state _ above.late;
+      final = final-flow cursor.op draws cursor.state _ (nested.0.sound.running drained.1) above.final;
     })
 
 -- a cutoff makes of a late list the same as of a quiet source
@@ -158,34 +158,34 @@ cutoff-flow d draws state (item ∷ items) running later =
     (Continues-counted (cutoff_gives d) state item items (Reset d ∷ []) running (ap (λ early. (if early then item else Reset d) ∷ []) (late-before d item items later.late))).gives
     ∙ ap (λ more. Reset d ∷ more) (flow_from-done (op_reaction (Cutoff d) draws) _ items refl)
 
--- drained levels, one of which stops everything from an instant on, give the same for all later lists
-stop-level : (d : ℕ) (op : Op) → is_mute op ≡ false → IsStop d op → op ≡ Cutoff d
-stop-level d (Delay fixed latency jitter lane until) loud stop = absurd stop
-stop-level d (Pace rate until) loud stop = absurd stop
-stop-level d (Slow millis) loud stop = absurd stop
-stop-level d (Mute ending) loud stop = absurd (cc)
-stop-level d (Cutoff instant) loud stop = ap Cutoff stop
-stop-level d (Slicing average variation micros lane until) loud stop = absurd stop
-stop-level d (Limit bytes) loud stop = absurd stop
+-- drained cursors, one of which stops everything from an instant on, give the same for all later lists
+stop-cursor : (d : ℕ) (op : Op) → is_mute op ≡ false → IsStop d op → op ≡ Cutoff d
+stop-cursor d (Delay fixed latency jitter lane until) loud stop = absurd stop
+stop-cursor d (Pace rate until) loud stop = absurd stop
+stop-cursor d (Slow millis) loud stop = absurd stop
+stop-cursor d (Mute ending) loud stop = absurd (cc)
+stop-cursor d (Cutoff instant) loud stop = ap Cutoff stop
+stop-cursor d (Slicing average variation micros lane until) loud stop = absurd stop
+stop-cursor d (Limit bytes) loud stop = absurd stop
 
-same-later : (d : ℕ) (draws : Draws) (start : ℕ) (levels : List Level) (source : Slice) (xs ys : List Item) → d ≤ horizon → AreNested start levels source → AreDrained start levels source
-    → AreLateOps d (ops_of levels) → HaveStop d (ops_of levels) → IsLater d xs → IsLater d ys
-    → to_come_from draws start levels source xs ≡ to_come_from draws start levels source ys
+same-later : (d : ℕ) (draws : Draws) (start : ℕ) (cursors : List OpCursor) (source : Slice) (xs ys : List Item) → d ≤ horizon → AreNested start cursors source → AreDrained start cursors source
+    → AreLateOps d (ops_of cursors) → HaveStop d (ops_of cursors) → IsLater d xs → IsLater d ys
+    → to_come_from draws start cursors source xs ≡ to_come_from draws start cursors source ys
 same-later d draws start [] source xs ys fits nested drained from stop later_xs later_ys = absurd stop
-same-later d draws start (level ∷ levels) source xs ys fits nested drained from stop later_xs later_ys =
-    elim (stop-snoc d (ops_of levels) level.op stop) [
-      | inl above ↦ ap (λ items. level_gives draws start level items) (same-later d draws level.stop levels source xs ys fits nested.1 drained.2 split.0 above later_xs later_ys)
+same-later d draws start (cursor ∷ cursors) source xs ys fits nested drained from stop later_xs later_ys =
+    elim (stop-snoc d (ops_of cursors) cursor.op stop) [
+      | inl above ↦ ap (λ items. cursor_gives draws start cursor items) (same-later d draws cursor.stop cursors source xs ys fits nested.1 drained.2 split.0 above later_xs later_ys)
       | inr here ↦ cut here xs later_xs ∙ sym (cut here ys later_ys)
     ]
   where
-    split : AreLateOps d (ops_of levels) × IsLateOp d level.op
-    split = late_ops-snoc d (ops_of levels) level.op from
+    split : AreLateOps d (ops_of cursors) × IsLateOp d cursor.op
+    split = late_ops-snoc d (ops_of cursors) cursor.op from
 
-    cut : IsStop d level.op → (items : List Item) → IsLater d items → to_come_from draws start (level ∷ levels) source items ≡ Reset d ∷ []
+    cut : IsStop d cursor.op → (items : List Item) → IsLater d items → to_come_from draws start (cursor ∷ cursors) source items ≡ Reset d ∷ []
     cut here items later =
-        gives-drained draws start level _ drained.0 drained.1
-        ∙ ap (λ op. flow_from (op_reaction op draws) level.state (to_come_from draws level.stop levels source items)) (stop-level d level.op (nested.0.heard drained.1) here)
-        ∙ cutoff-flow d draws level.state _ (nested.0.sound.running drained.1) (late-levels d draws level.stop levels source items fits nested.1 drained.2 split.0 later)
+        gives-drained draws start cursor _ drained.0 drained.1
+        ∙ ap (λ op. flow_from (op_reaction op draws) cursor.state (to_come_from draws cursor.stop cursors source items)) (stop-cursor d cursor.op (nested.0.heard drained.1) here)
+        ∙ cutoff-flow d draws cursor.state _ (nested.0.sound.running drained.1) (late-cursors d draws cursor.stop cursors source items fits nested.1 drained.2 split.0 later)
 
 -- a stream's instants are not beyond the horizon, unless the source is quiet
 begins-in-time : (d position since : ℕ) (items : List Item) → d ≤ since → IsStreamFrom position since items → (d ≤ horizon) ⊎ (items ≡ Quiet ∷ [])
@@ -197,18 +197,18 @@ begins-in-time d position since (Quiet ∷ items) from stream = inr (ap (λ item
 
 -- what comes at or after the deadline to an idle runner changes nothing
 module _ (runner : RunnerView) (invariant : IsRunning runner) (idle : runner.idle ≡ true) where
-  past-running : (d position since : ℕ) (items : List Item) → runner.ending ≡ None → d ≤ horizon → deadline_of (ops_of runner.levels) ≡ Some d → d ≤ since → IsStreamFrom position since items
+  past-running : (d position since : ℕ) (items : List Item) → runner.ending ≡ None → d ≤ horizon → deadline_of (ops_of runner.cursors) ≡ Some d → d ≤ since → IsStreamFrom position since items
       → to_come runner items ≡ to_come runner (Quiet ∷ [])
   past-running d position since items running fits is from stream =
-      let found = stop-deadline d (ops_of runner.levels) is in
+      let found = stop-deadline d (ops_of runner.cursors) is in
       let unfound : runner.lookahead ≡ None = idle-unfound runner invariant idle in
-      let nested : AreNested runner.position runner.levels runner.piece = subst (λ found. AreNested (reader_at runner.position found) runner.levels runner.piece) unfound (invariant.nested running) in
+      let nested : AreNested runner.position runner.cursors runner.piece = subst (λ found. AreNested (reader_at runner.position found) runner.cursors runner.piece) unfound (invariant.nested running) in
       to_come-unfound runner items running unfound
-      ∙ same-later d (draws_of runner.drawing) runner.position runner.levels runner.piece items (Quiet ∷ []) fits nested (idle-drained runner invariant idle running) found.0 found.1
+      ∙ same-later d (draws_of runner.drawing) runner.position runner.cursors runner.piece items (Quiet ∷ []) fits nested (idle-drained runner invariant idle running) found.0 found.1
       (record { late = late-stream d position since items from stream; final = final_of_stream position since items stream }) (record { late = tt; final = refl })
       ∙ sym (to_come-unfound runner (Quiet ∷ []) running unfound)
 
-  pub past-deadline : (d position since : ℕ) (items : List Item) → deadline_of (ops_of runner.levels) ≡ Some d → d ≤ since → IsStreamFrom position since items
+  pub past-deadline : (d position since : ℕ) (items : List Item) → deadline_of (ops_of runner.cursors) ≡ Some d → d ≤ since → IsStreamFrom position since items
       → to_come runner items ≡ to_come runner (Quiet ∷ [])
   past-deadline d position since items is from stream = by runner.ending refl
     where

@@ -3,10 +3,10 @@ use Rattle.std.proofs.Common.{◌≡◌, ℕ, ◌<◌, ◌≤◌, ◌+◌, ◌*�
 use Rattle.tox_time.specs.declared.slice.Slice.{Slice}
 use Rattle.tox_time.specs.declared.item.Item.{Item}
 use Rattle.tox_defs.specs.Look.{as_chunk}
-use Rattle.tox_plan.specs.Levels.{AreNested, AreDrained}
+use Rattle.tox_plan.specs.OpCursors.{AreNested, AreDrained}
 use Rattle.tox_plan.specs.RunnerView.{RunnerView, IsRunning, IsFound, to_come, reader_at}
 use Rattle.tox_plan.specs.Cuts.{IsCut, IsOneCut, KeepsOffers, Reach}
-use Rattle.tox_plan.proofs.LevelLemmas.{nested-below}
+use Rattle.tox_plan.proofs.CursorLemmas.{nested-below}
 use Rattle.tox_plan.proofs.RunnerOutput.{to_come-unfound, to_come-found, found-cut}
 use Rattle.tox_plan.proofs.Looking.{round_due-most}
 use Rattle.std.proofs.lemmas.List.{map-append}
@@ -15,7 +15,7 @@ use Rattle.std.proofs.lemmas.List.{map-append}
 module _ (old : RunnerView) (cut : Slice) where
   abbrev pub after_given : RunnerView
   after_given = record {
-    levels = old.levels;
+    cursors = old.cursors;
     drawing = old.drawing;
     position = cut.span.stop;
     piece = old.piece;
@@ -35,17 +35,17 @@ module _ (old : RunnerView) (cut : Slice) where
     found : IsFound old cut
     found = found-cut old cut invariant some
 
-    nested : AreNested cut.span.stop old.levels old.piece
-    nested = subst (λ found. AreNested (reader_at old.position found) old.levels old.piece) some (invariant.nested found.running)
+    nested : AreNested cut.span.stop old.cursors old.piece
+    nested = subst (λ found. AreNested (reader_at old.position found) old.cursors old.piece) some (invariant.nested found.running)
 
     pub IsRunning-after_given : IsRunning after_given
     IsRunning-after_given =
-        let counted : 0 + old.turns ≤ length old.levels * (old.cuts + old.pieces) = rw some at invariant.counted in
-        let cuts_looked : 0 < length old.levels → old.cuts + 1 ≤ old.turns = rw some at invariant.looked in
-        let below : cut.span.stop ≤ old.piece.span.stop = nested-below cut.span.stop old.levels old.piece nested in
+        let counted : 0 + old.turns ≤ length old.cursors * (old.cuts + old.pieces) = rw some at invariant.counted in
+        let cuts_looked : 0 < length old.cursors → old.cuts + 1 ≤ old.turns = rw some at invariant.looked in
+        let below : cut.span.stop ≤ old.piece.span.stop = nested-below cut.span.stop old.cursors old.piece nested in
         record {
           nested = λ _. nested;
-          drained = λ read none. subst (λ found. AreDrained (reader_at old.position found) old.levels old.piece) some (invariant.drained read none);
+          drained = λ read none. subst (λ found. AreDrained (reader_at old.position found) old.cursors old.piece) some (invariant.drained read none);
           found = tt;
           unended = invariant.unended;
           ended = invariant.ended;
@@ -55,10 +55,10 @@ module _ (old : RunnerView) (cut : Slice) where
           reached = below;
           here = λ busy. omega (arith, invariant.here busy, found.some);
           few = invariant.few;
-          few_levels = invariant.few_levels;
+          few_cursors = invariant.few_cursors;
           few_cuts = omega (arith, invariant.few_cuts, found.some);
           few_pieces = invariant.few_pieces;
-          counted = omega (arith, counted, round_due-most old.drained None (length old.levels));
+          counted = omega (arith, counted, round_due-most old.drained None (length old.cursors));
           looked = λ some. omega (arith, cuts_looked some);
         }
 
@@ -72,7 +72,7 @@ module _ (old : RunnerView) (cut : Slice) where
           within = record {
             from = omega (arith, invariant.here found.busy, found.begins);
             some = omega (arith, found.begins, found.some);
-            to = nested-below cut.span.stop old.levels old.piece nested;
+            to = nested-below cut.span.stop old.cursors old.piece nested;
           };
           gives = λ items. to_come-found old cut items none some ∙ ap (λ items. as_chunk cut ∷ items) (sym (to_come-unfound after_given items none refl));
           counted = refl;
@@ -129,14 +129,14 @@ keeps-both old middle new first second = record {
   latest = second.latest ∙ first.latest;
   finished = second.finished ∙ first.finished;
   pieces = second.pieces ∙ first.pieces;
-  levels = second.levels ∙ first.levels;
+  cursors = second.cursors ∙ first.cursors;
   ops = second.ops ∙ first.ops;
 }
 
 -- a round of looks for one cut, and for one more
-pub one-round : (levels old new before after : ℕ) → new ≤ old + levels → after ≡ before + 1 → new + levels * before ≤ old + levels * after
-one-round levels old new before after few counted = rw counted (omega (arith, few))
+pub one-round : (cursors old new before after : ℕ) → new ≤ old + cursors → after ≡ before + 1 → new + cursors * before ≤ old + cursors * after
+one-round cursors old new before after few counted = rw counted (omega (arith, few))
 
-pub more-rounds : (levels levels' first old new before middle after : ℕ) → levels' ≡ levels → old + levels * before ≤ first + levels * middle → new ≤ old + levels' → after ≡ middle + 1
-    → new + levels * before ≤ first + levels * after
-more-rounds levels levels' first old new before middle after same rounds few counted = rw counted (omega (arith, same, rounds, few))
+pub more-rounds : (cursors cursors' first old new before middle after : ℕ) → cursors' ≡ cursors → old + cursors * before ≤ first + cursors * middle → new ≤ old + cursors' → after ≡ middle + 1
+    → new + cursors * before ≤ first + cursors * after
+more-rounds cursors cursors' first old new before middle after same rounds few counted = rw counted (omega (arith, same, rounds, few))

@@ -5,7 +5,7 @@ use Rattle.tox_time.specs.declared.ending.Ending.{Ending}
 use Rattle.tox_time.specs.Table.{final_of}
 use Rattle.tox_words.specs.Draw.{draws_of}
 use Rattle.tox_plan.specs.RunnerView.{RunnerView, IsRunning, to_come}
-use Rattle.tox_plan.proofs.LevelLemmas.{drained-silent}
+use Rattle.tox_plan.proofs.CursorLemmas.{drained-silent}
 use Rattle.tox_plan.proofs.RunnerOutput.{to_come-unfound, to_come-ended, idle-unfound, idle-drained}
 
 -- the ending is known exactly where the source has ended, or something is to come though nothing more arrives
@@ -22,4 +22,4 @@ ended_exactly runner invariant idle = (λ some. (idle, inr (ends runner.ending r
     from None is (inl told) = invariant.told told
     from None is (inr comes) =
         absurd (comes (to_come-unfound runner [] is (idle-unfound runner invariant idle)
-        ∙ drained-silent (draws_of runner.drawing) runner.position runner.levels runner.piece (idle-drained runner invariant idle is)))
+        ∙ drained-silent (draws_of runner.drawing) runner.position runner.cursors runner.piece (idle-drained runner invariant idle is)))

@@ -1,4 +1,4 @@
-pub mod LevelLemmas
+pub mod CursorLemmas
 pub mod Pulls
 pub mod Starts
 pub mod Endings

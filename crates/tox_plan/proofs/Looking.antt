@@ -10,17 +10,17 @@ use Rattle.tox_time.specs.declared.item.Item.TheVariants.{Chunk, Closed, Reset, 
 use Rattle.tox_time.specs.declared.ending.Ending.{Ending}
 use Rattle.tox_time.specs.Table.{final_of}
 use Rattle.tox_words.specs.Draw.{draws_of}
-use Rattle.tox_defs.specs.declared.level.Level.{Level}
-use Rattle.tox_plan.specs.Levels.{AreNested, AreDrained, IsNext, HaveEnded, AreOpenUnless}
+use Rattle.tox_defs.specs.declared.op_cursor.OpCursor.{OpCursor}
+use Rattle.tox_plan.specs.OpCursors.{AreNested, AreDrained, IsNext, HaveEnded, AreOpenUnless}
 use Rattle.tox_plan.specs.RunnerView.{RunnerView, IsRunning, IsFound, to_come, reader_at, round_due, HasNoChunk}
 use Rattle.tox_plan.specs.Cuts.{BeginsApart, EndsHere}
-use Rattle.tox_plan.proofs.LevelLemmas.{nested-below, drained-at}
+use Rattle.tox_plan.proofs.CursorLemmas.{nested-below, drained-at}
 use Rattle.tox_plan.proofs.RunnerOutput.{to_come-unfound, to_come-found, to_come-ended, unknown, final-no_chunk, read-no_chunk, unread-ending, unread-busy}
 
 -- a round of looks fits the counter of turns
-pub turns_fit : (levels turns cuts pieces : ℕ) → turns ≤ levels * (cuts + pieces) → levels ≤ 32 → cuts ≤ 2 ^ 40 → pieces ≤ 2 ^ 40 → turns + levels < 2 ^ 64
-turns_fit levels turns cuts pieces counted few few_cuts few_pieces =
-    let most : levels * (cuts + pieces) ≤ 32 * (cuts + pieces) = mul-le-mul_right (cuts + pieces) few in
+pub turns_fit : (cursors turns cuts pieces : ℕ) → turns ≤ cursors * (cuts + pieces) → cursors ≤ 32 → cuts ≤ 2 ^ 40 → pieces ≤ 2 ^ 40 → turns + cursors < 2 ^ 64
+turns_fit cursors turns cuts pieces counted few few_cuts few_pieces =
+    let most : cursors * (cuts + pieces) ≤ 32 * (cuts + pieces) = mul-le-mul_right (cuts + pieces) few in
     omega arith
 
 -- at most one round is due
@@ -30,22 +30,22 @@ round_due-most false None round = omega arith
 round_due-most read (Some cut) round = omega arith
 
 -- a slice that was lent and kept its length is what was written through it
-pub refill-whole : (n : ℕ) (old new : List Level) → length new ≡ n → refill n old new ≡ new
+pub refill-whole : (n : ℕ) (old new : List OpCursor) → length new ≡ n → refill n old new ≡ new
 refill-whole n old new same_length = rw (← same_length) (take-append_seam new _)
 
--- nothing is left behind a cut that stops where the piece does, where no level keeps an ending
-pub drained-behind : (start : ℕ) (levels : List Level) (source : Slice) → AreNested start levels source → (HaveEnded levels → ⊥) → start ≡ source.span.stop → AreDrained start levels source
+-- nothing is left behind a cut that stops where the piece does, where no cursor keeps an ending
+pub drained-behind : (start : ℕ) (cursors : List OpCursor) (source : Slice) → AreNested start cursors source → (HaveEnded cursors → ⊥) → start ≡ source.span.stop → AreDrained start cursors source
 drained-behind start [] source nested unended at = sym at
-drained-behind start (level ∷ levels) source nested unended at =
-    let below : level.stop ≤ source.span.stop = nested-below level.stop levels source nested.1 in
-    let read : level.stop ≡ start = omega (arith, nested.0.sound.within, below, at) in
-    (read, unknown level.ending (λ some. unended (inl some)), drained-behind level.stop levels source nested.1 (λ ended. unended (inr ended)) (read ∙ at))
+drained-behind start (cursor ∷ cursors) source nested unended at =
+    let below : cursor.stop ≤ source.span.stop = nested-below cursor.stop cursors source nested.1 in
+    let read : cursor.stop ≡ start = omega (arith, nested.0.sound.within, below, at) in
+    (read, unknown cursor.ending (λ some. unended (inl some)), drained-behind cursor.stop cursors source nested.1 (λ ended. unended (inr ended)) (read ∙ at))
 
 -- a runner that found its next cut, and whether it is the last
-module _ (old : RunnerView) (levels : List Level) (turns : ℕ) (ended : Bool) (cut : Slice) (last : Bool) where
+module _ (old : RunnerView) (cursors : List OpCursor) (turns : ℕ) (ended : Bool) (cut : Slice) (last : Bool) where
   abbrev pub after_found : RunnerView
   after_found = record {
-    levels = levels;
+    cursors = cursors;
     drawing = old.drawing;
     position = old.position;
     piece = old.piece;
@@ -61,13 +61,13 @@ module _ (old : RunnerView) (levels : List Level) (turns : ℕ) (ended : Bool) (
     pieces = old.pieces;
   }
 
-  module _ (invariant : IsRunning old) (unread : old.drained ≡ false) (unfound : old.lookahead ≡ None) (next : IsNext (draws_of old.drawing) old.position old.levels levels old.piece cut) where
-    pub IsRunning-after_found : (last ≡ true → AreDrained cut.span.stop levels old.piece) → AreOpenUnless ended levels → length levels ≡ length old.levels → turns ≤ old.turns + length old.levels → old.turns ≤ turns → (0 < length old.levels → old.turns < turns) → IsRunning after_found
+  module _ (invariant : IsRunning old) (unread : old.drained ≡ false) (unfound : old.lookahead ≡ None) (next : IsNext (draws_of old.drawing) old.position old.cursors cursors old.piece cut) where
+    pub IsRunning-after_found : (last ≡ true → AreDrained cut.span.stop cursors old.piece) → AreOpenUnless ended cursors → length cursors ≡ length old.cursors → turns ≤ old.turns + length old.cursors → old.turns ≤ turns → (0 < length old.cursors → old.turns < turns) → IsRunning after_found
     IsRunning-after_found drained unended same_length few_turns more looked =
         let busy : old.idle ≡ false = unread-busy old invariant unread in
         let running : old.ending ≡ None = unread-ending old invariant unread in
-        let counted : length old.levels + old.turns ≤ length old.levels * (old.cuts + old.pieces) = rw (unfound, unread) at invariant.counted in
-        let cuts_looked : 0 < length old.levels → old.cuts + 0 ≤ old.turns = rw unfound at invariant.looked in
+        let counted : length old.cursors + old.turns ≤ length old.cursors * (old.cuts + old.pieces) = rw (unfound, unread) at invariant.counted in
+        let cuts_looked : 0 < length old.cursors → old.cuts + 0 ≤ old.turns = rw unfound at invariant.looked in
         record {
           nested = λ _. next.nested;
           drained = λ read none. drained read;
@@ -80,7 +80,7 @@ module _ (old : RunnerView) (levels : List Level) (turns : ℕ) (ended : Bool) (
           reached = invariant.reached;
           here = invariant.here;
           few = invariant.few;
-          few_levels = rw same_length invariant.few_levels;
+          few_cursors = rw same_length invariant.few_cursors;
           few_cuts = invariant.few_cuts;
           few_pieces = invariant.few_pieces;
           counted = rw same_length (omega (arith, counted, few_turns));
@@ -93,10 +93,10 @@ module _ (old : RunnerView) (levels : List Level) (turns : ℕ) (ended : Bool) (
         to_come-found after_found cut items none refl ∙ sym (next.gives items) ∙ sym (to_come-unfound old items none unfound)
 
 -- a runner that has read its piece to the end
-module _ (old : RunnerView) (levels : List Level) (turns : ℕ) (ended : Bool) (ending : Option Ending) where
+module _ (old : RunnerView) (cursors : List OpCursor) (turns : ℕ) (ended : Bool) (ending : Option Ending) where
   abbrev pub after_read : RunnerView
   after_read = record {
-    levels = levels;
+    cursors = cursors;
     drawing = old.drawing;
     position = old.position;
     piece = old.piece;
@@ -113,11 +113,11 @@ module _ (old : RunnerView) (levels : List Level) (turns : ℕ) (ended : Bool) (
   }
 
   module _ (invariant : IsRunning old) (unread : old.drained ≡ false) (unfound : old.lookahead ≡ None) where
-    pub IsRunning-after_read : (ending ≡ None → AreDrained old.position levels old.piece × AreNested old.position levels old.piece) → (IsSome ending → HaveEnded levels) → AreOpenUnless ended levels
-        → length levels ≡ length old.levels → turns ≤ old.turns + length old.levels → old.turns ≤ turns → IsRunning after_read
+    pub IsRunning-after_read : (ending ≡ None → AreDrained old.position cursors old.piece × AreNested old.position cursors old.piece) → (IsSome ending → HaveEnded cursors) → AreOpenUnless ended cursors
+        → length cursors ≡ length old.cursors → turns ≤ old.turns + length old.cursors → old.turns ≤ turns → IsRunning after_read
     IsRunning-after_read drained kept unended same_length few_turns more =
-        let counted : length old.levels + old.turns ≤ length old.levels * (old.cuts + old.pieces) = rw (unfound, unread) at invariant.counted in
-        let cuts_looked : 0 < length old.levels → old.cuts + 0 ≤ old.turns = rw unfound at invariant.looked in
+        let counted : length old.cursors + old.turns ≤ length old.cursors * (old.cuts + old.pieces) = rw (unfound, unread) at invariant.counted in
+        let cuts_looked : 0 < length old.cursors → old.cuts + 0 ≤ old.turns = rw unfound at invariant.looked in
         let running : old.finished ≡ true → ⊥ = (λ told. let both : true ≡ false = sym (invariant.ended (invariant.told told)) ∙ unread in absurd (cc)) in
         record {
           nested = λ none. rw unfound (drained none).1;
@@ -131,7 +131,7 @@ module _ (old : RunnerView) (levels : List Level) (turns : ℕ) (ended : Bool) (
           reached = invariant.reached;
           here = invariant.here;
           few = invariant.few;
-          few_levels = rw same_length invariant.few_levels;
+          few_cursors = rw same_length invariant.few_cursors;
           few_cuts = invariant.few_cuts;
           few_pieces = invariant.few_pieces;
           counted = rw (unfound, same_length) (omega (arith, counted, few_turns));
@@ -162,7 +162,7 @@ look-ends runner instant invariant read none = from runner.ending refl
 
     from : (ending : Option Ending) → runner.ending ≡ ending → EndsHere instant runner
     from None is =
-        let drained : AreDrained runner.position runner.levels runner.piece = subst (λ found. AreDrained (reader_at runner.position found) runner.levels runner.piece) none (invariant.drained is_read is) in
-        inl (sym (drained-at runner.position runner.levels runner.piece drained))
+        let drained : AreDrained runner.position runner.cursors runner.piece = subst (λ found. AreDrained (reader_at runner.position found) runner.cursors runner.piece) none (invariant.drained is_read is) in
+        inl (sym (drained-at runner.position runner.cursors runner.piece drained))
     from (Some ending) is =
         inr (λ items. subst (BeginsApart instant) (sym (to_come-ended runner ending items is)) (no_chunk-apart instant (final_of ending ∷ []) (final-no_chunk ending)))

@@ -4,16 +4,16 @@ use Rattle.std.specs.Prelude.{is_some, IsSome, IfSome}
 use Rattle.tox_time.specs.declared.item.Item.{Item}
 use Rattle.tox_words.specs.Draw.{draws_of}
 use Rattle.tox_defs.specs.Look.{as_chunk}
-use Rattle.tox_plan.specs.Levels.{AreDrained}
+use Rattle.tox_plan.specs.OpCursors.{AreDrained}
 use Rattle.tox_plan.specs.RunnerView.{RunnerView, IsRunning, IsFound, to_come, reader_at, next_piece}
-use Rattle.tox_plan.proofs.LevelLemmas.{nested-longer, drained-at, drained-offered}
+use Rattle.tox_plan.proofs.CursorLemmas.{nested-longer, drained-at, drained-offered}
 use Rattle.tox_plan.proofs.RunnerOutput.{to_come-unfound, idle-unfound, idle-drained}
 
 -- a runner after an offer
 module _ (old : RunnerView) (len instant : ℕ) where
   abbrev pub after_offer : RunnerView
   after_offer = record {
-    levels = old.levels;
+    cursors = old.cursors;
     drawing = old.drawing;
     position = old.position;
     piece = next_piece old len instant;
@@ -33,17 +33,17 @@ module _ (old : RunnerView) (len instant : ℕ) where
     unfound : old.lookahead ≡ None
     unfound = idle-unfound old invariant idle
 
-    drained : AreDrained old.position old.levels old.piece
+    drained : AreDrained old.position old.cursors old.piece
     drained = idle-drained old invariant idle none
 
     pub IsRunning-after_offer : 0 < len → old.piece.span.stop + len ≤ 2 ^ 40 → IsRunning after_offer
     IsRunning-after_offer some few =
         let known : IsSome old.ending → ⊥ = (λ some. let open_yet : is_some old.ending ≡ false = ap is_some none in absurd (cc)) in
-        let at : old.piece.span.stop ≡ old.position = drained-at old.position old.levels old.piece drained in
-        let counted : 0 + old.turns ≤ length old.levels * (old.cuts + old.pieces) = rw (unfound, invariant.idle idle) at invariant.counted in
-        let cuts_looked : 0 < length old.levels → old.cuts + 0 ≤ old.turns = rw unfound at invariant.looked in
+        let at : old.piece.span.stop ≡ old.position = drained-at old.position old.cursors old.piece drained in
+        let counted : 0 + old.turns ≤ length old.cursors * (old.cuts + old.pieces) = rw (unfound, invariant.idle idle) at invariant.counted in
+        let cuts_looked : 0 < length old.cursors → old.cuts + 0 ≤ old.turns = rw unfound at invariant.looked in
         record {
-          nested = λ _. nested-longer (reader_at old.position old.lookahead) old.levels old.piece (next_piece old len instant) (omega arith) (invariant.nested none);
+          nested = λ _. nested-longer (reader_at old.position old.lookahead) old.cursors old.piece (next_piece old len instant) (omega arith) (invariant.nested none);
           drained = λ read. absurd (let e : false ≡ true = read in cc);
           found = subst (λ found. IfSome found (IsFound after_offer)) (sym unfound) tt;
           unended = invariant.unended;
@@ -54,7 +54,7 @@ module _ (old : RunnerView) (len instant : ℕ) where
           reached = omega (arith, invariant.reached);
           here = λ busy. omega (arith, at);
           few = few;
-          few_levels = invariant.few_levels;
+          few_cursors = invariant.few_cursors;
           few_cuts = invariant.few_cuts;
           few_pieces = omega (arith, invariant.few_pieces);
           counted = rw unfound (omega (arith, counted));
@@ -64,5 +64,5 @@ module _ (old : RunnerView) (len instant : ℕ) where
     pub to_come-after_offer : 0 < len → (items : List Item) → to_come after_offer items ≡ to_come old (as_chunk (next_piece old len instant) ∷ items)
     to_come-after_offer some items =
         to_come-unfound after_offer items none unfound
-        ∙ drained-offered (draws_of old.drawing) old.position old.levels old.piece (next_piece old len instant) items drained refl (omega arith)
+        ∙ drained-offered (draws_of old.drawing) old.position old.cursors old.piece (next_piece old len instant) items drained refl (omega arith)
         ∙ sym (to_come-unfound old (as_chunk (next_piece old len instant) ∷ items) none unfound)

@@ -3,37 +3,37 @@ use Rattle.std.proofs.Common.{◌≡◌, ℕ, Bool, true, false, List, [], ◌�
 use Rattle.std.specs.Prelude.{is_some, IsSome, IfSome}
 use Rattle.tox_time.specs.declared.slice.Slice.{Slice}
 use Rattle.tox_time.specs.declared.item.Item.{Item}
-use Rattle.tox_time.specs.declared.item.Item.TheVariants.{Quiet}
+use Rattle.tox_time.specs.declared.item.Item.TheVariants.{Chunk, Closed, Reset, Quiet}
 use Rattle.tox_time.specs.declared.ending.Ending.{Ending}
 use Rattle.tox_time.specs.declared.ending.Ending.TheVariants.{StillOpen, Closed as ClosedEnding, Reset as ResetEnding}
-use Rattle.tox_time.specs.Table.{final_of}
+use Rattle.tox_time.specs.Table.{final_of, table}
 use Rattle.tox_words.specs.Draw.{Draws, draws_of}
-use Rattle.tox_defs.specs.declared.level.Level.{Level}
+use Rattle.tox_defs.specs.declared.op_cursor.OpCursor.{OpCursor}
 use Rattle.tox_defs.specs.Look.{as_chunk}
-use Rattle.tox_defs.specs.Level.{ending_or}
-use Rattle.tox_plan.specs.Levels.{to_come_from, AreNested, AreDrained, HaveEnded}
+use Rattle.tox_defs.specs.OpCursor.{ending_or}
+use Rattle.tox_plan.specs.OpCursors.{to_come_from, AreNested, AreDrained, HaveEnded}
 use Rattle.tox_plan.specs.RunnerView.{RunnerView, IsRunning, IsFound, to_come, found_chunk, reader_at, HasNoChunk}
 use Rattle.tox_plan.proofs.Endings.{drained-final}
 
 pub to_come-running : (runner : RunnerView) (items : List Item) → runner.ending ≡ None
-    → to_come runner items ≡ found_chunk runner.lookahead ++ to_come_from (draws_of runner.drawing) (reader_at runner.position runner.lookahead) runner.levels runner.piece items
+    → to_come runner items ≡ found_chunk runner.lookahead ++ to_come_from (draws_of runner.drawing) (reader_at runner.position runner.lookahead) runner.cursors runner.piece items
 to_come-running runner items running =
-    ap (λ ending. ending_or ending (found_chunk runner.lookahead ++ to_come_from (draws_of runner.drawing) (reader_at runner.position runner.lookahead) runner.levels runner.piece items)) running
+    ap (λ ending. ending_or ending (found_chunk runner.lookahead ++ to_come_from (draws_of runner.drawing) (reader_at runner.position runner.lookahead) runner.cursors runner.piece items)) running
 
-pub to_come-unfound : (runner : RunnerView) (items : List Item) → runner.ending ≡ None → runner.lookahead ≡ None → to_come runner items ≡ to_come_from (draws_of runner.drawing) runner.position runner.levels runner.piece items
+pub to_come-unfound : (runner : RunnerView) (items : List Item) → runner.ending ≡ None → runner.lookahead ≡ None → to_come runner items ≡ to_come_from (draws_of runner.drawing) runner.position runner.cursors runner.piece items
 to_come-unfound runner items running none =
     to_come-running runner items running
-    ∙ ap (λ found. found_chunk found ++ to_come_from (draws_of runner.drawing) (reader_at runner.position found) runner.levels runner.piece items) none
+    ∙ ap (λ found. found_chunk found ++ to_come_from (draws_of runner.drawing) (reader_at runner.position found) runner.cursors runner.piece items) none
 
 pub to_come-found : (runner : RunnerView) (cut : Slice) (items : List Item) → runner.ending ≡ None → runner.lookahead ≡ Some cut
-    → to_come runner items ≡ as_chunk cut ∷ to_come_from (draws_of runner.drawing) cut.span.stop runner.levels runner.piece items
+    → to_come runner items ≡ as_chunk cut ∷ to_come_from (draws_of runner.drawing) cut.span.stop runner.cursors runner.piece items
 to_come-found runner cut items running some =
     to_come-running runner items running
-    ∙ ap (λ found. found_chunk found ++ to_come_from (draws_of runner.drawing) (reader_at runner.position found) runner.levels runner.piece items) some
+    ∙ ap (λ found. found_chunk found ++ to_come_from (draws_of runner.drawing) (reader_at runner.position found) runner.cursors runner.piece items) some
 
 pub to_come-ended : (runner : RunnerView) (ending : Ending) (items : List Item) → runner.ending ≡ Some ending → to_come runner items ≡ final_of ending ∷ []
 to_come-ended runner ending items ended =
-    ap (λ ending. ending_or ending (found_chunk runner.lookahead ++ to_come_from (draws_of runner.drawing) (reader_at runner.position runner.lookahead) runner.levels runner.piece items)) ended
+    ap (λ ending. ending_or ending (found_chunk runner.lookahead ++ to_come_from (draws_of runner.drawing) (reader_at runner.position runner.lookahead) runner.cursors runner.piece items)) ended
 
 -- an idle runner has found nothing
 pub idle-unfound : (runner : RunnerView) → IsRunning runner → runner.idle ≡ true → runner.lookahead ≡ None
@@ -45,20 +45,20 @@ idle-unfound runner invariant idle = by runner.lookahead refl
         let found : IsFound runner cut = subst (λ found. IfSome found (IsFound runner)) is invariant.found in
         absurd (let both : true ≡ false = sym idle ∙ found.busy in cc)
 
--- the levels of an idle runner with no ending are drained
-pub idle-drained : (runner : RunnerView) → IsRunning runner → runner.idle ≡ true → runner.ending ≡ None → AreDrained runner.position runner.levels runner.piece
+-- the cursors of an idle runner with no ending are drained
+pub idle-drained : (runner : RunnerView) → IsRunning runner → runner.idle ≡ true → runner.ending ≡ None → AreDrained runner.position runner.cursors runner.piece
 idle-drained runner invariant idle none =
-    subst (λ found. AreDrained (reader_at runner.position found) runner.levels runner.piece) (idle-unfound runner invariant idle) (invariant.drained (invariant.idle idle) none)
+    subst (λ found. AreDrained (reader_at runner.position found) runner.cursors runner.piece) (idle-unfound runner invariant idle) (invariant.drained (invariant.idle idle) none)
 
 -- what is found comes before any ending
 pub found-cut : (runner : RunnerView) (cut : Slice) → IsRunning runner → runner.lookahead ≡ Some cut → IsFound runner cut
 found-cut runner cut invariant is = subst (λ found. IfSome found (IsFound runner)) is invariant.found
 
--- drained levels keep no ending
-pub drained-unended : (start : ℕ) (levels : List Level) (source : Slice) → AreDrained start levels source → HaveEnded levels → ⊥
+-- drained cursors keep no ending
+pub drained-unended : (start : ℕ) (cursors : List OpCursor) (source : Slice) → AreDrained start cursors source → HaveEnded cursors → ⊥
 drained-unended start [] source drained ended = ended
-drained-unended start (level ∷ levels) source drained (inl some) = let none : is_some level.ending ≡ false = ap is_some drained.1 in absurd (cc)
-drained-unended start (level ∷ levels) source drained (inr others) = drained-unended level.stop levels source drained.2 others
+drained-unended start (cursor ∷ cursors) source drained (inl some) = let none : is_some cursor.ending ≡ false = ap is_some drained.1 in absurd (cc)
+drained-unended start (cursor ∷ cursors) source drained (inr others) = drained-unended cursor.stop cursors source drained.2 others
 
 pub none_of : (ending : Option Ending) → is_some ending ≡ false → ending ≡ None
 none_of None none = refl
@@ -73,10 +73,17 @@ final-no_chunk StillOpen = tt
 final-no_chunk (ClosedEnding t) = tt
 final-no_chunk (ResetEnding t) = tt
 
--- no chunk comes any more from drained levels, once the source says nothing more
-pub drained-no_chunk : (draws : Draws) (start : ℕ) (levels : List Level) (source : Slice) → AreNested start levels source → AreDrained start levels source → HasNoChunk (to_come_from draws start levels source (Quiet ∷ []))
-drained-no_chunk draws start levels source nested drained =
-    let last : (last : Ending) × (to_come_from draws start levels source (final_of StillOpen ∷ []) ≡ final_of last ∷ []) = drained-final draws start levels source StillOpen nested drained in
+pub no_chunk-table : (items : List Item) → HasNoChunk items → table items ≡ []
+no_chunk-table [] none = refl
+no_chunk-table (Chunk span t ∷ items) none = absurd none
+no_chunk-table (Closed t ∷ items) none = no_chunk-table items none
+no_chunk-table (Reset t ∷ items) none = no_chunk-table items none
+no_chunk-table (Quiet ∷ items) none = no_chunk-table items none
+
+-- no chunk comes any more from drained cursors, once the source says nothing more
+pub drained-no_chunk : (draws : Draws) (start : ℕ) (cursors : List OpCursor) (source : Slice) → AreNested start cursors source → AreDrained start cursors source → HasNoChunk (to_come_from draws start cursors source (Quiet ∷ []))
+drained-no_chunk draws start cursors source nested drained =
+    let last : (last : Ending) × (to_come_from draws start cursors source (final_of StillOpen ∷ []) ≡ final_of last ∷ []) = drained-final draws start cursors source StillOpen nested drained in
     subst HasNoChunk (sym last.1) (final-no_chunk last.0)
 
 -- no chunk comes any more from a runner that has read its piece, unless it is offered one
@@ -85,9 +92,9 @@ read-no_chunk runner invariant read none = from runner.ending refl
   where
     from : (ending : Option Ending) → runner.ending ≡ ending → HasNoChunk (to_come runner (Quiet ∷ []))
     from None is =
-        let drained : AreDrained runner.position runner.levels runner.piece = subst (λ found. AreDrained (reader_at runner.position found) runner.levels runner.piece) none (invariant.drained read is) in
-        let nested : AreNested runner.position runner.levels runner.piece = subst (λ found. AreNested (reader_at runner.position found) runner.levels runner.piece) none (invariant.nested is) in
-        subst HasNoChunk (sym (to_come-unfound runner (Quiet ∷ []) is none)) (drained-no_chunk (draws_of runner.drawing) runner.position runner.levels runner.piece nested drained)
+        let drained : AreDrained runner.position runner.cursors runner.piece = subst (λ found. AreDrained (reader_at runner.position found) runner.cursors runner.piece) none (invariant.drained read is) in
+        let nested : AreNested runner.position runner.cursors runner.piece = subst (λ found. AreNested (reader_at runner.position found) runner.cursors runner.piece) none (invariant.nested is) in
+        subst HasNoChunk (sym (to_come-unfound runner (Quiet ∷ []) is none)) (drained-no_chunk (draws_of runner.drawing) runner.position runner.cursors runner.piece nested drained)
     from (Some ending) is = subst HasNoChunk (sym (to_come-ended runner ending (Quiet ∷ []) is)) (final-no_chunk ending)
 
 -- a runner that has not read its piece has no ending

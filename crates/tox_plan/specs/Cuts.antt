@@ -4,7 +4,7 @@ use Rattle.tox_time.specs.declared.slice.Slice.{Slice}
 use Rattle.tox_time.specs.declared.item.Item.{Item}
 use Rattle.tox_time.specs.declared.item.Item.TheVariants.{Chunk, Closed, Reset, Quiet}
 use Rattle.tox_defs.specs.Look.{as_chunk}
-use Rattle.tox_plan.specs.Levels.{ops_of}
+use Rattle.tox_plan.specs.OpCursors.{ops_of}
 use Rattle.tox_plan.specs.RunnerView.{RunnerView, HasNoChunk, to_come}
 
 -- nonempty cuts at one instant that reach from one position to another
@@ -44,8 +44,8 @@ pub record KeepsOffers (old new : RunnerView) : Type 0 where
   pub latest : new.latest ≡ old.latest
   pub finished : new.finished ≡ old.finished
   pub pieces : new.pieces ≡ old.pieces
-  pub levels : length new.levels ≡ length old.levels
-  pub ops : ops_of new.levels ≡ ops_of old.levels
+  pub cursors : length new.cursors ≡ length old.cursors
+  pub ops : ops_of new.cursors ≡ ops_of old.cursors
 
 -- the next chunk to come, if there is one, has bytes, and leaves at another instant
 abbrev pub BeginsApart : ℕ → List Item → Type 0

@@ -1,4 +1,4 @@
-pub mod Levels
+pub mod OpCursors
 pub mod RunnerView
 pub mod RunnerInside
 pub mod Cuts

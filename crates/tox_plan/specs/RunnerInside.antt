@@ -2,9 +2,9 @@
 use Rattle.tox_plan.specs.declared.runner.Runner.TheInside.{Inside}
 use Rattle.tox_plan.specs.RunnerView.{RunnerView, IsRunning}
 
-abbrev pub running : Inside → RunnerView
-running runner = record {
-  levels = runner.levels.items;
+abbrev pub runner_view : Inside → RunnerView
+runner_view runner = record {
+  cursors = runner.cursors.items;
   drawing = runner.drawing;
   position = runner.position;
   piece = runner.piece;
@@ -21,4 +21,4 @@ running runner = record {
 }
 
 abbrev pub IsKept : Inside → Type 0
-IsKept runner = IsRunning (running runner)
+IsKept runner = IsRunning (runner_view runner)

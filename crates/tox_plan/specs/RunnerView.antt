@@ -7,15 +7,15 @@ use Rattle.tox_time.specs.declared.ending.Ending.{Ending}
 use Rattle.tox_time.specs.declared.arrivals.ArrivalFault.{ArrivalFault}
 use Rattle.tox_time.specs.Arrivals.{piece_fault}
 use Rattle.tox_words.specs.Draw.{DrawingView, draws_of}
-use Rattle.tox_defs.specs.declared.level.Level.{Level}
+use Rattle.tox_defs.specs.declared.op_cursor.OpCursor.{OpCursor}
 use Rattle.tox_defs.specs.Look.{as_chunk}
-use Rattle.tox_defs.specs.Level.{ending_or}
-use Rattle.tox_plan.specs.Levels.{to_come_from, AreNested, AreDrained, HaveEnded, AreOpenUnless}
+use Rattle.tox_defs.specs.OpCursor.{ending_or}
+use Rattle.tox_plan.specs.OpCursors.{to_come_from, AreNested, AreDrained, HaveEnded, AreOpenUnless}
 
 -- what a runner is seen as
 pub record RunnerView : Type 0 where
-  -- the levels, the last operation first
-  pub levels : List Level
+  -- the cursors, the last operation first
+  pub cursors : List OpCursor
   pub drawing : DrawingView
   -- where the next slice begins
   pub position : ℕ
@@ -30,12 +30,12 @@ pub record RunnerView : Type 0 where
   pub finished : Bool
   pub idle : Bool
   pub turns : ℕ
-  -- whether some level may keep an ending
+  -- whether some cursor may keep an ending
   pub ended : Bool
   pub cuts : ℕ
   pub pieces : ℕ
 
--- a found cut is the next chunk, and the levels' reader stands behind it
+-- a found cut is the next chunk, and the cursors' reader stands behind it
 abbrev pub found_chunk : Option Slice → List Item
 found_chunk None = []
 found_chunk (Some cut) = as_chunk cut ∷ []
@@ -50,7 +50,7 @@ to_come runner items =
     ending_or runner.ending
     (found_chunk runner.lookahead
     ++ to_come_from (draws_of runner.drawing) (reader_at runner.position runner.lookahead)
-    runner.levels runner.piece items)
+    runner.cursors runner.piece items)
 
 -- the ending that an idle runner knows
 abbrev pub known_ending : RunnerView → Option Ending
@@ -75,11 +75,11 @@ round_due read (Some cut) round = 0
 round_due read None round = if read then 0 else round
 
 -- each turn looks at one operation: at most one round of looks for a cut or an offered piece.
--- A runner that may have to look has a round in hand.
+-- While a look may be due, one round of the bound is unused.
 abbrev pub AreCounted : RunnerView → Type 0
 AreCounted runner =
-    round_due runner.drained runner.lookahead (length runner.levels) + runner.turns
-    ≤ length runner.levels * (runner.cuts + runner.pieces)
+    round_due runner.drained runner.lookahead (length runner.cursors) + runner.turns
+    ≤ length runner.cursors * (runner.cuts + runner.pieces)
 
 -- a found cut begins where the next slice does, and comes before any ending
 pub record IsFound (runner : RunnerView) (cut : Slice) : Type 0 where
@@ -91,23 +91,23 @@ pub record IsFound (runner : RunnerView) (cut : Slice) : Type 0 where
 -- what holds of every runner
 pub record IsRunning (runner : RunnerView) : Type 0 where
   pub nested : runner.ending ≡ None
-      → AreNested (reader_at runner.position runner.lookahead) runner.levels runner.piece
+      → AreNested (reader_at runner.position runner.lookahead) runner.cursors runner.piece
   pub drained : runner.drained ≡ true → runner.ending ≡ None
-      → AreDrained (reader_at runner.position runner.lookahead) runner.levels runner.piece
+      → AreDrained (reader_at runner.position runner.lookahead) runner.cursors runner.piece
   pub found : IfSome runner.lookahead (IsFound runner)
-  pub unended : AreOpenUnless runner.ended runner.levels
+  pub unended : AreOpenUnless runner.ended runner.cursors
   pub ended : IsSome runner.ending → runner.drained ≡ true
   pub idle : runner.idle ≡ true → runner.drained ≡ true
-  pub cause : IsSome runner.ending → (runner.finished ≡ true) ⊎ HaveEnded runner.levels
+  pub cause : IsSome runner.ending → (runner.finished ≡ true) ⊎ HaveEnded runner.cursors
   pub told : runner.finished ≡ true → IsSome runner.ending
   pub reached : runner.position ≤ runner.piece.span.stop
   pub here : runner.idle ≡ false → runner.piece.span.start ≤ runner.position
   pub few : runner.piece.span.stop ≤ 2 ^ 40
-  pub few_levels : length runner.levels ≤ 32
+  pub few_cursors : length runner.cursors ≤ 32
   pub few_cuts : runner.cuts ≤ runner.position
   pub few_pieces : runner.pieces ≤ runner.piece.span.stop
   pub counted : AreCounted runner
-  pub looked : 0 < length runner.levels → runner.cuts + found_count runner.lookahead ≤ runner.turns
+  pub looked : 0 < length runner.cursors → runner.cuts + found_count runner.lookahead ≤ runner.turns
 
 -- where nothing was offered yet
 abbrev pub no_piece : Slice

@@ -10,7 +10,7 @@ use Rattle.tox_lend.specs.declared.lent.Lent.{Lent}
 use Rattle.tox_plan.specs.declared.slices.Slices.{Slices}
 use Rattle.tox_plan.specs.RunnerView.{RunnerView, to_come, HasNoChunk}
 use Rattle.tox_plan.specs.Cuts.{IsCut, BeginsApart}
-use Rattle.tox_plan.specs.Levels.{ops_of}
+use Rattle.tox_plan.specs.OpCursors.{ops_of}
 
 -- the piece has the start, the length and the instant of the last accepted offer
 pub record IsOffered (runner : RunnerView) (piece : Run) : Type 0 where
@@ -31,7 +31,7 @@ pub record KeepsPiece (old new : Slices) : Type 0 where
   pub piece : new.runner.piece ≡ old.runner.piece
   pub latest : new.runner.latest ≡ old.runner.latest
   pub drawing : new.runner.drawing ≡ old.runner.drawing
-  pub ops : ops_of new.runner.levels ≡ ops_of old.runner.levels
+  pub ops : ops_of new.runner.cursors ≡ ops_of old.runner.cursors
   pub finished : new.runner.finished ≡ old.runner.finished
   pub pieces : new.runner.pieces ≡ old.runner.pieces
 

@@ -2,8 +2,8 @@
 //! list of arrivals comes to.
 #![tactic(auto)]
 
+mod cursor_endings;
 mod delivery;
-mod level_endings;
 mod pulling;
 mod runner;
 mod slices;

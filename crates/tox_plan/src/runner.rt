@@ -7,18 +7,18 @@ ghost use Rattle.tox_time.specs.Stream.{IsStream, IsStreamFrom};
 ghost use Rattle.tox_time.specs.Table.{final_of, table};
 ghost use Rattle.tox_defs.specs.Look.{as_chunk};
 ghost use Rattle.tox_compile.specs.Meaning.{Ops, IsPlan, means, deadline_of};
-ghost use Rattle.tox_plan.specs.Levels.{levels_at_start, ops_of};
+ghost use Rattle.tox_plan.specs.OpCursors.{cursors_at_start, ops_of};
 ghost use Rattle.tox_plan.specs.RunnerView.{to_come, HasNoChunk, known_ending, next_piece, no_piece, offer_answer};
 ghost use Rattle.tox_plan.specs.Cuts.{IsCut, IsOneCut, KeepsOffers, BeginsApart, EndsHere};
 ghost use Rattle.tox_plan.specs.Given.{HasGiven, GoesOn, IsLasting, IsWhole, AreAfter};
 
-use crate::level_endings::{ending_of_read, last_of};
-use crate::pulling::{PullStats, Pulled, pull};
-use crate::starting::push_levels;
+use crate::cursor_endings::{ending_of_read, last_of};
+use crate::pulling::{PullStats, pull};
+use crate::starting::push_cursors;
 use arrayvec::ArrayVec;
 use std::marker::Model;
 use tox_compile::Plan;
-use tox_defs::{Level, MAX_TOXICS};
+use tox_defs::{Emission, MAX_TOXICS, OpCursor};
 use tox_time::{ArrivalFault, Ending, MAX_BYTES, Micros, Slice, Span};
 use tox_words::{Drawing, Words};
 
@@ -27,7 +27,7 @@ use tox_words::{Drawing, Words};
 /// It keeps one end, one instant and a few numbers for each operation: no queue, and no list of items.
 #[derive(Drop)]
 pub struct Runner<'w> {
-    levels: ArrayVec<Level, MAX_TOXICS>,
+    cursors: ArrayVec<OpCursor, MAX_TOXICS>,
     drawing: Drawing<'w>,
     position: u64,
     piece: Slice,
@@ -47,9 +47,9 @@ impl<'w> Model for Runner<'w> {
 
     ghost Value = { RunnerView };
 
-    ghost use Rattle.tox_plan.specs.RunnerInside.{running, IsKept};
+    ghost use Rattle.tox_plan.specs.RunnerInside.{runner_view, IsKept};
 
-    ghost view = { running };
+    ghost view = { runner_view };
 
     ghost invariant = { IsKept };
 }
@@ -63,17 +63,17 @@ impl<'w> Runner<'w> {
             × (result.piece ≡ no_piece) × (result.latest ≡ 0)
             × (result.drawing ≡ record { lanes = plan.lanes; words = words.now }) }
         ensures counters { (result.turns ≡ 0) × (result.cuts ≡ 0) × (result.pieces ≡ 0)
-            × (length result.levels ≡ length plan.ops) }
-        ensures levels { result.levels ≡ levels_at_start plan.ops }
-        ensures ops { ops_of result.levels ≡ plan.ops }
+            × (length result.cursors ≡ length plan.ops) }
+        ensures cursors { result.cursors ≡ cursors_at_start plan.ops }
+        ensures ops { ops_of result.cursors ≡ plan.ops }
         ensures given { HasGiven plan [] [] result }
     {
         let drawing = Drawing::new(plan.lanes(), words);
-        let mut levels = ArrayVec::new();
-        push_levels(&mut levels, plan.ops());
-        let ending = ending_of_read(&levels);
+        let mut cursors = ArrayVec::new();
+        push_cursors(&mut cursors, plan.ops());
+        let ending = ending_of_read(&cursors);
         Runner {
-            levels,
+            cursors,
             drawing,
             position: 0,
             piece: Slice {
@@ -123,7 +123,7 @@ impl<'w> Runner<'w> {
             × (self.new.pieces ≡ self.old.pieces + 1)) }
         ensures kept { OnOk result
             ((self.new.drawing ≡ self.old.drawing) × (self.new.finished ≡ self.old.finished)
-            × (self.new.ending ≡ self.old.ending) × (self.new.levels ≡ self.old.levels)) }
+            × (self.new.ending ≡ self.old.ending) × (self.new.cursors ≡ self.old.cursors)) }
         ensures given { OnOk result
             (GoesOn self.old (as_chunk (next_piece self.old len instant) ∷ []) [] self.new) }
         ensures err { OnErr result (self.new ≡ self.old) }
@@ -173,10 +173,10 @@ impl<'w> Runner<'w> {
         ensures kept { (self.new.drawing ≡ self.old.drawing) × (self.new.finished ≡ self.old.finished)
             × (self.new.piece ≡ self.old.piece) × (self.new.latest ≡ self.old.latest)
             × (self.new.pieces ≡ self.old.pieces)
-            × (length self.new.levels ≡ length self.old.levels) }
-        ensures ops { ops_of self.new.levels ≡ ops_of self.old.levels }
-        ensures turns { self.new.turns + length self.old.levels * self.old.cuts
-            ≤ self.old.turns + length self.old.levels * (self.new.cuts + 1) }
+            × (length self.new.cursors ≡ length self.old.cursors) }
+        ensures ops { ops_of self.new.cursors ≡ ops_of self.old.cursors }
+        ensures turns { self.new.turns + length self.old.cursors * self.old.cuts
+            ≤ self.old.turns + length self.old.cursors * (self.new.cuts + 1) }
         ensures given { MatchOption result (GoesOn self.old [] [] self.new)
             (λ slice. GoesOn self.old [] (slice ∷ []) self.new) }
         ensures lasting { (plan : Ops) (offered : List OneItem) (given : List OneSlice)
@@ -196,7 +196,7 @@ impl<'w> Runner<'w> {
         Some(slice)
     }
 
-    /// The next cut by itself. Where none is left the runner is then idle.
+    /// The next cut, not joined to its neighbours. If none is left the runner is then idle.
     fn cut(&mut self) -> Option<Slice>
         ensures some { IfSome result
             (λ cut. IsOneCut self.old self.new cut × (self.new.idle ≡ false)) }
@@ -205,7 +205,7 @@ impl<'w> Runner<'w> {
             ((self.new.idle ≡ true) × (self.new.position ≡ self.old.position)
             × (self.new.cuts ≡ self.old.cuts)
             × ((items : List OneItem) → to_come self.new items ≡ to_come self.old items)) }
-        ensures turns { self.new.turns ≤ self.old.turns + length self.old.levels }
+        ensures turns { self.new.turns ≤ self.old.turns + length self.old.cursors }
         ensures kept { KeepsOffers self.old self.new }
     {
         self.look();
@@ -217,7 +217,7 @@ impl<'w> Runner<'w> {
         Some(cut)
     }
 
-    /// Where the next cut stops, if it leaves at this instant; it is then given.
+    /// Gives the next cut if it leaves at this instant, and returns where it stops.
     fn cut_at(&mut self, instant: &Micros) -> Option<u64>
         ensures some { IfSome result
             (λ stop. IsOneCut self.old self.new
@@ -228,7 +228,7 @@ impl<'w> Runner<'w> {
             × BeginsApart instant.now (to_come self.new (Quiet ∷ []))) }
         ensures ends { IfNone result (EndsHere instant.now self.new) }
         ensures idle { self.new.idle ≡ self.old.idle }
-        ensures turns { self.new.turns ≤ self.old.turns + length self.old.levels }
+        ensures turns { self.new.turns ≤ self.old.turns + length self.old.cursors }
         ensures kept { KeepsOffers self.old self.new }
     {
         self.look();
@@ -258,28 +258,28 @@ impl<'w> Runner<'w> {
         ensures to_come { (items : List OneItem) → to_come self.new items ≡ to_come self.old items }
         ensures same { (self.new.position ≡ self.old.position) × (self.new.cuts ≡ self.old.cuts)
             × (self.new.idle ≡ self.old.idle) }
-        ensures turns { self.new.turns ≤ self.old.turns + length self.old.levels }
+        ensures turns { self.new.turns ≤ self.old.turns + length self.old.cursors }
         ensures kept { KeepsOffers self.old self.new }
     {
         if self.drained || self.lookahead.is_some() {
             return;
         }
         match pull(
-            &mut self.levels,
+            &mut self.cursors,
             self.position,
             &self.piece,
             &self.drawing,
             &mut self.looks,
         ) {
-            Pulled::Piece(cut) => {
+            Some(Emission::Piece(cut)) => {
                 self.drained = cut.span.stop == self.piece.span.stop && !self.looks.ended;
                 self.lookahead = Some(cut);
             }
-            Pulled::End(ending) => {
+            Some(Emission::End(ending)) => {
                 self.ending = Some(ending);
                 self.drained = true;
             }
-            Pulled::Nothing => self.drained = true,
+            None => self.drained = true,
         }
     }
 
@@ -296,14 +296,14 @@ impl<'w> Runner<'w> {
         ending
     }
 
-    /// Finishes without an end of the source. Returns the link's ending. If the plan has a deadline, the link ends so
+    /// Finishes without an end of the source. Returns the link's ending. If the plan has a deadline, that is the ending
     /// whatever arrives at or after it.
     pub fn quiet(&mut self) -> Ending
         requires { self.old.idle ≡ true }
         ensures last { to_come self.old (Quiet ∷ []) ≡ final_of result ∷ [] }
         ensures ended { self.new ≡ record self.old { ending = Some result; finished = true } }
         ensures deadline { (d position since : ℕ) (items : List OneItem)
-            → deadline_of (ops_of self.old.levels) ≡ Some d → d ≤ since
+            → deadline_of (ops_of self.old.cursors) ≡ Some d → d ≤ since
             → IsStreamFrom position since items
             → to_come self.old items ≡ final_of result ∷ [] }
     {
@@ -315,7 +315,7 @@ impl<'w> Runner<'w> {
         ensures last { to_come self.old (final_of ending.now ∷ []) ≡ final_of result ∷ [] }
         ensures ended { self.new ≡ record self.old { ending = Some result; finished = true } }
         ensures deadline { (d position since : ℕ) (items : List OneItem)
-            → deadline_of (ops_of self.old.levels) ≡ Some d → d ≤ since
+            → deadline_of (ops_of self.old.cursors) ≡ Some d → d ≤ since
             → IsStreamFrom position since items
             → to_come self.old items ≡ to_come self.old (Quiet ∷ []) }
     {
@@ -323,7 +323,7 @@ impl<'w> Runner<'w> {
         if let Some(known) = self.ending {
             return known;
         }
-        let last = &last_of(&self.levels, ending);
+        let last = &last_of(&self.cursors, ending);
         self.ending = Some(*last);
         *last
     }
@@ -343,8 +343,8 @@ impl<'w> Runner<'w> {
     /// How often `next_cut` looked at an operation: at most once for each operation, for each cut and each piece.
     pub fn turns(&self) -> u64
         ensures value { result ≡ self.now.turns }
-        ensures most { result ≤ length self.now.levels * (self.now.cuts + self.now.pieces) }
-        ensures least { 0 < length self.now.levels → self.now.cuts ≤ result }
+        ensures most { result ≤ length self.now.cursors * (self.now.cuts + self.now.pieces) }
+        ensures least { 0 < length self.now.cursors → self.now.cuts ≤ result }
     {
         self.looks.turns
     }

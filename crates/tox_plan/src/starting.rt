@@ -1,24 +1,24 @@
-//! The levels of a plan before anything was offered.
+//! The cursors of a plan before anything was offered.
 ghost use Rattle.std.specs.Prelude.{◌≡◌, ◌+◌, ◌<◌, ◌≤◌, ◌++◌, length, None};
 ghost use Rattle.tox_defs.specs.Chain.{max_toxics};
-ghost use Rattle.tox_plan.specs.Levels.{levels_at_start, ending_at_start};
+ghost use Rattle.tox_plan.specs.OpCursors.{cursors_at_start, ending_at_start};
 
 use arrayvec::ArrayVec;
-use tox_defs::{Level, MAX_TOXICS, Op};
+use tox_defs::{MAX_TOXICS, Op, OpCursor};
 use tox_time::Ending;
 
-/// Adds the levels of these operations at their start, the last operation first.
-pub(crate) fn push_levels(levels: &mut ArrayVec<Level, MAX_TOXICS>, ops: &[Op])
-    requires { length levels.old.items + length ops.now ≤ max_toxics }
-    ensures items { levels.new.items ≡ levels.old.items ++ levels_at_start ops.now }
-    ensures len { length levels.new.items ≡ length levels.old.items + length ops.now }
+/// Adds the cursors of these operations at their start, the last operation first.
+pub(crate) fn push_cursors(cursors: &mut ArrayVec<OpCursor, MAX_TOXICS>, ops: &[Op])
+    requires { length cursors.old.items + length ops.now ≤ max_toxics }
+    ensures items { cursors.new.items ≡ cursors.old.items ++ cursors_at_start ops.now }
+    ensures len { length cursors.new.items ≡ length cursors.old.items + length ops.now }
 {
     if let [op, later @ ..] = ops {
-        push_levels(levels, later);
-        levels.push(Level {
+        push_cursors(cursors, later);
+        cursors.push(OpCursor {
             op: *op,
             ending: ending_at_start(op),
-            ..Level::default()
+            ..OpCursor::default()
         });
     }
 }

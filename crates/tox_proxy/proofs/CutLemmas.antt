@@ -13,6 +13,7 @@ use Rattle.tox_plan.specs.Cuts.{BeginsApart, EndsHere, IsCut}
 use Rattle.tox_plan.specs.RunnerView.{HasNoChunk, RunnerView, to_come}
 use Rattle.tox_plan.specs.Delivering.{MayFollow, StandsAt, StandsBehind}
 use Rattle.tox_plan.specs.Slices.{IsOffered}
+use Rattle.tox_plan.proofs.RunnerOutput.{no_chunk-table}
 use Rattle.tox_plan.proofs.Deliveries.{ahead_next, goes-cut, next_follows}
 use Rattle.tox_text.specs.ArrivalsText.{Arrived}
 use Rattle.tox_text.specs.ResultText.{arrival_of, bytes_line, ending_line, lines_text}
@@ -21,13 +22,6 @@ use Rattle.tox_text.proofs.Runs.{StartAnew, delivered_from}
 use Rattle.tox_proxy.specs.RunnerSlices.{IsReady, text_to_come}
 use Rattle.tox_proxy.specs.SecondPass.{IsPieceOf}
 use Rattle.tox_proxy.proofs.PieceLines.{some_first, stands_whole}
-
-no_chunk-table : (items : List Item) → HasNoChunk items → table items ≡ []
-no_chunk-table [] none = refl
-no_chunk-table (Chunk span t ∷ items) none = absurd none
-no_chunk-table (Closed t ∷ items) none = no_chunk-table items none
-no_chunk-table (Reset t ∷ items) none = no_chunk-table items none
-no_chunk-table (Quiet ∷ items) none = no_chunk-table items none
 
 -- what comes apart starts anew
 StartAnew-apart : (arrived : Arrived) (arrival t position : ℕ) (items : List Item) → BeginsApart t items → StartAnew arrival t (delivered_from arrived position (table items))

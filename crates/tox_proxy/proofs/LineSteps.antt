@@ -18,7 +18,8 @@ use Rattle.tox_text.specs.Line.{arrival, end, line_of}
 use Rattle.tox_text.specs.Lines.{lines_left}
 use Rattle.tox_text.specs.ResultText.{arrival_of}
 use Rattle.tox_text.proofs.CountLemmas.{accepted_piece}
-use Rattle.tox_text.proofs.LineTurns.{data_taken, end_taken, pairs_taken, step}
+use Rattle.tox_time.proofs.Steps.{bind_ok}
+use Rattle.tox_text.proofs.LineTurns.{data_taken, end_taken, pairs_taken}
 use Rattle.tox_proxy.specs.SecondPass.{IsPieceOf, chunk_at}
 use Rattle.tox_proxy.proofs.TextTurns.{arrival_behind, arrival_in, bytes_in, cancel, edge_behind, lines_leave}
 
@@ -57,7 +58,7 @@ pub at_data : (arrived : Arrived) (n : ℕ) (left : List (List ℕ)) (line : Lis
     → start ≡ window.stop → left ≡ line ∷ lines → line_of line ≡ Some (arrival t bytes) → IsUnderWay arrived n left stands window later → IsAtData arrived n lines stands start later t bytes
 at_data arrived n left line lines stands window later start t bytes arrivals starts split is under_way =
     let on : IsUnderWay arrived n (line ∷ lines) stands window later = subst (λ left. IsUnderWay arrived n left stands window later) split under_way in
-    let went = step (with_line n on.before line) (with_lines (n + 1) lines) arrived on.rest in
+    let went = bind_ok (with_line n on.before line) (with_lines (n + 1) lines) arrived on.rest in
     let took = data_taken n on.before went.0 t bytes line is went.1 in
     let fits = accepted_piece (count_of on.before.items) (latest on.before.items) (length bytes) t (has_final on.before.items) took.0 in
     let rest = lines_leave (n + 1) lines went.0 arrived went.2 in
@@ -111,7 +112,7 @@ pub at_last : (arrived : Arrived) (n : ℕ) (left : List (List ℕ)) (line : Lis
     → line_of line ≡ Some (end t) → IsUnderWay arrived n left stands window later → IsAtLast arrived n lines stands window later t
 at_last arrived n left line lines stands window later t split is under_way =
     let on : IsUnderWay arrived n (line ∷ lines) stands window later = subst (λ left. IsUnderWay arrived n left stands window later) split under_way in
-    let went = step (with_line n on.before line) (with_lines (n + 1) lines) arrived on.rest in
+    let went = bind_ok (with_line n on.before line) (with_lines (n + 1) lines) arrived on.rest in
     let took = end_taken n on.before went.0 t line is went.1 in
     let rest = lines_leave (n + 1) lines went.0 arrived went.2 in
     let items : went.0.items ≡ on.before.items ++ Closed t ∷ [] = ap (λ a. a.items) took.1 in
@@ -138,7 +139,7 @@ pub pairs_there : (arrived : Arrived) (n : ℕ) (left : List (List ℕ)) (line :
     → left ≡ line ∷ lines → line_of line ≡ option_map (arrival t) (result_ok (decode_of digits)) → 0 < length line → IsUnderWay arrived n left stands window later → IsOk (decode_of digits)
 pairs_there arrived n left line lines stands window later t digits split says some under_way =
     let on : IsUnderWay arrived n (line ∷ lines) stands window later = subst (λ left. IsUnderWay arrived n left stands window later) split under_way in
-    let went = step (with_line n on.before line) (with_lines (n + 1) lines) arrived on.rest in
+    let went = bind_ok (with_line n on.before line) (with_lines (n + 1) lines) arrived on.rest in
     pairs_taken n on.before went.0 t digits line says some went.1
 
 -- nothing is left behind the last line

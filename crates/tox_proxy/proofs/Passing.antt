@@ -17,7 +17,7 @@ PassesDownTo-then first old new x y z text middle line left before parts passed 
   whole = append_assoc before.printed line left ∙ ap (λ rest. before.printed ++ rest) parts ∙ before.whole;
 }
 
--- and where it broke off, a front of the text is written
+-- and where it broke off, a prefix of the text is written
 pub AppendsFront-broken : (first old new : Option (List ℕ)) (x y text middle line left : List ℕ) → PassesDownTo first x old y text middle → line ++ left ≡ middle → AppendsFront old new (y ++ line) → AppendsFront first new (x ++ text)
 AppendsFront-broken first old new x y text middle line left before parts front =
     let longer : AppendsFront old new (y ++ middle) = record {
@@ -35,6 +35,6 @@ PassesDownTo-from old new waited waiting text other left same passed = subst (λ
 pub PassesDownTo-both : (first old new : Option (List ℕ)) (x y z text middle left : List ℕ) → PassesDownTo first x old y text middle → PassesDownTo old y new z middle left → PassesDownTo first x new z text left
 PassesDownTo-both first old new x y z text middle left before after = PassesDownTo-then first old new x y z text middle after.printed left before after.whole after.passed
 
--- and where the second broke off, a front of the text is written
+-- and where the second broke off, a prefix of the text is written
 pub AppendsFront-both : (first old new : Option (List ℕ)) (x y text middle : List ℕ) → PassesDownTo first x old y text middle → AppendsFront old new (y ++ middle) → AppendsFront first new (x ++ text)
 AppendsFront-both first old new x y text middle before front = AppendsFront-broken first old new x y text middle middle [] before (append-nil middle) front

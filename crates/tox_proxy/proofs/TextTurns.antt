@@ -11,7 +11,8 @@ use Rattle.tox_text.specs.ArrivalsText.{Arrived, with_line, with_lines}
 use Rattle.tox_text.specs.Line.{Line, arrival, end, line_of}
 use Rattle.tox_text.specs.ResultText.{arrival_of}
 use Rattle.tox_proxy.specs.SecondPass.{IsEdge}
-use Rattle.tox_text.proofs.LineTurns.{data_taken, end_taken, none_taken, step}
+use Rattle.tox_time.proofs.Steps.{bind_ok}
+use Rattle.tox_text.proofs.LineTurns.{data_taken, end_taken, none_taken}
 
 -- what a line adds
 record Adds (before next : Arrived) : Type 0 where
@@ -52,7 +53,7 @@ lines_leave n [] before arrived is =
     let same : before ≡ arrived = cc in
     record { later = []; more = []; items = append-nil before.items ∙ ap (λ a. a.items) same; bytes = append-nil before.bytes ∙ ap (λ a. a.bytes) same }
 lines_leave n (line ∷ lines) before arrived is =
-    let went = step (with_line n before line) (with_lines (n + 1) lines) arrived is in
+    let went = bind_ok (with_line n before line) (with_lines (n + 1) lines) arrived is in
     let added = line_adds n before went.0 line went.1 in
     let rest = lines_leave (n + 1) lines went.0 arrived went.2 in
     record {

@@ -19,13 +19,13 @@ flow_text chain words arrived =
     let flow = chain_flow chain words (arrival_list arrived.items) in result_text arrived
     (table flow) (ending flow)
 
--- a text was read, and this is what it spells
+-- a text was read, and this is what it describes
 pub record ParsesInput (before after : Option (List ℕ)) (arrived : Arrived) : Type 0 where
   pub text : List ℕ
   pub read : IsRead before after text
   pub spelled : arrivals_of text ≡ Ok arrived
 
--- the result of what the read text spells was written, and nothing else
+-- the result of what the read text describes was written, and nothing else
 pub record WritesResult (chain : Toxics) (words : List ℕ)
     (before after old new : Option (List ℕ)) : Type 0 where
   pub arrived : Arrived
@@ -42,14 +42,14 @@ pub record WritesEveryRest (chain : Toxics) (words : List ℕ)
       new ≡ append_known old
       (result_text arrived (table network.delivered) (ending network.delivered)))
 
--- a front of the result was written
+-- a prefix of the result was written
 pub record WritesFront (chain : Toxics) (words : List ℕ)
     (before after old new : Option (List ℕ)) : Type 0 where
   pub arrived : Arrived
   pub read : ParsesInput before after arrived
   pub front : AppendsFront old new (flow_text chain words arrived)
 
--- what a fault leaves written: a front of the result where the writer failed, and else nothing
+-- what a fault leaves written: a prefix of the result where the writer failed, and else nothing
 abbrev pub Leaves : Toxics → List ℕ → Option (List ℕ) → Option (List ℕ) → Option (List ℕ)
     → Option (List ℕ) → DryFault → Type 0
 Leaves chain words before after old new OutOfMemory = new ≡ old

@@ -1,4 +1,4 @@
--- What a question is answered by files and a seed, and what is left where it got no answer.
+-- The answer of a pick request over files, and what is written where it fails.
 use Rattle.std.specs.Prelude.{◌≡◌, ℕ, Bool, List, Option, Some, None}
 use Rattle.std.specs.List.{find}
 use Rattle.std.specs.Io.KnownBytes.{append_known}
@@ -49,7 +49,7 @@ pub record StopsPrinting (known : List ℕ → KnownFile) (request : PickRequest
   pub answers : Answers known request text
   pub left : Leaves old new failed text fault
 
--- why a question got no answer, and what was written: nothing, but for a front of the answer where the writer has failed
+-- why a pick request failed, and what was written: nothing, or a prefix of the answer where the writer has failed
 abbrev pub HasPickCause : (List ℕ → KnownFile) → PickRequest → Option (List ℕ) → Option (List ℕ)
     → Bool → PickFault → Type 0
 HasPickCause known request old new failed BadStream =

@@ -53,14 +53,14 @@ pub record IsBehindAll (stands : Arrived → ℕ → List Item → Type 0) : Typ
   pub position : ℕ
   pub behind : stands arrived position []
 
--- the front of a text passed, and this is left of it
+-- a first part of a text passed, and this is left of it
 pub record PassesDownTo (old : Option (List ℕ)) (waited : List ℕ) (new : Option (List ℕ))
     (waiting text left : List ℕ) : Type 0 where
   pub printed : List ℕ
   pub passed : Passes old waited new waiting printed
   pub whole : printed ++ left ≡ text
 
--- a text was printed but for what is left, or the writer has failed and a front of the text is written
+-- a text was printed but for what is left, or the writer has failed and a prefix of the text is written
 abbrev pub PrintsDownTo : {A : Type 0} → Result A EndFault → Option (List ℕ) → List ℕ
     → Option (List ℕ) → List ℕ → Bool → List ℕ → List ℕ → Type 0
 PrintsDownTo (Ok done) old waited new waiting failed text left =

@@ -38,7 +38,7 @@ pub(crate) fn next_client<R: Wait + Clock>(rt: &R, listener: &TcpListener) -> Op
     unreachable!()
 }
 
-/// A connection that was gone, an interrupted call and a momentary lack are no failing listener.
+/// Tries again after a connection that was gone, an interrupted call and a momentary lack.
 fn after(error: &io::Error) -> Next {
     match error.kind() {
         ErrorKind::Interrupted
@@ -47,7 +47,7 @@ fn after(error: &io::Error) -> Next {
         | ErrorKind::HostUnreachable
         | ErrorKind::NetworkUnreachable
         | ErrorKind::NetworkDown => Next::TryAgain,
-        // Whoever shares the listener may have made it answer at once. Trying again without a rest would spin.
+        // Another process that shares the listener may have set it not to wait. Trying again without a rest would spin.
         ErrorKind::OutOfMemory | ErrorKind::WouldBlock => Next::Rest,
         _ => after_code(error.raw_os_error()),
     }

@@ -21,8 +21,8 @@ use tox_words::Words;
 /// chain's stage network that has come to rest delivered, in whatever order its stages stepped.
 ///
 /// At most one byte more than [`MAX_INPUT`](crate::MAX_INPUT) is read. The first fault of the text is
-/// answered with its line, from 1; nothing is written after a fault, but for
-/// [`WriteFault`](DryFault::WriteFault): then a front of the result is.
+/// returned with its line, from 1. Nothing is written after a fault, except after
+/// [`WriteFault`](DryFault::WriteFault): then a prefix of the result is.
 pub fn dry_run<R: Source, W: Sink>(
     alloc: Global,
     reader: &mut R,

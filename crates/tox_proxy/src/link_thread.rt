@@ -6,7 +6,7 @@ use crate::direction::{Course, carry_stream, course_of};
 use crate::link_clock::SinceStart;
 use crate::link_end::LinkEnd;
 use crate::printing::print_link;
-use crate::serve_run::Run;
+use crate::serve_run::ServeRun;
 use crate::serve_runtime::ServeRuntime;
 use crate::sockets::Sockets;
 use crate::until_cut::UntilCut;
@@ -32,7 +32,7 @@ pub(crate) struct Taken {
 /// Serves a link to its end.
 pub(crate) fn serve_link<R: ServeRuntime, W: Write>(
     rt: &R,
-    run: &Run<'_, W>,
+    run: &ServeRun<'_, W>,
     proxy: &ProxyDef,
     book: &Mutex<Book>,
     taken: Taken,
@@ -45,7 +45,7 @@ pub(crate) fn serve_link<R: ServeRuntime, W: Write>(
 /// Settles a link in the book, and prints its line.
 pub(crate) fn end_link<R: Wait, W: Write>(
     rt: &R,
-    run: &Run<'_, W>,
+    run: &ServeRun<'_, W>,
     proxy: &ProxyDef,
     book: &Mutex<Book>,
     number: u64,
@@ -58,7 +58,7 @@ pub(crate) fn end_link<R: Wait, W: Write>(
 /// Connects a link's upstream, and carries both directions to their ends. Both sockets are dropped then.
 fn carry_link<R: ServeRuntime, W>(
     rt: &R,
-    run: &Run<'_, W>,
+    run: &ServeRun<'_, W>,
     proxy: &ProxyDef,
     taken: Taken,
 ) -> LinkEnd {
@@ -86,7 +86,7 @@ fn connect<R: Net<Listener = TcpListener, Stream = TcpStream>>(
 }
 
 /// The words and plans of both directions of a link.
-fn courses_of<W>(run: &Run<'_, W>, proxy: &ProxyDef, taken: &Taken) -> Option<(Course, Course)> {
+fn courses_of<W>(run: &ServeRun<'_, W>, proxy: &ProxyDef, taken: &Taken) -> Option<(Course, Course)> {
     let name = proxy.name.as_str();
     let up = course_of(
         run.alloc,
@@ -109,10 +109,10 @@ fn courses_of<W>(run: &Run<'_, W>, proxy: &ProxyDef, taken: &Taken) -> Option<(C
     Some((up, down))
 }
 
-/// Carries both directions, the one in a thread of its own.
+/// Carries both directions, one of them in a thread of its own.
 fn carry_both<R: ServeRuntime, W>(
     rt: &R,
-    run: &Run<'_, W>,
+    run: &ServeRun<'_, W>,
     client: &TcpStream,
     server: &TcpStream,
     clock: SinceStart<'_, R>,

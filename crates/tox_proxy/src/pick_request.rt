@@ -69,7 +69,7 @@ impl<'a> PickRequest<'a> {
     /// Writes the answer as a pick text.
     ///
     /// The stream's name is read first, then the populate file, then the script, and then the proxy is looked for: the
-    /// first fault is answered. Nothing is written after a fault, but for a failed write: then a front of the text is.
+    /// first fault is returned. Nothing is written after a fault, except after a failed write: then a prefix of the text is.
     pub fn answer<F: NamedFiles, W: Sink>(
         &self,
         files: &F,

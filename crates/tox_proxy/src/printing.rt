@@ -1,4 +1,4 @@
-//! Printing lines of many threads: each under one lock, and flushed. What can't be written of a line is dropped.
+//! Prints lines from many threads: each under one lock, and flushed. What can't be written of a line is dropped.
 use crate::link_end::LinkEnd;
 use crate::listening::Listening;
 use crate::serve_lines::{write_link, write_listening, write_total};

@@ -4,7 +4,7 @@ use crate::link_end::LinkEnd;
 use crate::link_thread::{Taken, end_link, serve_link};
 use crate::listening::Listening;
 use crate::printing::print_total;
-use crate::serve_run::Run;
+use crate::serve_run::ServeRun;
 use crate::serve_runtime::ServeRuntime;
 use std::io::Write;
 use std::net::{TcpListener, TcpStream};
@@ -18,7 +18,7 @@ use tox_words::MAX_CONNECTIONS;
 /// Serves a proxy until it stops listening and all its links have ended.
 pub(crate) fn serve_proxy<R: ServeRuntime, W: Write + Send>(
     rt: &R,
-    run: &Run<'_, W>,
+    run: &ServeRun<'_, W>,
     listening: Listening<'_>,
 ) {
     let Listening {
@@ -37,7 +37,7 @@ pub(crate) fn serve_proxy<R: ServeRuntime, W: Write + Send>(
 /// Takes connections until there were enough, the book is full or the listener fails, and then stops listening.
 fn take_links<'s, E: 's, R: ServeRuntime, W: Write + Send>(
     rt: &'s R,
-    run: &'s Run<'s, W>,
+    run: &'s ServeRun<'s, W>,
     proxy: &'s ProxyDef,
     book: &'s Mutex<Book>,
     scope: &'s Scope<'s, E>,
@@ -69,7 +69,7 @@ fn number_link<R: Wait>(rt: &R, book: &Mutex<Book>, client: TcpStream) -> Option
 /// Serves a link in a thread of its own. If it is refused, the connection is closed and the link is broken.
 fn start_link<'s, E: 's, R: ServeRuntime, W: Write + Send>(
     rt: &'s R,
-    run: &'s Run<'s, W>,
+    run: &'s ServeRun<'s, W>,
     proxy: &'s ProxyDef,
     book: &'s Mutex<Book>,
     scope: &'s Scope<'s, E>,

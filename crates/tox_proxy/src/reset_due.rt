@@ -1,8 +1,8 @@
 //! By when a plan ends its stream, whatever arrives.
 ghost use Rattle.std.specs.Prelude.{◌≡◌, ◌<◌, ◌^◌, None, fold};
-ghost use Rattle.tox_compile.specs.Meaning.{earlier};
 ghost use Rattle.tox_proxy.specs.ResetDue.{after_op, later_by};
 
+use tox_compile::earlier;
 use tox_defs::Op;
 use tox_time::Micros;
 
@@ -41,16 +41,6 @@ fn after_op(due: Option<Micros>, op: &Op) -> Option<Micros>
             u64::from(*fixed) + u64::from(*latency) + u64::from(*jitter),
         ),
         Op::Pace { .. } | Op::Slicing { .. } | Op::Mute { .. } => None,
-    }
-}
-
-/// The earlier of an instant and an optional one.
-fn earlier(instant: Micros, other: Option<Micros>) -> Micros
-    ensures { earlier instant other ≡ Some result }
-{
-    match other {
-        Some(other) if other < instant => other,
-        _ => instant,
     }
 }
 

@@ -6,7 +6,7 @@ use tox_time::OpenGate;
 
 /// What all links of a run share.
 #[derive(Drop)]
-pub(crate) struct Run<'a, W> {
+pub(crate) struct ServeRun<'a, W> {
     pub(crate) alloc: Global,
     pub(crate) script: &'a Script,
     pub(crate) seed: u64,

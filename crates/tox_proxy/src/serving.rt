@@ -6,7 +6,7 @@ use crate::listening::{Listening, listen_all};
 use crate::printing::print_listening;
 use crate::proxy_thread::serve_proxy;
 use crate::serve_fault::ServeFault;
-use crate::serve_run::Run;
+use crate::serve_run::ServeRun;
 use crate::serve_runtime::ServeRuntime;
 use std::alloc::Global;
 use std::io::Write;
@@ -54,7 +54,7 @@ pub fn serve<
     let Ok(gate) = Arc::new(alloc, OpenGate) else {
         return Err(ServeFault::OutOfMemory);
     };
-    let run = Run {
+    let run = ServeRun {
         alloc,
         script,
         seed,
@@ -72,7 +72,7 @@ pub fn serve<
 /// Serves each proxy in a thread of its own. False if one is refused: then no connection is taken.
 fn serve_all<R: ServeRuntime, W: Write + Send>(
     rt: &R,
-    run: &Run<'_, W>,
+    run: &ServeRun<'_, W>,
     listening: Vec<Listening<'_>>,
 ) -> bool {
     let go = Mutex::new(false);
@@ -89,7 +89,7 @@ fn serve_all<R: ServeRuntime, W: Write + Send>(
 /// Starts the threads of proxies. False if one is refused.
 fn start_all<'s, E: 's, R: ServeRuntime, W: Write + Send>(
     rt: &'s R,
-    run: &'s Run<'s, W>,
+    run: &'s ServeRun<'s, W>,
     may_go: &'s Mutex<bool>,
     scope: &'s Scope<'s, E>,
     listening: Vec<Listening<'s>>,
@@ -105,7 +105,7 @@ fn start_all<'s, E: 's, R: ServeRuntime, W: Write + Send>(
 /// Starts the thread of a proxy, which serves it once it may go. False if the thread is refused.
 fn start_proxy<'s, E: 's, R: ServeRuntime, W: Write + Send>(
     rt: &'s R,
-    run: &'s Run<'s, W>,
+    run: &'s ServeRun<'s, W>,
     may_go: &'s Mutex<bool>,
     scope: &'s Scope<'s, E>,
     bound: Listening<'s>,

@@ -71,7 +71,7 @@ impl<'a, 'r, R: Wait + Clock> UntilDue<'a, 'r, R> {
     }
 }
 
-/// Whether a write failed for want of room. A process that was stopped and goes on finds it interrupted.
+/// Whether a write failed because there was no room. After a stop and continue of the process it fails as interrupted.
 fn is_momentary(error: &io::Error) -> bool {
     matches!(error.kind(), ErrorKind::WouldBlock | ErrorKind::Interrupted)
 }

@@ -4,7 +4,7 @@ use Rattle.std.proofs.lemmas.Bool.{and_parts}
 use Rattle.toml.specs.Data.{Data, string, integer, float, boolean, datetime, array, table, Items, no_items, item, Members, as_str, get, get_member, is_sorted, items_are_sorted, members_are_sorted}
 use Rattle.tox_script.proofs.AcceptedToxic.{AtEach-among, IsFound, needed_read, optional_read, toxic_shallow}
 use Rattle.tox_script.proofs.Shallow.{IsShallow, IsShallow-scalar, ItemsAreShallow, MembersAreShallow-each, is_among-found, is_scalar, is_scalar-read}
-use Rattle.tox_script.proofs.Steps.{bind_ok, map_err_ok, passing_some}
+use Rattle.tox_time.proofs.Steps.{bind_ok, map_err_ok, passing_some}
 use Rattle.tox_script.specs.Fields.{all_tables, has_only, is_between, natural, optional, sized_text, tables, tables_of, whole_between}
 use Rattle.tox_script.specs.Rule.{Rule, RuleFields, first_of, last_of, proxy_of, rule_fields, rule_of}
 use Rattle.tox_script.specs.Script.{rules_from}

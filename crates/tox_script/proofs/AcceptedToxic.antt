@@ -9,7 +9,7 @@ use Rattle.tox_defs.specs.declared.fault.ToxicFault.TheVariants.{OutOfRange, Unk
 use Rattle.tox_defs.specs.declared.kind.Kind.{Kind}
 use Rattle.tox_defs.specs.declared.toxic.Toxic.{Toxic as AnyToxic}
 use Rattle.tox_script.proofs.Shallow.{IsShallow, IsShallow-scalar, MembersAreShallow, MembersAreShallow-each, is_among-found, is_scalar, is_scalar-read}
-use Rattle.tox_script.proofs.Steps.{bind_ok, map_err_ok, ok_or_ok, passing_some}
+use Rattle.tox_time.proofs.Steps.{bind_ok, map_err_ok, ok_or_ok, passing_some}
 use Rattle.tox_script.specs.Attributes.{all_some, toxic_with, value_in, values_in}
 use Rattle.tox_script.specs.Fields.{has_only, is_among, is_between, is_table, natural, needed, optional, whole}
 use Rattle.tox_script.specs.Toxic.{NamedToxic, default_name, named_toxic}

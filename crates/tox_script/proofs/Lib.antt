@@ -1,7 +1,6 @@
 pub mod ByStream
 pub mod Decimals
 pub mod Mapped
-pub mod Steps
 pub mod Shallow
 pub mod AcceptedToxic
 pub mod AcceptedRule

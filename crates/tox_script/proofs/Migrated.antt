@@ -13,7 +13,7 @@ use Rattle.toml.specs.declared.value.Value.{Value, Integer}
 use Rattle.tox_script.proofs.AcceptedRule.{rules_shallow, tables_array, tables_found}
 use Rattle.tox_script.proofs.AcceptedToxic.{optional_read}
 use Rattle.tox_script.proofs.Migrating.{in_version, rules_two}
-use Rattle.tox_script.proofs.Steps.{bind_ok, bind_from, map_err_ok}
+use Rattle.tox_time.proofs.Steps.{bind_ok, bind_from, map_err_ok}
 use Rattle.tox_script.proofs.Texts.{toml_of-text}
 use Rattle.tox_script.specs.Chains.{on}
 use Rattle.tox_script.specs.Covering.{chains_in, covers, toxics_for}

@@ -4,7 +4,7 @@ use Rattle.toml.specs.Data.{Data, string, integer, float, boolean, datetime, arr
 use Rattle.tox_defs.specs.Kind.{kind_of}
 use Rattle.tox_defs.specs.declared.fault.ToxicFault.TheVariants.{UnknownType, ToxicityNotThousandths}
 use Rattle.tox_script.proofs.AcceptedToxic.{IsNamed-read, named_with}
-use Rattle.tox_script.proofs.Steps.{bind_ok, bind_from, map_err_ok}
+use Rattle.tox_time.proofs.Steps.{bind_ok, bind_from, map_err_ok}
 use Rattle.tox_script.specs.Attributes.{toxic_with}
 use Rattle.tox_script.specs.Rule.{Rule, RuleFields, rule_fields, rule_of}
 use Rattle.tox_script.specs.Script.{rules_from}

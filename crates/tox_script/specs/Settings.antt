@@ -15,11 +15,11 @@ use Rattle.tox_words.specs.declared.lanes.Lanes.TheVariants.{Sixteen, ThirtyTwo}
 abbrev pub version_numbered : ℕ → Option Version
 version_numbered n = if n == 1 then Some One else if n == 2 then Some Two else None
 
--- the version that a value tells
+-- the version that a value gives
 abbrev pub version_in : Data → Option Version
 version_in d = option_and_then version_numbered (whole d)
 
--- the version of a document: 1, where none is told
+-- the version of a document: 1 if absent
 abbrev pub version_of : Data → Result Version Field
 version_of d = do
   version ← optional field.Version version_in (get (codes "version") d)
@@ -29,11 +29,11 @@ version_of d = do
 abbrev pub lanes_numbered : ℕ → Option Lanes
 lanes_numbered n = if n == 16 then Some Sixteen else if n == 32 then Some ThirtyTwo else None
 
--- the lanes that a value tells
+-- the lanes that a value gives
 abbrev pub lanes_in : Data → Option Lanes
 lanes_in d = option_and_then lanes_numbered (whole d)
 
--- the lanes of a document of version 2: 32, where none are told
+-- the lanes of a document of version 2: 32 if absent
 abbrev pub told_lanes_of : Data → Result Lanes Field
 told_lanes_of d = do
   lanes ← optional field.Lanes lanes_in (get (codes "lanes") d)

@@ -19,7 +19,7 @@ pub record NamedToxic : Type 0 where
   pub entry : Entry
   pub name : List ℕ
 
--- the name of a toxic that tells none: its type's and its stream's
+-- the default name of a toxic: its type, `_` and its stream
 abbrev pub default_name : Kind → Stream → List ℕ
 default_name kind stream = name_of kind ++ codes "_" ++ stream_name stream
 

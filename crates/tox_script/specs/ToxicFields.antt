@@ -40,7 +40,7 @@ type_of d = needed field.Type as_str (get (codes "type") d)
 abbrev pub stream_text : Data → Option Stream
 stream_text d = option_and_then stream_named (as_str d)
 
--- the stream of a toxic: downstream, where none is told
+-- the stream of a toxic: downstream if absent
 abbrev pub stream_of : Data → Result Stream Field
 stream_of d = do
   stream ← optional field.Stream stream_text (get (codes "stream") d)

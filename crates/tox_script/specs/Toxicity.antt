@@ -36,12 +36,12 @@ abbrev pub text_or_whole : Option (List ℕ) → Data → Option ℕ
 text_or_whole None d = whole_between 0 1000 d
 text_or_whole (Some text) d = thousandths text
 
--- the toxicity that a value tells; only version 2 has texts
+-- the toxicity that a value gives; only version 2 has texts
 abbrev pub told_toxicity : Version → Data → Option ℕ
 told_toxicity One d = whole_between 0 1000 d
 told_toxicity Two d = text_or_whole (as_str d) d
 
--- the toxicity of a toxic: 1000, where none is told
+-- the toxicity of a toxic: 1000 if absent
 abbrev pub toxicity_in : Version → Option Data → Option ℕ
 toxicity_in version None = Some 1000
 toxicity_in version (Some d) = told_toxicity version d

@@ -1,4 +1,4 @@
-//! What the maps of a value know of their keys.
+//! The keys of the maps in a value ascend.
 ghost use Rattle.std.specs.Prelude.{◌≡◌, true};
 ghost use Rattle.toml.specs.Data.{is_sorted, items_are_sorted, members_are_sorted};
 ghost use Rattle.toml.specs.View.{items_view, table_view, view};

@@ -36,7 +36,7 @@ impl Chains {
         }
     }
 
-    /// The toxics of the tables of a rule, whose number is told, or their first fault.
+    /// The toxics of the tables of rule number `rule`, or their first fault.
     pub(crate) fn read(
         alloc: Global,
         settings: Settings,

@@ -76,7 +76,7 @@ pub enum ScriptFault {
     /// A script that is to be migrated has version 2.
     #[error("M1 AlreadyVersion2")]
     AlreadyVersion2,
-    /// A growth was refused. It may stand in place of a later fault.
+    /// Out of memory. It may stand in place of a later fault.
     #[error("S0 OutOfMemory")]
     OutOfMemory,
 }

@@ -12,7 +12,7 @@ use std::alloc::{AllocError, Global};
 use tox_defs::{Entry, Kind, ToxicFault};
 use tox_time::Stream;
 
-/// A toxic of a rule, with a name that is lent or stands for the type and the stream.
+/// A toxic of a rule. Its name is lent from the document, or None for the default.
 #[derive(Clone, Copy)]
 pub(crate) struct NamedToxic<'a> {
     pub(crate) stream: Stream,
@@ -22,8 +22,8 @@ pub(crate) struct NamedToxic<'a> {
 }
 
 impl<'a> NamedToxic<'a> {
-    /// The toxic that fields stand for: refused where there is no such type, the toxicity is not in thousandths, and as
-    /// by its attributes.
+    /// The toxic of a table's fields. Fails if there is no such type, then if the toxicity is not in thousandths, then as its
+    /// attributes do.
     pub(crate) fn of(
         version: Version,
         fields: &ToxicFields<'a>,

@@ -27,7 +27,7 @@ pub(crate) struct Rule {
 }
 
 impl Rule {
-    /// The rule of a table, whose number is told, or its first fault.
+    /// The rule of a table, or its first fault, which names the rule by this number.
     pub(crate) fn read(
         alloc: Global,
         settings: Settings,

@@ -41,7 +41,7 @@ impl Model for Script {
 impl Script {
     ghost use Rattle.tox_script.specs.Covering.{chains_for, covering, toxics_for};
 
-    /// The version that the document tells; 1 where it tells none.
+    /// The document's version: 1 if absent.
     pub fn version(&self) -> Version
         ensures { result ≡ self.now.settings.version }
     {
@@ -88,8 +88,8 @@ impl Script {
 /// The document has optional `version`, 1 or 2, in version 2 optional `lanes`, 16 or 32, and optional `rule`: an array of
 /// tables. Without `version` it has version 1, whose chains have 16 lanes; without `lanes` version 2 has 32. A rule has
 /// `proxy`, `first`, optional `last` and optional `toxic`, an array of tables. A toxic has `type`, and optional `name`,
-/// `stream`, `toxicity` and `attributes`. Without `last` a rule has no upper end. A toxic's stream is downstream where
-/// none is told, its toxicity 1000, each of its attributes 0, and its name the type, `_` and the stream. In version 2 a
+/// `stream`, `toxicity` and `attributes`. Without `last` a rule has no upper end. A toxic without
+/// them has the stream downstream, the toxicity 1000, each attribute 0, and as its name the type, `_` and the stream. In version 2 a
 /// toxicity may be a text: a decimal number from 0 to 1 with up to three digits behind the point.
 ///
 /// # Errors
@@ -100,7 +100,7 @@ impl Script {
 pub fn read_script(alloc: Global, bytes: &[u8]) -> Result<Script, ScriptFault>
     ensures ok { IfOk result (λ script. script_of bytes.now ≡ Ok script) }
     ensures err { IfErr result (λ fault. fault ≢ OutOfMemory → script_of bytes.now ≡ Err fault) }
-    // What is no text is refused before memory is asked for.
+    // Bytes that are not UTF-8 are refused before any request for memory.
     ensures memory { result ≡ Err OutOfMemory → IsTrue (is_utf8 bytes.now) }
 {
     let document = read_toml(alloc, bytes)?;

@@ -25,7 +25,7 @@ pub(crate) fn settings_of(document: &Value) -> Result<Settings, Field>
     Ok(Settings { version, lanes })
 }
 
-/// The version, which is 1 where none is told.
+/// The version: 1 if absent.
 fn version_of(document: &Value) -> Result<Version, Field>
     ensures { result ≡ version_of (view document.now) }
 {
@@ -45,7 +45,7 @@ fn version_in(value: &Value) -> Option<Version>
     }
 }
 
-/// The lanes: always 16 in version 1, and 32 where version 2 tells none.
+/// The lanes: always 16 in version 1; in version 2 32 if absent.
 fn lanes_of(version: Version, document: &Value) -> Result<Lanes, Field>
     ensures { result ≡ lanes_of version (view document.now) }
 {

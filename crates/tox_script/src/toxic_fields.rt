@@ -11,7 +11,7 @@ use tox_time::Stream;
 
 const MAX_NAME_LEN: usize = 64;
 
-/// The fields of a toxic's table, lent from it. What the toxicity and the attributes are worth depends on the type.
+/// The fields of a toxic's table, lent from it. The toxicity and the attributes are read later, by the version and the type.
 #[derive(Clone, Copy)]
 pub(crate) struct ToxicFields<'a> {
     pub(crate) name: Option<&'a str>,
@@ -84,7 +84,7 @@ fn type_of(table: &Value) -> Result<&str, Field>
     }
 }
 
-/// The stream, which is downstream where none is told.
+/// The stream: downstream if absent.
 fn stream_of(table: &Value) -> Result<Stream, Field>
     ensures { result ≡ stream_of (view table.now) }
 {

@@ -8,7 +8,7 @@ use crate::version::Version;
 use toml::Value;
 use tox_time::parse_decimal;
 
-/// The greatest toxicity, and that of a toxic that tells none.
+/// The greatest toxicity, and the default.
 const MAX_TOXICITY: u64 = 1000;
 
 /// The toxicity of a toxic's table.

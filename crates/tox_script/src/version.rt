@@ -1,6 +1,6 @@
 //! Versions of scripts.
 
-/// The version of a script. Version 2 chooses the lanes of its chains, and may tell a toxicity as a decimal text.
+/// The version of a script. Version 2 chooses the lanes of its chains, and may give a toxicity as a decimal text.
 #[derive(Clone, Copy, Debug, Default, PartialEq, Eq)]
 pub enum Version {
     #[default]

@@ -15,7 +15,7 @@ use crate::fault::StageFault;
 use crate::parkers::{Circle, Parkers};
 use crate::source_and_sink::feed_and_drain;
 use crate::waiting::push_waiting;
-use crate::worker::{Ends, SendsFlowOf, work};
+use crate::worker::{RingEnds, SendsFlowOf, work};
 use rtrb::{Consumer, Producer, RingBuffer};
 use std::alloc::Global;
 use std::snapshot::Snapshot;
@@ -40,7 +40,7 @@ struct Pipeline<'s, R, G> {
 }
 
 /// A worker that was started, and the consumer of the ring behind it.
-type Started<'s> = (PromisedHandle<Ends, SendsFlowOf<'s>>, Consumer<Item>);
+type Started<'s> = (PromisedHandle<RingEnds, SendsFlowOf<'s>>, Consumer<Item>);
 
 /// Starts the thread of a worker, which promises its flow. None if the thread is refused.
 fn spawn<'s, E: 's, R: Threads + Wait + Sync, G: Gate>(
@@ -51,7 +51,7 @@ fn spawn<'s, E: 's, R: Threads + Wait + Sync, G: Gate>(
     placed: Placed,
     consumer: Consumer<Item>,
     producer: Producer<Item>,
-) -> Option<PromisedHandle<Ends, SendsFlowOf<'s>>>
+) -> Option<PromisedHandle<RingEnds, SendsFlowOf<'s>>>
     requires placed { IsPlaced pipeline.now.lanes placed }
     requires fresh { (received consumer ≡ []) × (sent producer ≡ []) }
     ensures { IfSome result (λ worker. (worker.promise.placed ≡ placed)
@@ -73,7 +73,7 @@ fn spawn<'s, E: 's, R: Threads + Wait + Sync, G: Gate>(
     };
     let worker = scope.spawn_with(
         promise,
-        move || -> Ends
+        move || -> RingEnds
             requires { IsPlaced lanes placed × (received consumer ≡ []) × (sent producer ≡ []) }
             ensures consumer { SameConsumer consumer result.consumer }
             ensures producer { SameProducer producer result.producer }
@@ -174,7 +174,7 @@ fn level<'s, E: 's, R: Threads + Wait + Sync, G: Gate>(
         }
     };
     let below = level(pipeline, scope, later, stage_number + 1, first, next);
-    let Ends {
+    let RingEnds {
         consumer,
         mut producer,
     } = worker.join(rt);

@@ -55,7 +55,7 @@ pub(crate) struct Parkers<'p> {
 }
 
 impl<'p> Parkers<'p> {
-    /// From those of the thread, of the one before it and of the one behind it.
+    /// The parkers of a thread, of the thread before it and of the thread behind it.
     pub(crate) fn new(own: &'p Sleeper, before: &'p Sleeper, behind: &'p Sleeper) -> Parkers<'p> {
         Parkers {
             own,

@@ -17,7 +17,7 @@ use tox_words::{Lanes, Words};
 
 /// The two ends that a worker hands back.
 #[derive(Drop)]
-pub(crate) struct Ends {
+pub(crate) struct RingEnds {
     pub(crate) consumer: Consumer<Item>,
     pub(crate) producer: Producer<Item>,
 }
@@ -32,7 +32,7 @@ pub(crate) struct SendsFlowOf<'w> {
     pub(crate) producer: Snapshot<Producer<Item>>,
 }
 
-impl<'w> Promise<Ends> for SendsFlowOf<'w> {
+impl<'w> Promise<RingEnds> for SendsFlowOf<'w> {
     ghost kept_by = { λ promise ends.
         SameConsumer promise.consumer.value ends.consumer
         × SameProducer promise.producer.value ends.producer
@@ -69,7 +69,7 @@ pub(crate) fn work<R: Wait, G: Gate>(
     parkers: &Parkers<'_>,
     consumer: Consumer<Item>,
     producer: Producer<Item>,
-) -> Ends
+) -> RingEnds
     requires placed { IsPlaced lanes placed }
     requires fresh { (received consumer ≡ []) × (sent producer ≡ []) }
     ensures consumer { SameConsumer consumer result.consumer }
@@ -85,13 +85,13 @@ pub(crate) fn work<R: Wait, G: Gate>(
         gate.pass(stage_number, nth);
         if !stage.may_take(&item) {
             push_waiting(rt, parkers, &mut producer, Item::Quiet);
-            return Ends { consumer, producer };
+            return RingEnds { consumer, producer };
         }
         let is_last = item.is_final();
         stage.take(item);
         emit_all(rt, parkers, &mut stage, &mut producer);
         if is_last {
-            return Ends { consumer, producer };
+            return RingEnds { consumer, producer };
         }
     }
     unreachable!()

@@ -30,11 +30,11 @@ pub within_more : (bytes : List ℕ) (i n : ℕ) → i ≤ length bytes → n �
 within_more bytes i n within few =
     let left : n ≤ length (drop i bytes) = rw take_rest at few in omega (arith, length-drop {A = ℕ})
 
--- the first bytes are a front of them all
+-- the first bytes are a prefix of them all
 pub AppendsFront-take : (first new : Option (List ℕ)) (bytes : List ℕ) (i : ℕ) → new ≡ append_known first (take i bytes) → AppendsFront first new bytes
 AppendsFront-take first new bytes i written = record { sent = take i bytes; unsent = drop i bytes; whole = take-append-drop i bytes; written = written }
 
--- what waits is a front of what waits with more behind it
+-- what waits is a prefix of what waits with more behind it
 pub AppendsFront-more : (old new : Option (List ℕ)) (a b : List ℕ) → AppendsFront old new a → AppendsFront old new (a ++ b)
 AppendsFront-more old new a b front =
     record {
@@ -58,7 +58,7 @@ Passes-then first old new x y z a b before after =
       written = append_known-then first old new before.sent after.sent before.written after.written;
     }
 
--- a part passed, and of what then waited with more behind it a front was written
+-- a part passed, and of what then waited with more behind it a prefix of the text was written
 pub AppendsFront-then : (first old new : Option (List ℕ)) (x y a b : List ℕ) → Passes first x old y a → AppendsFront old new (y ++ b) → AppendsFront first new (x ++ (a ++ b))
 AppendsFront-then first old new x y a b before front =
     record {

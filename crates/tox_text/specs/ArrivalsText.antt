@@ -1,4 +1,4 @@
--- The arrivals text: the arrival list and the arrived bytes that its lines spell, or its first fault.
+-- The arrivals text: the arrival list and the arrived bytes that its lines describe, or its first fault.
 use Rattle.std.specs.Prelude.{ℕ, ◌+◌, ◌==◌, List, [], ◌∷◌, ◌++◌, length, Option, Some, None, Result, Ok, Err, if◌then◌else◌}
 use Rattle.std.specs.List.{slice_split}
 use Rattle.tox_time.specs.declared.item.Item.{Item}

@@ -19,7 +19,7 @@ infixl 10 ◌>>=◌
 abbrev pub ◌>>=◌ : {A B : Type 0} → Option A → (A → Option B) → Option B
 first >>= next = option_and_then next first
 
--- the parts round the first such byte
+-- the parts before and behind the first such byte
 abbrev pub cut_at : ℕ → List ℕ → Option (List ℕ × List ℕ)
 cut_at separator text =
     option_map (λ place. (take place text, drop (place + 1) text))

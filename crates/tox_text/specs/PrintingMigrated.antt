@@ -13,13 +13,13 @@ pub record WritesMigrated (script : List ℕ) (old new : Option (List ℕ)) : Ty
   pub migrated : IsMigrated script text
   pub written : new ≡ append_known old text
 
--- a front of a text that the script is migrated to was written
+-- a prefix of a text that the script is migrated to was written
 pub record WritesMigratedFront (script : List ℕ) (old new : Option (List ℕ)) : Type 0 where
   pub text : List ℕ
   pub migrated : IsMigrated script text
   pub written : AppendsFront old new text
 
--- the script is refused and nothing was written, or the writer has failed and a front was written
+-- the script is refused and nothing was written, or the writer has failed and a prefix of the text was written
 abbrev pub LeavesMigrated : List ℕ → Option (List ℕ) → Option (List ℕ) → Bool → PrintMigratedFault
     → Type 0
 LeavesMigrated script old new failed (Script fault) =

@@ -43,7 +43,7 @@ pub fn line_of<'a>(text: &'a [u8]) -> Option<Line<'a>>
     })
 }
 
-/// The parts round the first such byte.
+/// The parts before and behind the first such byte.
 fn cut_at(text: &[u8], separator: u8) -> Option<(&[u8], &[u8])>
     ensures cut { option_map
         (λ parts. (parts.0.now, parts.1.now)) result ≡ cut_at separator text.now }

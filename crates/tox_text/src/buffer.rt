@@ -1,4 +1,4 @@
-//! Bytes on their way to a writer, many for each of its calls.
+//! A buffer in front of a writer, so that each of its calls gets many bytes.
 ghost use Rattle.std.specs.Prelude.{◌≡◌, [], ◌++◌, false, ◌≤◌, length, OnOk, decimal, flat_map};
 ghost use Rattle.hex.specs.Hex.{encode_lower};
 ghost use Rattle.tox_text.specs.Writing.{Prints, Writes};

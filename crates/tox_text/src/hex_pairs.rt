@@ -21,7 +21,7 @@ fn are_hex_digits(digits: &[u8]) -> bool
     all
 }
 
-/// Writes the bytes of hexadecimal digits into a vector that has room for them, in place of its own.
+/// Replaces the contents of a vector, which has room, by the bytes of hexadecimal digits.
 pub fn decode_into(bytes: &mut Vec<u8>, digits: &[u8])
     requires pairs { IsOk (decode_of digits.now) }
     requires room { length digits.now ≤ 2 * vec_capacity bytes.old }

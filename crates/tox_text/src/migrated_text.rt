@@ -21,7 +21,7 @@ pub enum PrintMigratedFault {
 
 /// Writes a script of version 1 as a script of version 2 that gives each connection the same chains and names.
 ///
-/// Nothing is written after [`PrintMigratedFault::Script`], and a front of the text after
+/// Nothing is written after [`PrintMigratedFault::Script`], and a prefix of the text after
 /// [`PrintMigratedFault::WriteFault`].
 pub fn print_migrated<W: Sink>(
     alloc: Global,

@@ -30,7 +30,7 @@ pub enum PrintPickFault {
 /// Writes what a connection of a proxy meets on a stream, as a pick text: a line for the proxy, and one for each toxic
 /// of the script's chain, which is applied or skipped under the words of the seed.
 ///
-/// Connections count from 1 to 1,000,000. Nothing is written after [`PrintPickFault::OutOfMemory`], and a front of the text
+/// Connections count from 1 to 1,000,000. Nothing is written after [`PrintPickFault::OutOfMemory`], and a prefix of the text
 /// after [`PrintPickFault::WriteFault`].
 pub fn print_pick<W: Sink>(
     alloc: Global,
@@ -66,7 +66,7 @@ pub fn print_pick<W: Sink>(
     Ok(())
 }
 
-/// Writes the lines of a proxy and of named toxics. After an `Err` a front of them is written.
+/// Writes the lines of a proxy and of named toxics. After an `Err` a prefix of them is written.
 fn write_pick<W: Sink>(
     buffer: &mut Buffer,
     writer: &mut W,

@@ -15,12 +15,12 @@ use tox_time::{EndFault, Ending, Sink};
 /// How many bytes the line of an operation has at most.
 const MAX_LINE: usize = 160;
 
-/// The line of an operation, on its way to a writer.
+/// Buffers the line of one operation.
 type Line = ArrayString<MAX_LINE>;
 
 /// Writes the text of a plan: a line for each operation, or `pass` where there is none.
 ///
-/// After a fault a front of the text is written.
+/// After a fault a prefix of the text is written.
 pub fn print_plan<W: Sink>(writer: &mut W, plan: &Plan) -> Result<(), WriteFault>
     requires { W.failed writer.old ≡ false }
     ensures { Writes result (W.written writer.old) (W.written writer.new) (W.failed writer.new)

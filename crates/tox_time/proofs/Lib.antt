@@ -1,3 +1,4 @@
 pub mod StreamLemmas
 pub mod ArrivalsKept
 pub mod Numbers
+pub mod Steps

@@ -7,14 +7,14 @@ pub record Calls : Type 0 where
   pub failing : Option ℕ
 
 -- a source: the bytes that it has still to give, the most that it gives in a call, its calls, whether it has failed
-pub record Giving : Type 0 where
+pub record SourceView : Type 0 where
   pub bytes : List ℕ
   pub most : ℕ
   pub calls : Calls
   pub failed : Bool
 
 -- a sink: the bytes that were written to it, the room that it has for more, the most that it takes in a call, its calls, whether it has failed
-pub record Taking : Type 0 where
+pub record SinkView : Type 0 where
   pub bytes : List ℕ
   pub room : ℕ
   pub most : ℕ

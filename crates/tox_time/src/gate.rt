@@ -6,7 +6,7 @@ pub trait Gate: Sync {
     fn pass(&self, stage: usize, nth: u64);
 }
 
-/// A gate that stops nobody.
+/// A gate that lets each worker pass at once.
 #[derive(Drop)]
 pub struct OpenGate;
 

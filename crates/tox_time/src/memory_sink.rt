@@ -21,9 +21,9 @@ pub struct MemorySink {
 
 impl Model for MemorySink {
     ghost use Rattle.std.specs.Prelude.{◌≤◌, ◌<◌, ◌-◌, take, length};
-    ghost use Rattle.tox_time.specs.MemoryEnds.{Taking};
+    ghost use Rattle.tox_time.specs.MemoryEnds.{SinkView};
 
-    ghost Value = { Taking };
+    ghost Value = { SinkView };
 
     ghost view = { λ s. record {
       bytes = take s.filled s.room.items;

@@ -19,9 +19,9 @@ pub struct MemorySource {
 
 impl Model for MemorySource {
     ghost use Rattle.std.specs.Prelude.{◌≤◌, ◌<◌, drop, length};
-    ghost use Rattle.tox_time.specs.MemoryEnds.{Giving};
+    ghost use Rattle.tox_time.specs.MemoryEnds.{SourceView};
 
-    ghost Value = { Giving };
+    ghost Value = { SourceView };
 
     ghost view = { λ s. record {
       bytes = drop s.next s.bytes.items;

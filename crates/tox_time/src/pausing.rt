@@ -10,8 +10,8 @@ const MAX_YIELDS: u32 = 64;
 
 /// One turn of a wait: a yield, or after 64 of them a sleep on `parker`.
 ///
-/// Returns at once from a sleep if `parker` was unparked since the last one. So a thread that looks again for what it
-/// waits for after each turn misses nothing, where whoever makes it come unparks afterwards.
+/// A sleep returns at once if `parker` was unparked since the last one. So a thread that checks its condition after each
+/// turn misses no wake-up, provided that the other thread unparks after it has changed the condition.
 pub fn pause<R: Wait>(rt: &R, parker: &Parker, yields: &mut u32)
     ensures counted { yields.old < 64 → yields.new ≡ yields.old + 1 }
     ensures asleep { 64 ≤ yields.old → yields.new ≡ yields.old }

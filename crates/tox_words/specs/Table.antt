@@ -1,4 +1,4 @@
--- Which lists of words are tables, and why the others are none.
+-- Which lists of words are tables, and why the others are refused.
 use Rattle.std.specs.Prelude.{ℕ, ◌<◌, ◌≤◌, List, [], ◌∷◌, length, Result, Ok, Err, nat_le, if◌then◌else◌}
 use Rattle.tox_words.specs.declared.fault.WordsFault.{WordsFault}
 use Rattle.tox_words.specs.declared.fault.WordsFault.TheVariants.{NoWords, TooMany}

@@ -1,4 +1,4 @@
--- A words text: numbers of 32 bits, parted by commas.
+-- A words text: numbers of 32 bits, separated by commas.
 use Rattle.std.specs.Prelude.{ℕ, ◌==◌, List, [], ◌∷◌, Option, is_none, Result, Err}
 use Rattle.std.specs.List.{filter_map, position, slice_split}
 use Rattle.std.specs.Option.{option_map_or}

@@ -1,4 +1,4 @@
-//! Words written as a text: decimal numbers, parted by commas.
+//! Words written as a text: decimal numbers, separated by commas.
 ghost use Rattle.std.specs.Prelude.{◌≡◌, IfOk, length};
 ghost use Rattle.tox_words.specs.WordsText.{bad_place, parts_of, word_of, words_of};
 

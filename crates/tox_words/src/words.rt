@@ -59,7 +59,7 @@ impl Words {
         Ok(Words { words })
     }
 
-    /// The table that a text writes: numbers parted by commas, each 1 to 10 decimal digits of
+    /// The table that a text writes: numbers separated by commas, each 1 to 10 decimal digits of
     /// value at most [`u32::MAX`].
     ///
     /// Fails in this order: [`WordsFault::NoWords`] for the empty text, [`WordsFault::BadWord`]

@@ -1,4 +1,4 @@
-//! The pairs of a short form: `key=value`, parted by commas.
+//! The pairs of a short form: `key=value`, separated by commas.
 ghost use Rattle.std.specs.Prelude.{◌≡◌, option_map, count_by};
 ghost use Rattle.std.specs.List.{after_first, before_first, find, list_all};
 ghost use Rattle.tox_defs.specs.Pairs.{has_double_key, has_key, is_equals, is_pair, is_word, is_word_byte, key_of, number_of, pairs_of, value_at, value_of};

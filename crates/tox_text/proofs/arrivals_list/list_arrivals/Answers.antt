@@ -5,7 +5,8 @@ use Rattle.tox_time.specs.Arrivals.{next_chunk}
 use Rattle.tox_text.specs.ArrivalsText.{with_line, with_lines}
 use Rattle.tox_text.specs.Line.{end, event_seen, line_of}
 use Rattle.tox_text.specs.Lines.{lines_left}
-use Rattle.tox_text.proofs.LineTurns.{chunk_taken, end_taken, step}
+use Rattle.tox_time.proofs.Steps.{bind_ok}
+use Rattle.tox_text.proofs.LineTurns.{chunk_taken, end_taken}
 use Rattle.tox_text.proofs.arrivals_list.list_arrivals.Goals as goal
 use Rattle.tox_text.proofs.arrivals_list.list_arrivals.Goals.{in-Data, in-Eof}
 
@@ -16,7 +17,7 @@ loop-left-preserved c =
     let others = lines_left (option_map (λ rest. rest.now) c.first_line.result.1) in
     let t = c.in-Some-line_of.said.instant in
     let split : lines_left (option_map (λ rest. rest.now) c.loop-left.left) ≡ line ∷ others = ap (λ left. lines_left (option_map (λ rest. rest.now) left)) c.in-Some.is ∙ c.first_line.ensures.lines in
-    let went = step (with_line on.number on.before line) (with_lines (on.number + 1) others) on.arrived (subst (λ lines. with_lines on.number lines on.before ≡ Ok on.arrived) split on.rest) in
+    let went = bind_ok (with_line on.number on.before line) (with_lines (on.number + 1) others) on.arrived (subst (λ lines. with_lines on.number lines on.before ≡ Ok on.arrived) split on.rest) in
     let some : 0 < length line = omega (arith, c.in-Some-line_of.ensures.shorter) in
     record {
       arrived = on.arrived;

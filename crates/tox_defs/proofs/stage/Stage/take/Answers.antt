@@ -10,8 +10,8 @@ use Rattle.tox_defs.proofs.stage.Stage.take.Goals.{in-Closed, in-Reset, in-Quiet
 
 pub returns-then-not-self : goal.returns-then-not-self
 returns-then-not-self c =
-    let none : c.self.inside.level.ending ≡ None = search rules in
-    let read : c.self.inside.start ≡ c.self.inside.level.stop = search rules in
+    let none : c.self.inside.cursor.ending ≡ None = search rules in
+    let read : c.self.inside.start ≡ c.self.inside.cursor.stop = search rules in
     let is : c.args.item ≡ final_of c.match-item.ending =
     elim c.match-item.branch [
       | in-Closed w ↦ w.in-Closed.is ∙ ap final_of (sym w.ending-is)
@@ -19,12 +19,12 @@ returns-then-not-self c =
       | in-Quiet w ↦ w.in-Quiet.is ∙ ap final_of (sym w.ending-is)
     ] in
     rw (c.add_ending.ensures, c.after-self-inside.ensures)
-    (took_final c.self.inside.drawing c.self.inside.start c.self.inside.level c.self.inside.place c.args.self.now c.args.item c.match-item.ending c.map_ending-last.result none read c.if-not-self.true c.self.view_is is c.map_ending-last.ensures)
+    (took_final c.self.inside.drawing c.self.inside.start c.self.inside.cursor c.self.inside.place c.args.self.now c.args.item c.match-item.ending c.map_ending-last.result none read c.if-not-self.true c.self.view_is is c.map_ending-last.ensures)
 
 pub returns-else-is_mute : goal.returns-else-is_mute
 returns-else-is_mute c =
-    let none : c.self.inside.level.ending ≡ None = search rules in
-    let read : c.self.inside.start ≡ c.self.inside.level.stop = search rules in
+    let none : c.self.inside.cursor.ending ≡ None = search rules in
+    let read : c.self.inside.start ≡ c.self.inside.cursor.stop = search rules in
     let span = c.in-Chunk.span in
     let t = c.in-Chunk.instant in
     let place : c.args.self.now.place ≡ c.self.inside.place = search rules in
@@ -32,4 +32,4 @@ returns-else-is_mute c =
     ap (λ place. fits place (Chunk span t)) (sym place) ∙ ap (λ item. fits c.args.self.now.place item) (sym c.in-Chunk.is) ∙ c.requires.fits in
     let facts = chunk_fits c.self.inside.place span t follows in
     rw (c.after-self-inside.ensures, c.in-Chunk.is)
-    (took_chunk c.self.inside.drawing c.self.inside.start c.self.inside.level c.self.inside.place c.args.self.now span t none read c.self.view_is (facts.0 ∙ c.self.invariant.here ∙ sym read) facts.1)
+    (took_chunk c.self.inside.drawing c.self.inside.start c.self.inside.cursor c.self.inside.place c.args.self.now span t none read c.self.view_is (facts.0 ∙ c.self.invariant.here ∙ sym read) facts.1)

@@ -37,7 +37,7 @@ offers c = record {
   gives = c.in-Ok.ensures.to_come;
   drawing = c.in-Ok.ensures.kept.0;
   finished = c.in-Ok.ensures.kept.1;
-  levels = c.in-Ok.ensures.kept.3;
+  cursors = c.in-Ok.ensures.kept.3;
 }
 
 -- and was asked for its next cut

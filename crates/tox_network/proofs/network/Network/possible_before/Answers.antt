@@ -5,7 +5,7 @@ use Rattle.std.proofs.lemmas.Grind.{common_steps}
 use Rattle.std.proofs.lemmas.Option.{slice_get_read}
 use Rattle.tox_network.specs.declared.moves.Move.TheVariants.{Take}
 use Rattle.tox_network.specs.NetworkState.{queue}
-use Rattle.tox_network.specs.NetworkInside.{running}
+use Rattle.tox_network.specs.NetworkInside.{network_view}
 use Rattle.tox_network.specs.NetworkView.{state_of}
 use Rattle.tox_network.specs.Possible.{possible_before}
 use Rattle.tox_network.proofs.Telling.{before_idle, before_busy, any_some, any_none}
@@ -13,7 +13,7 @@ use Rattle.tox_network.proofs.network.Network.possible_before.Goals as goal
 
 pub returns-then-not-is_idle : goal.returns-then-not-is_idle
 returns-then-not-is_idle c =
-    let now = running c.self.inside in
+    let now = network_view c.self.inside in
     let k = c.loop-place.place - 1 in
     let small : k < length c.self.inside.stages.items = omega (arith, ap (λ network. length network.stages) c.self.view_is) in
     let at : slice_get c.self.inside.stages.items k ≡ Some c.index.result.now = slice_get_read _ _ _ _ refl small c.index.ensures in
@@ -23,7 +23,7 @@ returns-then-not-is_idle c =
 
 pub returns-then-not-is_empty : goal.returns-then-not-is_empty
 returns-then-not-is_empty c =
-    let now = running c.self.inside in
+    let now = network_view c.self.inside in
     let k = c.loop-place.place - 1 in
     let small : k < length c.self.inside.stages.items = omega (arith, ap (λ network. length network.stages) c.self.view_is) in
     let at : slice_get c.self.inside.stages.items k ≡ Some c.index.result.now = slice_get_read _ _ _ _ refl small c.index.ensures in
@@ -34,7 +34,7 @@ returns-then-not-is_empty c =
 
 pub loop-place-preserved : goal.loop-place-preserved
 loop-place-preserved c =
-    let now = running c.self.inside in
+    let now = network_view c.self.inside in
     let k = c.loop-place.place - 1 in
     let small : k < length c.self.inside.stages.items = omega (arith, ap (λ network. length network.stages) c.self.view_is) in
     let at : slice_get c.self.inside.stages.items k ≡ Some c.index.result.now = slice_get_read _ _ _ _ refl small c.index.ensures in

@@ -19,7 +19,7 @@ loop-stop-init c = record {
   stands = c.in_ok-slice.ensures.some.0.stands;
   busy = c.in_ok-slice.ensures.some.1;
   kept = c.cut.ensures.kept;
-  rounds = one-round (length c.args.self.now.levels) c.args.self.now.turns c.cut.new.self.turns c.args.self.now.cuts c.cut.new.self.cuts c.cut.ensures.turns c.in_ok-slice.ensures.some.0.counted;
+  rounds = one-round (length c.args.self.now.cursors) c.args.self.now.turns c.cut.new.self.turns c.args.self.now.cuts c.cut.new.self.cuts c.cut.ensures.turns c.in_ok-slice.ensures.some.0.counted;
 }
 
 pub loop-stop-preserved : goal.loop-stop-preserved
@@ -30,8 +30,8 @@ loop-stop-preserved c =
       stands = c.in-Some.ensures.some.stands;
       busy = c.cut_at.ensures.idle ∙ on.busy;
       kept = keeps-both c.args.self.now c.loop-stop.self c.cut_at.new.self on.kept c.cut_at.ensures.kept;
-      rounds = more-rounds (length c.args.self.now.levels) (length c.loop-stop.self.levels) c.args.self.now.turns c.loop-stop.self.turns c.cut_at.new.self.turns c.args.self.now.cuts c.loop-stop.self.cuts c.cut_at.new.self.cuts
-          on.kept.levels on.rounds c.cut_at.ensures.turns c.in-Some.ensures.some.counted;
+      rounds = more-rounds (length c.args.self.now.cursors) (length c.loop-stop.self.cursors) c.args.self.now.turns c.loop-stop.self.turns c.cut_at.new.self.turns c.args.self.now.cuts c.loop-stop.self.cuts c.cut_at.new.self.cuts
+          on.kept.cursors on.rounds c.cut_at.ensures.turns c.in-Some.ensures.some.counted;
     }
 
 pub returns-clause-given : goal.returns-clause-given

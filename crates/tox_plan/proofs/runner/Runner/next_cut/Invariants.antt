@@ -10,7 +10,7 @@ invariant-loop-stop l = record {
   stands : l.self.position ≡ l.slice.span.stop;
   busy : l.self.idle ≡ false;
   kept : KeepsOffers l.fn.self l.self;
-  rounds : l.self.turns + length l.fn.self.levels * l.fn.self.cuts ≤ l.fn.self.turns + length l.fn.self.levels * l.self.cuts;
+  rounds : l.self.turns + length l.fn.self.cursors * l.fn.self.cuts ≤ l.fn.self.turns + length l.fn.self.cursors * l.self.cuts;
 }
 
 abbrev pub decreases-loop-stop : goal.decreases-loop-stop

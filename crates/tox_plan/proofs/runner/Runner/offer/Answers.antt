@@ -1,24 +1,24 @@
 -- An accepted offer keeps what holds of a runner.
 use Rattle.std.proofs.Common.{ap, sym, ◌∙◌, arith}
-use Rattle.tox_plan.specs.RunnerInside.{running}
+use Rattle.tox_plan.specs.RunnerInside.{runner_view}
 use Rattle.tox_defs.specs.Look.{as_chunk}
 use Rattle.tox_plan.specs.RunnerView.{next_piece}
 use Rattle.tox_plan.proofs.Givens.{given-offer}
 use Rattle.tox_plan.proofs.Offering.{IsRunning-after_offer, to_come-after_offer}
 use Rattle.tox_plan.proofs.RunnerOutput.{idle-drained, none_of}
-use Rattle.tox_plan.proofs.LevelLemmas.{drained-at}
+use Rattle.tox_plan.proofs.CursorLemmas.{drained-at}
 use Rattle.tox_plan.proofs.runner.Runner.offer.Goals as goal
 
 pub invariant_of-self : goal.invariant_of-self
 invariant_of-self c =
-    IsRunning-after_offer (running c.self.inside) c.args.len c.args.instant c.self.invariant
+    IsRunning-after_offer (runner_view c.self.inside) c.args.len c.args.instant c.self.invariant
     (ap (λ runner. runner.idle) c.self.view_is ∙ c.requires) (none_of c.self.inside.ending (sym c.if-is_some.ensures))
     (omega arith) (omega (arith, c.self.invariant.few))
 
 pub returns-clause-to_come : goal.returns-clause-to_come
 returns-clause-to_come c =
     rw (← c.self.view_is)
-    (to_come-after_offer (running c.self.inside) c.args.len c.args.instant c.self.invariant
+    (to_come-after_offer (runner_view c.self.inside) c.args.len c.args.instant c.self.invariant
     (ap (λ runner. runner.idle) c.self.view_is ∙ c.requires) (none_of c.self.inside.ending (sym c.if-is_some.ensures))
     (omega arith))
 
@@ -27,5 +27,5 @@ returns-clause-given c = given-offer c.args.self.now _ (as_chunk (next_piece c.a
 
 pub returns-clause-unread : goal.returns-clause-unread
 returns-clause-unread c =
-    sym (drained-at _ c.self.inside.levels.items c.self.inside.piece
-    (idle-drained (running c.self.inside) c.self.invariant (ap (λ runner. runner.idle) c.self.view_is ∙ c.requires) (none_of c.self.inside.ending (sym c.if-is_some.ensures))))
+    sym (drained-at _ c.self.inside.cursors.items c.self.inside.piece
+    (idle-drained (runner_view c.self.inside) c.self.invariant (ap (λ runner. runner.idle) c.self.view_is ∙ c.requires) (none_of c.self.inside.ending (sym c.if-is_some.ensures))))

@@ -1,4 +1,4 @@
--- One line more, or a front of it.
+-- One line more, or a prefix of it.
 use Rattle.std.proofs.Common.{◌≡◌, ◌+◌, ◌∙◌, ℕ, ap, subst, arith, vec_len}
 use Rattle.std.proofs.lemmas.Result.{err_from_is_err_and}
 use Rattle.tox_time.specs.Arrivals.{arrival_list}

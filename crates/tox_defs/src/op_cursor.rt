@@ -2,7 +2,7 @@
 ghost use Rattle.std.specs.Prelude.{◌≡◌, ◌<◌, None, false};
 ghost use Rattle.tox_words.specs.Draw.{draws_of};
 ghost use Rattle.tox_defs.specs.Op.{is_mute};
-ghost use Rattle.tox_defs.specs.Level.{IsSound, MatchEmission, first_level};
+ghost use Rattle.tox_defs.specs.OpCursor.{IsSound, MatchEmission, first_cursor};
 
 use crate::look::Look;
 use crate::op::Op;
@@ -13,7 +13,7 @@ use tox_words::Drawing;
 /// An operation at work: its state, where its present chunk stops and that chunk's instant, and the ending that
 /// it found, if any. A last piece may still leave before that ending.
 #[derive(Clone, Copy, Debug, Default, PartialEq, Eq)]
-pub struct Level {
+pub struct OpCursor {
     pub op: Op,
     pub state: State,
     pub stop: u64,
@@ -30,14 +30,14 @@ pub enum Emission {
     End(Ending),
 }
 
-impl Level {
-    /// The level of an operation before its first item.
-    pub(crate) fn new(op: &Op) -> Level
-        ensures { result ≡ first_level op.now }
+impl OpCursor {
+    /// The cursor of an operation before its first item.
+    pub(crate) fn new(op: &Op) -> OpCursor
+        ensures { result ≡ first_cursor op.now }
     {
-        Level {
+        OpCursor {
             op: *op,
-            ..Level::default()
+            ..OpCursor::default()
         }
     }
 

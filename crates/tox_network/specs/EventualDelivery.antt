@@ -1,4 +1,4 @@
--- What is still to come of a network, which no move changes.
+-- The eventual delivery of a network, which no move changes, and the moves that are left.
 use Rattle.std.specs.Prelude.{◌≡◌, ℕ, zero, suc, ◌+◌, ◌*◌, List, [], ◌++◌, length, Option, Some, None, slice_get}
 use Rattle.tox_time.specs.declared.item.Item.{Item}
 use Rattle.tox_time.specs.Stream.{arrived}
@@ -21,8 +21,8 @@ to_enter n zero = n.arrivals
 to_enter n (suc k) = to_give (slice_get n.stages k) (coming n k)
 
 -- the eventual delivery: what is delivered, and then all that will be
-abbrev pub still : NetworkState → List Item
-still n = n.delivered ++ coming n (length n.stages)
+abbrev pub eventual_delivery : NetworkState → List Item
+eventual_delivery n = n.delivered ++ coming n (length n.stages)
 
 -- the sum of f from 0 to k
 abbrev pub sum_to : (ℕ → ℕ) → ℕ → ℕ
