@@ -1,5 +1,5 @@
 -- What the check of an arrivals text knows.
-use Rattle.std.specs.Prelude.{◌≡◌, ℕ, ◌*◌, ◌≤◌, ◌^◌, List, [], ◌∷◌, length, Ok}
+use Rattle.std.specs.Prelude.{◌≡◌, ℕ, ◌+◌, ◌*◌, ◌/◌, ◌≤◌, ◌^◌, max, List, [], ◌∷◌, length, Ok}
 use Rattle.tox_time.specs.Stream.{IsArrivalList, arrived as count_of}
 use Rattle.tox_time.specs.Arrivals.{arrival_list}
 use Rattle.tox_text.specs.ArrivalsText.{Arrived, arrivals_of, lines_of}
@@ -8,6 +8,11 @@ use Rattle.tox_text.specs.ArrivalsText.{Arrived, arrivals_of, lines_of}
 pub record AreArrivals (so_far : Arrived) : Type 0 where
   pub list : IsArrivalList (arrival_list so_far.items)
   pub few : count_of so_far.items ≤ 2 ^ 40
+
+-- half of the longest of these lines, rounded up: no line says more bytes, since each takes two digits
+abbrev pub half_longest : List (List ℕ) → ℕ
+half_longest [] = 0
+half_longest (line ∷ lines) = max ((length line + 1) / 2) (half_longest lines)
 
 -- no line is longer than twice this
 abbrev pub AreShort : ℕ → List (List ℕ) → Type 0

@@ -2,8 +2,8 @@
 ghost use Rattle.std.specs.Prelude.{◌≡◌, ◌+◌, ◌<◌, ◌≤◌, ◌^◌, false, true, length, None, Some, Ok, Err, IfOk, IfErr, OnOk};
 ghost use Rattle.tox_time.specs.Arrivals.{end_fault, piece_fault};
 ghost use Rattle.tox_time.specs.Time.{IsInstant};
-ghost use Rattle.tox_text.specs.ArrivalsText.{Arrived, arrivals_of, with_line};
-ghost use Rattle.tox_text.specs.Checked.{IsChecked};
+ghost use Rattle.tox_text.specs.ArrivalsText.{Arrived, arrivals_of, lines_of, with_line};
+ghost use Rattle.tox_text.specs.Checked.{IsChecked, half_longest};
 
 use crate::arrivals_line::{Event, line_of};
 use crate::fault::DryFault;
@@ -20,10 +20,12 @@ struct Count {
     ghost few: { bytes ≤ 2 ^ 40 },
 }
 
-/// Checks an arrivals text. Returns how many bytes a data line has at most, or the first fault with its line.
+/// Checks an arrivals text. Returns half of its longest line, rounded up, or the first fault with its line. No data line
+/// has more bytes than that.
 pub fn check_arrivals(text: &[u8]) -> Result<usize, DryFault>
     requires { length text.now < 2 ^ 40 }
     ensures ok { IfOk result (IsChecked text.now) }
+    ensures longest { IfOk result (λ longest. longest ≡ half_longest (lines_of text.now)) }
     ensures fault { IfErr result (λ e. arrivals_of text.now ≡ Err e) }
 {
     let mut count = Count {

@@ -1,5 +1,7 @@
 //! A migrated script, on its way to a writer.
-ghost use Rattle.std.specs.Prelude.{◌≡◌, ◌≢◌, false, OnOk, IfErr, Err};
+ghost use Rattle.std.specs.Prelude.{◌≡◌, ◌≢◌, false, IsTrue, OnOk, IfErr, Err};
+ghost use Rattle.std.specs.Str.{is_utf8};
+ghost use Rattle.tox_script.specs.declared.fault.ScriptFault.TheVariants.{OutOfMemory};
 ghost use Rattle.tox_text.specs.PrintingMigrated.{LeavesMigrated, WritesMigrated};
 
 use crate::buffer::write_all;
@@ -35,6 +37,9 @@ pub fn print_migrated<W: Sink>(
         (LeavesMigrated script.now (W.written writer.old) (W.written writer.new)
         (W.failed writer.new)) }
     ensures working { result ≢ Err PrintMigratedFault.WriteFault → W.failed writer.new ≡ false }
+    // What is no text is refused before memory is asked for.
+    ensures memory { result ≡ Err (PrintMigratedFault.Script OutOfMemory)
+        → IsTrue (is_utf8 script.now) }
 {
     match migrate(alloc, script) {
         Ok(text) => match write_all(writer, text.as_bytes()) {

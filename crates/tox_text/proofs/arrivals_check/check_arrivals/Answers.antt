@@ -1,8 +1,8 @@
 -- One line more.
-use Rattle.std.proofs.Common.{◌≡◌, ◌+◌, ◌≤◌, ◌∷◌, arith, length, option_map, sym, ◌∙◌, ap, refl, subst}
-use Rattle.tox_text.specs.ArrivalsText.{nothing, with_lines}
+use Rattle.std.proofs.Common.{◌≡◌, ◌+◌, ◌≤◌, max, ◌∷◌, arith, length, option_map, sym, ◌∙◌, ap, refl, subst}
+use Rattle.tox_text.specs.ArrivalsText.{lines_of, nothing, with_lines}
 use Rattle.tox_time.specs.Steps.{◌>>=◌}
-use Rattle.tox_text.specs.Checked.{AreShort}
+use Rattle.tox_text.specs.Checked.{AreShort, half_longest}
 use Rattle.tox_text.specs.Lines.{lines_left, size_left}
 use Rattle.tox_text.proofs.CountLemmas.{Counts-first}
 use Rattle.tox_text.proofs.arrivals_check.check_arrivals.Goals as goal
@@ -14,6 +14,7 @@ loop-left-init c = record {
   counts = Counts-first _ refl refl refl;
   rest = refl;
   short = λ most longest short. short;
+  longest = omega arith;
 }
 
 pub loop-left-preserved : goal.loop-left-preserved
@@ -31,4 +32,5 @@ loop-left-preserved c =
           sym (ap (λ left. left >>= with_lines (c.loop-left.number + 1 + 1) others) after.1)
           ∙ ap (λ lines. with_lines (c.loop-left.number + 1) lines on.before) (sym split) ∙ on.rest;
       short = λ most longest short. on.short most (omega (arith, longest)) (subst (AreShort most) (sym split) (omega (arith, longest), short));
+      longest = omega (arith, subst (λ lines. max c.loop-left.longest (half_longest lines) ≡ half_longest (lines_of c.args.text.now)) split on.longest);
     }

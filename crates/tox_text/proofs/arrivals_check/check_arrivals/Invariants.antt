@@ -1,7 +1,7 @@
 -- The lines that are left leave from here what all lines leave, and the lines so far are short.
-use Rattle.std.proofs.Common.{◌≡◌, ◌+◌, ◌≤◌, ℕ, length, option_map}
+use Rattle.std.proofs.Common.{◌≡◌, ◌+◌, ◌≤◌, ℕ, max, length, option_map}
 use Rattle.tox_text.specs.ArrivalsText.{Arrived, arrivals_of, lines_of, with_lines}
-use Rattle.tox_text.specs.Checked.{AreShort}
+use Rattle.tox_text.specs.Checked.{AreShort, half_longest}
 use Rattle.tox_text.specs.Counting.{Counts}
 use Rattle.tox_text.specs.Lines.{lines_left, size_left}
 use Rattle.tox_text.proofs.arrivals_check.check_arrivals.Given as goal
@@ -13,6 +13,7 @@ invariant-loop-left l = record {
   counts : Counts l.count before;
   rest : with_lines (l.number + 1) (lines_left (option_map (λ rest. rest.now) l.left)) before ≡ arrivals_of l.text;
   short : (most : ℕ) → l.longest ≤ most → AreShort most (lines_left (option_map (λ rest. rest.now) l.left)) → AreShort most (lines_of l.text);
+  longest : max l.longest (half_longest (lines_left (option_map (λ rest. rest.now) l.left))) ≡ half_longest (lines_of l.text);
 }
 
 abbrev pub decreases-loop-left : goal.decreases-loop-left
