@@ -9,8 +9,8 @@ ghost use Rattle.tox_defs.specs.Laws.{HasLaw, KeepsStreams};
 ghost use Rattle.tox_time.specs.declared.item.Item.{Item as OneItem};
 ghost use Rattle.tox_time.specs.Stream.{IsStream, arrived};
 
-use crate::op_cursor::{Emission, OpCursor};
 use crate::op::Op;
+use crate::op_cursor::{Emission, OpCursor};
 use crate::position::StreamPosition;
 use crate::toxic::Toxic;
 use std::marker::Model;

@@ -176,7 +176,12 @@ fn pass_one(
 /// The next piece of a cursor's rest, or its ending. Inlined for the reason that [`OpCursor::advance`] is: it does all the work of a
 /// look.
 #[inline(always)]
-fn advance(cursor: &mut OpCursor, start: u64, drawing: &Drawing<'_>, looks: &mut PullStats) -> Emission
+fn advance(
+    cursor: &mut OpCursor,
+    start: u64,
+    drawing: &Drawing<'_>,
+    looks: &mut PullStats,
+) -> Emission
     requires some { start < cursor.old.stop }
     requires heard { is_mute cursor.old.op ≡ false }
     requires open { cursor.old.ending ≡ None }

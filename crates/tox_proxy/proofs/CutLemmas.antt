@@ -1,5 +1,5 @@
 -- A slice that a runner gives is no longer to come.
-use Rattle.std.proofs.Common.{◌≡◌, ◌≢◌, ℕ, ◌≤◌, true, List, [], ◌∷◌, ◌++◌, replicate, inl, inr, refl, ap, sym, ◌∙◌, subst, arith, append_assoc, None}
+use Rattle.std.proofs.Common.{◌≡◌, ◌≢◌, ℕ, ◌≤◌, true, List, [], ◌∷◌, ◌++◌, replicate, inl, inr, ap, sym, ◌∙◌, subst, arith, append_assoc, None}
 use Rattle.std.proofs.lemmas.List.{append-nil}
 use Rattle.tox_time.specs.declared.item.Item.{Item}
 use Rattle.tox_time.specs.declared.item.Item.TheVariants.{Chunk, Closed, Reset, Quiet}
@@ -10,7 +10,7 @@ use Rattle.tox_time.specs.declared.ending.Ending.TheVariants.{StillOpen, Closed 
 use Rattle.tox_time.specs.Table.{ending, final_of, table}
 use Rattle.tox_lend.specs.Run.{LiesIn, Run, bytes_at, stop_of}
 use Rattle.tox_plan.specs.Cuts.{BeginsApart, EndsHere, IsCut}
-use Rattle.tox_plan.specs.RunnerView.{HasNoChunk, RunnerView, to_come}
+use Rattle.tox_plan.specs.RunnerView.{RunnerView, to_come}
 use Rattle.tox_plan.specs.Delivering.{MayFollow, StandsAt, StandsBehind}
 use Rattle.tox_plan.specs.Slices.{IsOffered}
 use Rattle.tox_plan.proofs.RunnerOutput.{no_chunk-table}

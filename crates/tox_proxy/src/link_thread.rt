@@ -86,7 +86,11 @@ fn connect<R: Net<Listener = TcpListener, Stream = TcpStream>>(
 }
 
 /// The words and plans of both directions of a link.
-fn courses_of<W>(run: &ServeRun<'_, W>, proxy: &ProxyDef, taken: &Taken) -> Option<(Course, Course)> {
+fn courses_of<W>(
+    run: &ServeRun<'_, W>,
+    proxy: &ProxyDef,
+    taken: &Taken,
+) -> Option<(Course, Course)> {
     let name = proxy.name.as_str();
     let up = course_of(
         run.alloc,
