@@ -1,5 +1,5 @@
 -- A link that ended, or broke off, and what its reader had to give.
-use Rattle.std.proofs.Common.{◌≡◌, ℕ, ◌+◌, Bool, true, false, List, [], ◌∷◌, ◌++◌, length, length-take-le, take, drop, Option, Some, None, refl, ap, ◌∙◌, sym, subst, append-nil, append_assoc, arith}
+use Rattle.std.proofs.Common.{◌≡◌, ℕ, ◌+◌, inl, Bool, true, false, List, [], ◌∷◌, ◌++◌, length, length-take-le, take, drop, Option, Some, None, refl, ap, ◌∙◌, sym, subst, append-nil, append_assoc, arith}
 use Rattle.std.specs.Prelude.{is_some, IfSome}
 use Rattle.std.specs.Io.KnownBytes.{append_known, prepend_known}
 use Rattle.std.proofs.Math.Seq.{take-nil}
@@ -21,7 +21,9 @@ use Rattle.tox_link.specs.Core.{core_position}
 use Rattle.tox_link.specs.Log.{heard_from, heard, said, has_source_end}
 use Rattle.tox_link.specs.Logged.{Logged, HasEnded, IsCutOff}
 use Rattle.tox_link.specs.Messages.{bytes_of, ArePieces, ReadsFrom, HandsOn, EndsFor}
-use Rattle.tox_link.specs.Reports.{Reports, HeardSo, WritesFirst}
+use Rattle.tox_link.specs.declared.link_fault.LinkFault.{LinkFault}
+use Rattle.tox_link.specs.Hangups.{Call, BreaksOff}
+use Rattle.tox_link.specs.Reports.{Reports, HeardSo, WritesFirst, is_write_fault, written_before}
 use Rattle.tox_link.specs.Side.{IsSound, TookAll}
 use Rattle.tox_link.specs.Sources.{read_end_of}
 use Rattle.tox_link.proofs.Logs.{gapless-bytes}
@@ -164,3 +166,15 @@ pub reads-same : (before given after : Option (List ℕ)) (reads asked : ℕ) (m
     → ReadsFrom given asked messages end after failed
 reads-same before given after reads asked messages end failed same count sent =
     subst (λ before. ReadsFrom before asked messages end after failed) same (subst (λ reads. ReadsFrom before reads messages end after failed) count sent)
+
+-- a link that was refused before its reader's thread started
+pub broke-unstarted : (calls : Option (List Call)) (fault : LinkFault) → written_before fault ≡ 0 → is_write_fault fault ≡ false → BreaksOff calls calls fault
+broke-unstarted calls fault none cause = inl (refl, none, cause)
+
+-- where a link learnt why the reading ended, it took the source's end
+took-end : (side : WriterSide) (messages : List Message) (source : Option ReadEnd) → ((end : ReadEnd) → source ≡ Some end → TookAll side messages end) → IfSome source (λ _. side.ended ≡ true)
+took-end side messages (Some end) whole = (whole end refl).ended
+took-end side messages None whole = tt
+
+pub took-source-end : (side : WriterSide) (messages : List Message) → IsSound side messages → IfSome (read_end_of side.source) (λ _. side.ended ≡ true)
+took-source-end side messages sound = took-end side messages (read_end_of side.source) sound.whole

@@ -13,3 +13,4 @@ pub mod Sources
 pub mod Side
 pub mod Logged
 pub mod Reports
+pub mod Hangups

@@ -7,6 +7,7 @@ ghost use Rattle.tox_compile.specs.Meaning.{means};
 ghost use Rattle.tox_link.specs.declared.notes.LinkEvent.{LinkEvent as OneEvent};
 ghost use Rattle.tox_link.specs.Core.{remaining_output};
 ghost use Rattle.tox_link.specs.Events.{with_events};
+ghost use Rattle.tox_link.specs.Hangups.{HangsUp, BreaksOff};
 ghost use Rattle.tox_link.specs.Logged.{IsCutOff};
 ghost use Rattle.tox_link.specs.Messages.{HandsOn, EndsFor};
 ghost use Rattle.tox_link.specs.Reports.{Reports, WritesFirst, is_write_fault, written_before};
@@ -121,6 +122,10 @@ pub fn carry<
         × WritesFirst (S.remaining reader) (W.written ends.old.writer) (W.written ends.new.writer)
         bytes (written_before fault)) }
     ensures cause { IfErr result (λ fault. W.failed ends.new.writer ≡ is_write_fault fault) }
+    ensures hangs_up { IfOk result (λ report.
+        HangsUp (H.calls ends.old.hangup) (H.calls ends.new.hangup) report.ending (read_end_of report.source)) }
+    ensures breaks_off { IfErr result (λ fault.
+        BreaksOff (H.calls ends.old.hangup) (H.calls ends.new.hangup) fault) }
 {
     let (mut side, thread) = start(rt, alloc, reader, plan, words, reads, gate)?;
     let driven = drive(rt, &mut side, clock, notes, &mut ends.writer, &**gate);

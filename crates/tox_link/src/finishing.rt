@@ -1,7 +1,9 @@
 //! The end of a link: it hangs up, and empties the ring so that the reader's thread can end.
-ghost use Rattle.std.specs.Prelude.{◌≡◌, List, ◌++◌};
+ghost use Rattle.std.specs.Prelude.{◌≡◌, List, ◌++◌, false, IfOk, OnErr};
 ghost use Rattle.rtrb.specs.Ring.{received, SameConsumer};
+ghost use Rattle.tox_time.specs.declared.ending.Ending.TheVariants.{Reset};
 ghost use Rattle.tox_link.specs.declared.message.Message.{Message as OneMessage};
+ghost use Rattle.tox_link.specs.Hangups.{with_call};
 
 use crate::hangup::Hangup;
 use crate::inbox::Inbox;
@@ -16,7 +18,12 @@ pub(crate) fn hang_up<H: Hangup>(
     hangup: &mut H,
     driven: &Result<Ending, LinkFault>,
     side: &WriterSide<'_>,
-) {
+)
+    ensures ok { IfOk driven.now (λ ending. H.calls hangup.new
+        ≡ with_call (H.calls hangup.old) ending side.now.ended) }
+    ensures err { OnErr driven.now (H.calls hangup.new
+        ≡ with_call (H.calls hangup.old) (Reset side.now.core.latest) false) }
+{
     match driven {
         Ok(ending) => hangup.hang_up(*ending, side.ended),
         Err(_) => hangup.hang_up(Ending::Reset(side.core.latest()), false),

@@ -6,12 +6,20 @@ use Rattle.tox_time.specs.declared.stream.Stream.TheVariants.{Upstream, Downstre
 use Rattle.tox_link.specs.declared.sides.Link.{Link}
 use Rattle.tox_link.specs.declared.sides.Side.{Side}
 use Rattle.tox_link.specs.declared.book.BookFault.{BookFault}
+use Rattle.tox_link.specs.declared.link_fault.LinkFault.{LinkFault}
+use Rattle.tox_link.specs.declared.link_fault.LinkFault.TheVariants.{OutOfMemory, SpawnRefused, WriteFault}
 use Rattle.tox_link.specs.Links.{changed, with_bytes, with_end}
 use Rattle.tox_proxy.specs.declared.link_end.StreamEnd.{StreamEnd}
 use Rattle.tox_proxy.specs.declared.link_end.StreamEnd.TheVariants.{Ended, Failed, Refused}
 use Rattle.tox_proxy.specs.declared.link_end.Carried.{Carried}
 use Rattle.tox_proxy.specs.declared.link_end.SideEnd.{SideEnd}
 use Rattle.tox_proxy.specs.declared.link_end.LinkEnd.{LinkEnd}
+
+-- what was carried before a fault
+abbrev pub carried_before : LinkFault → Carried
+carried_before (OutOfMemory written) = record { bytes = written; end = Refused }
+carried_before (SpawnRefused written) = record { bytes = written; end = Refused }
+carried_before (WriteFault written) = record { bytes = written; end = Failed }
 
 -- memory or a thread was refused
 abbrev pub is_refused : StreamEnd → Bool

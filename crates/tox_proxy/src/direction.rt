@@ -3,6 +3,8 @@ ghost use Rattle.std.specs.Prelude.{◌≡◌, ◌≤◌, IfOk};
 ghost use Rattle.tox_words.specs.Seeded.{seeded_words};
 ghost use Rattle.tox_compile.specs.Normal.{normal_form};
 ghost use Rattle.tox_script.specs.Covering.{toxics_for};
+ghost use Rattle.tox_proxy.specs.LinkEnds.{carried_before};
+ghost use Rattle.tox_proxy.specs.declared.link_end.StreamEnd.TheVariants as EndOf;
 
 use crate::link_clock::SinceStart;
 use crate::link_end::{Carried, StreamEnd};
@@ -14,7 +16,7 @@ use crate::until_due::UntilDue;
 use std::alloc::{AllocError, Global};
 use std::sync::Arc;
 use tox_compile::{Plan, compile};
-use tox_link::{Ends, LinkFault, carry};
+use tox_link::{Ends, LinkFault, LinkReport, carry};
 use tox_script::Script;
 use tox_time::{MAX_BYTES, OpenGate, Real, Stream};
 use tox_words::Words;
@@ -38,6 +40,8 @@ pub(crate) fn course_of(
     requires first { 1 ≤ number }
     requires last { number ≤ 1_000_000 }
     ensures words { IfOk result (λ course. course.words ≡ seeded_words seed number stream) }
+    ensures lanes { IfOk result (λ course. course.plan.lanes
+        ≡ (toxics_for name.now number stream script.now).chain.lanes) }
     ensures plan { IfOk result (λ course. course.plan.ops
         ≡ normal_form (toxics_for name.now number stream script.now).chain (seeded_words seed number stream)) }
 {
@@ -77,10 +81,7 @@ pub(crate) fn carry_stream<R: ServeRuntime>(
         gate,
     );
     match done {
-        Ok(report) => Carried {
-            bytes: report.written,
-            end: StreamEnd::Ended(report.ending),
-        },
+        Ok(report) => after_end(&report),
         Err(fault) => {
             sockets.cut();
             after_fault(&fault)
@@ -88,8 +89,20 @@ pub(crate) fn carry_stream<R: ServeRuntime>(
     }
 }
 
+/// What a stream carried that ended.
+fn after_end<S>(report: &LinkReport<S>) -> Carried
+    ensures { result ≡ record { bytes = report.now.written; end = EndOf.Ended report.now.ending } }
+{
+    Carried {
+        bytes: report.written,
+        end: StreamEnd::Ended(report.ending),
+    }
+}
+
 /// What was carried before a fault.
-fn after_fault(fault: &LinkFault) -> Carried {
+fn after_fault(fault: &LinkFault) -> Carried
+    ensures { result ≡ carried_before fault.now }
+{
     let end = match fault {
         LinkFault::WriteFault(_) => StreamEnd::Failed,
         LinkFault::SpawnRefused(_) | LinkFault::OutOfMemory(_) => StreamEnd::Refused,

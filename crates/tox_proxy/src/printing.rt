@@ -5,7 +5,7 @@ use crate::serve_lines::{write_link, write_listening, write_total};
 use std::io::Write;
 use std::sync::{Mutex, Wait};
 use tox_link::Book;
-use tox_time::{Real, Stream};
+use tox_time::Real;
 
 /// Prints where each proxy listens, in order.
 pub(crate) fn print_listening<R: Wait, W: Write>(
@@ -43,12 +43,6 @@ pub(crate) fn print_total<R: Wait, W: Write>(rt: &R, out: &Mutex<W>, name: &str,
     let mut out = out.lock(rt);
     let out = &mut *out;
     let mut writer = Real::new(&mut *out);
-    let _ = write_total(
-        &mut writer,
-        name,
-        book.links(),
-        book.total(Stream::Upstream),
-        book.total(Stream::Downstream),
-    );
+    let _ = write_total(&mut writer, name, book);
     let _ = out.flush();
 }

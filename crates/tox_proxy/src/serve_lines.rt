@@ -1,11 +1,14 @@
 //! The lines that serving prints.
-ghost use Rattle.std.specs.Prelude.{◌≡◌, ◌++◌, [], false, codes, decimal};
+ghost use Rattle.std.specs.Prelude.{◌≡◌, ◌++◌, [], false, length, codes, decimal};
 ghost use Rattle.tox_text.specs.Writing.{Prints, Writes};
+ghost use Rattle.tox_time.specs.declared.stream.Stream.TheVariants.{Upstream, Downstream};
+ghost use Rattle.tox_link.specs.Links.{total_of};
 ghost use Rattle.tox_proxy.specs.ServeLines.{end_word, link_line, listening_line, side_text, total_line};
 
 use crate::link_end::{LinkEnd, SideEnd};
+use tox_link::Book;
 use tox_text::{Buffer, print_name};
-use tox_time::{EndFault, Ending, Sink};
+use tox_time::{EndFault, Ending, Sink, Stream};
 
 /// Writes that a proxy listens at an address.
 pub(crate) fn write_listening<W: Sink>(
@@ -96,19 +99,16 @@ fn end_word(ending: &Option<Ending>) -> &'static [u8]
     }
 }
 
-/// Writes how many links a proxy had, and their bytes on both streams.
-pub(crate) fn write_total<W: Sink>(
-    writer: &mut W,
-    name: &str,
-    links: u64,
-    upstream: u64,
-    downstream: u64,
-) -> Result<(), EndFault>
+/// Writes how many links a proxy's book has, and their bytes on both streams.
+pub(crate) fn write_total<W: Sink>(writer: &mut W, name: &str, book: &Book) -> Result<(), EndFault>
     requires { W.failed writer.old ≡ false }
     ensures { Writes result (W.written writer.old) (W.written writer.new) (W.failed writer.new)
-        (total_line name.now links upstream downstream) }
+        (total_line name.now (length book.now) (total_of Upstream book.now) (total_of Downstream book.now)) }
 {
     let mut buffer = Buffer::new();
+    let links = book.links();
+    let upstream = book.total(Stream::Upstream);
+    let downstream = book.total(Stream::Downstream);
     put_total(&mut buffer, writer, name, links, upstream, downstream)?;
     buffer.flush(writer)
 }

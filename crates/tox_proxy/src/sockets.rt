@@ -52,6 +52,8 @@ impl<'a> Sockets<'a> {
 }
 
 impl<'a> Hangup for Sockets<'a> {
+    ghost calls = { λ sockets. None };
+
     fn hang_up(&mut self, ending: Ending, source_ended: bool) {
         match ending {
             Ending::StillOpen => {}

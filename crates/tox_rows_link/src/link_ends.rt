@@ -111,6 +111,8 @@ impl HungUp {
 }
 
 impl Hangup for HungUp {
+    ghost calls = { λ _. None };
+
     fn hang_up(&mut self, ending: Ending, source_ended: bool) {
         self.calls = self.calls.saturating_add(1);
         self.ending = ending;

@@ -49,6 +49,8 @@ impl Notes for NoNotes {
 struct NoHangup;
 
 impl Hangup for NoHangup {
+    ghost calls = { λ _. None };
+
     fn hang_up(&mut self, _ending: Ending, _source_ended: bool) {}
 }
 

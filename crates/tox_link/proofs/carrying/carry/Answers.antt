@@ -1,5 +1,5 @@
 -- What was written is the first of what the reader had to give, and the log says so.
-use Rattle.std.proofs.Common.{[], ◌++◌, length-take-le, take, ap, subst, sym, ◌∙◌}
+use Rattle.std.proofs.Common.{inr, [], ◌++◌, length-take-le, take, ap, subst, sym, ◌∙◌}
 use Rattle.std.proofs.lemmas.Result.{err_from_is_err_and}
 use Rattle.rtrb.specs.Ring.{received}
 use Rattle.tox_compile.specs.Meaning.{means}
@@ -7,7 +7,7 @@ use Rattle.tox_link.specs.Logged.{IsCutOff}
 use Rattle.tox_link.specs.Messages.{ReadsFrom}
 use Rattle.tox_link.specs.Reports.{WritesFirst}
 use Rattle.tox_link.specs.Side.{came}
-use Rattle.tox_link.proofs.CarryLemmas.{link-reports, cut-nothing, writes-nothing, first-bytes, writes-first, source-told, reads-same}
+use Rattle.tox_link.proofs.CarryLemmas.{broke-unstarted, took-source-end, link-reports, cut-nothing, writes-nothing, first-bytes, writes-first, source-told, reads-same}
 use Rattle.tox_link.proofs.Logs.{events-none}
 use Rattle.tox_link.proofs.LoggedLemmas.{logged-fresh}
 use Rattle.tox_link.proofs.carrying.carry.Goals as goal
@@ -21,6 +21,23 @@ pub returns-in_err-side-clause-broken_bytes : goal.returns-in_err-side-clause-br
 returns-in_err-side-clause-broken_bytes g c =
     let p = err_from_is_err_and c.from_residual.result c.from_residual.ensures.1 in
     rw (p.1, p.2) ([], writes-nothing (g.S.Source.remaining c.args.reader) (g.W.Sink.written c.args.ends.now.writer) _ c.in_err-side.ensures.err)
+
+pub returns-in_err-side-clause-breaks_off : goal.returns-in_err-side-clause-breaks_off
+returns-in_err-side-clause-breaks_off g c =
+    let p = err_from_is_err_and c.from_residual.result c.from_residual.ensures.1 in
+    rw (p.1, p.2) (broke-unstarted (g.H.Hangup.calls c.args.ends.now.hangup) _ c.in_err-side.ensures.err c.in_err-side.ensures.cause)
+
+pub returns-in-Ok-clause-hangs_up : goal.returns-in-Ok-clause-hangs_up
+returns-in-Ok-clause-hangs_up g c =
+    let side = c.drive-driven.new.side in
+    let sound = rw c.in-Ok.is at c.drive-driven.ensures.ok in (
+      side.ended,
+      rw c.in-Ok.is at c.hang_up.ensures.ok,
+      took-source-end side (received side.inbox.receiver) sound,
+    )
+
+pub returns-clause-breaks_off : goal.returns-clause-breaks_off
+returns-clause-breaks_off g c = inr (c.drive-driven.new.side.core.latest, rw c.in-Err.is at c.hang_up.ensures.err)
 
 pub returns-in-Ok-clause-log : goal.returns-in-Ok-clause-log
 returns-in-Ok-clause-log g c =
