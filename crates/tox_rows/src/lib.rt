@@ -8,7 +8,7 @@ use std::alloc::{AllocError, Global};
 use tox_defs::{Chain, read_short};
 use tox_time::Outcome;
 
-/// The chain of short forms parted by spaces. None if one of them is refused.
+/// The chain of short forms separated by spaces. None if one of them is refused.
 pub fn chain_of(toxics: &str) -> Option<Chain> {
     let mut chain = Chain::new();
     for text in toxics.split_whitespace() {

@@ -262,7 +262,7 @@ fn lanes_argument<'a>(alloc: Global) -> Arg<'a> {
 
 fn words_argument<'a>(alloc: Global) -> Arg<'a> {
     Arg::new(alloc, "words").long("words").value_name("W").help(
-        "The random words: 1 to 4096 numbers up to 4294967295, parted by commas [default: 0]",
+        "The random words: 1 to 4096 numbers up to 4294967295, separated by commas [default: 0]",
     )
 }
 

@@ -11,12 +11,12 @@ A fault is one line on standard error, and the status is then 1.";
 
 /// Below the options of `toxi dry`.
 pub const DRY: &str = "\
-A TOXIC is a type, or a type, a colon and pairs of a key and a number, parted by commas:
+A TOXIC is a type, or a type, a colon and pairs of a key and a number, separated by commas:
 
   latency       latency=MS, jitter=MS   delays data by latency plus or minus jitter
   bandwidth     rate=KB                 passes KB kilobytes (of 1000 bytes) a second; 1 to 1000000
   slow_close    delay=MS                delays the closing
-  timeout       timeout=MS              drops all data, and closes after MS; never, where it is 0
+  timeout       timeout=MS              drops all data, and closes after MS; never if MS is 0
   reset_peer    timeout=MS              resets the connection after MS
   slicer        average_size=BYTES      cuts data into pieces; 1 to 1000000
                 size_variation=BYTES    a piece has up to so many bytes more or fewer; below average_size
@@ -79,7 +79,7 @@ prints
 
 /// Below the options of `toxi pick`.
 pub const PICK: &str = "\
-A FILE has at most 16777216 bytes. docs/PROFILE.md tells the formats whole.
+A FILE has at most 16777216 bytes. docs/PROFILE.md describes both formats in full.
 
 The populate file is a JSON array of proxies:
 
@@ -133,7 +133,7 @@ prints
 /// Below the options of `toxi serve`.
 pub const SERVE: &str = "\
 The files are those of `toxi pick`; see `toxi pick --help`. Each enabled proxy is listened for, and each connection to it
-is carried to its upstream under the toxics that the script has for it. `toxi pick` tells them beforehand.
+is carried to its upstream under the toxics that the script has for it. `toxi pick` prints them beforehand.
 
 The output has a line for each proxy that listens, one for each link that ended, and one for each proxy at its end. A
 proxy ends once it stopped listening and all its links ended:
@@ -147,6 +147,6 @@ upstream wasn't reached, or memory or a thread was refused. Each line is flushed
 
 Example, with the files of `toxi pick --help` as proxies.json and script.toml, and port 1 of localhost closed:
   toxi serve --config proxies.json --script script.toml --seed 1 --links 1
-prints, after one connection to the port that it tells first,
+prints, after one connection to the port that it prints first,
   link a 1 up 0 broken down 0 broken
   total a 1 up 0 down 0";
