@@ -1,9 +1,8 @@
 //! Versions of scripts.
 
 /// The version of a script. Version 2 chooses the lanes of its chains, and may give a toxicity as a decimal text.
-#[derive(Clone, Copy, Debug, Default, PartialEq, Eq)]
+#[derive(Clone, Copy, Debug, PartialEq, Eq)]
 pub enum Version {
-    #[default]
     One,
     Two,
 }
