@@ -1,5 +1,6 @@
 -- What files set up: the proxies of a populate file, and the script of a script file.
-use Rattle.std.specs.Prelude.{◌≡◌, ◌≢◌, ℕ, ◌⊎◌, List, Ok, Err}
+use Rattle.std.specs.Prelude.{◌≡◌, ◌≢◌, ℕ, ◌<◌, ◌⊎◌, IsTrue, List, length, Ok, Err}
+use Rattle.std.specs.Str.{is_utf8}
 use Rattle.tox_config.specs.Populate.{populate}
 use Rattle.tox_config.specs.Proxy.{Proxy}
 use Rattle.tox_config.specs.declared.fault.ConfigFault.{ConfigFault}
@@ -34,22 +35,24 @@ pub record HasPopulated (file : KnownFile) : Type 0 where
   pub proxies : List Proxy
   pub populates : Populates file proxies
 
--- the file was read, and this is its first fault as a populate file
+-- the file was read, and this is its first fault as a populate file, unless it is text and out of memory came first
 pub record RefusesConfig (file : KnownFile) (fault : ConfigFault) : Type 0 where
   pub bytes : List ℕ
   pub read : IsFileOf file bytes
-  pub refused : populate bytes ≡ Err fault
+  pub refused : fault ≢ config.OutOfMemory → populate bytes ≡ Err fault
+  pub memory : fault ≡ config.OutOfMemory → IsTrue (is_utf8 bytes) × (0 < length bytes)
 
--- the file was read, and this is its first fault as a script
+-- the file was read, and this is its first fault as a script, unless it is text and out of memory came first
 pub record RefusesScript (file : KnownFile) (fault : ScriptFault) : Type 0 where
   pub bytes : List ℕ
   pub read : IsFileOf file bytes
-  pub refused : script_of bytes ≡ Err fault
+  pub refused : fault ≢ script.OutOfMemory → script_of bytes ≡ Err fault
+  pub memory : fault ≡ script.OutOfMemory → IsTrue (is_utf8 bytes)
 
 -- why the file of a name defines no proxies
 abbrev pub HasConfigCause : KnownFile → List ℕ → SetupFault → Type 0
 HasConfigCause file name (ConfigFile fault) = IsFileFault file name fault
-HasConfigCause file name (Config fault) = fault ≢ config.OutOfMemory → RefusesConfig file fault
+HasConfigCause file name (Config fault) = RefusesConfig file fault
 HasConfigCause file name (ScriptFile fault) = ⊥
 HasConfigCause file name (Script fault) = ⊥
 
@@ -58,7 +61,7 @@ abbrev pub HasScriptCause : KnownFile → List ℕ → SetupFault → Type 0
 HasScriptCause file name (ConfigFile fault) = ⊥
 HasScriptCause file name (Config fault) = ⊥
 HasScriptCause file name (ScriptFile fault) = IsFileFault file name fault
-HasScriptCause file name (Script fault) = fault ≢ script.OutOfMemory → RefusesScript file fault
+HasScriptCause file name (Script fault) = RefusesScript file fault
 
 -- why files of these names set up nothing: the populate file comes first
 abbrev pub HasSetupCause : (List ℕ → KnownFile) → List ℕ → List ℕ → SetupFault → Type 0
