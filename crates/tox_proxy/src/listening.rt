@@ -1,5 +1,5 @@
 //! The addresses of proxies, bound before anything is served.
-ghost use Rattle.std.specs.Prelude.{◌≡◌, true, IfErr};
+ghost use Rattle.std.specs.Prelude.{◌≡◌, true, filter, map, IfOk, IfErr};
 ghost use Rattle.tox_proxy.specs.Serving.{HasServeCause, IsListenFault};
 
 use crate::addresses::listen_address;
@@ -23,7 +23,9 @@ pub(crate) fn listen_all<'a, R: Net<Listener = TcpListener, Stream = TcpStream>>
     alloc: Global,
     proxies: &'a [ProxyDef],
 ) -> Result<Vec<Listening<'a>>, ServeFault<'a>>
-    ensures { IfErr result (HasServeCause proxies.now) }
+    ensures all { IfOk result (λ listening. map (λ bound. bound.proxy.now) listening.items
+        ≡ filter (λ proxy. proxy.enabled) proxies.now) }
+    ensures fault { IfErr result (HasServeCause proxies.now) }
 {
     let mut listening = Vec::new(alloc);
     for proxy in proxies {
@@ -43,7 +45,8 @@ fn listen<'a, R: Net<Listener = TcpListener, Stream = TcpStream>>(
     alloc: Global,
     proxy: &'a ProxyDef,
 ) -> Result<Listening<'a>, ServeFault<'a>>
-    ensures { IfErr result (IsListenFault proxy.now) }
+    ensures proxy { IfOk result (λ bound. bound.proxy.now ≡ proxy.now) }
+    ensures fault { IfErr result (IsListenFault proxy.now) }
 {
     let Ok(address) = listen_address(alloc, &proxy.listen) else {
         return Err(ServeFault::OutOfMemory);
