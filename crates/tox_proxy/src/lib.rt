@@ -8,6 +8,7 @@ mod direction;
 mod dry;
 mod fault;
 mod files;
+mod finding;
 mod link_clock;
 mod link_end;
 mod link_thread;
@@ -37,13 +38,14 @@ mod until_due;
 pub use dry::dry_run;
 pub use fault::StagesFault;
 pub use files::{FileFault, read_file};
+pub use finding::find_proxy;
 pub use named_files::{MemoryFiles, NamedFiles, RealFiles};
 pub use pick_request::{PickFault, PickRequest};
 pub use reading::MAX_INPUT;
 pub use serve_fault::ServeFault;
 pub use serve_runtime::ServeRuntime;
 pub use serving::serve;
-pub use setup::{Setup, SetupFault, find_proxy, read_setup};
+pub use setup::{Setup, SetupFault, read_setup};
 pub use stages::stages_run;
 pub use tox_text::{
     DryFault, PrintMigratedFault, PrintPickFault, WriteFault, print_migrated, print_pick,

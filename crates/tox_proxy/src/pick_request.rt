@@ -2,8 +2,9 @@
 ghost use Rattle.std.specs.Prelude.{◌≡◌, ◌≢◌, ◌≤◌, false, None, Err, OnOk, IfErr};
 ghost use Rattle.tox_time.specs.StreamName.{stream_named};
 
+use crate::finding::find_proxy;
 use crate::named_files::NamedFiles;
-use crate::setup::{SetupFault, find_proxy, read_setup};
+use crate::setup::{SetupFault, read_setup};
 use std::alloc::Global;
 use thiserror::Error;
 use tox_text::{PrintPickFault, VisibleName, print_pick};

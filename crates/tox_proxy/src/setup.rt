@@ -1,7 +1,5 @@
 //! What a populate file and a script file set up.
-ghost use Rattle.std.specs.Prelude.{◌≡◌, map, option_map, IfOk, IfErr};
-ghost use Rattle.std.specs.List.{find};
-ghost use Rattle.tox_config.specs.Populate.{is_named};
+ghost use Rattle.std.specs.Prelude.{◌≡◌, IfOk, IfErr};
 ghost use Rattle.tox_proxy.specs.Setup.{HasConfigCause, HasScriptCause, HasSetupCause, IsSetUp, Populates, Scripts};
 
 use crate::files::FileFault;
@@ -96,11 +94,4 @@ fn read_rules<'a, F: NamedFiles>(
     let bytes = files.read(alloc, name).map_err(SetupFault::ScriptFile)?;
     let script = read_script(alloc, &bytes)?;
     Ok(script)
-}
-
-/// The proxy of a name.
-pub fn find_proxy<'a>(proxies: &'a [ProxyDef], name: &str) -> Option<&'a ProxyDef>
-    ensures { option_map (λ proxy. proxy.now) result ≡ find (is_named name.now) proxies.now }
-{
-    proxies.iter().find(|proxy| proxy.name.as_str() == name)
 }

@@ -3,7 +3,7 @@ use Rattle.std.proofs.Common.{rules, tests}
 use Rattle.std.proofs.lemmas.Iterator.{YieldsList-from_slice}
 use Rattle.std.proofs.lemmas.Iterator.Search.{find_from_yields_List}
 use Rattle.tox_config.specs.Populate.{is_named}
-use Rattle.tox_proxy.proofs.setup.find_proxy.Goals as goal
+use Rattle.tox_proxy.proofs.finding.find_proxy.Goals as goal
 
 pub returns : goal.returns
 returns c =
