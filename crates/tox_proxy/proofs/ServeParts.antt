@@ -24,11 +24,11 @@ both_sides : (word name number up down : List ℕ)
     ≡ word ++ name ++ codes " " ++ number ++ codes " up " ++ up ++ codes " down " ++ down ++ codes "\n"
 both_sides word name number up down = simp append_assoc
 
-pub link_line-parts : (name : List ℕ) (number : ℕ) (end : LinkEnd)
-    → (codes "link " ++ (visible_name name ++ codes " ")) ++ ((decimal number ++ codes " up ") ++ ((side_text end.upstream ++ codes " down ") ++ (side_text end.downstream ++ codes "\n")))
-    ≡ link_line name number end
-link_line-parts name number end =
-    both_sides (codes "link ") (visible_name name) (decimal number) (side_text end.upstream) (side_text end.downstream)
+pub link_line-parts : (name : List ℕ) (end : LinkEnd)
+    → (codes "link " ++ (visible_name name ++ codes " ")) ++ ((decimal end.number ++ codes " up ") ++ ((side_text end.upstream ++ codes " down ") ++ (side_text end.downstream ++ codes "\n")))
+    ≡ link_line name end
+link_line-parts name end =
+    both_sides (codes "link ") (visible_name name) (decimal end.number) (side_text end.upstream) (side_text end.downstream)
 
 pub total_line-parts : (name : List ℕ) (links upstream downstream : ℕ)
     → (codes "total " ++ (visible_name name ++ codes " ")) ++ ((decimal links ++ codes " up ") ++ ((decimal upstream ++ codes " down ") ++ (decimal downstream ++ codes "\n")))

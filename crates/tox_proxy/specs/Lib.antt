@@ -12,3 +12,7 @@ pub mod Serving
 pub mod LinkEnds
 pub mod ServeLines
 pub mod ResetDue
+pub mod Courses
+pub mod Streams
+pub mod Shutting
+pub mod Carrying

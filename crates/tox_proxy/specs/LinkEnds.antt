@@ -15,11 +15,14 @@ use Rattle.tox_proxy.specs.declared.link_end.Carried.{Carried}
 use Rattle.tox_proxy.specs.declared.link_end.SideEnd.{SideEnd}
 use Rattle.tox_proxy.specs.declared.link_end.LinkEnd.{LinkEnd}
 
--- what was carried before a fault
-abbrev pub carried_before : LinkFault → Carried
-carried_before (OutOfMemory written) = record { bytes = written; end = Refused }
-carried_before (SpawnRefused written) = record { bytes = written; end = Refused }
-carried_before (WriteFault written) = record { bytes = written; end = Failed }
+-- what a stream carried before a fault
+abbrev pub carried_before : Stream → LinkFault → Carried
+carried_before stream (OutOfMemory written) =
+    record { stream = stream; bytes = written; end = Refused }
+carried_before stream (SpawnRefused written) =
+    record { stream = stream; bytes = written; end = Refused }
+carried_before stream (WriteFault written) =
+    record { stream = stream; bytes = written; end = Failed }
 
 -- memory or a thread was refused
 abbrev pub is_refused : StreamEnd → Bool
@@ -40,11 +43,20 @@ abbrev pub side_end : Carried → SideEnd
 side_end carried = record { bytes = carried.bytes; ending = ending_of carried.end }
 
 -- a link whose directions carried this: where either was refused, both are broken
-abbrev pub link_end : Carried → Carried → LinkEnd
-link_end upstream downstream =
-    if is_refused upstream.end || is_refused downstream.end
-    then record { upstream = broken_side upstream; downstream = broken_side downstream }
-    else record { upstream = side_end upstream; downstream = side_end downstream }
+abbrev pub link_end : ℕ → Carried → Carried → LinkEnd
+link_end number up down =
+    if is_refused up.end || is_refused down.end
+    then record { number = number; upstream = broken_side up; downstream = broken_side down }
+    else record { number = number; upstream = side_end up; downstream = side_end down }
+
+-- a side that carried nothing and is broken
+abbrev pub nothing_carried : SideEnd
+nothing_carried = record { bytes = 0; ending = None }
+
+-- a link of which nothing was carried
+abbrev pub broken_link : ℕ → LinkEnd
+broken_link number =
+    record { number = number; upstream = nothing_carried; downstream = nothing_carried }
 
 -- the links as a change leaves them, which a refusal leaves as they were
 abbrev pub left_by : List Link → Result (List Link) BookFault → List Link
@@ -56,9 +68,9 @@ abbrev pub after_change : (Side → Result Side BookFault) → ℕ → Stream �
 after_change change number stream links = left_by links (changed change links number stream)
 
 -- the links with the bytes of a link, and then with how its sides ended
-abbrev pub settled : ℕ → LinkEnd → List Link → List Link
-settled number end links =
-    let up = after_change (with_bytes end.upstream.bytes) number Upstream links in
-    let both = after_change (with_bytes end.downstream.bytes) number Downstream up in
-    let ended = after_change (with_end end.upstream.ending) number Upstream both in
-    after_change (with_end end.downstream.ending) number Downstream ended
+abbrev pub settled : LinkEnd → List Link → List Link
+settled end links =
+    let up = after_change (with_bytes end.upstream.bytes) end.number Upstream links in
+    let both = after_change (with_bytes end.downstream.bytes) end.number Downstream up in
+    let ended = after_change (with_end end.upstream.ending) end.number Upstream both in
+    after_change (with_end end.downstream.ending) end.number Downstream ended

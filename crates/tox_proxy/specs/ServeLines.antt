@@ -22,9 +22,9 @@ abbrev pub side_text : SideEnd → List ℕ
 side_text side = decimal side.bytes ++ codes " " ++ end_word side.ending
 
 -- a numbered link of the proxy of this name ended
-abbrev pub link_line : List ℕ → ℕ → LinkEnd → List ℕ
-link_line name number end =
-    codes "link " ++ visible_name name ++ codes " " ++ decimal number ++ codes " up " ++ side_text end.upstream ++ codes " down " ++ side_text end.downstream ++ codes "\n"
+abbrev pub link_line : List ℕ → LinkEnd → List ℕ
+link_line name end =
+    codes "link " ++ visible_name name ++ codes " " ++ decimal end.number ++ codes " up " ++ side_text end.upstream ++ codes " down " ++ side_text end.downstream ++ codes "\n"
 
 -- the proxy of this name ended: its links, and their bytes on both streams
 abbrev pub total_line : List ℕ → ℕ → ℕ → ℕ → List ℕ

@@ -1,73 +1,83 @@
 //! One direction of a served link.
-ghost use Rattle.std.specs.Prelude.{◌≡◌, ◌≤◌, IfOk};
-ghost use Rattle.tox_words.specs.Seeded.{seeded_words};
-ghost use Rattle.tox_compile.specs.Normal.{normal_form};
-ghost use Rattle.tox_script.specs.Covering.{toxics_for};
+ghost use Rattle.std.specs.Prelude.{◌≡◌, None, fold, IfSome};
+ghost use Rattle.std.specs.Arc.{arc_value};
+ghost use Rattle.tox_compile.specs.Meaning.{means};
+ghost use Rattle.tox_proxy.specs.Carrying.{IsCarried};
 ghost use Rattle.tox_proxy.specs.LinkEnds.{carried_before};
+ghost use Rattle.tox_proxy.specs.ResetDue.{after_op};
+ghost use Rattle.tox_proxy.specs.Streams.{source_of, target_of};
 ghost use Rattle.tox_proxy.specs.declared.link_end.StreamEnd.TheVariants as EndOf;
 
-use crate::link_clock::SinceStart;
+use crate::course::Course;
+use crate::link_clock::{LinkStart, SinceStart};
 use crate::link_end::{Carried, StreamEnd};
-use crate::reset_due::reset_due;
+use crate::link_sockets::LinkSockets;
 use crate::serve_runtime::ServeRuntime;
-use crate::sockets::{NoNotes, Sockets};
+use crate::sockets::NoNotes;
 use crate::until_cut::UntilCut;
 use crate::until_due::UntilDue;
-use std::alloc::{AllocError, Global};
+use std::alloc::Global;
 use std::sync::Arc;
-use tox_compile::{Plan, compile};
 use tox_link::{Ends, LinkFault, LinkReport, carry};
-use tox_script::Script;
 use tox_time::{MAX_BYTES, OpenGate, Real, Stream};
-use tox_words::Words;
 
-/// The words and the plan of one stream of a link.
+/// One direction of a link, before it is carried.
 #[derive(Drop)]
-pub(crate) struct Course {
-    pub(crate) words: Words,
-    pub(crate) plan: Plan,
+pub(crate) struct Direction {
+    pub(crate) course: Course,
+    pub(crate) reader: UntilCut,
 }
 
-/// The words of a seed, and the plan of the toxics that a numbered connection of a proxy meets on a stream.
-pub(crate) fn course_of(
-    alloc: Global,
-    script: &Script,
-    seed: u64,
-    name: &str,
-    number: u64,
-    stream: Stream,
-) -> Result<Course, AllocError>
-    requires first { 1 ≤ number }
-    requires last { number ≤ 1_000_000 }
-    ensures words { IfOk result (λ course. course.words ≡ seeded_words seed number stream) }
-    ensures lanes { IfOk result (λ course. course.plan.lanes
-        ≡ (toxics_for name.now number stream script.now).chain.lanes) }
-    ensures plan { IfOk result (λ course. course.plan.ops
-        ≡ normal_form (toxics_for name.now number stream script.now).chain (seeded_words seed number stream)) }
+impl Direction {
+    /// The direction of a course's stream. None where there is no descriptor for its reader.
+    pub(crate) fn new(link: &LinkSockets, course: Course) -> Option<Direction>
+        ensures course { IfSome result (λ direction. direction.course ≡ course) }
+        ensures reader { IfSome result (λ direction.
+            arc_value direction.reader.cut ≡ arc_value (source_of course.stream link.now).cut) }
+    {
+        let reader = UntilCut::new(link.ends_of(course.stream).source)?;
+        Some(Direction { course, reader })
+    }
+}
+
+/// The writer of a stream of a link.
+fn writer_of<'a, 'r, R: ServeRuntime>(
+    rt: &'r R,
+    link: &'a LinkSockets,
+    course: &Course,
+    clock: SinceStart<'r, R>,
+) -> UntilDue<'a, 'r, R>
+    ensures socket { result.socket.now ≡ (target_of course.now.stream link.now).socket }
+    ensures due { result.due ≡ fold after_op None course.now.plan.ops }
 {
-    let Ok(words) = Words::from_seed(alloc, seed, number, stream) else {
-        return Err(AllocError);
-    };
-    let plan = compile(script.chain(name, number, stream), &words);
-    Ok(Course { words, plan })
+    let target = link.ends_of(course.stream).target;
+    UntilDue::new(rt, &target.socket, clock, course.plan.ops())
 }
 
 /// Carries one direction to its end. After a fault both sockets are shut, so that the other direction ends too.
 pub(crate) fn carry_stream<R: ServeRuntime>(
     rt: &R,
     alloc: Global,
-    reader: UntilCut,
-    sockets: Sockets<'_>,
-    clock: SinceStart<'_, R>,
-    course: Course,
+    link: &LinkSockets,
+    direction: Direction,
+    start: LinkStart,
     gate: &Arc<OpenGate, Global>,
-) -> Carried {
-    let Course { words, plan } = course;
-    let writer = UntilDue::new(rt, sockets.target, clock, reset_due(plan.ops()));
+) -> Carried
+    ensures stream { result.stream ≡ direction.course.stream }
+    ensures carried { IsCarried (means direction.course.plan direction.course.words) result }
+{
+    let Direction { course, reader } = direction;
+    let clock = SinceStart::new(rt, start);
+    let sockets = link.ends_of(course.stream);
     let mut ends = Ends {
-        writer: Real::new(writer),
+        writer: Real::new(writer_of(rt, link, &course, clock)),
         hangup: sockets,
     };
+    let Course {
+        stream,
+        words,
+        plan,
+    } = course;
     let done = carry(
         rt,
         alloc,
@@ -81,33 +91,35 @@ pub(crate) fn carry_stream<R: ServeRuntime>(
         gate,
     );
     match done {
-        Ok(report) => after_end(&report),
+        Ok(report) => after_end(stream, &report),
         Err(fault) => {
             sockets.cut();
-            after_fault(&fault)
+            after_fault(stream, &fault)
         }
     }
 }
 
 /// What a stream carried that ended.
-fn after_end<S>(report: &LinkReport<S>) -> Carried
-    ensures { result ≡ record { bytes = report.now.written; end = EndOf.Ended report.now.ending } }
+fn after_end<S>(stream: Stream, report: &LinkReport<S>) -> Carried
+    ensures { result ≡ record { stream = stream; bytes = report.now.written; end = EndOf.Ended report.now.ending } }
 {
     Carried {
+        stream,
         bytes: report.written,
         end: StreamEnd::Ended(report.ending),
     }
 }
 
-/// What was carried before a fault.
-fn after_fault(fault: &LinkFault) -> Carried
-    ensures { result ≡ carried_before fault.now }
+/// What a stream carried before a fault.
+fn after_fault(stream: Stream, fault: &LinkFault) -> Carried
+    ensures { result ≡ carried_before stream fault.now }
 {
     let end = match fault {
         LinkFault::WriteFault(_) => StreamEnd::Failed,
         LinkFault::SpawnRefused(_) | LinkFault::OutOfMemory(_) => StreamEnd::Refused,
     };
     Carried {
+        stream,
         bytes: fault.written(),
         end,
     }

@@ -4,6 +4,7 @@
 mod accepting;
 mod addresses;
 mod checked_input;
+mod course;
 mod direction;
 mod dry;
 mod fault;
@@ -11,6 +12,7 @@ mod files;
 mod finding;
 mod link_clock;
 mod link_end;
+mod link_sockets;
 mod link_thread;
 mod listening;
 mod named_files;

@@ -1,4 +1,8 @@
 //! The clock of a served link.
+ghost use Rattle.std.specs.Prelude.{◌≡◌, ◌-◌, ◌/◌, min};
+ghost use Rattle.std.specs.Time.{instant_nanos};
+ghost use Rattle.tox_time.specs.Time.{plus};
+
 use std::thread;
 use std::time::{Clock, Duration, Instant};
 use tox_link::Clock as LinkClock;
@@ -7,31 +11,60 @@ use tox_time::Micros;
 /// The longest rest, in microseconds.
 const MAX_REST: u64 = 1_000;
 
-/// The time since a link's start, by the monotonic clock of the runtime. It stands still where that can't be read.
+/// When a link started, if the monotonic clock of the runtime could be read.
+#[derive(Clone, Copy)]
+pub(crate) struct LinkStart {
+    instant: Option<Instant>,
+}
+
+impl LinkStart {
+    /// The link starts now.
+    pub(crate) fn now<R: Clock>(rt: &R) -> LinkStart {
+        LinkStart {
+            instant: Instant::now(rt).ok(),
+        }
+    }
+}
+
+/// The time since a link's start. It stands still where the clock can't be read.
 #[derive(Clone, Copy)]
 pub(crate) struct SinceStart<'r, R> {
     rt: &'r R,
-    start: Option<Instant>,
+    start: LinkStart,
 }
 
 impl<'r, R: Clock> SinceStart<'r, R> {
-    /// The link starts now.
-    pub(crate) fn new(rt: &'r R) -> SinceStart<'r, R> {
-        SinceStart {
-            rt,
-            start: Instant::now(rt).ok(),
-        }
+    /// The time since this start.
+    pub(crate) fn new(rt: &'r R, start: LinkStart) -> SinceStart<'r, R>
+        ensures { result.start ≡ start }
+    {
+        SinceStart { rt, start }
     }
 
     fn micros(&self) -> Micros {
-        let Some(start) = self.start else {
+        let Some(start) = self.start.instant else {
             return Micros::ZERO;
         };
-        let Ok(elapsed) = start.elapsed(self.rt) else {
+        let Ok(now) = Instant::now(self.rt) else {
             return Micros::ZERO;
         };
-        Micros::ZERO.after(u64::try_from(elapsed.as_micros()).unwrap_or(u64::MAX))
+        micros_between(start, now)
     }
+}
+
+/// The whole microseconds from a link's start to now.
+fn micros_between(start: Instant, now: Instant) -> Micros
+    ensures { result ≡ plus 0 ((instant_nanos now - instant_nanos start) / 1000) }
+{
+    let elapsed = now.duration_since(start).as_micros();
+    Micros::ZERO.after(u64::try_from(elapsed).unwrap_or(u64::MAX))
+}
+
+/// How long to sleep before an instant, in microseconds: at most 1,000.
+fn rest_before(now: Micros, until: Micros) -> u64
+    ensures { result ≡ min (until - now) 1000 }
+{
+    until.get().saturating_sub(now.get()).min(MAX_REST)
 }
 
 impl<'r, R: Clock> LinkClock for SinceStart<'r, R> {
@@ -43,9 +76,9 @@ impl<'r, R: Clock> LinkClock for SinceStart<'r, R> {
 
     /// Sleeps until that instant, at most 1,000 microseconds.
     fn rest(&self, until: Micros) {
-        let left = until.get().saturating_sub(self.micros().get());
-        if left > 0 {
-            thread::sleep(self.rt, Duration::from_micros(left.min(MAX_REST)));
+        let micros = rest_before(self.micros(), until);
+        if micros > 0 {
+            thread::sleep(self.rt, Duration::from_micros(micros));
         }
     }
 }

@@ -1,6 +1,7 @@
 //! How a served link ended, and what the book keeps of it.
 ghost use Rattle.std.specs.Prelude.{◌≡◌};
-ghost use Rattle.tox_proxy.specs.LinkEnds.{broken_side, ending_of, is_refused, link_end, settled, side_end};
+ghost use Rattle.tox_time.specs.declared.stream.Stream.TheVariants as StreamOf;
+ghost use Rattle.tox_proxy.specs.LinkEnds.{broken_link, broken_side, ending_of, is_refused, link_end, nothing_carried, settled, side_end};
 
 use tox_link::Book;
 use tox_time::{Ending, Stream};
@@ -18,6 +19,7 @@ pub(crate) enum StreamEnd {
 /// What one direction carried.
 #[derive(Clone, Copy, Debug, PartialEq, Eq)]
 pub(crate) struct Carried {
+    pub(crate) stream: Stream,
     pub(crate) bytes: u64,
     pub(crate) end: StreamEnd,
 }
@@ -32,6 +34,7 @@ pub(crate) struct SideEnd {
 /// What is told of a link.
 #[derive(Clone, Copy, Debug, PartialEq, Eq)]
 pub(crate) struct LinkEnd {
+    pub(crate) number: u64,
     pub(crate) upstream: SideEnd,
     pub(crate) downstream: SideEnd,
 }
@@ -74,39 +77,55 @@ impl Carried {
     }
 }
 
+impl SideEnd {
+    /// A broken side that carried nothing.
+    fn nothing_carried() -> SideEnd
+        ensures { result ≡ nothing_carried }
+    {
+        SideEnd {
+            bytes: 0,
+            ending: None,
+        }
+    }
+}
+
 impl LinkEnd {
     /// A link of which nothing was carried: its upstream wasn't reached, or memory or a thread was refused.
-    pub(crate) const BROKEN: LinkEnd = LinkEnd {
-        upstream: SideEnd {
-            bytes: 0,
-            ending: None,
-        },
-        downstream: SideEnd {
-            bytes: 0,
-            ending: None,
-        },
-    };
+    pub(crate) fn broken(number: u64) -> LinkEnd
+        ensures { result ≡ broken_link number }
+    {
+        LinkEnd {
+            number,
+            upstream: SideEnd::nothing_carried(),
+            downstream: SideEnd::nothing_carried(),
+        }
+    }
 
-    /// Of these two directions. If either was refused memory or a thread, both are broken.
-    pub(crate) fn of(upstream: &Carried, downstream: &Carried) -> LinkEnd
-        ensures { result ≡ link_end upstream.now downstream.now }
+    /// Of the two directions of a numbered link. If either was refused memory or a thread, both are broken.
+    pub(crate) fn of(number: u64, upstream: &Carried, downstream: &Carried) -> LinkEnd
+        requires up { upstream.now.stream ≡ StreamOf.Upstream }
+        requires down { downstream.now.stream ≡ StreamOf.Downstream }
+        ensures { result ≡ link_end number upstream.now downstream.now }
     {
         if upstream.is_refused() || downstream.is_refused() {
             return LinkEnd {
+                number,
                 upstream: upstream.broken(),
                 downstream: downstream.broken(),
             };
         }
         LinkEnd {
+            number,
             upstream: upstream.side_end(),
             downstream: downstream.side_end(),
         }
     }
 
     /// Counts the bytes of a link in the book, and then notes how both its sides ended.
-    pub(crate) fn settle(&self, book: &mut Book, number: u64)
-        ensures { book.new ≡ settled number self.now book.old }
+    pub(crate) fn settle(&self, book: &mut Book)
+        ensures { book.new ≡ settled self.now book.old }
     {
+        let number = self.number;
         let _ = book.add_bytes(number, Stream::Upstream, self.upstream.bytes);
         let _ = book.add_bytes(number, Stream::Downstream, self.downstream.bytes);
         let _ = book.ended(number, Stream::Upstream, self.upstream.ending);

@@ -1,21 +1,23 @@
 //! One served link: both its directions, what the book keeps of it, and its line.
-ghost use Rattle.std.specs.Prelude.{◌≤◌};
+ghost use Rattle.std.specs.Prelude.{◌≡◌, ◌≤◌, IfSome};
+ghost use Rattle.tox_time.specs.declared.stream.Stream.TheVariants as StreamOf;
+ghost use Rattle.tox_proxy.specs.Courses.{IsCourse};
 
 use crate::addresses::connect_address;
-use crate::direction::{Course, carry_stream, course_of};
-use crate::link_clock::SinceStart;
-use crate::link_end::LinkEnd;
+use crate::course::{Course, course_of};
+use crate::direction::{Direction, carry_stream};
+use crate::link_clock::LinkStart;
+use crate::link_end::{Carried, LinkEnd};
+use crate::link_sockets::LinkSockets;
 use crate::printing::print_link;
 use crate::serve_run::ServeRun;
 use crate::serve_runtime::ServeRuntime;
-use crate::sockets::Sockets;
-use crate::until_cut::UntilCut;
 use std::alloc::Global;
 use std::io::Write;
 use std::net::{Net, TcpListener, TcpStream};
-use std::sync::atomic::AtomicBool;
-use std::sync::{Arc, Mutex, Wait};
+use std::sync::{Mutex, Wait};
 use std::thread;
+use std::thread::Promise;
 use tox_config::ProxyDef;
 use tox_link::Book;
 use tox_time::Stream;
@@ -29,6 +31,21 @@ pub(crate) struct Taken {
     pub(crate) ghost last: { number ≤ 1_000_000 },
 }
 
+/// The courses of both streams of a link.
+#[derive(Drop)]
+struct Courses {
+    up: Course,
+    down: Course,
+}
+
+/// What a direction's thread promises: that it carries this stream.
+#[derive(Clone, Copy)]
+struct Carries(Stream);
+
+impl Promise<Carried> for Carries {
+    ghost kept_by = { λ promise carried. carried.stream ≡ promise.0 };
+}
+
 /// Serves a link to its end.
 pub(crate) fn serve_link<R: ServeRuntime, W: Write>(
     rt: &R,
@@ -37,9 +54,8 @@ pub(crate) fn serve_link<R: ServeRuntime, W: Write>(
     book: &Mutex<Book>,
     taken: Taken,
 ) {
-    let number = taken.number;
     let end = carry_link(rt, run, proxy, taken);
-    end_link(rt, run, proxy, book, number, &end);
+    end_link(rt, run, proxy, book, &end);
 }
 
 /// Settles a link in the book, and prints its line.
@@ -48,11 +64,10 @@ pub(crate) fn end_link<R: Wait, W: Write>(
     run: &ServeRun<'_, W>,
     proxy: &ProxyDef,
     book: &Mutex<Book>,
-    number: u64,
     end: &LinkEnd,
 ) {
-    end.settle(&mut *book.lock(rt), number);
-    print_link(rt, run.out, &proxy.name, number, end);
+    end.settle(&mut *book.lock(rt));
+    print_link(rt, run.out, &proxy.name, end);
 }
 
 /// Connects a link's upstream, and carries both directions to their ends. Both sockets are dropped then.
@@ -61,18 +76,21 @@ fn carry_link<R: ServeRuntime, W>(
     run: &ServeRun<'_, W>,
     proxy: &ProxyDef,
     taken: Taken,
-) -> LinkEnd {
-    let clock = SinceStart::new(rt);
+) -> LinkEnd
+    ensures { result.number ≡ taken.number }
+{
+    let start = LinkStart::now(rt);
     let Some(server) = connect(rt, run.alloc, &proxy.upstream) else {
-        return LinkEnd::BROKEN;
+        return LinkEnd::broken(taken.number);
     };
-    let Some((up, down)) = courses_of(run, proxy, &taken) else {
-        return LinkEnd::BROKEN;
+    let Some(courses) = courses_of(run, proxy, &taken) else {
+        return LinkEnd::broken(taken.number);
     };
-    // A socket that is gone by now refuses the option, and its first read or write tells.
-    let _ = taken.client.set_nodelay(true);
-    let _ = server.set_nodelay(true);
-    carry_both(rt, run, &taken.client, &server, clock, up, down)
+    let Taken { client, number } = taken;
+    let Some(link) = LinkSockets::new(run.alloc, client, server) else {
+        return LinkEnd::broken(number);
+    };
+    carry_both(rt, run, number, &link, start, courses)
 }
 
 /// The socket of an upstream, or None where it can't be reached.
@@ -85,79 +103,58 @@ fn connect<R: Net<Listener = TcpListener, Stream = TcpStream>>(
     TcpStream::connect(rt, address.as_str()).ok()
 }
 
-/// The words and plans of both directions of a link.
-fn courses_of<W>(
-    run: &ServeRun<'_, W>,
-    proxy: &ProxyDef,
-    taken: &Taken,
-) -> Option<(Course, Course)> {
-    let name = proxy.name.as_str();
-    let up = course_of(
-        run.alloc,
-        run.script,
-        run.seed,
-        name,
-        taken.number,
-        Stream::Upstream,
-    )
-    .ok()?;
-    let down = course_of(
-        run.alloc,
-        run.script,
-        run.seed,
-        name,
-        taken.number,
-        Stream::Downstream,
-    )
-    .ok()?;
-    Some((up, down))
+/// The courses of both streams of a link. None for want of memory.
+fn courses_of<W>(run: &ServeRun<'_, W>, proxy: &ProxyDef, taken: &Taken) -> Option<Courses>
+    ensures up { IfSome result (λ courses. IsCourse run.now.script.now run.now.seed proxy.now.name
+        taken.now.number StreamOf.Upstream courses.up) }
+    ensures down { IfSome result (λ courses. IsCourse run.now.script.now run.now.seed proxy.now.name
+        taken.now.number StreamOf.Downstream courses.down) }
+{
+    let (alloc, script, seed) = (run.alloc, run.script, run.seed);
+    let (name, number) = (proxy.name.as_str(), taken.number);
+    let up = course_of(alloc, script, seed, name, number, Stream::Upstream).ok()?;
+    let down = course_of(alloc, script, seed, name, number, Stream::Downstream).ok()?;
+    Some(Courses { up, down })
 }
 
 /// Carries both directions, one of them in a thread of its own.
 fn carry_both<R: ServeRuntime, W>(
     rt: &R,
     run: &ServeRun<'_, W>,
-    client: &TcpStream,
-    server: &TcpStream,
-    clock: SinceStart<'_, R>,
-    up: Course,
-    down: Course,
-) -> LinkEnd {
-    let alloc = run.alloc;
-    let (Ok(client_cut), Ok(server_cut)) = (
-        Arc::new(alloc, AtomicBool::new(false)),
-        Arc::new(alloc, AtomicBool::new(false)),
-    ) else {
-        return LinkEnd::BROKEN;
+    number: u64,
+    link: &LinkSockets,
+    start: LinkStart,
+    courses: Courses,
+) -> LinkEnd
+    requires up { courses.up.stream ≡ StreamOf.Upstream }
+    requires down { courses.down.stream ≡ StreamOf.Downstream }
+    ensures { result.number ≡ number }
+{
+    let Courses { up, down } = courses;
+    let (Some(up), Some(down)) = (Direction::new(link, up), Direction::new(link, down)) else {
+        return LinkEnd::broken(number);
     };
-    let (Some(from_client), Some(from_server)) = (
-        UntilCut::new(client, &client_cut),
-        UntilCut::new(server, &server_cut),
-    ) else {
-        return LinkEnd::BROKEN;
-    };
-    let (client_cut, server_cut) = (&*client_cut, &*server_cut);
-    let gate = &run.gate;
-    thread::scope(thread::scope_env(), rt, |scope| {
-        let answers = scope.spawn(move || {
-            let sockets = Sockets {
-                source: server,
-                target: client,
-                source_cut: server_cut,
-                target_cut: client_cut,
+    let (alloc, gate) = (run.alloc, &run.gate);
+    thread::scope(
+        thread::scope_env(),
+        rt,
+        |scope| -> LinkEnd
+            requires up { up.course.stream ≡ StreamOf.Upstream }
+            requires down { down.course.stream ≡ StreamOf.Downstream }
+            ensures { result.number ≡ number }
+        {
+            let answers = scope.spawn_with(
+                Carries(Stream::Downstream),
+                move || -> Carried
+                    requires { down.course.stream ≡ StreamOf.Downstream }
+                    ensures { result.stream ≡ StreamOf.Downstream }
+                { carry_stream(rt, alloc, link, down, start, gate) },
+            );
+            let Ok(answers) = answers else {
+                return LinkEnd::broken(number);
             };
-            carry_stream(rt, alloc, from_server, sockets, clock, down, gate)
-        });
-        let Ok(answers) = answers else {
-            return LinkEnd::BROKEN;
-        };
-        let sockets = Sockets {
-            source: client,
-            target: server,
-            source_cut: client_cut,
-            target_cut: server_cut,
-        };
-        let upstream = carry_stream(rt, alloc, from_client, sockets, clock, up, gate);
-        LinkEnd::of(&upstream, &answers.join(rt))
-    })
+            let upstream = carry_stream(rt, alloc, link, up, start, gate);
+            LinkEnd::of(number, &upstream, &answers.join(rt))
+        },
+    )
 }

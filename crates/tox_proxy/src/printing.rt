@@ -24,17 +24,11 @@ pub(crate) fn print_listening<R: Wait, W: Write>(
 }
 
 /// Prints how a link of a proxy ended.
-pub(crate) fn print_link<R: Wait, W: Write>(
-    rt: &R,
-    out: &Mutex<W>,
-    name: &str,
-    number: u64,
-    end: &LinkEnd,
-) {
+pub(crate) fn print_link<R: Wait, W: Write>(rt: &R, out: &Mutex<W>, name: &str, end: &LinkEnd) {
     let mut out = out.lock(rt);
     let out = &mut *out;
     let mut writer = Real::new(&mut *out);
-    let _ = write_link(&mut writer, name, number, end);
+    let _ = write_link(&mut writer, name, end);
     let _ = out.flush();
 }
 

@@ -1,4 +1,8 @@
 //! One served proxy: takes connections, starts a thread for each, and prints the totals at the end.
+ghost use Rattle.std.specs.Prelude.{◌≡◌, [], ◌∷◌, ◌++◌, length, IfSome, IfNone};
+ghost use Rattle.tox_link.specs.Links.{new_link};
+ghost use Rattle.tox_proxy.specs.Serving.{is_enough};
+
 use crate::accepting::next_client;
 use crate::link_end::LinkEnd;
 use crate::link_thread::{Taken, end_link, serve_link};
@@ -43,26 +47,35 @@ fn take_links<'s, E: 's, R: ServeRuntime, W: Write + Send>(
     scope: &'s Scope<'s, E>,
     listener: TcpListener,
 ) {
-    for _ in 0..run.links.unwrap_or(u64::MAX) {
-        if is_full(rt, book) {
+    for connections in 0..u64::MAX {
+        if is_enough(run.links, connections, &*book.lock(rt)) {
             return;
         }
         let Some(client) = next_client(rt, &listener) else {
             return;
         };
-        if let Some(taken) = number_link(rt, book, client) {
+        let taken = number_link(&mut *book.lock(rt), client);
+        if let Some(taken) = taken {
             start_link(rt, run, proxy, book, scope, taken);
         }
     }
 }
 
-fn is_full<R: Wait>(rt: &R, book: &Mutex<Book>) -> bool {
-    book.lock(rt).links() >= MAX_CONNECTIONS
+/// Whether a proxy has taken enough connections: as many as it was told, or as many links as a book holds.
+fn is_enough(links: Option<u64>, connections: u64, book: &Book) -> bool
+    ensures { result ≡ is_enough links connections (length book.now) }
+{
+    links.is_some_and(|links| connections >= links) || book.links() >= MAX_CONNECTIONS
 }
 
-/// The connection with its number, or None where the book has no memory for it: it is closed then.
-fn number_link<R: Wait>(rt: &R, book: &Mutex<Book>, client: TcpStream) -> Option<Taken> {
-    let number = book.lock(rt).opened().ok()?;
+/// The connection with the number that the book gives it, or None where the book has no memory for it: it is closed then.
+fn number_link(book: &mut Book, client: TcpStream) -> Option<Taken>
+    ensures opened { IfSome result (λ taken. book.new ≡ book.old ++ new_link ∷ []) }
+    ensures number { IfSome result (λ taken. taken.number ≡ length book.new) }
+    ensures client { IfSome result (λ taken. taken.client ≡ client) }
+    ensures refused { IfNone result (book.new ≡ book.old) }
+{
+    let number = book.opened().ok()?;
     Some(Taken { client, number })
 }
 
@@ -78,6 +91,6 @@ fn start_link<'s, E: 's, R: ServeRuntime, W: Write + Send>(
     let number = taken.number;
     let started = scope.spawn(move || serve_link(rt, run, proxy, book, taken));
     if started.is_err() {
-        end_link(rt, run, proxy, book, number, &LinkEnd::BROKEN);
+        end_link(rt, run, proxy, book, &LinkEnd::broken(number));
     }
 }

@@ -40,18 +40,13 @@ fn put_listening<W: Sink>(
 }
 
 /// Writes how a numbered link of a proxy ended.
-pub(crate) fn write_link<W: Sink>(
-    writer: &mut W,
-    name: &str,
-    number: u64,
-    end: &LinkEnd,
-) -> Result<(), EndFault>
+pub(crate) fn write_link<W: Sink>(writer: &mut W, name: &str, end: &LinkEnd) -> Result<(), EndFault>
     requires { W.failed writer.old ≡ false }
     ensures { Writes result (W.written writer.old) (W.written writer.new) (W.failed writer.new)
-        (link_line name.now number end.now) }
+        (link_line name.now end.now) }
 {
     let mut buffer = Buffer::new();
-    put_link(&mut buffer, writer, name, number, end)?;
+    put_link(&mut buffer, writer, name, end)?;
     buffer.flush(writer)
 }
 
@@ -59,15 +54,14 @@ fn put_link<W: Sink>(
     buffer: &mut Buffer,
     writer: &mut W,
     name: &str,
-    number: u64,
     end: &LinkEnd,
 ) -> Result<(), EndFault>
     requires { W.failed writer.old ≡ false }
     ensures { Prints result (W.written writer.old) buffer.old (W.written writer.new) buffer.new
-        (W.failed writer.new) (link_line name.now number end.now) }
+        (W.failed writer.new) (link_line name.now end.now) }
 {
     print_name(buffer, writer, b"link ", name, b" ")?;
-    buffer.put_number(writer, number, b" up ")?;
+    buffer.put_number(writer, end.number, b" up ")?;
     put_side(buffer, writer, &end.upstream, b" down ")?;
     put_side(buffer, writer, &end.downstream, b"\n")
 }

@@ -1,10 +1,12 @@
 //! The two sockets of a served link, as the ends of one direction.
-ghost use Rattle.std.specs.Prelude.{None};
+ghost use Rattle.std.specs.Prelude.{◌≡◌, None};
+ghost use Rattle.tox_proxy.specs.Shutting.{shut_of};
 
+use crate::link_sockets::LinkSocket;
 use std::alloc::AllocError;
 use std::io::Read;
 use std::net::{Shutdown, TcpStream};
-use std::sync::atomic::{AtomicBool, Ordering};
+use std::sync::atomic::Ordering;
 use std::time::Duration;
 use tox_link::{Hangup, LinkEvent, Notes};
 use tox_time::Ending;
@@ -15,20 +17,48 @@ const MAX_READS: u64 = 1_024;
 /// How long such a read waits, in milliseconds.
 const SHORT_WAIT: u64 = 1;
 
-/// The sockets of one direction, and what stops the reading of each.
+/// The sockets of one direction.
 #[derive(Clone, Copy)]
 pub(crate) struct Sockets<'a> {
-    pub(crate) source: &'a TcpStream,
-    pub(crate) target: &'a TcpStream,
-    pub(crate) source_cut: &'a AtomicBool,
-    pub(crate) target_cut: &'a AtomicBool,
+    pub(crate) source: &'a LinkSocket,
+    pub(crate) target: &'a LinkSocket,
+}
+
+/// What is shut where a stream has ended.
+#[derive(Clone, Copy, Debug, PartialEq, Eq)]
+enum Shut {
+    Nothing,
+    /// The target's writing half.
+    Writing,
+    /// Both sockets. What the target sent is dropped.
+    Both,
+    /// Both sockets. What their peers sent stays unread.
+    Cut,
+}
+
+/// What is shut where a stream ended so. A close without the source's end also ends the reading of the source.
+fn shut_of(ending: Ending, source_ended: bool) -> Shut
+    ensures { result ≡ shut_of ending source_ended }
+{
+    match ending {
+        Ending::StillOpen => Shut::Nothing,
+        Ending::Closed(_) if source_ended => Shut::Writing,
+        Ending::Closed(_) => Shut::Both,
+        Ending::Reset(_) => Shut::Cut,
+    }
 }
 
 impl<'a> Sockets<'a> {
     /// Shuts both sockets both ways. One that the peer has shut can't be shut again, which changes nothing.
     fn shut(&self) {
-        let _ = self.source.shutdown(Shutdown::Both);
-        let _ = self.target.shutdown(Shutdown::Both);
+        let _ = self.source.socket.shutdown(Shutdown::Both);
+        let _ = self.target.socket.shutdown(Shutdown::Both);
+    }
+
+    /// From now on nothing of either socket is read.
+    fn stop_reading(&self) {
+        self.source.cut.store(true, Ordering::SeqCst);
+        self.target.cut.store(true, Ordering::SeqCst);
     }
 
     /// Shuts both sockets. What the source sent stays unread. What the target sent is dropped first: a socket that is shut
@@ -36,17 +66,16 @@ impl<'a> Sockets<'a> {
     /// drops the last bytes that were written to it. Shutting the source comes last, since the other direction then fails and
     /// shuts both.
     fn close(&self) {
-        self.source_cut.store(true, Ordering::SeqCst);
-        self.target_cut.store(true, Ordering::SeqCst);
-        let _ = self.target.shutdown(Shutdown::Write);
-        drop_unread(self.target);
+        self.stop_reading();
+        let target = &self.target.socket;
+        let _ = target.shutdown(Shutdown::Write);
+        drop_unread(target);
         self.shut();
     }
 
     /// Shuts both sockets, and leaves unread what their peers sent.
     pub(crate) fn cut(&self) {
-        self.source_cut.store(true, Ordering::SeqCst);
-        self.target_cut.store(true, Ordering::SeqCst);
+        self.stop_reading();
         self.shut();
     }
 }
@@ -55,13 +84,13 @@ impl<'a> Hangup for Sockets<'a> {
     ghost calls = { λ sockets. None };
 
     fn hang_up(&mut self, ending: Ending, source_ended: bool) {
-        match ending {
-            Ending::StillOpen => {}
-            Ending::Closed(_) if source_ended => {
-                let _ = self.target.shutdown(Shutdown::Write);
+        match shut_of(ending, source_ended) {
+            Shut::Nothing => {}
+            Shut::Writing => {
+                let _ = self.target.socket.shutdown(Shutdown::Write);
             }
-            Ending::Closed(_) => self.close(),
-            Ending::Reset(_) => self.cut(),
+            Shut::Both => self.close(),
+            Shut::Cut => self.cut(),
         }
     }
 }

@@ -1,4 +1,8 @@
 //! Reading a socket of a link until the link cuts it.
+ghost use Rattle.std.specs.Prelude.{◌≡◌, IfSome};
+ghost use Rattle.std.specs.Arc.{arc_value};
+
+use crate::link_sockets::LinkSocket;
 use std::alloc::Global;
 use std::io;
 use std::io::Read;
@@ -18,9 +22,11 @@ pub(crate) struct UntilCut {
 
 impl UntilCut {
     /// A reader of the socket. None where there is no descriptor for it.
-    pub(crate) fn new(socket: &TcpStream, cut: &Arc<AtomicBool, Global>) -> Option<UntilCut> {
-        let socket = socket.try_clone().ok()?;
-        let cut = cut.clone().ok()?;
+    pub(crate) fn new(link: &LinkSocket) -> Option<UntilCut>
+        ensures { IfSome result (λ reader. arc_value reader.cut ≡ arc_value link.now.cut) }
+    {
+        let socket = link.socket.try_clone().ok()?;
+        let cut = link.cut.clone().ok()?;
         Some(UntilCut { socket, cut })
     }
 

@@ -1,12 +1,16 @@
 //! Writing a socket of a link until the reset of its stream is due.
+ghost use Rattle.std.specs.Prelude.{◌≡◌, false, None, fold};
 ghost use Rattle.std.specs.Io.{WritesAtMost};
+ghost use Rattle.tox_proxy.specs.ResetDue.{after_op};
 
 use crate::link_clock::SinceStart;
+use crate::reset_due::reset_due;
 use std::io;
 use std::io::{ErrorKind, Write};
 use std::net::TcpStream;
 use std::sync::Wait;
 use std::time::{Clock, Duration};
+use tox_defs::Op;
 use tox_link::Clock as LinkClock;
 use tox_time::Micros;
 
@@ -26,12 +30,18 @@ pub(crate) struct UntilDue<'a, 'r, R> {
 }
 
 impl<'a, 'r, R: Wait + Clock> UntilDue<'a, 'r, R> {
+    /// A writer of the socket, for a stream under a plan of these operations.
     pub(crate) fn new(
         rt: &'r R,
         socket: &'a TcpStream,
         clock: SinceStart<'r, R>,
-        due: Option<Micros>,
-    ) -> UntilDue<'a, 'r, R> {
+        ops: &[Op],
+    ) -> UntilDue<'a, 'r, R>
+        ensures socket { result.socket.now ≡ socket.now }
+        ensures due { result.due ≡ fold after_op None ops.now }
+        ensures full { result.is_full ≡ false }
+    {
+        let due = reset_due(ops);
         if due.is_some() {
             // A socket that is gone by now refuses the option, and its first write tells.
             let _ = socket.set_write_timeout(Some(Duration::from_millis(MAX_WAIT)));

@@ -9,7 +9,7 @@ use Rattle.tox_proxy.proofs.link_end.LinkEnd.settle.Goals as goal
 pub returns : goal.returns
 returns c =
     let end' = c.args.self.now in
-    let number = c.args.number in
+    let number = end'.number in
     let up = left c.args.book.now c.add_bytes.result c.add_bytes.new.self (changed (with_bytes end'.upstream.bytes) c.args.book.now number Upstream) c.add_bytes.ensures in
     let both = left c.add_bytes.new.self c.add_bytes-2.result c.add_bytes-2.new.self (changed (with_bytes end'.downstream.bytes) c.add_bytes.new.self number Downstream) c.add_bytes-2.ensures in
     let one = left c.add_bytes-2.new.self c.ended.result c.ended.new.self (changed (with_end end'.upstream.ending) c.add_bytes-2.new.self number Upstream) c.ended.ensures in
