@@ -1,6 +1,5 @@
 //! One direction of a served link.
 ghost use Rattle.std.specs.Prelude.{◌≡◌, None, fold, IfSome};
-ghost use Rattle.std.specs.Arc.{arc_value};
 ghost use Rattle.tox_compile.specs.Meaning.{means};
 ghost use Rattle.tox_proxy.specs.Carrying.{IsCarried};
 ghost use Rattle.tox_proxy.specs.LinkEnds.{carried_before};
@@ -32,8 +31,8 @@ impl Direction {
     /// The direction of a course's stream. None where there is no descriptor for its reader.
     pub(crate) fn new(link: &LinkSockets, course: Course) -> Option<Direction>
         ensures course { IfSome result (λ direction. direction.course ≡ course) }
-        ensures reader { IfSome result (λ direction.
-            arc_value direction.reader.cut ≡ arc_value (source_of course.stream link.now).cut) }
+        ensures source { IfSome result (λ direction.
+            direction.reader.source.value ≡ (source_of course.stream link.now).socket) }
     {
         let reader = UntilCut::new(link.ends_of(course.stream).source)?;
         Some(Direction { course, reader })

@@ -1,12 +1,12 @@
 //! Reading a socket of a link until the link cuts it.
 ghost use Rattle.std.specs.Prelude.{◌≡◌, IfSome};
-ghost use Rattle.std.specs.Arc.{arc_value};
 
 use crate::link_sockets::LinkSocket;
 use std::alloc::Global;
 use std::io;
 use std::io::Read;
 use std::net::TcpStream;
+use std::snapshot::Snapshot;
 use std::sync::Arc;
 use std::sync::atomic::{AtomicBool, Ordering};
 
@@ -18,16 +18,23 @@ use std::sync::atomic::{AtomicBool, Ordering};
 pub(crate) struct UntilCut {
     socket: TcpStream,
     cut: Arc<AtomicBool, Global>,
+    /// The socket of the link that it reads. No bytes.
+    pub(crate) source: Snapshot<TcpStream>,
 }
 
 impl UntilCut {
     /// A reader of the socket. None where there is no descriptor for it.
     pub(crate) fn new(link: &LinkSocket) -> Option<UntilCut>
-        ensures { IfSome result (λ reader. arc_value reader.cut ≡ arc_value link.now.cut) }
+        ensures { IfSome result (λ reader. reader.source.value ≡ link.now.socket) }
     {
         let socket = link.socket.try_clone().ok()?;
         let cut = link.cut.clone().ok()?;
-        Some(UntilCut { socket, cut })
+        let source = Snapshot::of(&link.socket);
+        Some(UntilCut {
+            socket,
+            cut,
+            source,
+        })
     }
 
     fn is_cut(&self) -> bool {
