@@ -21,7 +21,7 @@ use crate::hangup::{Ends, Hangup};
 use crate::link_fault::LinkFault;
 use crate::link_report::LinkReport;
 use crate::notes::Notes;
-use crate::reading::{ReaderThread, join_reader, start_reader};
+use crate::reader_thread::{ReaderThread, join_reader, start_reader};
 use crate::writer_side::WriterSide;
 use std::alloc::Global;
 use std::sync::{Arc, Wait};

@@ -3,9 +3,8 @@ ghost use Rattle.std.specs.Prelude.{◌≡◌, [], ◌∷◌, ◌++◌, IfSome, 
 ghost use Rattle.rtrb.specs.Ring.{received, SameConsumer};
 ghost use Rattle.tox_link.specs.Messages.{Allows};
 
-use crate::message::Message;
+use crate::message::{Message, Receiver};
 use crate::parking::Parkers;
-use crate::reading::Receiver;
 use std::sync::{Arc, Wait};
 use tox_time::{Gate, pause};
 

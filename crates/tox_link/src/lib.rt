@@ -15,6 +15,7 @@ mod link_report;
 mod message;
 mod notes;
 mod parking;
+mod reader_thread;
 mod reading;
 mod sides;
 mod source_ending;

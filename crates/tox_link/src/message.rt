@@ -1,7 +1,8 @@
 //! What the reader's thread sends through its ring, and in which order.
 ghost use Rattle.tox_link.specs.Messages.{Allows};
 
-use rtrb::Protocol;
+use rtrb::{Consumer, Producer, Protocol};
+use std::alloc::Global;
 
 /// Why a reading ended.
 #[derive(Clone, Copy, Debug, PartialEq, Eq)]
@@ -34,3 +35,9 @@ pub struct InOrder;
 impl Protocol<Message> for InOrder {
     ghost allows = { Allows };
 }
+
+/// The reader's end of the ring.
+pub type Sender = Producer<Message, Global, InOrder>;
+
+/// The writer's end of the ring.
+pub type Receiver = Consumer<Message, Global, InOrder>;

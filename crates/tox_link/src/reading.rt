@@ -1,27 +1,17 @@
-//! The reader's thread: reads, and sends what each read gave and how the reading ended.
-ghost use Rattle.std.specs.Prelude.{◌≡◌, ℕ, ◌+◌, ◌<◌, ◌≤◌, List, [], ◌∷◌, ◌++◌, length, false, IfSome};
-ghost use Rattle.rtrb.specs.Ring.{sent, received, SameProducer, IsPair};
+//! Reading: sends what each read gave, and then how the reading ended.
+ghost use Rattle.std.specs.Prelude.{◌≡◌, [], ◌∷◌, ◌++◌, length, false};
+ghost use Rattle.rtrb.specs.Ring.{sent, SameProducer};
 ghost use Rattle.tox_link.specs.Messages.{Allows, ArePieces, ReadsFrom, HandsOn, EndsFor, bytes_of};
-ghost use Rattle.tox_link.specs.declared.message.Message.{Message as OneMessage};
 
-use crate::message::{InOrder, Message, ReadEnd};
+use crate::message::{Message, ReadEnd, Sender};
 use crate::parking::Parkers;
-use rtrb::{Consumer, Producer, PushError};
+use rtrb::PushError;
 use std::alloc::Global;
-use std::snapshot::Snapshot;
-use std::sync::{Arc, Wait};
-use std::thread;
-use std::thread::{Promise, PromisedHandle, Threads};
+use std::sync::Wait;
 use tox_time::{Gate, MAX_BYTES, Source, pause};
 
 /// The most bytes of one read.
 const READ_SIZE: usize = 16_384;
-
-/// The reader's end of the ring.
-pub type Sender = Producer<Message, Global, InOrder>;
-
-/// The writer's end of the ring.
-pub type Receiver = Consumer<Message, Global, InOrder>;
 
 /// What the reader's thread hands back.
 #[derive(Drop)]
@@ -93,7 +83,7 @@ fn read_pieces<R: Wait, S: Source, G: Gate>(
 }
 
 /// Reads, sends each piece and then the end, and hands the reader back.
-fn read_all<R: Wait, S: Source, G: Gate>(
+pub fn read_all<R: Wait, S: Source, G: Gate>(
     rt: &R,
     alloc: Global,
     reader: S,
@@ -116,77 +106,4 @@ fn read_all<R: Wait, S: Source, G: Gate>(
         sender,
         end,
     }
-}
-
-/// The thread's promise: this reader was read, and these messages were sent.
-#[derive(Drop)]
-pub struct ReadingOf<S> {
-    pub reader: Snapshot<S>,
-    pub sender: Snapshot<Sender>,
-    pub reads: u64,
-}
-
-impl<S: Source> Promise<Reading<S>> for ReadingOf<S> {
-    ghost kept_by = { λ promise reading. SameProducer promise.sender.value reading.sender
-        × ReadsFrom (S.remaining promise.reader.value) promise.reads (sent reading.sender) reading.end (S.remaining reading.reader) (S.failed reading.reader) };
-}
-
-/// The reader's thread.
-pub type ReaderThread<S> = PromisedHandle<Reading<S>, ReadingOf<S>>;
-
-/// Starts the reader's thread. None where no thread can be had.
-pub fn start_reader<
-    R: Threads + Wait + Copy + Send + 'static,
-    S: Source + Send + Drop + 'static,
-    G: Gate + Send + Drop + 'static,
->(
-    rt: &R,
-    alloc: Global,
-    reader: S,
-    sender: Sender,
-    reads: u64,
-    parkers: Arc<Parkers>,
-    gate: Arc<G>,
-) -> Option<ReaderThread<S>>
-    requires working { S.failed reader ≡ false }
-    requires fresh { sent sender ≡ [] }
-    ensures { IfSome result (λ thread. (thread.promise.reader.value ≡ reader)
-        × (thread.promise.sender.value ≡ sender) × (thread.promise.reads ≡ reads)) }
-{
-    let promise = ReadingOf {
-        reader: Snapshot::of(&reader),
-        sender: Snapshot::of(&sender),
-        reads,
-    };
-    let rt_there = *rt;
-    thread::spawn_with(
-        rt,
-        promise,
-        move || -> Reading<S>
-            requires { (S.failed reader ≡ false) × (sent sender ≡ []) }
-            ensures { SameProducer sender result.sender
-                × ReadsFrom (S.remaining reader) reads (sent result.sender) result.end (S.remaining result.reader) (S.failed result.reader) }
-        { read_all(&rt_there, alloc, reader, sender, reads, &parkers, &*gate) },
-    )
-    .ok()
-}
-
-/// Waits for the end of the reading. What was received is a front of what was sent.
-pub fn join_reader<R: Threads, S: Source + Drop>(
-    rt: &R,
-    thread: ReaderThread<S>,
-    receiver: &mut Receiver,
-) -> (S, ReadEnd)
-    requires pair { IsPair thread.promise.sender.value receiver.old }
-    ensures received { received receiver.new ≡ received receiver.old }
-    ensures sent { (left : List OneMessage)
-        × ReadsFrom (S.remaining thread.promise.reader.value) thread.promise.reads (received receiver.new ++ left) result.1 (S.remaining result.0) (S.failed result.0) }
-{
-    let Reading {
-        reader,
-        mut sender,
-        end,
-    } = thread.join(rt);
-    receiver.slots_beside(&mut sender);
-    (reader, end)
 }

@@ -9,9 +9,8 @@ ghost use Rattle.tox_link.specs.Side.{IsFresh};
 
 use crate::inbox::Inbox;
 use crate::link_core::LinkCore;
-use crate::message::{InOrder, Message};
+use crate::message::{InOrder, Message, Sender};
 use crate::parking::Parkers;
-use crate::reading::Sender;
 use crate::source_ending::SourceEnding;
 use rtrb::RingBuffer;
 use std::alloc::{AllocError, Global};
