@@ -52,3 +52,5 @@ pub record ReadsFrom (before : Option (List ℕ)) (reads : ℕ) (messages : List
   pub ended : IsEndedBy end messages
   pub hands_on : HandsOn before (bytes_of messages) end left
   pub cause : EndsFor end reads (length (bytes_of messages)) left failed
+  -- where the reads were used up, each sent one piece
+  pub spent : end ≡ ReadsUsedUp → length messages ≡ reads + 1

@@ -2,6 +2,7 @@
 ghost use Rattle.std.specs.Prelude.{◌≡◌, [], ◌∷◌, ◌++◌, length, false};
 ghost use Rattle.rtrb.specs.Ring.{sent, SameProducer};
 ghost use Rattle.tox_link.specs.Messages.{Allows, ArePieces, ReadsFrom, HandsOn, EndsFor, bytes_of};
+ghost use Rattle.tox_link.specs.declared.message.ReadEnd.TheVariants.{ReadsUsedUp};
 
 use crate::message::{Message, ReadEnd, Sender};
 use crate::parking::Parkers;
@@ -57,6 +58,7 @@ fn read_pieces<R: Wait, S: Source, G: Gate>(
     ensures ring { SameProducer sender.old sender.new }
     ensures pieces { ArePieces (sent sender.new) }
     ensures bytes { HandsOn (S.remaining reader.old) (bytes_of (sent sender.new)) result (S.remaining reader.new) }
+    ensures spent { result ≡ ReadsUsedUp → length (sent sender.new) ≡ reads }
     ensures end { EndsFor result reads (length (bytes_of (sent sender.new))) (S.remaining reader.new) (S.failed reader.new) }
 {
     let mut buffer = [0; READ_SIZE];

@@ -37,4 +37,5 @@ loop-nth-preserved g c =
       total = omega (arith, total);
       most = omega arith;
       each = omega arith;
+      count = ap length c.send.ensures.sent ∙ length-append (sent c.loop-nth.sender) (Piece piece ∷ []) ∙ ap (λ n. n + 1) c.loop-nth.invariant.count;
     }

@@ -14,4 +14,5 @@ invariant-loop-nth g l = record {
   total : l.total ≡ length (bytes_of (sent l.sender));
   most : l.total ≤ 1099511627776;
   each : l.nth ≤ l.total;
+  count : length (sent l.sender) ≡ l.nth;
 }
