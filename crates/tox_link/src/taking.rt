@@ -1,6 +1,7 @@
 //! Taking from the ring: pieces are kept and stamped, up to the source's end.
-ghost use Rattle.std.specs.Prelude.{◌≡◌, ◌+◌, ◌<◌, ◌≤◌, ◌^◌, ◌⊎◌, List, [], ◌∷◌, ◌++◌, length, take, false, None, OnOk, OnErr};
+ghost use Rattle.std.specs.Prelude.{◌≡◌, ◌+◌, ◌<◌, ◌≤◌, ◌^◌, ◌⊎◌, List, [], ◌∷◌, ◌++◌, length, take, false, None, IfOk, OnOk, OnErr, MatchBool};
 ghost use Rattle.rtrb.specs.Ring.{received, SameConsumer};
+ghost use Rattle.tox_link.specs.declared.message.Message.{Message as OneMessage};
 ghost use Rattle.tox_link.specs.declared.message.Message.TheVariants.{Piece as PieceOf, End as EndOf};
 ghost use Rattle.tox_link.specs.declared.notes.LinkEvent.{LinkEvent as OneEvent};
 ghost use Rattle.tox_link.specs.Core.{core_ending, kept_count};
@@ -88,6 +89,10 @@ pub(crate) fn take_message<C: Clock, N: Notes, G: Gate>(
     requires read { (side.old.core.latest ≡ 0) ⊎ C.told clock.now side.old.core.latest }
     ensures ring { SameConsumer side.old.inbox.receiver side.new.inbox.receiver }
     ensures same { side.new.written ≡ side.old.written }
+    ensures took { IfOk result (λ took. MatchBool took
+        ((message : OneMessage)
+        × (received side.new.inbox.receiver ≡ received side.old.inbox.receiver ++ message ∷ []))
+        (received side.new.inbox.receiver ≡ received side.old.inbox.receiver)) }
     ensures came { (more : List _) × (came side.new ≡ came side.old ++ more) }
     ensures ok { OnOk result (IsSound side.new (received side.new.inbox.receiver)) }
     ensures log { OnOk result ((more : List OneEvent)

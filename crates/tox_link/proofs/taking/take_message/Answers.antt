@@ -70,3 +70,9 @@ pub returns-in_ok-keep_end-in-End-clause-log : goal.returns-in_ok-keep_end-in-En
 returns-in_ok-keep_end-in-End-clause-log g c =
     let noted = c.in_ok-keep_end-in-End.ensures.log in
     (noted.0, noted.1, keeps-inbox (g.C.Clock.told c.args.clock.now) c.args.side.now c.keep_end.new.side c.pop.new.self noted.0 noted.2)
+
+pub returns-in_ok-keep_piece-in-Piece-clause-took : goal.returns-in_ok-keep_piece-in-Piece-clause-took
+returns-in_ok-keep_piece-in-Piece-clause-took g c = (c.in-Some.message, ap (λ (inbox : Inbox). received inbox.receiver) c.keep_piece.ensures.same.0 ∙ c.in-Some.ensures.some.0)
+
+pub returns-in_ok-keep_end-in-End-clause-took : goal.returns-in_ok-keep_end-in-End-clause-took
+returns-in_ok-keep_end-in-End-clause-took g c = (c.in-Some.message, ap (λ (inbox : Inbox). received inbox.receiver) c.keep_end.ensures.same.0 ∙ c.in-Some.ensures.some.0)
