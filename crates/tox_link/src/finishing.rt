@@ -1,8 +1,10 @@
 //! The end of a link: it hangs up, and empties the ring so that the reader's thread can end.
-ghost use Rattle.std.specs.Prelude.{◌≡◌, List, ◌++◌, false, IfOk, OnErr};
+ghost use Rattle.std.specs.Prelude.{◌≡◌, List, [], ◌∷◌, ◌++◌, false, IfOk, OnErr, MatchBool};
 ghost use Rattle.rtrb.specs.Ring.{received, SameConsumer};
 ghost use Rattle.tox_time.specs.declared.ending.Ending.TheVariants.{Reset};
 ghost use Rattle.tox_link.specs.declared.message.Message.{Message as OneMessage};
+ghost use Rattle.tox_link.specs.declared.message.Message.TheVariants.{End as EndOf};
+ghost use Rattle.tox_link.specs.declared.message.ReadEnd.{ReadEnd as OneEnd};
 ghost use Rattle.tox_link.specs.Hangups.{with_call};
 
 use crate::hangup::Hangup;
@@ -35,6 +37,10 @@ pub(crate) fn drain<R: Wait, G: Gate>(rt: &R, inbox: &mut Inbox, ended: bool, ga
     ensures ring { SameConsumer inbox.old.receiver inbox.new.receiver }
     ensures received { (more : List OneMessage)
         × (received inbox.new.receiver ≡ received inbox.old.receiver ++ more) }
+    ensures up_to_end { MatchBool ended
+        (received inbox.new.receiver ≡ received inbox.old.receiver)
+        ((before : List OneMessage) × (end : OneEnd)
+        × (received inbox.new.receiver ≡ before ++ EndOf end ∷ [])) }
 {
     if ended {
         return;
