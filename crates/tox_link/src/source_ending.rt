@@ -1,5 +1,6 @@
 //! How far a link's source came.
-ghost use Rattle.std.specs.Prelude.{◌≡◌, Some, IfOk};
+ghost use Rattle.std.specs.Prelude.{◌≡◌, Some, MatchResult};
+ghost use Rattle.tox_link.specs.declared.message.ReadEnd.TheVariants.{OutOfMemory as NoMemory};
 ghost use Rattle.tox_link.specs.Sources.{read_end_of};
 
 use crate::message::ReadEnd;
@@ -23,7 +24,8 @@ pub enum SourceEnding {
 impl SourceEnding {
     /// Why the reading ended. Out of memory if the reader's thread was.
     pub(crate) fn of(end: ReadEnd) -> Result<SourceEnding, AllocError>
-        ensures { IfOk result (λ source. read_end_of source ≡ Some end) }
+        ensures { MatchResult result (λ source. read_end_of source ≡ Some end)
+            (λ _. end ≡ NoMemory) }
     {
         match end {
             ReadEnd::Eof => Ok(SourceEnding::Eof),
