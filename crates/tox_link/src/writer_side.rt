@@ -1,5 +1,5 @@
 //! The writer's side of a link: what came through the ring, and how much of it is written.
-ghost use Rattle.std.specs.Prelude.{◌≡◌, ◌<◌, [], List, length, false, None, IsTrue, IfOk};
+ghost use Rattle.std.specs.Prelude.{◌≡◌, ◌<◌, ◌↔◌, [], List, length, false, None, IsTrue, IfOk};
 ghost use Rattle.rtrb.specs.Ring.{sent, received, IsPair};
 ghost use Rattle.tox_time.specs.declared.item.Item.{Item as OneItem};
 ghost use Rattle.tox_time.specs.Stream.{IsStream};
@@ -80,10 +80,9 @@ impl<'w> WriterSide<'w> {
     /// Whether a message may be taken. A piece that comes once the ending is known is dropped, so
     /// it needs no room in the window.
     pub fn may_take(&self) -> bool
-        ensures going { IsTrue result → self.now.ended ≡ false }
-        ensures core { IsTrue result → kept_count self.now.core < 1024 }
-        ensures window { IsTrue result → core_ending self.now.core ≡ None
-            → length self.now.window.held < self.now.window.room }
+        ensures { IsTrue result ↔ ((self.now.ended ≡ false) × (kept_count self.now.core < 1024)
+            × (core_ending self.now.core ≡ None
+            → length self.now.window.held < self.now.window.room)) }
     {
         !self.ended
             && self.core.has_room()
