@@ -1,7 +1,8 @@
 //! The writer's side at work: takes from the ring and does what the core says, until the link ends.
-ghost use Rattle.std.specs.Prelude.{◌≡◌, ◌≤◌, ◌⊎◌, List, [], ◌∷◌, Option, length, take, false, IfOk, IfErr, IfSome, OnOk, OnErr};
+ghost use Rattle.std.specs.Prelude.{◌≡◌, ◌<◌, ◌≤◌, ◌⊎◌, List, [], ◌∷◌, Option, All, length, take, false, IfOk, IfErr, IfSome, OnOk, OnErr};
 ghost use Rattle.std.specs.Io.KnownBytes.{append_known};
 ghost use Rattle.rtrb.specs.Ring.{received, SameConsumer};
+ghost use Rattle.tox_lend.specs.Run.{stop_of};
 ghost use Rattle.tox_link.specs.declared.notes.LinkEvent.{LinkEvent as OneEvent};
 ghost use Rattle.tox_link.specs.Events.{with_events};
 ghost use Rattle.tox_link.specs.Logged.{KeepsLogged, LogsFrom, CutsOff, CutsOffFrom, HasEnded};
@@ -35,6 +36,7 @@ fn write_next<N: Notes, W: Sink>(
         → W.written writer.old ≡ append_known base (take side.old.written (came side.old))
         → W.written writer.new ≡ append_known base (take side.new.written (came side.new)) }
     ensures few { side.new.written ≤ slice.now.span.stop }
+    ensures dropped { OnOk result (All (λ piece. side.new.written < stop_of piece) side.new.window.held) }
     ensures ok { OnOk result (IsSound side.new (received side.new.inbox.receiver)) }
     ensures working { OnOk result (W.failed writer.new ≡ false) }
     ensures noted { OnOk result (N.events notes.new
