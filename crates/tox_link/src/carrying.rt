@@ -1,9 +1,10 @@
 //! One direction of a live link, from its reader's thread to its writer.
-ghost use Rattle.std.specs.Prelude.{◌≡◌, ℕ, List, [], length, false, IfOk, IfErr, IfSome, OnOk};
+ghost use Rattle.std.specs.Prelude.{◌≡◌, ℕ, List, [], length, false, IfOk, IfErr, IfSome, OnOk, Err};
 ghost use Rattle.rtrb.specs.Ring.{sent, IsPair};
 ghost use Rattle.tox_time.specs.declared.item.Item.{Item as OneItem};
 ghost use Rattle.tox_time.specs.Stream.{IsStream};
 ghost use Rattle.tox_compile.specs.Meaning.{means};
+ghost use Rattle.tox_link.specs.declared.link_fault.LinkFault.TheVariants.{SpawnRefused};
 ghost use Rattle.tox_link.specs.declared.notes.LinkEvent.{LinkEvent as OneEvent};
 ghost use Rattle.tox_link.specs.Core.{remaining_output};
 ghost use Rattle.tox_link.specs.Events.{with_events};
@@ -122,6 +123,8 @@ pub fn carry<
         × WritesFirst (S.remaining reader) (W.written ends.old.writer) (W.written ends.new.writer)
         bytes (written_before fault)) }
     ensures cause { IfErr result (λ fault. W.failed ends.new.writer ≡ is_write_fault fault) }
+    ensures unstarted { (n : ℕ) → result ≡ Err (SpawnRefused n)
+        → (ends.new ≡ ends.old) × (notes.new ≡ notes.old) }
     ensures hangs_up { IfOk result (λ report.
         HangsUp (H.calls ends.old.hangup) (H.calls ends.new.hangup) report.ending (read_end_of report.source)) }
     ensures breaks_off { IfErr result (λ fault.

@@ -1,8 +1,9 @@
 //! The writer's side at work: takes from the ring and does what the core says, until the link ends.
-ghost use Rattle.std.specs.Prelude.{◌≡◌, ◌<◌, ◌≤◌, ◌⊎◌, List, [], ◌∷◌, Option, All, length, take, false, IfOk, IfErr, IfSome, OnOk, OnErr};
+ghost use Rattle.std.specs.Prelude.{◌≡◌, ◌≢◌, ℕ, ◌<◌, ◌≤◌, ◌⊎◌, List, [], ◌∷◌, Option, All, length, take, false, IfOk, IfErr, IfSome, OnOk, OnErr};
 ghost use Rattle.std.specs.Io.KnownBytes.{append_known};
 ghost use Rattle.rtrb.specs.Ring.{received, SameConsumer};
 ghost use Rattle.tox_lend.specs.Run.{stop_of};
+ghost use Rattle.tox_link.specs.declared.link_fault.LinkFault.TheVariants.{SpawnRefused};
 ghost use Rattle.tox_link.specs.declared.notes.LinkEvent.{LinkEvent as OneEvent};
 ghost use Rattle.tox_link.specs.Events.{with_events};
 ghost use Rattle.tox_link.specs.Logged.{KeepsLogged, LogsFrom, CutsOff, CutsOffFrom, HasEnded};
@@ -43,6 +44,7 @@ fn write_next<N: Notes, W: Sink>(
         ≡ with_events (N.events notes.old) (OneEvent.Wrote slice.now now.now ∷ [])) }
     ensures err { IfErr result (λ fault. written_before fault ≡ side.new.written) }
     ensures cause { IfErr result (λ fault. W.failed writer.new ≡ is_write_fault fault) }
+    ensures started { IfErr result (λ fault. (n : ℕ) → fault ≢ SpawnRefused n) }
     ensures unnoted { OnErr result (N.events notes.new ≡ N.events notes.old) }
 {
     let stop = slice.span.stop;
@@ -85,6 +87,7 @@ fn act<R: Wait, C: Clock, N: Notes, W: Sink>(
     ensures err { IfErr result (λ fault. (written_before fault ≡ side.new.written)
         × CutsOff (C.told clock.now) side.old side.new.written) }
     ensures cause { IfErr result (λ fault. W.failed writer.new ≡ is_write_fault fault) }
+    ensures started { IfErr result (λ fault. (n : ℕ) → fault ≢ SpawnRefused n) }
     ensures unnoted { OnErr result (N.events notes.new ≡ N.events notes.old) }
 {
     let (act, now) = decide(&mut side.core, clock);
@@ -135,6 +138,7 @@ pub(crate) fn drive<R: Wait, C: Clock, N: Notes, W: Sink, G: Gate>(
         × (N.events notes.new ≡ with_events (N.events notes.old) log)
         × CutsOffFrom (C.told clock.now) side.old log side.new.written) }
     ensures cause { IfErr result (λ fault. W.failed writer.new ≡ is_write_fault fault) }
+    ensures started { IfErr result (λ fault. (n : ℕ) → fault ≢ SpawnRefused n) }
 {
     for _ in rt.forever() {
         let Ok(took) = take_message(side, clock, notes, gate) else {

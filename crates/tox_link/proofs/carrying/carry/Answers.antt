@@ -1,5 +1,5 @@
 -- What was written is the first of what the reader had to give, and the log says so.
-use Rattle.std.proofs.Common.{inr, [], ◌++◌, length-take-le, take, ap, subst, sym, ◌∙◌}
+use Rattle.std.proofs.Common.{inr, [], ◌++◌, length-take-le, take, refl, ap, subst, sym, ◌∙◌}
 use Rattle.std.proofs.lemmas.Result.{err_from_is_err_and}
 use Rattle.rtrb.specs.Ring.{received}
 use Rattle.tox_compile.specs.Meaning.{means}
@@ -102,3 +102,9 @@ returns-clause-broken_bytes g c =
       subst (WritesFirst (g.S.Source.remaining c.args.reader) (g.W.Sink.written c.args.ends.now.writer) (g.W.Sink.written c.drive-driven.new.writer) (came side)) (sym err.0)
           (record { left = first.0; gave = first.1; few = c.drive-driven.ensures.few; wrote = c.drive-driven.ensures.written }),
     )
+
+pub returns-in_err-side-clause-unstarted : goal.returns-in_err-side-clause-unstarted
+returns-in_err-side-clause-unstarted g c = λ n same. (refl, refl)
+
+pub returns-clause-unstarted : goal.returns-clause-unstarted
+returns-clause-unstarted g c = λ n same. absurd ((rw c.in-Err.is at c.drive-driven.ensures.started) n (cc))
