@@ -1,5 +1,5 @@
 //! The two ends of the chain, held by one thread: what arrives is sent, and what is delivered is collected.
-ghost use Rattle.std.specs.Prelude.{◌≡◌, [], ◌++◌, Some, false, IfOk};
+ghost use Rattle.std.specs.Prelude.{◌≡◌, ◌<◌, [], ◌++◌, length, Some, false, IsTrue, IfOk};
 ghost use Rattle.rtrb.specs.Ring.{sent, received, SameProducer, SameConsumer};
 ghost use Rattle.tox_time.specs.Arrivals.{arrival_list};
 ghost use Rattle.tox_network.specs.Shown.{shown};
@@ -19,6 +19,7 @@ use tox_time::{Arrivals, Item, Outcome};
 fn fill(first: &mut Producer<Item>, waiting: &mut Waiting<'_>) -> bool
     ensures ring { SameProducer first.old first.new }
     ensures sent { sent first.new ++ waiting.new.waiting ≡ sent first.old ++ waiting.old.waiting }
+    ensures some { IsTrue result → length (sent first.old) < length (sent first.new) }
     ensures none { result ≡ false → sent first.new ≡ sent first.old }
 {
     let mut has_sent = false;
@@ -34,6 +35,8 @@ fn drain(consumer: &mut Consumer<Item>, collected: &mut Collected) -> bool
     requires { Collects collected.old (received consumer.old) }
     ensures ring { SameConsumer consumer.old consumer.new }
     ensures kept { Collects collected.new (received consumer.new) }
+    ensures some { IsTrue result
+        → length (received consumer.old) < length (received consumer.new) }
     ensures none { result ≡ false → received consumer.new ≡ received consumer.old }
 {
     let mut has_come = false;
