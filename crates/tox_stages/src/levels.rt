@@ -1,8 +1,9 @@
 //! The chain of workers, built level by level.
-ghost use Rattle.std.specs.Prelude.{◌≡◌, ◌+◌, ◌≤◌, All, [], length, map, Some, IfOk, IfSome};
+ghost use Rattle.std.specs.Prelude.{◌≡◌, ◌+◌, ◌≤◌, All, [], length, map, true, Some, IfOk, IfSome};
 ghost use Rattle.rtrb.specs.Ring.{sent, received, SameProducer, SameConsumer};
 ghost use Rattle.tox_time.specs.Arrivals.{arrival_list};
 ghost use Rattle.tox_time.specs.Neighbours.{AreNeighbours};
+ghost use Rattle.tox_time.specs.Stream.{has_final};
 ghost use Rattle.tox_time.specs.Table.{IsOutcomeOf};
 ghost use Rattle.tox_words.specs.Draw.{draw_in};
 ghost use Rattle.tox_defs.specs.Flow.{IsPlaced, chain_flow, placed_reaction};
@@ -151,6 +152,7 @@ fn level<'s, E: 's, R: Threads + Wait + Sync, G: Gate>(
     ensures delivered { IfOk result
         (λ ended. Delivers (map (placed_reaction (draw_in pipeline.now.lanes pipeline.now.words.now)) toxics.now)
         (received ended.0) (shown ended.1.slices (Some ended.1.ending))) }
+    ensures ended { has_final (sent first.new) ≡ true }
 {
     let rt = pipeline.rt;
     let Some((toxic, later)) = toxics.split_first() else {

@@ -67,7 +67,7 @@ pub(crate) fn feed_and_drain<R: Wait>(
     ensures first { SameProducer first.old first.new }
     ensures consumer { IfOk result (λ ended. SameConsumer consumer ended.0) }
     ensures stream { IsLinkStream (arrival_list arrivals.now) }
-    ensures sent { IfOk result (λ _. sent first.new ≡ arrival_list arrivals.now) }
+    ensures sent { sent first.new ≡ arrival_list arrivals.now }
     ensures delivered { IfOk result
         (λ ended. Delivers [] (received ended.0) (shown ended.1.slices (Some ended.1.ending))) }
 {

@@ -1,8 +1,10 @@
 -- A level by its worker, its ring and the level below.
-use Rattle.std.proofs.Common.{◌≡◌, ◌∷◌, ◌++◌, Some, map, sym, subst, rules}
+use Rattle.std.proofs.Common.{◌≡◌, ◌∷◌, ◌++◌, Some, map, ap, sym, ◌∙◌, subst, rules}
 use Rattle.std.specs.Prelude.{All}
-use Rattle.std.proofs.lemmas.List.Elements.{All-head}
+use Rattle.std.proofs.lemmas.List.Elements.{All-head, All-tail}
 use Rattle.rtrb.specs.Ring.{sent, received, known_items}
+use Rattle.tox_time.specs.Stream.{has_final}
+use Rattle.tox_time.proofs.StreamLemmas.{final_of_stream}
 use Rattle.tox_words.specs.Draw.{draw_in}
 use Rattle.tox_defs.specs.Flow.{IsPlaced, placed_reaction}
 use Rattle.tox_defs.proofs.ChainStreams.{toxic_keeps}
@@ -10,6 +12,17 @@ use Rattle.tox_network.specs.Shown.{shown}
 use Rattle.tox_stages.specs.Passing.{Delivers, SendsFlow}
 use Rattle.tox_stages.proofs.Joined.{level_up}
 use Rattle.tox_stages.proofs.levels.+level.Goals as goal
+
+pub level-below-requires-clause-toxics : goal.level-below-requires-clause-toxics
+level-below-requires-clause-toxics g t c =
+    let lanes = c.args.pipeline.now.lanes in
+    let toxic = c.in-Some.toxic.now in
+    let later = c.in-Some.later.now in
+    let split : c.args.toxics.now ≡ toxic ∷ later = search rules in
+    λ _ _. All-tail (IsPlaced lanes) toxic later (subst (All (IsPlaced lanes)) split c.requires.toxics)
+
+pub returns-in_default-clause-ended : goal.returns-in_default-clause-ended
+returns-in_default-clause-ended g t c = ap has_final c.feed_and_drain.ensures.sent ∙ final_of_stream 0 0 _ c.feed_and_drain.ensures.stream.stream
 
 pub returns-clause-delivered : goal.returns-clause-delivered
 returns-clause-delivered g t c =
