@@ -1,16 +1,17 @@
 //! The chain of workers, built level by level.
-ghost use Rattle.std.specs.Prelude.{◌≡◌, ◌+◌, ◌≤◌, All, [], length, map, true, Some, IfOk, IfSome};
+ghost use Rattle.std.specs.Prelude.{◌≡◌, ◌≢◌, ◌+◌, ◌≤◌, All, [], length, map, true, Some, IfOk, IfSome, Err};
 ghost use Rattle.rtrb.specs.Ring.{sent, received, SameProducer, SameConsumer};
 ghost use Rattle.tox_time.specs.Arrivals.{arrival_list};
 ghost use Rattle.tox_time.specs.Neighbours.{AreNeighbours};
 ghost use Rattle.tox_time.specs.Stream.{has_final};
 ghost use Rattle.tox_time.specs.Table.{IsOutcomeOf};
 ghost use Rattle.tox_words.specs.Draw.{draw_in};
-ghost use Rattle.tox_defs.specs.Flow.{IsPlaced, chain_flow, placed_reaction};
+ghost use Rattle.tox_defs.specs.Flow.{IsPlaced, applied, chain_flow, placed_reaction};
 ghost use Rattle.tox_network.specs.Shown.{shown};
 ghost use Rattle.tox_stages.specs.AtRest.{IsNetworkAtRest};
 ghost use Rattle.tox_stages.specs.Passing.{Delivers, IsLinkStream, SendsFlow};
 ghost use Rattle.tox_stages.specs.Workers.{IsWorkerOf};
+ghost use Rattle.tox_stages.specs.declared.fault.StageFault.TheVariants.{SpawnRefused};
 
 use crate::fault::StageFault;
 use crate::parkers::{Circle, Parkers};
@@ -153,6 +154,7 @@ fn level<'s, E: 's, R: Threads + Wait + Sync, G: Gate>(
         (λ ended. Delivers (map (placed_reaction (draw_in pipeline.now.lanes pipeline.now.words.now)) toxics.now)
         (received ended.0) (shown ended.1.slices (Some ended.1.ending))) }
     ensures ended { has_final (sent first.new) ≡ true }
+    ensures refused { result ≡ Err SpawnRefused → toxics.now ≢ [] }
 {
     let rt = pipeline.rt;
     let Some((toxic, later)) = toxics.split_first() else {
@@ -206,6 +208,7 @@ pub fn run_stages<R: Threads + Wait + Sync, G: Gate>(
         (λ outcome. AreNeighbours (arrival_list arrivals.now) 0 outcome.slices) }
     ensures network { IfOk result
         (IsNetworkAtRest cap chain.now words.now (arrival_list arrivals.now)) }
+    ensures refused { result ≡ Err SpawnRefused → applied chain.now words.now ≢ [] }
 {
     let circle = Circle::new();
     let parkers = &circle;
@@ -222,6 +225,8 @@ pub fn run_stages<R: Threads + Wait + Sync, G: Gate>(
             ensures network { IfOk result
                 (IsNetworkAtRest cap chain.entry.now words.entry.now
                 (arrival_list arrivals.entry.now)) }
+            ensures refused { result ≡ Err SpawnRefused
+                → applied chain.entry.now words.entry.now ≢ [] }
         {
             let Ok((mut first, consumer)) = RingBuffer::new(alloc, cap) else {
                 return Err(StageFault::OutOfMemory);

@@ -1,10 +1,11 @@
 //! The two ends of the chain, held by one thread: what arrives is sent, and what is delivered is collected.
-ghost use Rattle.std.specs.Prelude.{◌≡◌, ◌<◌, [], ◌++◌, length, Some, false, IsTrue, IfOk};
+ghost use Rattle.std.specs.Prelude.{◌≡◌, ◌<◌, [], ◌++◌, length, Some, false, IsTrue, IfOk, IfErr};
 ghost use Rattle.rtrb.specs.Ring.{sent, received, SameProducer, SameConsumer};
 ghost use Rattle.tox_time.specs.Arrivals.{arrival_list};
 ghost use Rattle.tox_network.specs.Shown.{shown};
 ghost use Rattle.tox_stages.specs.Collecting.{Collects};
 ghost use Rattle.tox_stages.specs.Passing.{Delivers, IsLinkStream};
+ghost use Rattle.tox_stages.specs.declared.fault.StageFault.TheVariants.{OutOfMemory};
 
 use crate::collected::Collected;
 use crate::fault::StageFault;
@@ -70,6 +71,7 @@ pub(crate) fn feed_and_drain<R: Wait>(
     ensures sent { sent first.new ≡ arrival_list arrivals.now }
     ensures delivered { IfOk result
         (λ ended. Delivers [] (received ended.0) (shown ended.1.slices (Some ended.1.ending))) }
+    ensures err { IfErr result (λ fault. fault ≡ OutOfMemory) }
 {
     let mut waiting = Waiting::new(arrivals);
     let mut consumer = consumer;

@@ -25,4 +25,5 @@ returns g c =
       flow = outcome_shown outcome _ passes.flowed;
       neighbours = delivered_neighbours chain words items outcome c.applied-toxics.ensures.chain passes;
       network = network_at_rest c.captures.cap chain words items outcome c.requires passes;
+      refused = λ same. absurd (let ok = same in cc);
     }
