@@ -37,7 +37,8 @@ fn write_next<N: Notes, W: Sink>(
         → W.written writer.old ≡ append_known base (take side.old.written (came side.old))
         → W.written writer.new ≡ append_known base (take side.new.written (came side.new)) }
     ensures few { side.new.written ≤ slice.now.span.stop }
-    ensures dropped { OnOk result (All (λ piece. side.new.written < stop_of piece) side.new.window.held) }
+    ensures dropped { OnOk result
+        (All (λ piece. side.new.written < stop_of piece) side.new.window.held) }
     ensures ok { OnOk result (IsSound side.new (received side.new.inbox.receiver)) }
     ensures working { OnOk result (W.failed writer.new ≡ false) }
     ensures noted { OnOk result (N.events notes.new
