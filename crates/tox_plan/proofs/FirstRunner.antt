@@ -1,5 +1,5 @@
 -- A runner that was offered nothing yet.
-use Rattle.std.proofs.Common.{◌≡◌, ℕ, ◌≤◌, true, false, List, length, Option, Some, None, refl, ap, ◌∙◌, sym, arith, inr}
+use Rattle.std.proofs.Common.{◌≡◌, ◌≤◌, true, false, List, length, Option, Some, None, refl, ap, ◌∙◌, sym, arith, inr}
 use Rattle.std.specs.Prelude.{is_some, IsSome, All, MatchOption}
 use Rattle.tox_time.specs.declared.item.Item.{Item}
 use Rattle.tox_time.specs.declared.ending.Ending.{Ending}

@@ -19,7 +19,7 @@ use arrayvec::ArrayVec;
 use std::marker::Model;
 use tox_compile::Plan;
 use tox_defs::{Emission, MAX_TOXICS, OpCursor};
-use tox_time::{ArrivalFault, Ending, MAX_BYTES, Micros, Slice, Span};
+use tox_time::{ArrivalFault, Ending, Micros, Slice, Span, piece_fault};
 use tox_words::{Drawing, Words};
 
 /// A plan at work on one stream: it is offered pieces one at a time, and cuts them into slices.
@@ -128,18 +128,9 @@ impl<'w> Runner<'w> {
             (GoesOn self.old (as_chunk (next_piece self.old len instant) ∷ []) [] self.new) }
         ensures err { OnErr result (self.new ≡ self.old) }
     {
-        if instant < self.latest {
-            return Err(ArrivalFault::TimeBack);
-        }
-        if len == 0 {
-            return Err(ArrivalFault::EmptyPiece);
-        }
         let start = self.piece.span.stop;
-        if len > MAX_BYTES - start {
-            return Err(ArrivalFault::TooManyBytes);
-        }
-        if self.ending.is_some() {
-            return Err(ArrivalFault::AfterEnd);
+        if let Some(fault) = piece_fault(start, self.latest, self.ending.is_some(), len, instant) {
+            return Err(fault);
         }
         self.piece = Slice {
             span: Span {

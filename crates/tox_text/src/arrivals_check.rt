@@ -9,7 +9,7 @@ use crate::arrivals_line::{Event, line_of};
 use crate::fault::DryFault;
 use crate::hex_pairs::are_pairs;
 use crate::text_lines::first_line;
-use tox_time::{ArrivalFault, MAX_BYTES, Micros};
+use tox_time::{ArrivalFault, Micros, end_fault, piece_fault};
 
 /// What the lines so far amount to: enough to check the next one.
 #[derive(Debug, Drop)]
@@ -93,17 +93,8 @@ impl Count {
             (λ e. piece_fault self.old.bytes self.old.latest self.old.has_ended len instant
             ≡ Some e) }
     {
-        if instant < self.latest {
-            return Err(ArrivalFault::TimeBack);
-        }
-        if len == 0 {
-            return Err(ArrivalFault::EmptyPiece);
-        }
-        if len > MAX_BYTES - self.bytes {
-            return Err(ArrivalFault::TooManyBytes);
-        }
-        if self.has_ended {
-            return Err(ArrivalFault::AfterEnd);
+        if let Some(fault) = piece_fault(self.bytes, self.latest, self.has_ended, len, instant) {
+            return Err(fault);
         }
         self.bytes += len;
         self.latest = self.latest.later(instant);
@@ -121,11 +112,8 @@ impl Count {
         ensures fault { IfErr result
             (λ e. end_fault self.old.latest self.old.has_ended instant ≡ Some e) }
     {
-        if instant < self.latest {
-            return Err(ArrivalFault::TimeBack);
-        }
-        if self.has_ended {
-            return Err(ArrivalFault::AfterEnd);
+        if let Some(fault) = end_fault(self.latest, self.has_ended, instant) {
+            return Err(fault);
         }
         self.latest = self.latest.later(instant);
         self.has_ended = true;

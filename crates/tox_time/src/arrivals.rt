@@ -4,7 +4,8 @@ ghost use Rattle.tox_time.specs.Arrivals.{push_fault, eof_fault, next_chunk};
 
 use crate::item::Item;
 use crate::micros::Micros;
-use crate::span::{MAX_BYTES, Span};
+use crate::refusals::{end_fault, piece_fault};
+use crate::span::Span;
 use std::alloc::Global;
 use std::marker::Model;
 use thiserror::Error;
@@ -79,17 +80,8 @@ impl Arrivals {
             → push_fault self.old len instant ≡ None }
         ensures err { OnErr result (self.new ≡ self.old) }
     {
-        if instant < self.latest {
-            return Err(ArrivalFault::TimeBack);
-        }
-        if len == 0 {
-            return Err(ArrivalFault::EmptyPiece);
-        }
-        if len > MAX_BYTES - self.bytes {
-            return Err(ArrivalFault::TooManyBytes);
-        }
-        if self.has_ended {
-            return Err(ArrivalFault::AfterEnd);
+        if let Some(fault) = piece_fault(self.bytes, self.latest, self.has_ended, len, instant) {
+            return Err(fault);
         }
         let span = Span {
             start: self.bytes,
@@ -116,11 +108,8 @@ impl Arrivals {
             → eof_fault self.old instant ≡ None }
         ensures err { OnErr result (self.new ≡ self.old) }
     {
-        if instant < self.latest {
-            return Err(ArrivalFault::TimeBack);
-        }
-        if self.has_ended {
-            return Err(ArrivalFault::AfterEnd);
+        if let Some(fault) = end_fault(self.latest, self.has_ended, instant) {
+            return Err(fault);
         }
         self.items
             .push(Item::Closed(instant))
