@@ -1,18 +1,12 @@
-//! Plans, and the plan of a chain.
-ghost use Rattle.std.specs.Prelude.{◌≡◌, ◌<◌, List, [], ◌∷◌, ◌++◌, Some};
-ghost use Rattle.arrayvec.specs.ArrayVec.{array_vec_len};
-ghost use Rattle.tox_time.specs.declared.item.Item.{Item as OneItem};
-ghost use Rattle.tox_time.specs.Stream.{IsStream};
-ghost use Rattle.tox_defs.specs.Flow.{chain_flow};
-ghost use Rattle.tox_compile.specs.Normal.{normal_form};
-ghost use Rattle.tox_compile.specs.Meaning.{deadline_of, earlier, means};
+//! Plans.
+ghost use Rattle.std.specs.Prelude.{◌≡◌, ◌<◌, Some};
+ghost use Rattle.tox_compile.specs.Meaning.{deadline_of, earlier};
 
-use crate::normal::add;
 use arrayvec::ArrayVec;
 use std::marker::Model;
-use tox_defs::{Chain, MAX_TOXICS, Op};
+use tox_defs::{MAX_TOXICS, Op};
 use tox_time::Micros;
-use tox_words::{Lanes, Words};
+use tox_words::Lanes;
 
 /// A compiled chain: the operations of its applied toxics in order, each joined to the one before it if a rule
 /// allows.
@@ -36,6 +30,14 @@ impl Model for Plan {
 
 impl Plan {
     ghost use Rattle.tox_compile.specs.Meaning.{IsPlan};
+
+    /// The plan of these operations.
+    pub(crate) fn of_ops(lanes: Lanes, ops: ArrayVec<Op, MAX_TOXICS>) -> Plan
+        requires { IsPlan (record { lanes = lanes; ops = ops.items }) }
+        ensures { result ≡ record { lanes = lanes; ops = ops.items } }
+    {
+        Plan { lanes, ops }
+    }
 
     /// The lanes of the chain, from which the operations draw.
     pub fn lanes(&self) -> Lanes
@@ -78,22 +80,5 @@ pub fn earlier(instant: Micros, other: Option<Micros>) -> Micros
     match other {
         Some(other) if other < instant => other,
         _ => instant,
-    }
-}
-
-/// The plan of a chain on a link with these words.
-pub fn compile(chain: &Chain, words: &Words) -> Plan
-    ensures lanes { result.lanes ≡ chain.now.lanes }
-    ensures ops { result.ops ≡ normal_form chain.now words.now }
-    ensures means { (items : List OneItem) → IsStream items
-        → means result words.now items ≡ chain_flow chain.now words.now items }
-{
-    let mut ops = ArrayVec::new();
-    for placed in chain.applied(words).iter() {
-        add(&mut ops, &Op::of(&placed.toxic, placed.place));
-    }
-    Plan {
-        lanes: chain.lanes(),
-        ops,
     }
 }

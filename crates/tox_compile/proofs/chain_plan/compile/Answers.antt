@@ -8,7 +8,7 @@ use Rattle.tox_compile.specs.Normal.{with_op, normal_form}
 use Rattle.tox_compile.specs.Meaning.{means}
 use Rattle.tox_compile.proofs.NormalForms.{means-normal_form, operations-normal_form}
 use Rattle.tox_compile.proofs.CompileTurns.{Compiles, compiles-more, compiled}
-use Rattle.tox_compile.proofs.plan.compile.Goals as goal
+use Rattle.tox_compile.proofs.chain_plan.compile.Goals as goal
 
 pub loop-placed-preserved : goal.loop-placed-preserved
 loop-placed-preserved c =
@@ -18,8 +18,8 @@ loop-placed-preserved c =
     (ap (λ op. with_op loop.ops.items op) (sym c.of.ensures) ∙ sym c.add.ensures)
     (compiles-more _ _ _ _ _ _ c.loop-placed-test.true refl placed loop.invariant)
 
-pub invariant_of-result : goal.invariant_of-result
-invariant_of-result c =
+pub of_ops-requires : goal.of_ops-requires
+of_ops-requires c =
     let is = compiled _ _ _ c.loop-placed-test.false c.loop-placed.invariant
     ∙ ap (λ toxics. fold with_op [] (map op_of_placed toxics)) (c.deref-placed-items.ensures.0 ∙ c.applied.ensures.value) in
     record {
@@ -31,4 +31,4 @@ pub returns-clause-means : goal.returns-clause-means
 returns-clause-means c =
     let is = compiled _ _ _ c.loop-placed-test.false c.loop-placed.invariant
     ∙ ap (λ toxics. fold with_op [] (map op_of_placed toxics)) (c.deref-placed-items.ensures.0 ∙ c.applied.ensures.value) in
-    λ items stream. ap (λ ops. means (record { lanes = c.lanes.result; ops = ops }) c.args.words.now items) is ∙ ap (λ lanes. means (record { lanes = lanes; ops = normal_form c.args.chain.now c.args.words.now }) c.args.words.now items) c.lanes.ensures ∙ means-normal_form c.args.chain.now c.args.words.now items c.applied.ensures.chain stream
+    λ items stream. ap (λ plan. means plan c.args.words.now items) c.of_ops.ensures ∙ ap (λ ops. means (record { lanes = c.lanes.result; ops = ops }) c.args.words.now items) is ∙ ap (λ lanes. means (record { lanes = lanes; ops = normal_form c.args.chain.now c.args.words.now }) c.args.words.now items) c.lanes.ensures ∙ means-normal_form c.args.chain.now c.args.words.now items c.applied.ensures.chain stream
