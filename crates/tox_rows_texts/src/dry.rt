@@ -1,8 +1,7 @@
 //! Dry runs whose ends are short, full, endless or fail. What is printed else is in `examples/rows`.
-ghost use Rattle.std.specs.Prelude.{◌≡◌, ◌<◌, false, IfOk};
+ghost use Rattle.std.specs.Prelude.{◌<◌};
 
 use crate::chains::chain_of;
-use std::alloc::Global;
 use std::process::Abort;
 use std::test::Fail;
 use tox_defs::Chain;
@@ -22,105 +21,85 @@ fn limited(rt: &impl Abort) -> Chain {
     chain_of(rt, &["limit_data:bytes=4", "latency:latency=1"])
 }
 
-fn source(alloc: Global, text: &str, failing_call: Option<u64>) -> Result<MemorySource, Fail>
-    ensures { IfOk result (λ reader. reader.failed ≡ false) }
+/// What a dry run of the two toxics answers and writes. The reader gives `read_most` bytes a call, the writer has room for so many
+/// and takes `write_most` a call, and each fails at the call of its number.
+fn run(
+    rt: &(impl Abort + AllocGlobal),
+    read_most: usize,
+    failing_read: Option<u64>,
+    room: usize,
+    write_most: usize,
+    failing_write: Option<u64>,
+) -> Result<(Result<(), DryFault>, MemorySink), Fail>
+    requires { (0 < read_most) × (0 < write_most) }
 {
-    Ok(MemorySource::new(text.as_bytes().to_vec(alloc)?, 5, failing_call))
-}
-
-/// What a dry run writes and then answers, where its ends move at most so many bytes a call.
-pub fn run(
-    alloc: Global,
-    chain: &Chain,
-    words: &Words,
-    read: &str,
-    most: usize,
-) -> Result<String, Fail>
-    requires { 0 < most }
-{
-    let mut reader = MemorySource::new(read.as_bytes().to_vec(alloc)?, most, None);
-    let mut writer = MemorySink::new(alloc, ROOM, most, None)?;
-    let answer = dry_run(alloc, &mut reader, &mut writer, chain, words);
-    let written = String::from_utf8_lossy(alloc, writer.bytes())?;
-    match answer {
-        Ok(()) => Ok(written),
-        Err(fault) => Ok(format!(in alloc; "{written}{fault}")?),
-    }
+    let words = Words::from_list(rt.alloc(), &[0])?;
+    let bytes = READ.as_bytes().to_vec(rt.alloc())?;
+    let mut reader = MemorySource::new(bytes, read_most, failing_read);
+    let mut writer = MemorySink::new(rt.alloc(), room, write_most, failing_write)?;
+    let answer = dry_run(rt.alloc(), &mut reader, &mut writer, &limited(rt), &words);
+    Ok((answer, writer))
 }
 
 #[test]
-fn a_long_piece_is_cut(rt: HostRuntime) -> Result<(), Fail> {
-    let words = Words::from_list(rt.alloc(), &[0])?;
-    let chain = chain_of(&rt, &["bandwidth:rate=1"]);
-    let half = "61".repeat(rt.alloc(), 50)?;
-    let read = format!(in rt.alloc(); "0 data {half}{half}{half}{half}{half}")?;
-    let want = format!(in rt.alloc();
-        "100000 0..100 {half}{half}\n200000 100..200 {half}{half}\n250000 200..250 {half}\nopen\n"
-    )?;
-    let by_ones = run(rt.alloc(), &chain, &words, read.as_str(), 1)?;
-    assert_eq!(rt; by_ones, want);
-    let at_once = run(rt.alloc(), &chain, &words, read.as_str(), ROOM)?;
-    assert_eq!(rt; at_once, want);
+fn ends_may_move_single_bytes(rt: HostRuntime) -> Result<(), Fail> {
+    let (answer, writer) = run(&rt, 1, None, ROOM, 1, None)?;
+    assert_eq!(rt; answer, Ok(()));
+    assert_eq!(rt; writer.bytes(), WRITTEN.as_bytes());
     Ok(())
 }
 
+/// The lines are `1000 0..1 61` to `1000 4999..5000 61` and `open`.
 #[test]
 fn five_thousand_lines_are_run(rt: HostRuntime) -> Result<(), Fail> {
     let words = Words::from_list(rt.alloc(), &[0])?;
     let chain = chain_of(&rt, &["latency:latency=1"]);
-    let mut read = String::new(rt.alloc());
-    let mut want = String::new(rt.alloc());
-    for line in 0..5000u64 {
-        let stop = line + 1;
-        let micros = 1000 + line;
-        write!(read, "{line} data 61\n")?;
-        write!(want, "{micros} {line}..{stop} 61\n")?;
-    }
-    want.push_str("open\n")?;
-    let bytes = read.as_bytes().to_vec(rt.alloc())?;
-    let mut reader = MemorySource::new(bytes, 4096, None);
+    let read = "0 data 61\n".repeat(rt.alloc(), 5000)?;
+    let mut reader = MemorySource::new(read.into_bytes(), 4096, None);
     let mut writer = MemorySink::new(rt.alloc(), 200_000, 4096, None)?;
     let answer = dry_run(rt.alloc(), &mut reader, &mut writer, &chain, &words);
     assert_eq!(rt; answer, Ok(()));
-    assert!(rt; writer.bytes() == want.as_bytes());
+    assert_eq!(rt; writer.bytes().len(), 92_788);
+    assert!(rt; writer.bytes().ends_with(b"1000 4999..5000 61\nopen\n"));
+    Ok(())
+}
+
+fn fails_at_read(rt: &(impl Abort + AllocGlobal), call: u64) -> Result<(), Fail> {
+    let (answer, writer) = run(rt, 5, Some(call), ROOM, ROOM, None)?;
+    assert_eq!(rt; answer, Err(DryFault::ReadFault), "at read {call}");
+    assert!(rt; writer.bytes().is_empty(), "at read {call}");
     Ok(())
 }
 
 #[test]
 fn each_read_may_fail(rt: HostRuntime) -> Result<(), Fail> {
-    let words = Words::from_list(rt.alloc(), &[0])?;
     for call in 1..=7 {
-        let mut reader = source(rt.alloc(), READ, Some(call))?;
-        let mut writer = MemorySink::new(rt.alloc(), ROOM, ROOM, None)?;
-        let answer = dry_run(rt.alloc(), &mut reader, &mut writer, &limited(&rt), &words);
-        assert_eq!(rt; answer, Err(DryFault::ReadFault), "at read {call}");
-        assert!(rt; writer.bytes().is_empty(), "at read {call}");
+        fails_at_read(&rt, call)?;
     }
+    Ok(())
+}
+
+fn fails_at_write(rt: &(impl Abort + AllocGlobal), call: u64) -> Result<(), Fail> {
+    let (answer, writer) = run(rt, 5, None, ROOM, 3, Some(call))?;
+    assert_eq!(rt; answer, Err(DryFault::WriteFault), "at write {call}");
+    assert!(rt;
+        WRITTEN.as_bytes().starts_with(writer.bytes()),
+        "at write {call}"
+    );
     Ok(())
 }
 
 #[test]
 fn each_write_may_fail(rt: HostRuntime) -> Result<(), Fail> {
-    let words = Words::from_list(rt.alloc(), &[0])?;
     for call in 1..=14 {
-        let mut reader = source(rt.alloc(), READ, None)?;
-        let mut writer = MemorySink::new(rt.alloc(), ROOM, 3, Some(call))?;
-        let answer = dry_run(rt.alloc(), &mut reader, &mut writer, &limited(&rt), &words);
-        assert_eq!(rt; answer, Err(DryFault::WriteFault), "at write {call}");
-        assert!(rt;
-            WRITTEN.as_bytes().starts_with(writer.bytes()),
-            "at write {call}"
-        );
+        fails_at_write(&rt, call)?;
     }
     Ok(())
 }
 
 #[test]
 fn a_full_writer_is_a_write_fault(rt: HostRuntime) -> Result<(), Fail> {
-    let words = Words::from_list(rt.alloc(), &[0])?;
-    let mut reader = source(rt.alloc(), READ, None)?;
-    let mut writer = MemorySink::new(rt.alloc(), 10, 3, None)?;
-    let answer = dry_run(rt.alloc(), &mut reader, &mut writer, &limited(&rt), &words);
+    let (answer, writer) = run(&rt, 5, None, 10, 3, None)?;
     assert_eq!(rt; answer, Err(DryFault::WriteFault));
     assert_eq!(rt; writer.bytes(), &WRITTEN.as_bytes()[..10]);
     Ok(())

@@ -14,8 +14,6 @@ mod picks;
 #[cfg(test)]
 mod plan_texts;
 #[cfg(test)]
-mod populate_files;
-#[cfg(test)]
 mod scripts;
 #[cfg(test)]
 mod words;

@@ -1,6 +1,7 @@
 //! Migrated scripts, and what connections meet by them.
 use crate::picks::{CONFIG, MET, ROOM, SCRIPT};
 use std::alloc::Global;
+use std::process::Abort;
 use std::test::Fail;
 use tox_config::read_populate;
 use tox_proxy::{PrintMigratedFault, find_proxy, print_migrated, print_pick};
@@ -42,23 +43,24 @@ fn a_migrated_script_is_not_migrated_again(rt: HostRuntime) -> Result<(), Fail> 
     Ok(())
 }
 
+fn fails_at(rt: &(impl Abort + AllocGlobal), whole: &[u8], call: u64) -> Result<(), Fail> {
+    let mut writer = MemorySink::new(rt.alloc(), ROOM, 40, Some(call))?;
+    let answer = print_migrated(rt.alloc(), &mut writer, SCRIPT.as_bytes());
+    assert_eq!(rt;
+        answer,
+        Err(PrintMigratedFault::WriteFault),
+        "at write {call}"
+    );
+    assert!(rt; whole.starts_with(writer.bytes()), "at write {call}");
+    Ok(())
+}
+
 #[test]
 fn each_write_of_a_migrated_script_may_fail(rt: HostRuntime) -> Result<(), Fail> {
-    let alloc = rt.alloc();
-    let mut whole = MemorySink::new(alloc, ROOM, ROOM, None)?;
-    print_migrated(alloc, &mut whole, SCRIPT.as_bytes())?;
+    let mut whole = MemorySink::new(rt.alloc(), ROOM, ROOM, None)?;
+    print_migrated(rt.alloc(), &mut whole, SCRIPT.as_bytes())?;
     for call in 1..=5 {
-        let mut writer = MemorySink::new(alloc, ROOM, 40, Some(call))?;
-        let answer = print_migrated(alloc, &mut writer, SCRIPT.as_bytes());
-        assert_eq!(rt;
-            answer,
-            Err(PrintMigratedFault::WriteFault),
-            "at write {call}"
-        );
-        assert!(rt;
-            whole.bytes().starts_with(writer.bytes()),
-            "at write {call}"
-        );
+        fails_at(&rt, whole.bytes(), call)?;
     }
     Ok(())
 }

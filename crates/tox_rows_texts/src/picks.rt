@@ -1,8 +1,7 @@
 //! Picks whose writer fails, whose files are in memory, and files of the longest length.
-ghost use Rattle.std.specs.Prelude.{◌≡◌, false};
-
 use std::alloc::Global;
 use std::fs::File;
+use std::process::Abort;
 use std::rt::{Env, Files};
 use std::test::Fail;
 use std::{env, fs, process};
@@ -42,29 +41,33 @@ proxy a listen localhost:0 upstream localhost:1 enabled
 1 skipped limit_data:bytes=7,toxicity=0 limit_data_downstream
 ";
 
-/// What is printed of connection 3 downstream to a writer that takes at most so many bytes a call, and fails at one.
-fn print_to(alloc: Global, writer: &mut MemorySink) -> Result<Result<(), PrintPickFault>, Fail>
-    requires { writer.old.failed ≡ false }
-{
+/// What is printed of connection 3 downstream to a writer that takes ten bytes a call, and fails at the call of this number.
+fn print_to(alloc: Global, call: u64) -> Result<(Result<(), PrintPickFault>, MemorySink), Fail> {
     let proxies = read_populate(alloc, CONFIG.as_bytes())?;
     let script = read_script(alloc, SCRIPT.as_bytes())?;
     let proxy = find_proxy(&proxies, "a").ok_or("no proxy a")?;
-    Ok(print_pick(alloc, writer, proxy, &script, 3, Stream::Downstream, 1))
+    let mut writer = MemorySink::new(alloc, ROOM, 10, Some(call))?;
+    let answer = print_pick(alloc, &mut writer, proxy, &script, 3, Stream::Downstream, 1);
+    Ok((answer, writer))
+}
+
+fn fails_at(rt: &(impl Abort + AllocGlobal), call: u64) -> Result<(), Fail> {
+    let (answer, writer) = print_to(rt.alloc(), call)?;
+    assert_eq!(rt; answer, Err(PrintPickFault::WriteFault), "at write {call}");
+    assert!(rt;
+        MET.as_bytes().starts_with(writer.bytes()),
+        "at write {call}"
+    );
+    Ok(())
 }
 
 #[test]
 fn each_write_of_a_pick_may_fail(rt: HostRuntime) -> Result<(), Fail> {
     for call in 1..=19 {
-        let mut writer = MemorySink::new(rt.alloc(), ROOM, 10, Some(call))?;
-        let answer = print_to(rt.alloc(), &mut writer)?;
-        assert_eq!(rt; answer, Err(PrintPickFault::WriteFault), "at write {call}");
-        assert!(rt;
-            MET.as_bytes().starts_with(writer.bytes()),
-            "at write {call}"
-        );
+        fails_at(&rt, call)?;
     }
-    let mut writer = MemorySink::new(rt.alloc(), ROOM, 10, Some(20))?;
-    assert_eq!(rt; print_to(rt.alloc(), &mut writer)?, Ok(()));
+    let (answer, writer) = print_to(rt.alloc(), 20)?;
+    assert_eq!(rt; answer, Ok(()));
     assert_eq!(rt; writer.bytes(), MET.as_bytes());
     Ok(())
 }
@@ -76,27 +79,37 @@ fn path_of(rt: &(impl Env + AllocGlobal), id: u32, file: &str) -> Result<String,
     Ok(format!(in rt.alloc(); "{folder}/toxi-{id}-{file}")?)
 }
 
-/// What a question is answered, or its fault.
+/// What is printed of connection 3 downstream by two of these files, or the fault.
 fn answer_of(
-    rt: &impl AllocGlobal,
+    alloc: Global,
     files: &impl NamedFiles,
-    request: &PickRequest<'_>,
+    config: &str,
+    script: &str,
 ) -> Result<String, Fail> {
-    let mut writer = MemorySink::new(rt.alloc(), ROOM, ROOM, None)?;
-    let answer = request.answer(files, rt.alloc(), &mut writer);
-    let written = String::from_utf8_lossy(rt.alloc(), writer.bytes())?;
-    match answer {
-        Ok(()) => Ok(written),
-        Err(fault) => Ok(format!(in rt.alloc(); "{written}{fault}")?),
+    let request = PickRequest {
+        config,
+        script,
+        proxy: "a",
+        conn: 3,
+        stream: "downstream",
+        seed: 1,
+    };
+    let mut writer = MemorySink::new(alloc, ROOM, ROOM, None)?;
+    match request.answer(files, alloc, &mut writer) {
+        Ok(()) => Ok(String::from_utf8_lossy(alloc, writer.bytes())?),
+        Err(fault) => Ok(format!(in alloc; "{fault}")?),
     }
 }
 
+/// Two of the files aren't UTF-8.
 #[test]
 fn files_in_memory_answer_too(rt: HostRuntime) -> Result<(), Fail> {
     let files = [
         ("proxies", CONFIG.as_bytes()),
         ("script", SCRIPT.as_bytes()),
         ("proxies", b"[]".as_slice()),
+        ("json", b"[\"\xff\"]".as_slice()),
+        ("toml", b"#\xff".as_slice()),
     ];
     let memory = MemoryFiles { files: &files };
     let cases = [
@@ -104,17 +117,11 @@ fn files_in_memory_answer_too(rt: HostRuntime) -> Result<(), Fail> {
         ("proxies", "none", "P1 FileFault none"),
         ("none", "none", "P1 FileFault none"),
         ("script", "none", "C1 NotJson"),
+        ("json", "none", "C1 NotJson"),
+        ("proxies", "toml", "S1 NotToml"),
     ];
     for (config, script, want) in cases {
-        let request = PickRequest {
-            config,
-            script,
-            proxy: "a",
-            conn: 3,
-            stream: "downstream",
-            seed: 1,
-        };
-        let answer = answer_of(&rt, &memory, &request)?;
+        let answer = answer_of(rt.alloc(), &memory, config, script)?;
         assert_eq!(rt; answer.as_str(), want, "{config} {script}");
     }
     Ok(())

@@ -1,15 +1,10 @@
 //! Scripts: their versions, chains and lanes, and what migration keeps. Their faults are in `examples/rows`.
 use crate::picks::SCRIPT;
+use std::process::Abort;
 use std::test::Fail;
 use tox_defs::{Entry, Lanes, Toxic};
 use tox_script::{ScriptFault, Version, migrate, read_script};
 use tox_time::Stream;
-
-#[test]
-fn bytes_of_no_text_are_no_toml(rt: HostRuntime) {
-    let script = [b'#', 0xff];
-    assert!(rt; matches!(read_script(rt.alloc(), &script), Err(ScriptFault::NotToml)));
-}
 
 #[test]
 fn a_chain_has_its_toxics_in_order(rt: HostRuntime) -> Result<(), Fail> {
@@ -34,24 +29,35 @@ fn a_chain_has_its_toxics_in_order(rt: HostRuntime) -> Result<(), Fail> {
     Ok(())
 }
 
-/// Chains have the lanes of their script, also those that no rule covers and those of a rule without toxics.
+/// Compares version and lanes of a script that begins so. Chains have the lanes of their script, also those that no rule covers and
+/// those of a rule without toxics.
+fn compare(
+    rt: &(impl Abort + AllocGlobal),
+    head: &str,
+    version: Version,
+    lanes: Lanes,
+) -> Result<(), Fail> {
+    let text = format!(in rt.alloc(); "{head}{SCRIPT}[[rule]]\nproxy = 'b'\nfirst = 1\n")?;
+    let script = read_script(rt.alloc(), text.as_bytes())?;
+    assert_eq!(rt; script.version(), version, "of {head}");
+    for proxy in ["a", "b", "c"] {
+        let chain = script.chain(proxy, 3, Stream::Downstream);
+        assert_eq!(rt; chain.lanes(), lanes, "of {proxy} after {head}");
+    }
+    Ok(())
+}
+
 #[test]
 fn a_script_tells_its_version_and_lanes(rt: HostRuntime) -> Result<(), Fail> {
-    let cases = [
-        ("", Version::One, Lanes::Sixteen),
-        ("version = 1\n", Version::One, Lanes::Sixteen),
-        ("version = 2\n", Version::Two, Lanes::ThirtyTwo),
-        ("version = 2\nlanes = 16\n", Version::Two, Lanes::Sixteen),
-    ];
-    for (head, version, lanes) in cases {
-        let text = format!(in rt.alloc(); "{head}{SCRIPT}[[rule]]\nproxy = 'b'\nfirst = 1\n")?;
-        let script = read_script(rt.alloc(), text.as_bytes())?;
-        assert_eq!(rt; script.version(), version, "of {head}");
-        for proxy in ["a", "b", "c"] {
-            let chain = script.chain(proxy, 3, Stream::Downstream);
-            assert_eq!(rt; chain.lanes(), lanes, "of {proxy} after {head}");
-        }
-    }
+    compare(&rt, "", Version::One, Lanes::Sixteen)?;
+    compare(&rt, "version = 1\n", Version::One, Lanes::Sixteen)?;
+    compare(&rt, "version = 2\n", Version::Two, Lanes::ThirtyTwo)?;
+    compare(
+        &rt,
+        "version = 2\nlanes = 16\n",
+        Version::Two,
+        Lanes::Sixteen,
+    )?;
     Ok(())
 }
 

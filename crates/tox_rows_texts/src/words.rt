@@ -1,16 +1,7 @@
 //! Worked word tables and draws.
-use std::alloc::{AllocError, Global};
 use std::test::Fail;
 use tox_time::Stream;
 use tox_words::{Drawing, Lanes, MAX_WORDS, Words, WordsFault};
-
-fn repeated(alloc: Global, part: &str, count: usize) -> Result<String, AllocError> {
-    let mut text = String::new(alloc);
-    for _ in 0..count {
-        text.push_str(part)?;
-    }
-    Ok(text)
-}
 
 #[test]
 fn lists_have_bounds(rt: HostRuntime) {
@@ -32,9 +23,8 @@ fn lists_have_bounds(rt: HostRuntime) {
 
 #[test]
 fn texts_are_read(rt: HostRuntime) -> Result<(), Fail> {
-    let most = repeated(rt.alloc(), "0,", MAX_WORDS)?;
-    let many = format!(in rt.alloc(); "{most}0")?;
-    let bad = format!(in rt.alloc(); "{most}x")?;
+    let many = "0,0".repeat(rt.alloc(), MAX_WORDS)?;
+    let bad = "0,".repeat(rt.alloc(), MAX_WORDS)?;
     let cases = [
         ("", Some(WordsFault::NoWords)),
         ("1,x", Some(WordsFault::BadWord(1))),
