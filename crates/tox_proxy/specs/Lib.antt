@@ -16,3 +16,4 @@ pub mod Courses
 pub mod Streams
 pub mod Shutting
 pub mod Carrying
+pub mod Accepting

@@ -1,4 +1,8 @@
 //! Taking the next connection of a listener.
+ghost use Rattle.std.specs.Prelude.{◌≡◌};
+ghost use Rattle.std.specs.IoError.{error_kind, raw_os_error};
+ghost use Rattle.tox_proxy.specs.Accepting.{next_of, next_of_code};
+
 use std::io::ErrorKind;
 use std::net::{TcpListener, TcpStream};
 use std::sync::Wait;
@@ -39,7 +43,9 @@ pub(crate) fn next_client<R: Wait + Clock>(rt: &R, listener: &TcpListener) -> Op
 }
 
 /// Tries again after a connection that was gone, an interrupted call and a momentary lack.
-fn after(error: &io::Error) -> Next {
+fn after(error: &io::Error) -> Next
+    ensures { result ≡ next_of (error_kind error.now) (raw_os_error error.now) }
+{
     match error.kind() {
         ErrorKind::Interrupted
         | ErrorKind::ConnectionAborted
@@ -53,7 +59,9 @@ fn after(error: &io::Error) -> Next {
     }
 }
 
-fn after_code(code: Option<i32>) -> Next {
+fn after_code(code: Option<i32>) -> Next
+    ensures { result ≡ next_of_code code }
+{
     match code {
         Some(code) if BROKE.contains(&code) => Next::TryAgain,
         Some(code) if LACKS.contains(&code) => Next::Rest,

@@ -1,7 +1,7 @@
 //! Writing a socket of a link until the reset of its stream is due.
 ghost use Rattle.std.specs.Prelude.{◌≡◌, false, None, fold};
 ghost use Rattle.std.specs.Io.{WritesAtMost};
-ghost use Rattle.tox_proxy.specs.ResetDue.{after_op};
+ghost use Rattle.tox_proxy.specs.ResetDue.{after_op, is_reached};
 
 use crate::link_clock::SinceStart;
 use crate::reset_due::reset_due;
@@ -56,10 +56,7 @@ impl<'a, 'r, R: Wait + Clock> UntilDue<'a, 'r, R> {
     }
 
     fn is_due(&self) -> bool {
-        match &self.due {
-            Some(due) => *due <= self.clock.now(),
-            None => false,
-        }
+        is_reached(self.due, self.clock.now())
     }
 
     /// Writes as much as there is room for. Without room it waits while the reset isn't due.
@@ -78,6 +75,16 @@ impl<'a, 'r, R: Wait + Clock> UntilDue<'a, 'r, R> {
             }
         }
         unreachable!()
+    }
+}
+
+/// Whether an instant is reached, if there is one.
+fn is_reached(due: Option<Micros>, now: Micros) -> bool
+    ensures { result ≡ is_reached due now }
+{
+    match due {
+        Some(due) => due <= now,
+        None => false,
     }
 }
 
