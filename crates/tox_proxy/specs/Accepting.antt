@@ -11,7 +11,8 @@ use Rattle.tox_proxy.specs.declared.accepting.Next.TheVariants.{TryAgain, Rest, 
 -- a connection that broke before it was accepted, by Linux's codes
 abbrev pub has_broken : ℤ → Bool
 has_broken code =
-    list_any (λ known. int_eq known code) (pos 1 ∷ pos 64 ∷ pos 71 ∷ pos 92 ∷ pos 95 ∷ pos 110 ∷ pos 112 ∷ [])
+    list_any (λ known. int_eq known code)
+    (pos 1 ∷ pos 64 ∷ pos 71 ∷ pos 92 ∷ pos 95 ∷ pos 110 ∷ pos 112 ∷ [])
 
 -- a lack of descriptors, in the process or the system, of buffers or of streams
 abbrev pub is_lack : ℤ → Bool

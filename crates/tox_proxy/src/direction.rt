@@ -100,7 +100,11 @@ pub(crate) fn carry_stream<R: ServeRuntime>(
 
 /// What a stream carried that ended.
 fn after_end<S>(stream: Stream, report: &LinkReport<S>) -> Carried
-    ensures { result ≡ record { stream = stream; bytes = report.now.written; end = EndOf.Ended report.now.ending } }
+    ensures { result ≡ record {
+      stream = stream;
+      bytes = report.now.written;
+      end = EndOf.Ended report.now.ending;
+    } }
 {
     Carried {
         stream,

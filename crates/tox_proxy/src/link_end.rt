@@ -101,7 +101,7 @@ impl LinkEnd {
         }
     }
 
-    /// Of the two directions of a numbered link. If either was refused memory or a thread, both are broken.
+    /// The end of a numbered link whose directions carried this. If either was refused memory or a thread, both are broken.
     pub(crate) fn of(number: u64, upstream: &Carried, downstream: &Carried) -> LinkEnd
         requires up { upstream.now.stream ≡ StreamOf.Upstream }
         requires down { downstream.now.stream ≡ StreamOf.Downstream }

@@ -17,7 +17,7 @@ pub(crate) struct LinkSocket {
 }
 
 impl LinkSocket {
-    /// A socket that isn't cut. None for want of memory.
+    /// A socket that isn't cut. None if out of memory.
     fn new(alloc: Global, socket: TcpStream) -> Option<LinkSocket>
         ensures { IfSome result (λ link. link.socket ≡ socket) }
     {
@@ -36,7 +36,7 @@ pub(crate) struct LinkSockets {
 }
 
 impl LinkSockets {
-    /// Of a client, and of the upstream that was connected for it. None for want of memory.
+    /// Of a client, and of the upstream that was connected for it. None if out of memory.
     pub(crate) fn new(alloc: Global, client: TcpStream, server: TcpStream) -> Option<LinkSockets>
         ensures client { IfSome result (λ link. link.client.socket ≡ client) }
         ensures server { IfSome result (λ link. link.server.socket ≡ server) }

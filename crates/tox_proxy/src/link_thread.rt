@@ -103,7 +103,7 @@ fn connect<R: Net<Listener = TcpListener, Stream = TcpStream>>(
     TcpStream::connect(rt, address.as_str()).ok()
 }
 
-/// The courses of both streams of a link. None for want of memory.
+/// The courses of both streams of a link. None if out of memory.
 fn courses_of<W>(run: &ServeRun<'_, W>, proxy: &ProxyDef, taken: &Taken) -> Option<Courses>
     ensures up { IfSome result (λ courses. IsCourse run.now.script.now run.now.seed proxy.now.name
         taken.now.number StreamOf.Upstream courses.up) }

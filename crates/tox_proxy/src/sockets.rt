@@ -36,7 +36,7 @@ enum Shut {
     Cut,
 }
 
-/// What is shut where a stream ended so. A close without the source's end also ends the reading of the source.
+/// What is shut at a stream's ending. A close without the source's end shuts both sockets.
 fn shut_of(ending: Ending, source_ended: bool) -> Shut
     ensures { result ≡ shut_of ending source_ended }
 {
