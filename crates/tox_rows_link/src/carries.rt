@@ -2,16 +2,16 @@
 ghost use Rattle.std.specs.Prelude.{◌≡◌, false, IfOk};
 
 use crate::link_ends::{HungUp, Noted, RestingClock, WaitingSource, WatchingSink};
-use std::alloc::{AllocError, Global};
+use std::alloc::Global;
+use std::process::Abort;
 use std::sync::atomic::{AtomicBool, AtomicU64, Ordering};
 use std::sync::{Arc, Wait};
 use std::test::Fail;
 use std::thread::Threads;
 use tox_compile::compile;
-use tox_defs::Chain;
 use tox_link::{Ends, LinkEvent, LinkFault, LinkReport, SourceEnding, carry};
-use tox_rows::{Meeting, chain_of};
-use tox_time::{Ending, Gate, MemorySink, MemorySource, Micros, OpenGate, Slice, Source, Span};
+use tox_rows::{Meeting, at, chain_of, slice};
+use tox_time::{Ending, Gate, MemorySink, MemorySource, OpenGate, Source};
 use tox_words::Words;
 
 /// How many reads of one byte a long link takes.
@@ -62,28 +62,28 @@ impl Setup {
     }
 }
 
-/// Carries what a reader gives in at most `reads` reads through the chain.
+/// Carries what a reader gives in at most `reads` reads through these toxics.
 fn carried<R, S, G>(
     rt: &R,
-    alloc: Global,
-    chain: &Chain,
+    toxics: &str,
     reader: S,
     reads: u64,
     set: &mut Setup,
     gate: &Arc<G>,
 ) -> Result<Result<LinkReport<S>, LinkFault>, Fail>
 where
-    R: Threads + Wait + Copy + Send + 'static,
+    R: Threads + Wait + Copy + Send + AllocGlobal + Abort + 'static,
     S: Source + Send + Drop + 'static,
     G: Gate + Send + Drop + 'static,
     requires reader { S.failed reader ≡ false }
     requires writer { set.old.ends.writer.sink.failed ≡ false }
 {
-    let words = Words::from_list(alloc, &[0])?;
-    let plan = compile(chain, &words);
+    let words = Words::from_list(rt.alloc(), &[0])?;
+    let chain = chain_of(toxics).expect(rt, "short forms");
+    let plan = compile(&chain, &words);
     Ok(carry(
         rt,
-        alloc,
+        rt.alloc(),
         reader,
         &mut set.ends,
         &set.clock,
@@ -95,88 +95,95 @@ where
     ))
 }
 
-fn at(micros: u64) -> Micros {
-    Micros::ZERO.after(micros)
+/// The same through an open gate, of a reader in memory that gives at most `most` bytes a call and fails at the call of this
+/// number.
+fn passed<R: Threads + Wait + Copy + Send + AllocGlobal + Abort + 'static>(
+    rt: &R,
+    toxics: &str,
+    bytes: &[u8],
+    most: usize,
+    failing_call: Option<u64>,
+    reads: u64,
+    set: &mut Setup,
+) -> Result<Result<LinkReport<MemorySource>, LinkFault>, Fail>
+    requires { set.old.ends.writer.sink.failed ≡ false }
+{
+    let gate = Arc::new(rt.alloc(), OpenGate)?;
+    let reader = MemorySource::new(bytes.to_vec(rt.alloc())?, most.max(1), failing_call);
+    carried(rt, toxics, reader, reads, set, &gate)
+}
+
+/// Compares what a link reports: bytes that were taken and written, and how link and source ended.
+fn compare<S: Drop>(
+    rt: &impl Abort,
+    answer: Result<LinkReport<S>, LinkFault>,
+    bytes: u64,
+    ending: Ending,
+    source: SourceEnding,
+) {
+    let report = answer.expect(rt, "no fault");
+    assert_eq!(rt; (report.taken, report.written), (bytes, bytes));
+    assert_eq!(rt; report.ending, ending);
+    assert_eq!(rt; report.source, source);
+}
+
+/// Compares the notes with the expected events and, behind so many of them, the source's end at an instant.
+fn compare_notes(rt: &impl Abort, notes: &Noted, expected: &[LinkEvent], ends: &[(usize, u64)]) {
+    let mut place = 0usize;
+    let mut end = None;
+    for event in notes.events.as_slice() {
+        if let LinkEvent::SourceEnd(instant) = event {
+            end = Some((place, instant.get()));
+        } else {
+            assert_eq!(rt; Some(event), expected.get(place));
+            place = place.saturating_add(1);
+        }
+    }
+    assert_eq!(rt; place, expected.len());
+    assert!(rt; end.is_some_and(|end| ends.contains(&end)));
 }
 
 fn wrote(start: u64, stop: u64, micros: u64) -> LinkEvent {
-    let slice = Slice {
-        span: Span { start, stop },
-        instant: at(micros),
-    };
-    LinkEvent::Wrote(slice, at(micros))
+    LinkEvent::Wrote(slice(start, stop, micros), at(micros))
 }
 
-/// The notes without the source's end, and the instant of that with the number of events before it.
-fn without_end(
-    alloc: Global,
-    events: &[LinkEvent],
-) -> Result<(Vec<LinkEvent>, Option<(usize, u64)>), AllocError> {
-    let mut others = Vec::from_slice(alloc, events)?;
-    let place = events
-        .iter()
-        .position(|event| matches!(event, LinkEvent::SourceEnd(_)));
-    let end = match place {
-        Some(place) if place < others.len() => match others.remove(place) {
-            LinkEvent::SourceEnd(instant) => Some((place, instant.get())),
-            _ => None,
-        },
-        _ => None,
-    };
-    Ok((others, end))
+fn closed(micros: u64) -> Ending {
+    Ending::Closed(at(micros))
 }
 
 #[test]
 fn latency_delays_two_bytes(rt: HostRuntime) -> Result<(), Fail> {
-    let alloc = rt.alloc();
-    let chain = chain_of("latency:latency=1").expect(&rt, "a short form");
-    let mut set = Setup::new(alloc, 16, None)?;
-    let gate = Arc::new(alloc, OpenGate)?;
-    let reader = MemorySource::new(vec![in alloc; 0x61, 0x62]?, 16, None);
-    let report = carried(&rt, alloc, &chain, reader, 10, &mut set, &gate)?.expect(&rt, "no fault");
-    assert_eq!(rt; (report.taken, report.written), (2, 2));
-    assert_eq!(rt; report.ending, Ending::Closed(at(1000)));
-    assert_eq!(rt; report.source, SourceEnding::Eof);
-    let (others, end) = without_end(alloc, &set.notes.events)?;
+    let mut set = Setup::new(rt.alloc(), 16, None)?;
+    let answer = passed(&rt, "latency:latency=1", b"ab", 16, None, 10, &mut set)?;
+    compare(&rt, answer, 2, closed(1000), SourceEnding::Eof);
     let expected = [LinkEvent::Piece(2, at(0)), wrote(0, 2, 1000)];
-    assert_eq!(rt; others.as_slice(), expected.as_slice());
-    assert!(rt; end == Some((1, 0)) || end == Some((1, 1000)) || end == Some((2, 1000)));
-    assert_eq!(rt; set.ends.writer.sink.bytes(), [0x61, 0x62].as_slice());
+    compare_notes(&rt, &set.notes, &expected, &[(1, 0), (1, 1000), (2, 1000)]);
+    assert_eq!(rt; set.ends.writer.sink.bytes(), b"ab".as_slice());
     assert_eq!(rt; set.ends.writer.first, Some(1000));
     assert_eq!(rt;
         (set.ends.hangup.calls, set.ends.hangup.source_ended),
         (1, true)
     );
-    assert_eq!(rt; set.ends.hangup.ending, Ending::Closed(at(1000)));
+    assert_eq!(rt; set.ends.hangup.ending, closed(1000));
     Ok(())
 }
 
 #[test]
 fn reader_and_writer_meet(rt: HostRuntime) -> Result<(), Fail> {
-    let alloc = rt.alloc();
-    let mut set = Setup::new(alloc, 16, None)?;
-    let gate = Arc::new(alloc, Meeting::new(1))?;
-    let reader = MemorySource::new(vec![in alloc; 0x61, 0x62]?, 16, None);
-    let chain = Chain::new();
-    let report = carried(&rt, alloc, &chain, reader, 10, &mut set, &gate)?.expect(&rt, "no fault");
+    let mut set = Setup::new(rt.alloc(), 16, None)?;
+    let gate = Arc::new(rt.alloc(), Meeting::new(1))?;
+    let reader = MemorySource::new(b"ab".to_vec(rt.alloc())?, 16, None);
+    let answer = carried(&rt, "", reader, 10, &mut set, &gate)?;
     assert!(rt; !gate.missed());
-    assert_eq!(rt; (report.taken, report.written), (2, 2));
-    assert_eq!(rt; report.ending, Ending::Closed(at(0)));
-    assert_eq!(rt; report.source, SourceEnding::Eof);
+    compare(&rt, answer, 2, closed(0), SourceEnding::Eof);
     Ok(())
 }
 
 #[test]
 fn a_muted_link_stays_open(rt: HostRuntime) -> Result<(), Fail> {
-    let alloc = rt.alloc();
-    let chain = chain_of("timeout:timeout=0").expect(&rt, "a short form");
-    let mut set = Setup::new(alloc, 16, None)?;
-    let gate = Arc::new(alloc, OpenGate)?;
-    let reader = MemorySource::new(Vec::new(alloc), 16, None);
-    let report = carried(&rt, alloc, &chain, reader, 10, &mut set, &gate)?.expect(&rt, "no fault");
-    assert_eq!(rt; (report.taken, report.written), (0, 0));
-    assert_eq!(rt; report.ending, Ending::StillOpen);
-    assert_eq!(rt; report.source, SourceEnding::NotReached);
+    let mut set = Setup::new(rt.alloc(), 16, None)?;
+    let answer = passed(&rt, "timeout:timeout=0", b"", 16, None, 10, &mut set)?;
+    compare(&rt, answer, 0, Ending::StillOpen, SourceEnding::NotReached);
     assert!(rt; set.notes.events.is_empty());
     assert_eq!(rt;
         (set.ends.hangup.calls, set.ends.hangup.source_ended),
@@ -188,108 +195,76 @@ fn a_muted_link_stays_open(rt: HostRuntime) -> Result<(), Fail> {
 #[test]
 fn a_later_piece_has_a_later_instant(rt: HostRuntime) -> Result<(), Fail> {
     let alloc = rt.alloc();
-    let chain = chain_of("latency:latency=1").expect(&rt, "a short form");
     let mut set = Setup::new(alloc, 16, None)?;
     let gate = Arc::new(alloc, OpenGate)?;
     let missed = Arc::new(alloc, AtomicBool::new(false))?;
     let reader = WaitingSource {
-        source: MemorySource::new(vec![in alloc; 0x61, 0x62]?, 1, None),
+        source: MemorySource::new(b"ab".to_vec(alloc)?, 1, None),
         bytes: set.bytes.clone()?,
         reads: 0,
         missed: missed.clone()?,
     };
-    let report = carried(&rt, alloc, &chain, reader, 10, &mut set, &gate)?.expect(&rt, "no fault");
+    let answer = carried(&rt, "latency:latency=1", reader, 10, &mut set, &gate)?;
     assert!(rt; !missed.load(Ordering::SeqCst));
-    assert_eq!(rt; (report.taken, report.written), (2, 2));
-    assert_eq!(rt; report.ending, Ending::Closed(at(2000)));
-    assert_eq!(rt; report.source, SourceEnding::Eof);
-    let (others, end) = without_end(alloc, &set.notes.events)?;
+    compare(&rt, answer, 2, closed(2000), SourceEnding::Eof);
     let expected = [
         LinkEvent::Piece(1, at(0)),
         wrote(0, 1, 1000),
         LinkEvent::Piece(1, at(1000)),
         wrote(1, 2, 2000),
     ];
-    assert_eq!(rt; others.as_slice(), expected.as_slice());
-    assert!(rt; end == Some((3, 1000)) || end == Some((3, 2000)) || end == Some((4, 2000)));
+    compare_notes(
+        &rt,
+        &set.notes,
+        &expected,
+        &[(3, 1000), (3, 2000), (4, 2000)],
+    );
     Ok(())
 }
 
 #[test]
 fn a_slow_close_waits_for_its_instant(rt: HostRuntime) -> Result<(), Fail> {
-    let alloc = rt.alloc();
-    let chain = chain_of("slow_close:delay=1").expect(&rt, "a short form");
-    let mut set = Setup::new(alloc, 16, None)?;
-    let gate = Arc::new(alloc, OpenGate)?;
-    let reader = MemorySource::new(vec![in alloc; 0x61, 0x62]?, 16, None);
-    let report = carried(&rt, alloc, &chain, reader, 10, &mut set, &gate)?.expect(&rt, "no fault");
-    assert_eq!(rt; (report.taken, report.written), (2, 2));
-    assert_eq!(rt; report.ending, Ending::Closed(at(1000)));
-    assert_eq!(rt; report.source, SourceEnding::Eof);
-    let (others, end) = without_end(alloc, &set.notes.events)?;
+    let mut set = Setup::new(rt.alloc(), 16, None)?;
+    let answer = passed(&rt, "slow_close:delay=1", b"ab", 16, None, 10, &mut set)?;
+    compare(&rt, answer, 2, closed(1000), SourceEnding::Eof);
     let expected = [LinkEvent::Piece(2, at(0)), wrote(0, 2, 0)];
-    assert_eq!(rt; others.as_slice(), expected.as_slice());
-    assert!(rt; end == Some((1, 0)) || end == Some((2, 0)));
+    compare_notes(&rt, &set.notes, &expected, &[(1, 0), (2, 0)]);
     assert_eq!(rt; (set.ends.hangup.calls, set.ends.hangup.at), (1, 1000));
     Ok(())
 }
 
 #[test]
 fn a_failing_reader_closes_the_link(rt: HostRuntime) -> Result<(), Fail> {
-    let alloc = rt.alloc();
-    let chain = Chain::new();
-    let mut set = Setup::new(alloc, 16, None)?;
-    let gate = Arc::new(alloc, OpenGate)?;
-    let reader = MemorySource::new(vec![in alloc; 0x61, 0x62]?, 16, Some(2));
-    let report = carried(&rt, alloc, &chain, reader, 10, &mut set, &gate)?.expect(&rt, "no fault");
-    assert_eq!(rt; (report.taken, report.written), (2, 2));
-    assert_eq!(rt; report.ending, Ending::Closed(at(0)));
-    assert_eq!(rt; report.source, SourceEnding::ReadFault);
+    let mut set = Setup::new(rt.alloc(), 16, None)?;
+    let answer = passed(&rt, "", b"ab", 16, Some(2), 10, &mut set)?;
+    compare(&rt, answer, 2, closed(0), SourceEnding::ReadFault);
     Ok(())
 }
 
 #[test]
 fn reads_are_used_up(rt: HostRuntime) -> Result<(), Fail> {
-    let alloc = rt.alloc();
-    let chain = Chain::new();
-    let mut set = Setup::new(alloc, 16, None)?;
-    let gate = Arc::new(alloc, OpenGate)?;
-    let reader = MemorySource::new(vec![in alloc; 0x61, 0x62]?, 1, None);
-    let report = carried(&rt, alloc, &chain, reader, 1, &mut set, &gate)?.expect(&rt, "no fault");
-    assert_eq!(rt; (report.taken, report.written), (1, 1));
-    assert_eq!(rt; report.ending, Ending::Closed(at(0)));
-    assert_eq!(rt; report.source, SourceEnding::ReadsUsedUp);
+    let mut set = Setup::new(rt.alloc(), 16, None)?;
+    let answer = passed(&rt, "", b"ab", 1, None, 1, &mut set)?;
+    compare(&rt, answer, 1, closed(0), SourceEnding::ReadsUsedUp);
     Ok(())
 }
 
 #[test]
 fn many_small_reads_are_used_up(rt: HostRuntime) -> Result<(), Fail> {
-    let alloc = rt.alloc();
-    let chain = Chain::new();
-    let sink = MemorySink::new(alloc, MANY, 16_384, None)?;
-    let mut set = Setup::with_sink(alloc, sink)?;
-    let gate = Arc::new(alloc, OpenGate)?;
-    let reader = MemorySource::new(vec![in alloc; 0x61; MANY]?, 1, None);
-    let reads = MANY as u64;
-    let report = carried(&rt, alloc, &chain, reader, reads, &mut set, &gate)?.expect(
-        &rt, "no fault",
-    );
-    assert_eq!(rt; (report.taken, report.written), (1_048_576, 1_048_576));
-    assert_eq!(rt; report.ending, Ending::Closed(at(0)));
-    assert_eq!(rt; report.source, SourceEnding::ReadsUsedUp);
+    let sink = MemorySink::new(rt.alloc(), MANY, 16_384, None)?;
+    let mut set = Setup::with_sink(rt.alloc(), sink)?;
+    let bytes = vec![in rt.alloc(); 0x61; MANY]?;
+    let answer = passed(&rt, "", &bytes, 1, None, MANY as u64, &mut set)?;
+    compare(&rt, answer, 1_048_576, closed(0), SourceEnding::ReadsUsedUp);
     Ok(())
 }
 
 #[test]
 fn a_failing_writer_resets_the_link(rt: HostRuntime) -> Result<(), Fail> {
-    let alloc = rt.alloc();
-    let chain = Chain::new();
-    let mut set = Setup::new(alloc, 1, Some(3))?;
-    let gate = Arc::new(alloc, OpenGate)?;
-    let reader = MemorySource::new(vec![in alloc; 0x61, 0x62, 0x63]?, 16, None);
-    let answer = carried(&rt, alloc, &chain, reader, 10, &mut set, &gate)?;
+    let mut set = Setup::new(rt.alloc(), 1, Some(3))?;
+    let answer = passed(&rt, "", b"abc", 16, None, 10, &mut set)?;
     assert!(rt; matches!(answer, Err(LinkFault::WriteFault(2))));
-    assert_eq!(rt; set.ends.writer.sink.bytes(), [0x61, 0x62].as_slice());
+    assert_eq!(rt; set.ends.writer.sink.bytes(), b"ab".as_slice());
     assert_eq!(rt; set.ends.hangup.ending, Ending::Reset(at(0)));
     assert_eq!(rt;
         (set.ends.hangup.calls, set.ends.hangup.source_ended),
@@ -300,12 +275,9 @@ fn a_failing_writer_resets_the_link(rt: HostRuntime) -> Result<(), Fail> {
 
 #[test]
 fn a_writer_that_takes_nothing_resets_the_link(rt: HostRuntime) -> Result<(), Fail> {
-    let alloc = rt.alloc();
-    let chain = Chain::new();
-    let mut set = Setup::with_sink(alloc, MemorySink::new(alloc, 0, 1, None)?)?;
-    let gate = Arc::new(alloc, OpenGate)?;
-    let reader = MemorySource::new(vec![in alloc; 0x61, 0x62, 0x63]?, 16, None);
-    let answer = carried(&rt, alloc, &chain, reader, 10, &mut set, &gate)?;
+    let sink = MemorySink::new(rt.alloc(), 0, 1, None)?;
+    let mut set = Setup::with_sink(rt.alloc(), sink)?;
+    let answer = passed(&rt, "", b"abc", 16, None, 10, &mut set)?;
     assert!(rt; matches!(answer, Err(LinkFault::WriteFault(0))));
     assert!(rt; set.ends.writer.sink.bytes().is_empty());
     assert_eq!(rt; set.ends.hangup.ending, Ending::Reset(at(0)));

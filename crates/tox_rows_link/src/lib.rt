@@ -13,3 +13,5 @@ mod link_ends;
 mod links;
 #[cfg(test)]
 mod peers;
+#[cfg(test)]
+mod schedules;

@@ -75,13 +75,11 @@ fn served<
         + Sync
         + 'static
         + AllocGlobal,
->(
-    rt: &R,
-    proxies: &[ProxyDef],
-    script: &Script,
-    upstream: Option<&TcpListener>,
-) -> Result<String, Fail> {
+>(rt: &R, address: &str, script: &str, upstream: Option<&TcpListener>) -> Result<String, Fail> {
     let alloc = rt.alloc();
+    let proxies = proxy(alloc, "127.0.0.1:0", address)?;
+    let script = read_script(alloc, script.as_bytes())?;
+    let (proxies, script) = (proxies.as_slice(), &script);
     let out = Mutex::new(Vec::new(alloc));
     let lines = &out;
     thread::scope(thread::scope_env(), rt, |scope| -> io::Result<()> {
@@ -116,12 +114,9 @@ fn served<
 
 #[test]
 fn a_link_is_carried_and_told(rt: HostRuntime) -> Result<(), Fail> {
-    let alloc = rt.alloc();
     let upstream = TcpListener::bind(&rt, "127.0.0.1:0")?;
-    let address = format!(in alloc; "{}", upstream.local_addr()?)?;
-    let proxies = proxy(alloc, "127.0.0.1:0", &address)?;
-    let script = read_script(alloc, THREE_BYTES.as_bytes())?;
-    let printed = served(&rt, &proxies, &script, Some(&upstream))?;
+    let address = format!(in rt.alloc(); "{}", upstream.local_addr()?)?;
+    let printed = served(&rt, &address, THREE_BYTES, Some(&upstream))?;
     assert_eq!(rt;
         printed.as_str(),
         "link a 1 up 5 closed down 3 closed\ntotal a 1 up 5 down 3\n"
@@ -131,10 +126,7 @@ fn a_link_is_carried_and_told(rt: HostRuntime) -> Result<(), Fail> {
 
 #[test]
 fn an_upstream_where_nobody_listens_breaks_the_link(rt: HostRuntime) -> Result<(), Fail> {
-    let alloc = rt.alloc();
-    let proxies = proxy(alloc, "127.0.0.1:0", "127.0.0.1:1")?;
-    let script = read_script(alloc, b"")?;
-    let printed = served(&rt, &proxies, &script, None)?;
+    let printed = served(&rt, "127.0.0.1:1", "", None)?;
     assert_eq!(rt;
         printed.as_str(),
         "link a 1 up 0 broken down 0 broken\ntotal a 1 up 0 down 0\n"

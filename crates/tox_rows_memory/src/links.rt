@@ -3,7 +3,7 @@ ghost use Rattle.std.specs.Prelude.{None};
 
 use crate::scarcity::Scarcity;
 use crate::stages::{Counting, with_stacks};
-use crate::tries::{Tried, try_each};
+use crate::tries::{Refusals, Tried, try_each};
 use std::alloc::{AllocError, Global};
 use std::sync::atomic::{AtomicU64, Ordering};
 use std::sync::{Arc, Wait};
@@ -104,15 +104,24 @@ fn link<R: Threads + Wait + Copy + Send + 'static>(
     Ok(tried)
 }
 
-#[test]
-fn a_link_is_refused_its_thread(rt: HostRuntime) -> Result<(), Fail> {
+/// Carries links with ever more pages, where there are stacks for as many threads as these toxics have. Returns the refusals too
+/// that came after a reader's thread had read.
+fn carry_behind<R: Threads + Wait + Copy + Send + Sync + AllocGlobal + 'static>(
+    rt: &R,
+    toxics: &str,
+) -> Result<(Refusals, u64), Fail> {
     let alloc = rt.alloc();
-    let mut scarcity = with_stacks(&rt, alloc, "")?;
+    let mut scarcity = with_stacks(rt, alloc, toxics)?;
     let reads_refused = AtomicU64::new(0);
     let refusals = try_each(&mut scarcity, PAGES, |scarcity, pages| {
-        link(&rt, scarcity, alloc, pages, &reads_refused)
+        link(rt, scarcity, alloc, pages, &reads_refused)
     })?;
-    let reads_refused = reads_refused.load(Ordering::SeqCst);
+    Ok((refusals, reads_refused.load(Ordering::SeqCst)))
+}
+
+#[test]
+fn a_link_is_refused_its_thread(rt: HostRuntime) -> Result<(), Fail> {
+    let (refusals, reads_refused) = carry_behind(&rt, "")?;
     eprintln!(rt; "{refusals:?}, {reads_refused} of reads")?;
     assert!(rt; !refusals.is_answered && 0 < refusals.memory && 0 < refusals.threads);
     Ok(())
@@ -120,13 +129,7 @@ fn a_link_is_refused_its_thread(rt: HostRuntime) -> Result<(), Fail> {
 
 #[test]
 fn a_link_is_refused_memory(rt: HostRuntime) -> Result<(), Fail> {
-    let alloc = rt.alloc();
-    let mut scarcity = with_stacks(&rt, alloc, "latency:latency=1")?;
-    let reads_refused = AtomicU64::new(0);
-    let refusals = try_each(&mut scarcity, PAGES, |scarcity, pages| {
-        link(&rt, scarcity, alloc, pages, &reads_refused)
-    })?;
-    let reads_refused = reads_refused.load(Ordering::SeqCst);
+    let (refusals, reads_refused) = carry_behind(&rt, "latency:latency=1")?;
     eprintln!(rt; "{refusals:?}, {reads_refused} of reads")?;
     assert!(rt; refusals.is_answered && 0 < refusals.memory && 0 < reads_refused);
     Ok(())

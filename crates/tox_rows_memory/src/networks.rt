@@ -82,7 +82,7 @@ fn settle(
     let answer = network.settle(&[]);
     scarcity.end();
     network.settle(&[])?;
-    let table = table_of(alloc, &network.outcome())?;
+    let table = table_of(alloc, &network.outcome().slices)?;
     if table.as_slice() == expected {
         Ok(answer_of(&answer, &StepFault::OutOfMemory))
     } else {

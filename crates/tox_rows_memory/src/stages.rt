@@ -8,9 +8,9 @@ use std::test::Fail;
 use std::thread::Threads;
 use tox_defs::Chain;
 use tox_proxy::{DryFault, StagesFault, stages_run};
-use tox_rows::{chain_of, table_of};
+use tox_rows::{bytes_at_zero, chain_of, table_of};
 use tox_stages::{StageFault, run_stages};
-use tox_time::{Arrivals, Ending, Gate, MemorySink, MemorySource, Micros, OpenGate};
+use tox_time::{Arrivals, Ending, Gate, MemorySink, MemorySource, OpenGate};
 use tox_words::Words;
 
 const TWO_LATENCIES: &str = "latency:latency=1 latency:latency=2";
@@ -46,14 +46,6 @@ impl Gate for Counting {
     }
 }
 
-/// The arrivals of the text.
-fn two(alloc: Global) -> Result<Arrivals, Fail> {
-    let mut arrivals = Arrivals::new(alloc);
-    arrivals.push(1, Micros::ZERO)?;
-    arrivals.push(1, Micros::ZERO)?;
-    Ok(arrivals)
-}
-
 /// Running stages with little memory. Nobody passes the gate once they have answered.
 fn run<R: Threads + Wait + Sync>(
     rt: &R,
@@ -74,7 +66,7 @@ fn run<R: Threads + Wait + Sync>(
     }
     match answer {
         Ok(outcome) => {
-            let table = table_of(alloc, &outcome)?;
+            let table = table_of(alloc, &outcome.slices)?;
             let is_right = table.as_slice() == [3000, 3000].as_slice()
                 && outcome.ending == Ending::StillOpen;
             Ok(if is_right {
@@ -130,7 +122,7 @@ pub fn keep_stacks<R: Threads + Wait + Sync>(
 ) -> Result<(), Fail> {
     let words = Words::from_list(alloc, &[0])?;
     let chain = chain_of(toxics).ok_or("no short forms")?;
-    let arrivals = two(alloc)?;
+    let arrivals = bytes_at_zero(alloc, 2)?;
     run_stages(rt, alloc, &chain, &words, &arrivals, 1, &OpenGate)?;
     Ok(())
 }
@@ -153,7 +145,7 @@ fn run_behind<R: Threads + Wait + Sync + AllocGlobal>(
 ) -> Result<Refusals, Fail> {
     let alloc = rt.alloc();
     let chain = chain_of(TWO_LATENCIES).ok_or("no short forms")?;
-    let arrivals = two(alloc)?;
+    let arrivals = bytes_at_zero(alloc, 2)?;
     let mut scarcity = with_stacks(rt, alloc, toxics)?;
     try_each(&mut scarcity, PAGES, |scarcity, pages| {
         run(rt, scarcity, alloc, pages, &chain, &arrivals)

@@ -1,10 +1,7 @@
 //! What arrivals accept and refuse.
 use std::test::Fail;
+use tox_rows::at;
 use tox_time::{ArrivalFault, Arrivals, Item, MAX_BYTES, Micros, Span};
-
-fn at(micros: u64) -> Micros {
-    Micros::ZERO.after(micros)
-}
 
 #[test]
 fn arrivals_are_listed(rt: HostRuntime) -> Result<(), Fail> {

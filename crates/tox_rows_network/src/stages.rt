@@ -2,12 +2,9 @@
 use std::process::Abort;
 use std::test::Fail;
 use tox_defs::{Stage, Toxic, read_short};
-use tox_time::{Item, Micros, Span};
+use tox_rows::at;
+use tox_time::{Item, Span};
 use tox_words::{Lanes, Words};
-
-fn at(micros: u64) -> Micros {
-    Micros::ZERO.after(micros)
-}
 
 fn chunk(start: u64, stop: u64, micros: u64) -> Item {
     Item::Chunk(Span { start, stop }, at(micros))

@@ -8,95 +8,76 @@ use std::test::Fail;
 use std::thread::Threads;
 use tox_plan::deliver;
 use tox_proxy::{DryFault, StagesFault, stages_run};
-use tox_rows::{Meeting, chain_of, table_of};
+use tox_rows::{Meeting, arrivals_of, chain_of, table_of};
 use tox_stages::{StageFault, run_stages};
-use tox_time::{Arrivals, Gate, MemorySink, MemorySource, Micros, OpenGate};
+use tox_time::{Gate, MemorySink, MemorySource, OpenGate};
 use tox_words::Words;
 
-/// Each toxic alone, and two in a row.
-const CHAINS: [&str; 8] = [
-    "latency:latency=1,jitter=1",
-    "bandwidth:rate=1",
-    "slow_close:delay=1",
-    "timeout:timeout=50",
-    "reset_peer:timeout=20",
-    "slicer:average_size=2,size_variation=1,delay=10",
-    "limit_data:bytes=4",
-    "limit_data:bytes=4 latency:latency=1",
+const TWO_LATENCIES: &str = "latency:latency=1 latency:latency=2";
+
+/// What arrives in most cases.
+const ARRIVED: &str = "3@0 3@10 1@20000 eof@20005";
+
+/// No toxic, each toxic alone, and two in a row.
+const CASES: [(&str, &str); 10] = [
+    ("", "3@0 eof@5"),
+    ("latency:latency=1,jitter=1", ARRIVED),
+    ("bandwidth:rate=1", ARRIVED),
+    ("slow_close:delay=1", ARRIVED),
+    ("timeout:timeout=50", ARRIVED),
+    ("reset_peer:timeout=20", ARRIVED),
+    ("slicer:average_size=2,size_variation=1,delay=10", ARRIVED),
+    ("slicer:average_size=2,size_variation=1,delay=10", "5@0"),
+    ("limit_data:bytes=4", ARRIVED),
+    ("limit_data:bytes=4 latency:latency=1", ARRIVED),
 ];
+
+/// Compares what running stages deliver, over rings of `cap` items, with what the plan does.
+fn compare<R: Threads + Wait + Sync + AllocGlobal + Abort>(
+    rt: &R,
+    toxics: &str,
+    arrived: &str,
+    cap: usize,
+) -> Result<(), Fail>
+    requires { (1 ≤ cap) × (cap ≤ 1024) }
+{
+    let words = Words::from_list(rt.alloc(), &[0, 1, 2])?;
+    let chain = chain_of(toxics).expect(rt, "short forms");
+    let arrivals = arrivals_of(rt.alloc(), arrived).expect(rt, "arrivals");
+    let planned = deliver(rt.alloc(), &chain, &words, &arrivals)?;
+    let running = run_stages(rt, rt.alloc(), &chain, &words, &arrivals, cap, &OpenGate)?;
+    let expected = table_of(rt.alloc(), &planned.slices)?;
+    let table = table_of(rt.alloc(), &running.slices)?;
+    assert_eq!(rt; table.as_slice(), expected.as_slice(), "{toxics} at {cap}");
+    assert_eq!(rt; running.ending, planned.ending, "{toxics} at {cap}");
+    Ok(())
+}
 
 #[test]
 fn threads_deliver_what_the_plan_does(rt: HostRuntime) -> Result<(), Fail> {
-    let words = Words::from_list(rt.alloc(), &[0, 1, 2])?;
-    let mut arrivals = Arrivals::new(rt.alloc());
-    for (len, micros) in [(3, 0), (3, 10), (1, 20000)] {
-        arrivals.push(len, Micros::ZERO.after(micros))?;
-    }
-    arrivals.eof(Micros::ZERO.after(20005))?;
-    for toxics in CHAINS {
-        let chain = chain_of(toxics).expect(&rt, "short forms");
-        let planned = deliver(rt.alloc(), &chain, &words, &arrivals)?;
-        let expected = table_of(rt.alloc(), &planned)?;
-        for cap in [1, 2, 1024] {
-            let running = run_stages(&rt, rt.alloc(), &chain, &words, &arrivals, cap, &OpenGate)?;
-            let table = table_of(rt.alloc(), &running)?;
-            assert_eq!(rt; table.as_slice(), expected.as_slice(), "{toxics} at {cap}");
-            assert_eq!(rt; running.ending, planned.ending, "{toxics} at {cap}");
-        }
+    for (toxics, arrived) in CASES {
+        compare(&rt, toxics, arrived, 1)?;
+        compare(&rt, toxics, arrived, 2)?;
+        compare(&rt, toxics, arrived, 1024)?;
     }
     Ok(())
 }
 
-#[test]
-fn a_text_runs_in_threads(rt: HostRuntime) -> Result<(), Fail> {
-    let words = Words::from_list(rt.alloc(), &[0])?;
-    let toxics = "limit_data:bytes=4 latency:latency=1";
-    let chain = chain_of(toxics).expect(&rt, "short forms");
-    let cases = [
-        (
-            "0 data 616263\n10 data 646566\n",
-            Ok(()),
-            "1000 0..3 616263\n1010 3..4 64\nclosed 1010\n",
-        ),
-        (
-            "0 data 61\n\n5 eof 6\n",
-            Err(StagesFault::Dry(DryFault::BadLine(3))),
-            "",
-        ),
-    ];
-    for (text, answer, written) in cases {
-        let mut reader = MemorySource::new(text.as_bytes().to_vec(rt.alloc())?, 7, None);
-        let mut writer = MemorySink::new(rt.alloc(), 100, 7, None)?;
-        let ran = stages_run(
-            &rt,
-            rt.alloc(),
-            &mut reader,
-            &mut writer,
-            &chain,
-            &words,
-            1,
-            &OpenGate,
-        );
-        assert_eq!(rt; ran, answer, "{text}");
-        assert_eq!(rt; writer.bytes(), written.as_bytes(), "{text}");
-    }
-    Ok(())
-}
-
-/// What `stages_run` writes for two latencies over rings of `cap` items.
+/// What `stages_run` answers and writes for these toxics over rings of `cap` items.
 fn run_at<R: Threads + Wait + Sync + AllocGlobal + Abort>(
     rt: &R,
+    toxics: &str,
     read: &str,
     cap: usize,
     gate: &impl Gate,
-) -> Result<String, Fail>
+) -> Result<(Result<(), StagesFault>, String), Fail>
     requires { (1 ≤ cap) × (cap ≤ 1024) }
 {
     let words = Words::from_list(rt.alloc(), &[0])?;
-    let chain = chain_of("latency:latency=1 latency:latency=2").expect(rt, "short forms");
-    let mut reader = MemorySource::new(read.as_bytes().to_vec(rt.alloc())?, 64, None);
-    let mut writer = MemorySink::new(rt.alloc(), 100, 64, None)?;
-    stages_run(
+    let chain = chain_of(toxics).expect(rt, "short forms");
+    let mut reader = MemorySource::new(read.as_bytes().to_vec(rt.alloc())?, 7, None);
+    let mut writer = MemorySink::new(rt.alloc(), 100, 7, None)?;
+    let ran = stages_run(
         rt,
         rt.alloc(),
         &mut reader,
@@ -105,14 +86,29 @@ fn run_at<R: Threads + Wait + Sync + AllocGlobal + Abort>(
         &words,
         cap,
         gate,
-    )?;
-    Ok(String::from_utf8_lossy(rt.alloc(), writer.bytes())?)
+    );
+    Ok((ran, String::from_utf8_lossy(rt.alloc(), writer.bytes())?))
+}
+
+#[test]
+fn a_text_runs_in_threads(rt: HostRuntime) -> Result<(), Fail> {
+    let toxics = "limit_data:bytes=4 latency:latency=1";
+    let (ran, written) = run_at(&rt, toxics, "0 data 616263\n10 data 646566\n", 1, &OpenGate)?;
+    assert_eq!(rt; ran, Ok(()));
+    assert_eq!(rt;
+        written.as_str(),
+        "1000 0..3 616263\n1010 3..4 64\nclosed 1010\n"
+    );
+    let (ran, written) = run_at(&rt, toxics, "0 data 61\n\n5 eof 6\n", 1, &OpenGate)?;
+    assert_eq!(rt; ran, Err(StagesFault::Dry(DryFault::BadLine(3))));
+    assert!(rt; written.is_empty());
+    Ok(())
 }
 
 #[test]
 fn workers_of_a_text_meet(rt: HostRuntime) -> Result<(), Fail> {
     let gate = Meeting::new(1);
-    let written = run_at(&rt, "0 data 61\n0 data 62\n", 1, &gate)?;
+    let (_, written) = run_at(&rt, TWO_LATENCIES, "0 data 61\n0 data 62\n", 1, &gate)?;
     assert!(rt; !gate.missed());
     assert_eq!(rt; written.as_str(), "3000 0..1 61\n3000 1..2 62\nopen\n");
     Ok(())
@@ -121,8 +117,9 @@ fn workers_of_a_text_meet(rt: HostRuntime) -> Result<(), Fail> {
 #[test]
 fn workers_of_a_text_have_rings_of_their_own(rt: HostRuntime) -> Result<(), Fail> {
     let gate = Log::new();
-    let written = run_at(
+    let (_, written) = run_at(
         &rt,
+        TWO_LATENCIES,
         "0 data 61\n0 data 62\n0 data 63\n0 data 64\n",
         1,
         &gate,
@@ -138,7 +135,7 @@ fn workers_of_a_text_have_rings_of_their_own(rt: HostRuntime) -> Result<(), Fail
 fn rings_of_a_text_have_their_room(rt: HostRuntime) -> Result<(), Fail> {
     let gate = Meeting::new(4);
     let read = "0 data 61\n0 data 62\n0 data 63\n0 data 64\n0 data 65\n";
-    let written = run_at(&rt, read, 3, &gate)?;
+    let (_, written) = run_at(&rt, TWO_LATENCIES, read, 3, &gate)?;
     assert!(rt; !gate.missed());
     assert!(rt; written.as_str().ends_with("3000 4..5 65\nopen\n"));
     Ok(())

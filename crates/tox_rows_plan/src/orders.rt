@@ -1,8 +1,6 @@
 //! The stage network, settled in drawn orders, beside the compiled plan.
 ghost use Rattle.std.specs.Prelude.{◌≤◌};
 
-use crate::random::below;
-use crate::worked::arrivals;
 use rand_pcg::Lcg64Xsh32;
 use std::alloc::{AllocError, Global};
 use std::process::Abort;
@@ -10,7 +8,7 @@ use std::test::Fail;
 use tox_defs::Chain;
 use tox_network::{Move, Network};
 use tox_plan::deliver;
-use tox_rows::{chain_of, table_of};
+use tox_rows::{arrivals_of, below, chain_of, table_of};
 use tox_time::{Arrivals, Outcome};
 use tox_words::Words;
 
@@ -18,7 +16,7 @@ use tox_words::Words;
 const LISTED: usize = 40;
 
 /// How many lists each case settles with.
-const LISTS: usize = 100;
+const LISTS: u64 = 100;
 
 /// A move of a network of at most two stages, possible or not.
 fn drawn_move(generator: &mut Lcg64Xsh32) -> Move {
@@ -58,23 +56,38 @@ fn settled(
 
 /// Compares networks of this room, each settled by a list of its own, with the compiled plan.
 fn compare(
-    rt: &impl Abort,
-    alloc: Global,
-    chain: &Chain,
-    words: &Words,
-    arrivals: &Arrivals,
+    rt: &(impl Abort + AllocGlobal),
+    words: &str,
+    toxics: &str,
+    arrived: &str,
     cap: usize,
 ) -> Result<(), Fail>
     requires { (1 ≤ cap) × (cap ≤ 1024) }
 {
-    let delivered = deliver(alloc, chain, words, arrivals)?;
-    let table = table_of(alloc, &delivered)?;
+    let alloc = rt.alloc();
+    let words = Words::from_text(alloc, words)?;
+    let chain = chain_of(toxics).expect(rt, "short forms");
+    let arrivals = arrivals_of(alloc, arrived).expect(rt, "arrivals");
+    let delivered = deliver(alloc, &chain, &words, &arrivals)?;
     let generator = &mut Lcg64Xsh32::new(cap as u64, 1);
-    for _ in 0..LISTS {
-        let outcome = settled(alloc, chain, words, arrivals, cap, generator)?;
-        assert_eq!(rt; table_of(alloc, &outcome)?, table);
-        assert_eq!(rt; outcome.ending, delivered.ending);
+    for list in 0..LISTS {
+        let outcome = settled(alloc, &chain, &words, &arrivals, cap, generator)?;
+        is_same(rt, alloc, &outcome, &delivered, list)?;
     }
+    Ok(())
+}
+
+/// Compares tables and endings of the case of this number.
+pub fn is_same(
+    rt: &impl Abort,
+    alloc: Global,
+    outcome: &Outcome,
+    expected: &Outcome,
+    number: u64,
+) -> Result<(), AllocError> {
+    let table = table_of(alloc, &outcome.slices)?;
+    assert_eq!(rt; table, table_of(alloc, &expected.slices)?, "case {number}");
+    assert_eq!(rt; outcome.ending, expected.ending, "case {number}");
     Ok(())
 }
 
@@ -103,12 +116,9 @@ fn drawn_orders_and_the_plan_agree(rt: HostRuntime) -> Result<(), Fail> {
         ("0", "reset_peer:timeout=20", ""),
     ];
     for (words, toxics, arrived) in cases {
-        let words = Words::from_text(rt.alloc(), words)?;
-        let chain = chain_of(toxics).expect(&rt, "short forms");
-        let arrivals = arrivals(&rt, rt.alloc(), arrived)?;
-        compare(&rt, rt.alloc(), &chain, &words, &arrivals, 1)?;
-        compare(&rt, rt.alloc(), &chain, &words, &arrivals, 2)?;
-        compare(&rt, rt.alloc(), &chain, &words, &arrivals, 1024)?;
+        compare(&rt, words, toxics, arrived, 1)?;
+        compare(&rt, words, toxics, arrived, 2)?;
+        compare(&rt, words, toxics, arrived, 1024)?;
     }
     Ok(())
 }

@@ -1,7 +1,7 @@
-//! What chains are compiled into.
+//! What chains are compiled into. What `plan` prints of them is in `examples/rows`.
 use std::test::Fail;
 use tox_compile::{Op, compile};
-use tox_rows::chain_of;
+use tox_rows::{at, chain_of};
 use tox_time::{Ending, Micros};
 use tox_words::Words;
 
@@ -56,63 +56,10 @@ fn each_toxic_has_its_operation(rt: HostRuntime) -> Result<(), Fail> {
 #[test]
 fn a_timeout_stands_alone(rt: HostRuntime) -> Result<(), Fail> {
     let words = Words::from_list(rt.alloc(), &[0])?;
-    let cases = [
-        (
-            "timeout:timeout=50",
-            "bandwidth:rate=7",
-            Ending::Closed(Micros::from_millis(50)),
-        ),
-        ("latency:latency=3", "timeout", Ending::StillOpen),
-        (
-            "timeout",
-            "reset_peer:timeout=8",
-            Ending::Reset(Micros::from_millis(8)),
-        ),
-    ];
-    for (first, second, ending) in cases {
-        let toxics = format!(in rt.alloc(); "{first} {second}")?;
-        let chain = chain_of(toxics.as_str()).expect(&rt, "short forms");
-        let plan = compile(&chain, &words);
-        assert_eq!(rt;
-            plan.ops(),
-            [Op::Mute { ending }].as_slice(),
-            "{first} {second}"
-        );
-        assert_eq!(rt; plan.deadline(), Some(Micros::ZERO));
-    }
-    Ok(())
-}
-
-#[test]
-fn toxicities_choose_by_their_lane(rt: HostRuntime) -> Result<(), Fail> {
-    let cases = [
-        (0, 0, 0),
-        (499, 500, 1),
-        (500, 500, 0),
-        (999, 1000, 1),
-        (1000, 1, 1),
-    ];
-    for (word, toxicity, count) in cases {
-        let words = Words::from_list(rt.alloc(), &[word])?;
-        let text = format!(in rt.alloc(); "reset_peer:timeout=1,toxicity={toxicity}")?;
-        let chain = chain_of(text.as_str()).expect(&rt, "a short form");
-        let plan = compile(&chain, &words);
-        assert_eq!(rt; plan.ops().len(), count, "word {word}, toxicity {toxicity}");
-    }
-    let words = Words::from_list(rt.alloc(), &[2, 0])?;
-    let chain = chain_of(
-        "latency:latency=5,toxicity=0 \
-         latency:latency=1,jitter=1",
-    )
-    .expect(&rt, "short forms");
-    let delay = Op::Delay {
-        fixed: 0,
-        latency: 1,
-        jitter: 1,
-        lane: 1,
-        until: 0,
-    };
-    assert_eq!(rt; compile(&chain, &words).ops(), [delay].as_slice());
-    assert_eq!(rt; compile(&chain, &words).deadline(), None);
+    let chain = chain_of("timeout:timeout=50 bandwidth:rate=7").expect(&rt, "short forms");
+    let plan = compile(&chain, &words);
+    let ending = Ending::Closed(at(50_000));
+    assert_eq!(rt; plan.ops(), [Op::Mute { ending }].as_slice());
+    assert_eq!(rt; plan.deadline(), Some(Micros::ZERO));
     Ok(())
 }

@@ -1,25 +1,15 @@
 //! The compiled runner beside the stages one after another, on chains, words and arrivals drawn at random.
-ghost use Rattle.std.specs.Prelude.{◌<◌};
-
+use crate::orders::is_same;
 use crate::staged::{outcome_of, staged_items};
 use rand_pcg::Lcg64Xsh32;
-use rand_pcg::rand_core::utils::NextWord;
-use std::alloc::{AllocError, Global};
+use std::alloc::Global;
 use std::process::Abort;
 use std::test::Fail;
 use tox_defs::{Chain, Toxic};
 use tox_plan::deliver;
-use tox_rows::table_of;
+use tox_rows::{below, drawn_words};
 use tox_time::{Arrivals, Micros};
-use tox_words::{Lanes, Words};
-
-/// A number from 0 up to, and without, the bound.
-pub fn below(generator: &mut Lcg64Xsh32, bound: u32) -> u32
-    requires { 0 < bound }
-    ensures { result < bound }
-{
-    generator.next_word() % bound
-}
+use tox_words::Lanes;
 
 fn toxic(generator: &mut Lcg64Xsh32) -> Toxic {
     match below(generator, 7) {
@@ -76,14 +66,6 @@ fn chain(rt: &impl Abort, generator: &mut Lcg64Xsh32) -> Chain {
     chain
 }
 
-fn words(alloc: Global, generator: &mut Lcg64Xsh32) -> Result<Vec<u32>, AllocError> {
-    let mut words = Vec::new(alloc);
-    for _ in 0..1 + below(generator, 6) {
-        words.push(generator.next_word())?;
-    }
-    Ok(words)
-}
-
 fn arrivals(alloc: Global, generator: &mut Lcg64Xsh32) -> Result<Arrivals, Fail> {
     let mut arrivals = Arrivals::new(alloc);
     let mut instant = Micros::ZERO;
@@ -97,22 +79,23 @@ fn arrivals(alloc: Global, generator: &mut Lcg64Xsh32) -> Result<Arrivals, Fail>
     Ok(arrivals)
 }
 
+/// Compares stages and runner on what a seed draws.
+fn compare(rt: &(impl Abort + AllocGlobal), seed: u64) -> Result<(), Fail> {
+    let alloc = rt.alloc();
+    let generator = &mut Lcg64Xsh32::new(seed, 1);
+    let chain = chain(rt, generator);
+    let words = drawn_words(alloc, generator)?;
+    let arrivals = arrivals(alloc, generator)?;
+    let delivered = deliver(alloc, &chain, &words, &arrivals)?;
+    let items = staged_items(rt, alloc, &chain, &words, &arrivals)?;
+    is_same(rt, alloc, &outcome_of(alloc, &items)?, &delivered, seed)?;
+    Ok(())
+}
+
 #[test]
 fn stages_and_runner_agree(rt: HostRuntime) -> Result<(), Fail> {
     for seed in 0..4000 {
-        let generator = &mut Lcg64Xsh32::new(seed, 1);
-        let chain = chain(&rt, generator);
-        let words = Words::from_list(rt.alloc(), &words(rt.alloc(), generator)?)?;
-        let arrivals = arrivals(rt.alloc(), generator)?;
-        let delivered = deliver(rt.alloc(), &chain, &words, &arrivals)?;
-        let items = staged_items(&rt, rt.alloc(), &chain, &words, &arrivals)?;
-        let staged = outcome_of(rt.alloc(), &items)?;
-        assert_eq!(rt;
-            table_of(rt.alloc(), &delivered)?,
-            table_of(rt.alloc(), &staged)?,
-            "seed {seed}"
-        );
-        assert_eq!(rt; delivered.ending, staged.ending, "seed {seed}");
+        compare(&rt, seed)?;
     }
     Ok(())
 }

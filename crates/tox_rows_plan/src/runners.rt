@@ -3,20 +3,9 @@ use std::process::Abort;
 use std::test::Fail;
 use tox_compile::compile;
 use tox_plan::Runner;
-use tox_rows::chain_of;
-use tox_time::{ArrivalFault, Ending, Micros, Slice, Span};
+use tox_rows::{at, chain_of, slice};
+use tox_time::{ArrivalFault, Ending, Micros};
 use tox_words::Words;
-
-fn at(micros: u64) -> Micros {
-    Micros::ZERO.after(micros)
-}
-
-fn slice(start: u64, stop: u64, micros: u64) -> Slice {
-    Slice {
-        span: Span { start, stop },
-        instant: at(micros),
-    }
-}
 
 /// A runner of these toxics that was offered nothing yet.
 fn runner_of<'w>(rt: &impl Abort, toxics: &str, words: &'w Words) -> Runner<'w> {

@@ -7,13 +7,9 @@ use std::test::Fail;
 use tox_compile::compile;
 use tox_lend::{Lent, Piece};
 use tox_plan::Runner;
-use tox_rows::chain_of;
+use tox_rows::{at, chain_of};
 use tox_time::{Ending, Micros, Span};
 use tox_words::Words;
-
-fn at(micros: u64) -> Micros {
-    Micros::ZERO.after(micros)
-}
 
 /// Start, instant and bytes of a slice.
 fn shown<'a>(lent: &Option<Lent<'a>>) -> Option<(u64, u64, &'a [u8])> {

@@ -4,30 +4,16 @@ use std::alloc::{AllocError, Global};
 use std::process::Abort;
 use std::test::Fail;
 use tox_plan::deliver;
-use tox_rows::{chain_of, table_of};
-use tox_time::{Arrivals, Ending, Micros, Outcome};
+use tox_rows::{arrivals_of, chain_of, table_of};
+use tox_time::{Ending, Outcome};
 use tox_words::Words;
-
-/// Arrivals written as `<bytes>@<micros>`, and the source's end as `eof@<micros>`.
-pub fn arrivals(rt: &impl Abort, alloc: Global, text: &str) -> Result<Arrivals, Fail> {
-    let mut arrivals = Arrivals::new(alloc);
-    for word in text.split_whitespace() {
-        let (what, micros) = word.split_once('@').expect(rt, "an instant");
-        let instant = Micros::new(micros.parse()?).expect(rt, "an instant up to the horizon");
-        match what {
-            "eof" => arrivals.eof(instant)?,
-            len => arrivals.push(len.parse()?, instant)?,
-        }
-    }
-    Ok(arrivals)
-}
 
 /// An outcome written as `<bytes>@<micros>` for each run of one instant, and its ending.
 fn written(alloc: Global, outcome: &Outcome) -> Result<String, AllocError> {
     let mut text = String::new(alloc);
     let mut run = 0u64;
     let mut at = 0;
-    for micros in table_of(alloc, outcome)? {
+    for micros in table_of(alloc, &outcome.slices)? {
         if micros != at && run > 0 {
             write!(text, "{run}@{at} ")?;
             run = 0;
@@ -48,6 +34,34 @@ fn write_ending(text: &mut String, ending: &Ending) -> Result<(), AllocError> {
         Ending::Closed(instant) => write!(text, "closed@{}", instant.get())?,
         Ending::Reset(instant) => write!(text, "reset@{}", instant.get())?,
     }
+    Ok(())
+}
+
+/// Compares what these toxics deliver of these arrivals, by the compiled plan and by the stages.
+fn compare(
+    rt: &(impl Abort + AllocGlobal),
+    words: &str,
+    toxics: &str,
+    arrived: &str,
+    expected: &str,
+) -> Result<(), Fail> {
+    let alloc = rt.alloc();
+    let words = Words::from_text(alloc, words)?;
+    let chain = chain_of(toxics).expect(rt, "short forms");
+    let arrivals = arrivals_of(alloc, arrived).expect(rt, "arrivals");
+    let delivered = deliver(alloc, &chain, &words, &arrivals)?;
+    assert_eq!(rt;
+        written(alloc, &delivered)?.as_str(),
+        expected,
+        "{toxics} on {arrived}"
+    );
+    let items = staged_items(rt, alloc, &chain, &words, &arrivals)?;
+    let staged = outcome_of(alloc, &items)?;
+    assert_eq!(rt;
+        written(alloc, &staged)?.as_str(),
+        expected,
+        "{toxics} on {arrived}"
+    );
     Ok(())
 }
 
@@ -156,22 +170,7 @@ fn plan_and_stages_give_the_worked_cases(rt: HostRuntime) -> Result<(), Fail> {
         ),
     ];
     for (words, toxics, arrived, expected) in cases {
-        let words = Words::from_text(rt.alloc(), words)?;
-        let chain = chain_of(toxics).expect(&rt, "short forms");
-        let arrivals = arrivals(&rt, rt.alloc(), arrived)?;
-        let delivered = deliver(rt.alloc(), &chain, &words, &arrivals)?;
-        assert_eq!(rt;
-            written(rt.alloc(), &delivered)?.as_str(),
-            expected,
-            "{toxics} on {arrived}"
-        );
-        let items = staged_items(&rt, rt.alloc(), &chain, &words, &arrivals)?;
-        let staged = outcome_of(rt.alloc(), &items)?;
-        assert_eq!(rt;
-            written(rt.alloc(), &staged)?.as_str(),
-            expected,
-            "{toxics} on {arrived}"
-        );
+        compare(&rt, words, toxics, arrived, expected)?;
     }
     Ok(())
 }

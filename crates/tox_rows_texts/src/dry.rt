@@ -21,8 +21,8 @@ fn limited(rt: &impl Abort) -> Chain {
     chain_of(rt, &["limit_data:bytes=4", "latency:latency=1"])
 }
 
-/// What a dry run of the two toxics answers and writes. The reader gives `read_most` bytes a call, the writer has room for so many
-/// and takes `write_most` a call, and each fails at the call of its number.
+/// What a dry run of the two toxics answers and writes. The reader gives `read_most` bytes a call, the writer has so much room
+/// and takes `write_most` bytes a call, and each fails at the call of its number.
 fn run(
     rt: &(impl Abort + AllocGlobal),
     read_most: usize,

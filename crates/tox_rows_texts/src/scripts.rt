@@ -29,8 +29,8 @@ fn a_chain_has_its_toxics_in_order(rt: HostRuntime) -> Result<(), Fail> {
     Ok(())
 }
 
-/// Compares version and lanes of a script that begins so. Chains have the lanes of their script, also those that no rule covers and
-/// those of a rule without toxics.
+/// Compares version and lanes of a script that begins so. Chains have the lanes of their script, also those that no rule covers
+/// and those of a rule without toxics.
 fn compare(
     rt: &(impl Abort + AllocGlobal),
     head: &str,
