@@ -40,9 +40,7 @@ pub fn end_fault(latest: Micros, has_ended: bool, instant: Micros) -> Option<Arr
 {
     if instant < latest {
         Some(ArrivalFault::TimeBack)
-    } else if has_ended {
-        Some(ArrivalFault::AfterEnd)
     } else {
-        None
+        has_ended.then_some(ArrivalFault::AfterEnd)
     }
 }
