@@ -1,7 +1,7 @@
 //! One direction of a link, carried between ends in memory.
 ghost use Rattle.std.specs.Prelude.{◌≡◌, false, IfOk};
 
-use crate::link_ends::{HungUp, Noted, RestingClock, WaitingSource, WatchingSink};
+use crate::link_ends::{HungUp, Noted, RestingClock, TickingGate, WaitingSource, WatchingSink};
 use std::alloc::Global;
 use std::process::Abort;
 use std::sync::atomic::{AtomicBool, AtomicU64, Ordering};
@@ -219,6 +219,26 @@ fn a_later_piece_has_a_later_instant(rt: HostRuntime) -> Result<(), Fail> {
         &expected,
         &[(3, 1000), (3, 2000), (4, 2000)],
     );
+    Ok(())
+}
+
+/// The clock is read anew for each message, once it is taken.
+#[test]
+fn each_piece_has_an_instant_of_its_own(rt: HostRuntime) -> Result<(), Fail> {
+    let mut set = Setup::new(rt.alloc(), 16, None)?;
+    let micros = set.clock.micros.clone()?;
+    let gate = Arc::new(rt.alloc(), TickingGate { micros })?;
+    let reader = MemorySource::new(b"abc".to_vec(rt.alloc())?, 1, None);
+    let answer = carried(&rt, "", reader, 10, &mut set, &gate)?;
+    compare(&rt, answer, 3, closed(40), SourceEnding::Eof);
+    let mut instant = 0u64;
+    for event in set.notes.events.as_slice() {
+        if let LinkEvent::Piece(_, taken) = event {
+            instant = instant.saturating_add(10);
+            assert_eq!(rt; *taken, at(instant));
+        }
+    }
+    assert_eq!(rt; instant, 30);
     Ok(())
 }
 

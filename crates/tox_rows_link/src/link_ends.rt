@@ -6,7 +6,7 @@ use std::sync::Arc;
 use std::sync::atomic::{AtomicBool, AtomicU64, Ordering};
 use tox_link::{Clock, Hangup, LinkEvent, Notes};
 use tox_rows::comes_true;
-use tox_time::{EndFault, Ending, Micros, Sink, Source};
+use tox_time::{EndFault, Ending, Gate, Micros, Sink, Source};
 
 /// A clock that stands at 0, goes to `until` in `rest`, and moves nowhere else.
 #[derive(Drop)]
@@ -37,6 +37,20 @@ impl Notes for Noted {
 
     fn note(&mut self, event: LinkEvent) -> Result<(), AllocError> {
         self.events.extend_from_slice(&[event])
+    }
+}
+
+/// A gate that moves the clock on by 10 at each message that the writer's side takes.
+#[derive(Drop)]
+pub struct TickingGate {
+    pub micros: Arc<AtomicU64>,
+}
+
+impl Gate for TickingGate {
+    fn pass(&self, stage: usize, _nth: u64) {
+        if stage == 1 {
+            self.micros.fetch_add(10, Ordering::SeqCst);
+        }
     }
 }
 
