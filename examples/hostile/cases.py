@@ -25,16 +25,19 @@ from ends import (
     send_until_told,
     shut_writing,
 )
+from manual import is_applied, words_of_seed
+from served import SEED
 from waiting import check
 
 CASES = []
 
 
-def case(links, toxic=None, stream="downstream", name="shop"):
+def case(links, toxic=None, stream="downstream", toxicity=1000, name="shop"):
     """Registers a case of so many links. A toxic with its attribute meets these links, and not the one after them."""
+    told = {"type": toxic[0], "attribute": toxic[1], "stream": stream, "toxicity": toxicity} if toxic else None
 
     def register(function):
-        CASES.append((function, links, (*toxic, stream) if toxic else None, name))
+        CASES.append((function, links, told, name))
         return function
 
     return register
@@ -240,6 +243,22 @@ def limit_in_a_flood(toxi):
     check(read_all(client) == BLOCK[:3], "the client heard other bytes than the upstream's first three")
     client.close()
     toxi.ended(1, 5, "closed", 3, "closed")
+
+
+@case(8, ("limit_data", "bytes = 3"), toxicity=500)
+def limit_by_the_seed(toxi):
+    """Whether a link meets the toxic follows from the seed, its number and the stream."""
+    for number in range(1, 9):
+        client, server = toxi.link()
+        server.sendall(b"hello")
+        shut_writing(server)
+        words = words_of_seed(SEED, number, "downstream")
+        want = b"hel" if is_applied(words, 0, 500) else b"hello"
+        heard = read_all(client)
+        check(heard == want, f"link {number}: the client heard {heard}, not {want}")
+        client.close()
+        server.close()
+        toxi.ended(number, 0, "closed", len(want), "closed")
 
 
 @case(2, ("reset_peer", "timeout = 50"))

@@ -13,6 +13,7 @@ from waiting import LIMIT, Failed, check, wait_until
 LINK = r"link {name} (\d+) up (\d+) (\w+) down (\d+) (\w+)"
 TOTAL = r"total {name} (\d+) up (\d+) down (\d+)"
 PIDFD_GETFD = 438
+SEED = 1
 
 
 class Served:
@@ -25,7 +26,7 @@ class Served:
             json.dump([{"name": name, "listen": "127.0.0.1:0", "upstream": f"127.0.0.1:{upstream.port}"}], file)
         with open(rules, "w") as file:
             file.write(script)
-        command = [program, "serve", "--config", config, "--script", rules, "--seed", "1", "--links", str(links)]
+        command = [program, "serve", "--config", config, "--script", rules, "--seed", str(SEED), "--links", str(links)]
         printed = re.escape(name.replace("\n", r"\x0a"))
         self.link_line = re.compile(LINK.format(name=printed))
         self.total_line = re.compile(TOTAL.format(name=printed))
