@@ -18,7 +18,7 @@ use std::sync::atomic::{AtomicBool, Ordering};
 pub(crate) struct UntilCut {
     socket: TcpStream,
     cut: Arc<AtomicBool, Global>,
-    /// The socket of the link that it reads. No bytes.
+    /// The socket of the link that it reads, for contracts alone. It takes no room.
     pub(crate) source: Snapshot<TcpStream>,
 }
 
