@@ -1,7 +1,7 @@
 -- The tables of rules nest four levels at most, where they are accepted.
-use Rattle.std.proofs.Common.{◌≡◌, ℕ, ◌+◌, suc, ◌≤◌, ℤ, Bool, true, false, cond, ◌&&◌, List, [], ◌∷◌, ◌++◌, codes, length, Option, Some, None, option_and_then, unwrap_or, Result, Ok, Err, refl, sym, ap, ◌∙◌, arith}
+use Rattle.std.proofs.Common.{◌≡◌, ℕ, ◌+◌, Bool, true, false, cond, List, [], ◌∷◌, ◌++◌, codes, length, Option, Some, option_and_then, unwrap_or, Result, Ok, Err, refl, ap, ◌∙◌, arith}
 use Rattle.std.proofs.lemmas.Bool.{and_parts}
-use Rattle.toml.specs.Data.{Data, string, integer, float, boolean, datetime, array, table, Items, no_items, item, Members, as_str, get, get_member, is_sorted, items_are_sorted, members_are_sorted}
+use Rattle.toml.specs.Data.{Data, string, integer, float, boolean, datetime, array, table, Items, no_items, item, get, is_sorted, items_are_sorted}
 use Rattle.tox_script.proofs.AcceptedToxic.{AtEach-among, IsFound, needed_read, optional_read, toxic_shallow}
 use Rattle.tox_script.proofs.Shallow.{IsShallow, IsShallow-scalar, ItemsAreShallow, MembersAreShallow-each, is_among-found, is_scalar, is_scalar-read}
 use Rattle.tox_time.proofs.Steps.{bind_ok, map_err_ok, passing_some}
@@ -10,11 +10,9 @@ use Rattle.tox_script.specs.Rule.{Rule, RuleFields, first_of, last_of, proxy_of,
 use Rattle.tox_script.specs.Script.{rules_from}
 use Rattle.tox_script.specs.Toxic.{NamedToxic}
 use Rattle.tox_script.specs.Toxics.{behind, chains_of, read_chains, toxic_at, toxics_from}
-use Rattle.tox_script.specs.declared.chains.Chains.{Chains}
 use Rattle.tox_script.specs.declared.fault.Field.{Field}
 use Rattle.tox_script.specs.declared.fault.Field.TheVariants as field
 use Rattle.tox_script.specs.declared.fault.Location.{Location}
-use Rattle.tox_script.specs.declared.fault.ScriptFault.{ScriptFault}
 use Rattle.tox_script.specs.declared.fault.ScriptFault.TheVariants as fault
 use Rattle.tox_script.specs.declared.settings.Settings.{Settings}
 use Rattle.tox_time.specs.Steps.{◌>>=◌, map_err}

@@ -1,5 +1,5 @@
 -- The table of a toxic nests two levels at most, where it is accepted.
-use Rattle.std.proofs.Common.{◌≡◌, ℕ, suc, ◌≤◌, ℤ, Bool, true, false, cond, ◌||◌, List, [], ◌∷◌, codes, map, Option, Some, None, option_and_then, option_map, unwrap_or, Result, Ok, Err, ok_or, refl, sym, ap, ◌∙◌, arith}
+use Rattle.std.proofs.Common.{◌≡◌, ℕ, Bool, true, false, cond, ◌||◌, List, [], ◌∷◌, codes, map, Option, Some, None, option_and_then, option_map, unwrap_or, Result, Ok, Err, ok_or, refl, sym, ◌∙◌, arith}
 use Rattle.std.proofs.lemmas.Slice.Eq.{bytes_eq-Decides}
 use Rattle.std.specs.Str.{bytes_eq}
 use Rattle.toml.specs.Data.{Data, string, integer, float, boolean, datetime, array, table, Members, as_str, get, get_member, is_sorted, members_are_sorted}

@@ -1,16 +1,10 @@
 -- A script of version 1, and the document of version 2 that is made of it.
-use Rattle.std.proofs.Common.{◌≡◌, ℕ, pos, ◌≤◌, Bool, true, false, cond, List, [], ◌∷◌, codes, Option, Some, None, option_map, unwrap_or, Result, Ok, Err, String, Global, Ordering, Less, string_bytes, nat_cmp, refl, sym, ap, ◌∙◌, arith}
-use Rattle.std.specs.BTreeMap.{insert_entry}
-use Rattle.std.specs.Cmp.Lexicographic.{slice_cmp}
+use Rattle.std.proofs.Common.{◌≡◌, ℕ, ◌≤◌, Bool, true, false, cond, List, [], codes, Option, Some, None, option_map, unwrap_or, Result, Ok, Err, refl, sym, ap, ◌∙◌, arith}
 use Rattle.std.specs.List.{find}
 use Rattle.std.specs.Str.{IsUtf8}
-use Rattle.std.specs.String.{string_cmp}
-use Rattle.toml.proofs.Views.{Entry, view-Integer}
-use Rattle.toml.specs.Data.{Data, integer, array, table, Items, no_items, item, get, members_depth, members_have_valid_dates, is_sorted}
+use Rattle.toml.specs.Data.{Data, array, table, Items, no_items, get, members_depth, members_have_valid_dates, is_sorted}
 use Rattle.toml.specs.Parse.{parse_document}
-use Rattle.toml.specs.View.{members_view, view}
-use Rattle.toml.specs.declared.value.Value.{Value, Integer}
-use Rattle.tox_script.proofs.AcceptedRule.{rules_shallow, tables_array, tables_found}
+use Rattle.tox_script.proofs.AcceptedRule.{rules_shallow, tables_array}
 use Rattle.tox_script.proofs.AcceptedToxic.{optional_read}
 use Rattle.tox_script.proofs.Migrating.{in_version, rules_two}
 use Rattle.tox_time.proofs.Steps.{bind_ok, bind_from, map_err_ok}

@@ -1,5 +1,5 @@
 -- What a script of version 1 says, the same tables say in version 2.
-use Rattle.std.proofs.Common.{◌≡◌, ℕ, ◌+◌, List, [], ◌∷◌, ◌++◌, length, Option, Some, None, Result, Ok, Err, ok_or, refl, sym, ap, ◌∙◌}
+use Rattle.std.proofs.Common.{◌≡◌, ℕ, ◌+◌, List, [], ◌∷◌, ◌++◌, length, Option, Some, None, Ok, ok_or, refl, sym, ap, ◌∙◌}
 use Rattle.toml.specs.Data.{Data, string, integer, float, boolean, datetime, array, table, Items, no_items, item}
 use Rattle.tox_defs.specs.Kind.{kind_of}
 use Rattle.tox_defs.specs.declared.fault.ToxicFault.TheVariants.{UnknownType, ToxicityNotThousandths}

@@ -1,9 +1,7 @@
 -- One value more, and the order of a map's keys.
-use Rattle.std.proofs.Common.{◌≡◌, true, refl, get_or, take, [], ◌∷◌, ◌++◌, sym, ap, ◌∙◌, arith, append_assoc, append-nil}
+use Rattle.std.proofs.Common.{◌≡◌, get_or, take, [], ◌∷◌, ◌++◌, sym, ap, ◌∙◌, arith, append_assoc, append-nil}
 use Rattle.std.proofs.lemmas.Grind.{common_steps}
 use Rattle.std.proofs.lemmas.List.{take_more}
-use Rattle.toml.specs.Data.{is_sorted}
-use Rattle.toml.specs.View.{view}
 use Rattle.toml.proofs.Views.{Entry, items_are_sorted-last, values_sorted-last, members_are_sorted-from}
 use Rattle.tox_script.proofs.ascending.+ascending.Goals as goal
 

@@ -1,6 +1,5 @@
 -- One digit or two write a number that is small enough.
-use Rattle.std.proofs.Common.{◌≡◌, ◌<◌, Some, arith, rules, sym, ◌∙◌}
-use Rattle.std.proofs.lemmas.Grind.{common_steps}
+use Rattle.std.proofs.Common.{◌≡◌, ◌<◌, Some, arith, rules}
 use Rattle.tox_time.specs.Text.{decimal_value}
 use Rattle.tox_script.proofs.Decimals.{decimal_value-lt}
 use Rattle.tox_script.proofs.toxicity.fraction.Goals as goal
