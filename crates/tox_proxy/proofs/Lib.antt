@@ -1,6 +1,7 @@
 mod ReadLemmas
 mod Causes
 mod CheckedText
+mod EveryRest
 mod Passing
 mod PieceLines
 mod CutLemmas
