@@ -1,8 +1,8 @@
 //! The command line, as `clap` reads it.
+use crate::cap::{Cap, DEFAULT_CAP, MAX_CAP};
 use crate::help;
 use crate::link::LinkArguments;
 use crate::serve::ServeArguments;
-use crate::stages::{Cap, DEFAULT_CAP, MAX_CAP};
 use clap::builder::ValueParser;
 use clap::error::ErrorKind;
 use clap::{Arg, ArgAction, ArgMatches, Command, Error, value_parser};

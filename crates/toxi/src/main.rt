@@ -1,6 +1,7 @@
 //! The program `toxi`: a TCP proxy that adds scripted faults.
 #![tactic(auto)]
 
+mod cap;
 mod command_line;
 mod dry;
 mod fault;

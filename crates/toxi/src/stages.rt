@@ -1,7 +1,5 @@
 //! `toxi stages`: as `toxi dry`, but by threads.
-ghost use Rattle.std.specs.Prelude.{◌≤◌};
-ghost use Rattle.toxi.specs.declared.stages.TheConstants.{MAX_CAP};
-
+use crate::cap::Cap;
 use crate::fault::Fault;
 use crate::link::LinkArguments;
 use std::io;
@@ -9,29 +7,6 @@ use std::sync::Wait;
 use std::thread::Threads;
 use tox_proxy::stages_run;
 use tox_time::{OpenGate, Real};
-
-/// The most items of a ring.
-pub const MAX_CAP: usize = 1024;
-
-/// The room of each ring without `--cap`.
-pub const DEFAULT_CAP: usize = 4;
-
-/// The room of each ring, in items.
-#[derive(Debug, Drop)]
-pub struct Cap {
-    items: usize,
-    ghost some: { 1 ≤ items },
-    ghost most: { items ≤ MAX_CAP },
-}
-
-impl Cap {
-    /// Room for `items`, or for as many of them as a ring may have.
-    pub fn new(items: usize) -> Cap {
-        Cap {
-            items: items.clamp(1, MAX_CAP),
-        }
-    }
-}
 
 /// Reads the link, and then the input.
 pub fn stages<R: Input + Print + AllocGlobal + Threads + Wait + Sync>(
@@ -49,7 +24,7 @@ pub fn stages<R: Input + Print + AllocGlobal + Threads + Wait + Sync>(
         &mut writer,
         &link.chain,
         &link.words,
-        cap.items,
+        cap.items(),
         &OpenGate,
     )
     .map_err(Fault::Stages)
