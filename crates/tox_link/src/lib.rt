@@ -34,5 +34,5 @@ pub use link_core::LinkCore;
 pub use link_fault::LinkFault;
 pub use link_report::LinkReport;
 pub use message::ReadEnd;
-pub use notes::{LinkEvent, Notes};
+pub use notes::{LinkEvent, NoNotes, Notes};
 pub use source_ending::SourceEnding;

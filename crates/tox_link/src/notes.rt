@@ -1,5 +1,5 @@
 //! What happens on a link, and who is told.
-ghost use Rattle.std.specs.Prelude.{◌≡◌, List, [], ◌∷◌, Option, OnOk, OnErr};
+ghost use Rattle.std.specs.Prelude.{◌≡◌, List, [], ◌∷◌, Option, None, OnOk, OnErr};
 ghost use Rattle.tox_link.specs.Events.{with_events};
 ghost use Rattle.tox_link.specs.declared.notes.LinkEvent.{LinkEvent as OneEvent};
 
@@ -26,4 +26,16 @@ pub trait Notes {
     fn note(&mut self, event: LinkEvent) -> Result<(), AllocError>
         ensures noted { OnOk result (events self.new ≡ with_events (events self.old) (event ∷ [])) }
         ensures refused { OnErr result (events self.new ≡ events self.old) };
+}
+
+/// Notes that keep nothing.
+#[derive(Clone, Copy)]
+pub struct NoNotes;
+
+impl Notes for NoNotes {
+    ghost events = { λ notes. None };
+
+    fn note(&mut self, _event: LinkEvent) -> Result<(), AllocError> {
+        Ok(())
+    }
 }

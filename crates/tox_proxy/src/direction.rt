@@ -12,12 +12,11 @@ use crate::link_clock::{LinkStart, SinceStart};
 use crate::link_end::{Carried, StreamEnd};
 use crate::link_sockets::LinkSockets;
 use crate::serve_runtime::ServeRuntime;
-use crate::sockets::NoNotes;
 use crate::until_cut::UntilCut;
 use crate::until_due::UntilDue;
 use std::alloc::Global;
 use std::sync::Arc;
-use tox_link::{Ends, LinkFault, LinkReport, carry};
+use tox_link::{Ends, LinkFault, LinkReport, NoNotes, carry};
 use tox_time::{MAX_BYTES, OpenGate, Real, Stream};
 
 /// One direction of a link, before it is carried.

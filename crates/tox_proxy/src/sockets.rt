@@ -3,12 +3,11 @@ ghost use Rattle.std.specs.Prelude.{◌≡◌, None};
 ghost use Rattle.tox_proxy.specs.Shutting.{shut_of};
 
 use crate::link_sockets::LinkSocket;
-use std::alloc::AllocError;
 use std::io::Read;
 use std::net::{Shutdown, TcpStream};
 use std::sync::atomic::Ordering;
 use std::time::Duration;
-use tox_link::{Hangup, LinkEvent, Notes};
+use tox_link::Hangup;
 use tox_time::Ending;
 
 /// How many reads at most drop what a peer has sent.
@@ -109,17 +108,5 @@ fn drop_unread(mut socket: &TcpStream) {
             Ok(count) if count == bytes.len() => {}
             _ => return,
         }
-    }
-}
-
-/// Notes that keep nothing.
-#[derive(Clone, Copy)]
-pub(crate) struct NoNotes;
-
-impl Notes for NoNotes {
-    ghost events = { λ notes. None };
-
-    fn note(&mut self, _event: LinkEvent) -> Result<(), AllocError> {
-        Ok(())
     }
 }
