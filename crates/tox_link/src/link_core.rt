@@ -18,7 +18,7 @@ use std::collections::VecDeque;
 use std::marker::Model;
 use tox_compile::Plan;
 use tox_plan::Runner;
-use tox_time::{ArrivalFault, Ending, MAX_BYTES, Micros, Slice};
+use tox_time::{ArrivalFault, Ending, Micros, Slice, piece_fault};
 use tox_words::Words;
 
 /// The most pieces that a core keeps.
@@ -104,6 +104,13 @@ impl<'w> LinkCore<'w> {
         }
     }
 
+    /// Whether no piece may follow: the source has ended, or the ending is known.
+    fn is_over(&self) -> bool
+        ensures { result ≡ (self.now.ended || is_some (core_ending self.now)) }
+    {
+        self.ended || self.ending().is_some()
+    }
+
     /// A piece of `len` bytes arrived at `instant`.
     ///
     /// Refuses, in this order, an empty piece, more than 2^40 bytes in all, and a piece after the
@@ -120,14 +127,8 @@ impl<'w> LinkCore<'w> {
             ≡ remaining_output self.old (Chunk (record { start = self.old.bytes; stop = self.old.bytes + len }) instant ∷ items)) }
         ensures err { OnErr result (self.new ≡ self.old) }
     {
-        if len == 0 {
-            return Err(ArrivalFault::EmptyPiece);
-        }
-        if len > MAX_BYTES - self.bytes {
-            return Err(ArrivalFault::TooManyBytes);
-        }
-        if self.ended || self.ending().is_some() {
-            return Err(ArrivalFault::AfterEnd);
+        if let Some(fault) = piece_fault(self.bytes, self.latest, self.is_over(), len, instant) {
+            return Err(fault);
         }
         self.waiting
             .push_back_reserved(WaitingPiece { len, instant });
