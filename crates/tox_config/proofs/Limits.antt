@@ -4,7 +4,7 @@ use Rattle.std.specs.List.{list_any, position_or_len}
 use Rattle.std.proofs.lemmas.List.{length-map}
 use Rattle.std.proofs.lemmas.Map.Views.{any-filter_same}
 use Rattle.std.proofs.lemmas.Option.{slice_get_past}
-use Rattle.tox_config.specs.Entry.{put}
+use Rattle.tox_config.specs.LentProxy.{put}
 use Rattle.tox_config.specs.Proxy.{Proxy}
 use Rattle.tox_config.specs.Populate.{Front, entries_of, is_named, last_named, most_names, names_of, populated, unless_fault}
 use Rattle.tox_config.specs.declared.fault.ConfigFault.{ConfigFault}

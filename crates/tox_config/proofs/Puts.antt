@@ -3,7 +3,7 @@ use Rattle.std.proofs.Common.{◌≡◌, ℕ, zero, suc, ◌+◌, ◌<◌, ◌�
 use Rattle.std.specs.List.{position_or_len}
 use Rattle.std.proofs.lemmas.Bool.Decides.{nat_tests}
 use Rattle.std.proofs.lemmas.List.Sums.{fold-append}
-use Rattle.tox_config.specs.Entry.{put}
+use Rattle.tox_config.specs.LentProxy.{put}
 use Rattle.tox_config.specs.Proxy.{Proxy}
 use Rattle.tox_config.specs.Populate.{entries_of, is_named, last_named}
 use Rattle.tox_config.proofs.Names.{name-is_named, is_named-sym, is_named-same}

@@ -5,7 +5,7 @@ use Rattle.std.proofs.lemmas.List.{at_drop_more}
 use Rattle.serde_json.specs.View.{items_view, view}
 use Rattle.serde_json.specs.declared.value.Value.{Value}
 use Rattle.serde_json.specs.Data.{Items, no_items, item}
-use Rattle.tox_config.specs.Entry.{put}
+use Rattle.tox_config.specs.LentProxy.{put}
 use Rattle.tox_config.specs.Proxy.{Proxy, proxy_of}
 use Rattle.tox_time.specs.Steps.{◌>>=◌}
 use Rattle.tox_config.specs.Populate.{entries_of, front_of, most_names, populated, with_first}

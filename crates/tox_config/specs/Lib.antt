@@ -1,4 +1,4 @@
 pub mod Address
 pub mod Proxy
 pub mod Populate
-pub mod Entry
+pub mod LentProxy

@@ -2,8 +2,8 @@
 #![tactic(auto)]
 
 mod address;
-mod entry;
 mod fault;
+mod lent_proxy;
 mod populate;
 mod proxy;
 

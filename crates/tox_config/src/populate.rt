@@ -3,12 +3,12 @@ ghost use Rattle.std.specs.Prelude.{◌≡◌, ◌≢◌, ◌<◌, ◌≤◌, le
 ghost use Rattle.std.specs.List.{IsDistinct};
 ghost use Rattle.std.specs.Str.{bytes_eq, is_utf8};
 ghost use Rattle.serde_json.specs.View.{items_view, view};
-ghost use Rattle.tox_config.specs.Entry.{entry_view, put};
+ghost use Rattle.tox_config.specs.LentProxy.{lent_view, put};
 ghost use Rattle.tox_config.specs.Populate.{front_of, is_named, json_of, most_names, populate, populated};
 ghost use Rattle.tox_config.specs.declared.fault.ConfigFault.TheVariants.{NotJson, OutOfMemory};
 
-use crate::entry::Entry;
 use crate::fault::ConfigFault;
+use crate::lent_proxy::LentProxy;
 use crate::proxy::ProxyDef;
 use serde_json::Value;
 use std::alloc::{AllocError, Global};
@@ -61,15 +61,15 @@ fn read_json(alloc: Global, bytes: &[u8]) -> Result<Value, ConfigFault>
 }
 
 /// One entry for each name that some values have.
-fn entries_of(alloc: Global, values: &[Value]) -> Result<Vec<Entry<'_>>, ConfigFault>
+fn entries_of(alloc: Global, values: &[Value]) -> Result<Vec<LentProxy<'_>>, ConfigFault>
     ensures ok { IfOk result (λ entries. populated (front_of 0 (items_view values.now))
-        ≡ Ok (map entry_view entries.items)) }
+        ≡ Ok (map lent_view entries.items)) }
     ensures err { IfErr result (λ fault. fault ≢ OutOfMemory
         → populated (front_of 0 (items_view values.now)) ≡ Err fault) }
 {
     let mut entries = Vec::new(alloc);
     for (place, value) in values.iter().enumerate() {
-        put(&mut entries, Entry::read(value, place)?)?;
+        put(&mut entries, LentProxy::read(value, place)?)?;
         if MAX_PROXIES < entries.len() {
             return Err(ConfigFault::TooMany(place));
         }
@@ -78,9 +78,9 @@ fn entries_of(alloc: Global, values: &[Value]) -> Result<Vec<Entry<'_>>, ConfigF
 }
 
 /// Puts an entry in the place of the one of its name, or last.
-fn put<'a>(entries: &mut Vec<Entry<'a>>, entry: Entry<'a>) -> Result<(), AllocError>
-    ensures { OnOk result (map entry_view entries.new.items
-        ≡ put (entry_view entry.entry) (map entry_view entries.old.items)) }
+fn put<'a>(entries: &mut Vec<LentProxy<'a>>, entry: LentProxy<'a>) -> Result<(), AllocError>
+    ensures { OnOk result (map lent_view entries.new.items
+        ≡ put (lent_view entry.entry) (map lent_view entries.old.items)) }
 {
     match position_of(entries, entry.name) {
         Some(index) => entries[index] = entry,
@@ -90,15 +90,15 @@ fn put<'a>(entries: &mut Vec<Entry<'a>>, entry: Entry<'a>) -> Result<(), AllocEr
 }
 
 /// The place of the first entry of a name.
-fn position_of(entries: &[Entry<'_>], name: &str) -> Option<usize>
-    ensures { result ≡ position (λ entry. is_named name.now (entry_view entry)) entries.now }
+fn position_of(entries: &[LentProxy<'_>], name: &str) -> Option<usize>
+    ensures { result ≡ position (λ entry. is_named name.now (lent_view entry)) entries.now }
 {
     entries.iter().position(|entry| entry.name == name)
 }
 
 /// The definitions that some entries stand for.
-fn defs_of(alloc: Global, entries: &[Entry<'_>]) -> Result<Vec<ProxyDef>, AllocError>
-    ensures { IfOk result (λ defs. defs.items ≡ map entry_view entries.now) }
+fn defs_of(alloc: Global, entries: &[LentProxy<'_>]) -> Result<Vec<ProxyDef>, AllocError>
+    ensures { IfOk result (λ defs. defs.items ≡ map lent_view entries.now) }
 {
     let mut defs = Vec::with_capacity(alloc, entries.len())?;
     for entry in entries {

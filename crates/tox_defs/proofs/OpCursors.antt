@@ -15,7 +15,7 @@ use Rattle.tox_defs.specs.Reaction.{flow_from, state_from, with_piece, with_chun
 use Rattle.tox_defs.specs.Op.{op_reaction}
 use Rattle.tox_defs.specs.Until.{with_previous}
 use Rattle.tox_defs.specs.Look.{as_chunk, rest_of, Finds, after_piece_of, IsFront}
-use Rattle.tox_defs.specs.OpCursor.{ending_or, ended_or, cursor_gives, cursor_leaves, IsSound, IsNextPiece, IsAtEnd}
+use Rattle.tox_defs.specs.OpCursor.{ending_or, ended_or, cursor_gives, cursor_leaves, IsSound, IsNextPiece, GivesOnlyEnding}
 use Rattle.tox_defs.proofs.FlowLemmas.{flow_from-done}
 
 -- nothing is left of a chunk that was read to its end
@@ -163,7 +163,7 @@ cursor_at_last_piece draws start cursor piece ending running some sound finds fr
 -- a cursor whose look found its ending
 pub cursor_at_end : (draws : Draws) (start : ℕ) (cursor : OpCursor) (ending : Ending) → cursor.ending ≡ None → start < cursor.stop
     → ((items : List Item) → Finds (op_reaction cursor.op draws) cursor.state (rest_at start cursor) items (Ended ending))
-    → IsAtEnd draws start cursor (record { op = cursor.op; state = with_ending (with_chunk cursor.state) ending; stop = cursor.stop; instant = cursor.instant; ending = Some ending }) ending
+    → GivesOnlyEnding draws start cursor (record { op = cursor.op; state = with_ending (with_chunk cursor.state) ending; stop = cursor.stop; instant = cursor.instant; ending = Some ending }) ending
 cursor_at_end draws start cursor ending running some finds =
     let done : State = with_ending (with_chunk cursor.state) ending in
     record {

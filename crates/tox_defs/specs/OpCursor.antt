@@ -67,7 +67,7 @@ pub record IsNextPiece (draws : Draws) (start : ℕ) (old new : OpCursor) (piece
   pub leaves : cursor_leaves draws start old ≡ cursor_leaves draws piece.span.stop new
 
 -- the cursor gives its ending and nothing else
-pub record IsAtEnd (draws : Draws) (start : ℕ) (old new : OpCursor) (ending : Ending) : Type 0 where
+pub record GivesOnlyEnding (draws : Draws) (start : ℕ) (old new : OpCursor) (ending : Ending) : Type 0 where
   pub op : new.op ≡ old.op
   pub stop : new.stop ≡ old.stop
   pub instant : new.instant ≡ old.instant
@@ -79,4 +79,4 @@ pub record IsAtEnd (draws : Draws) (start : ℕ) (old new : OpCursor) (ending : 
 -- what an advance brought
 abbrev pub MatchEmission : Draws → ℕ → OpCursor → OpCursor → Emission → Type 0
 MatchEmission draws start old new (Piece piece) = IsNextPiece draws start old new piece
-MatchEmission draws start old new (End ending) = IsAtEnd draws start old new ending
+MatchEmission draws start old new (End ending) = GivesOnlyEnding draws start old new ending

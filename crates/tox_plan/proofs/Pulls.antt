@@ -9,7 +9,7 @@ use Rattle.tox_words.specs.Draw.{Draws}
 use Rattle.tox_defs.specs.declared.op_cursor.OpCursor.{OpCursor}
 use Rattle.tox_defs.specs.Op.{op_giving, is_mute}
 use Rattle.tox_defs.specs.Look.{as_chunk}
-use Rattle.tox_defs.specs.OpCursor.{cursor_gives, IsSound, IsNextPiece, IsAtEnd, MatchEmission}
+use Rattle.tox_defs.specs.OpCursor.{cursor_gives, IsSound, IsNextPiece, GivesOnlyEnding, MatchEmission}
 use Rattle.tox_defs.specs.declared.op_cursor.Emission.{Emission}
 use Rattle.tox_defs.specs.declared.op_cursor.Emission.TheVariants.{Piece, End}
 use Rattle.tox_plan.specs.OpCursors.{to_come_from, AreNested, AreDrained, AreRead, IsNext, IsFrom, MatchPulled, OnlyEnds}
@@ -42,7 +42,7 @@ module _ (draws : Draws) (start : ℕ) (old upstream : List OpCursor) (cursor : 
   pub filled-piece : (new : OpCursor) (found : Slice) → is_mute cursor.op ≡ false → IsNextPiece draws start (filled cursor piece) new found → IsNext draws start (cursor ∷ old) (new ∷ upstream) source found
   filled-piece new found heard advanced = advanced-piece draws start (cursor ∷ old) upstream (filled cursor piece) new source found filled-gives next.nested heard advanced
 
-  pub filled-end : (new : OpCursor) (ending : Ending) → IsAtEnd draws start (filled cursor piece) new ending → OnlyEnds draws start (cursor ∷ old) source ending
+  pub filled-end : (new : OpCursor) (ending : Ending) → GivesOnlyEnding draws start (filled cursor piece) new ending → OnlyEnds draws start (cursor ∷ old) source ending
   filled-end new ending at_end items = filled-gives items ∙ at_end.gives (to_come_from draws piece.span.stop upstream source items)
 
 -- an ending that comes from upstream

@@ -7,7 +7,7 @@ use Rattle.tox_text.specs.declared.fault.DryFault.{DryFault}
 use Rattle.tox_text.specs.declared.fault.DryFault.TheVariants.{OutOfMemory, BadLine, TooLong, ReadFault, WriteFault, Arrival}
 use Rattle.tox_text.specs.ArrivalsText.{Arrived, arrivals_of, lines_of, nothing, unless_refused, with_end, with_line, with_lines, with_piece, with_read}
 use Rattle.tox_text.specs.Line.{Line, arrival, end, line_of}
-use Rattle.tox_proxy.specs.Reading.{HasCause, IsRead}
+use Rattle.tox_proxy.specs.Reading.{HasCause, ReadsWhole}
 
 -- a fault, where there is one, is of a line
 abbrev IsOfLine : Result Arrived DryFault → Type 0
@@ -47,7 +47,7 @@ of_line_arrivals : (text : List ℕ) → IsOfLine (arrivals_of text)
 of_line_arrivals text = of_line_lines 1 (lines_of text) nothing
 
 -- the fault of a text that was read has its cause in the text
-pub HasCause-spelled : (before after : Option (List ℕ)) (read_failed write_failed : Bool) (text : List ℕ) (fault : DryFault) → IsRead before after text
+pub HasCause-spelled : (before after : Option (List ℕ)) (read_failed write_failed : Bool) (text : List ℕ) (fault : DryFault) → ReadsWhole before after text
     → (fault ≢ OutOfMemory → arrivals_of text ≡ Err fault) → HasCause before after read_failed write_failed fault
 HasCause-spelled before after read_failed write_failed text OutOfMemory read first = tt
 HasCause-spelled before after read_failed write_failed text (BadLine n) read first = record { text = text; read = read; first = first (λ same. cc) }

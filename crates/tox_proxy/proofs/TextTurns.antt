@@ -42,13 +42,13 @@ line_adds n before next line took = by (line_of line) refl
         record { items = Closed t ∷ []; bytes = []; items_are = sym (ap (λ a. a.items) same); bytes_are = append-nil before.bytes ∙ sym (ap (λ a. a.bytes) same) }
 
 -- what the lines that are left add
-pub record Leaves (before arrived : Arrived) : Type 0 where
+pub record GrowsTo (before arrived : Arrived) : Type 0 where
   pub later : List Item
   pub more : List ℕ
   pub items : before.items ++ later ≡ arrived.items
   pub bytes : before.bytes ++ more ≡ arrived.bytes
 
-pub lines_leave : (n : ℕ) (lines : List (List ℕ)) (before arrived : Arrived) → with_lines n lines before ≡ Ok arrived → Leaves before arrived
+pub lines_leave : (n : ℕ) (lines : List (List ℕ)) (before arrived : Arrived) → with_lines n lines before ≡ Ok arrived → GrowsTo before arrived
 lines_leave n [] before arrived is =
     let same : before ≡ arrived = cc in
     record { later = []; more = []; items = append-nil before.items ∙ ap (λ a. a.items) same; bytes = append-nil before.bytes ∙ ap (λ a. a.bytes) same }

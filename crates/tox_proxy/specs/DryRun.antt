@@ -9,7 +9,7 @@ use Rattle.tox_network.specs.Runs.{OfEveryRest}
 use Rattle.tox_text.specs.declared.fault.DryFault.{DryFault}
 use Rattle.tox_text.specs.declared.fault.DryFault.TheVariants.{OutOfMemory, BadLine, TooLong, ReadFault, WriteFault, Arrival}
 use Rattle.tox_text.specs.ArrivalsText.{Arrived, arrivals_of}
-use Rattle.tox_proxy.specs.Reading.{IsRead}
+use Rattle.tox_proxy.specs.Reading.{ReadsWhole}
 use Rattle.tox_text.specs.ResultText.{result_text}
 use Rattle.tox_text.specs.Writing.{AppendsFront}
 
@@ -22,7 +22,7 @@ flow_text chain words arrived =
 -- a text was read, and this is what it describes
 pub record ParsesInput (before after : Option (List ℕ)) (arrived : Arrived) : Type 0 where
   pub text : List ℕ
-  pub read : IsRead before after text
+  pub read : ReadsWhole before after text
   pub spelled : arrivals_of text ≡ Ok arrived
 
 -- the result of what the read text describes was written, and nothing else
@@ -50,11 +50,11 @@ pub record WritesFront (chain : Toxics) (words : List ℕ)
   pub front : AppendsFront old new (flow_text chain words arrived)
 
 -- what a fault leaves written: a prefix of the result where the writer failed, and else nothing
-abbrev pub Leaves : Toxics → List ℕ → Option (List ℕ) → Option (List ℕ) → Option (List ℕ)
+abbrev pub DryLeaves : Toxics → List ℕ → Option (List ℕ) → Option (List ℕ) → Option (List ℕ)
     → Option (List ℕ) → DryFault → Type 0
-Leaves chain words before after old new OutOfMemory = new ≡ old
-Leaves chain words before after old new (BadLine n) = new ≡ old
-Leaves chain words before after old new TooLong = new ≡ old
-Leaves chain words before after old new ReadFault = new ≡ old
-Leaves chain words before after old new WriteFault = WritesFront chain words before after old new
-Leaves chain words before after old new (Arrival fault n) = new ≡ old
+DryLeaves chain words before after old new OutOfMemory = new ≡ old
+DryLeaves chain words before after old new (BadLine n) = new ≡ old
+DryLeaves chain words before after old new TooLong = new ≡ old
+DryLeaves chain words before after old new ReadFault = new ≡ old
+DryLeaves chain words before after old new WriteFault = WritesFront chain words before after old new
+DryLeaves chain words before after old new (Arrival fault n) = new ≡ old

@@ -11,6 +11,7 @@ pub mod Picking
 pub mod Serving
 pub mod LinkEnds
 pub mod ServeLines
+pub mod Bound
 pub mod ResetDue
 pub mod Courses
 pub mod Streams

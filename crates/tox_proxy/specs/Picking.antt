@@ -8,7 +8,7 @@ use Rattle.tox_config.specs.Populate.{is_named}
 use Rattle.tox_config.specs.Proxy.{Proxy}
 use Rattle.tox_script.specs.Rule.{Rules}
 use Rattle.tox_text.specs.PickText.{pick_text}
-use Rattle.tox_text.specs.PrintingPick.{Leaves}
+use Rattle.tox_text.specs.PrintingPick.{PickLeaves}
 use Rattle.tox_proxy.specs.Files.{KnownFile}
 use Rattle.tox_proxy.specs.Setup.{HasSetupCause, IsSetUp}
 use Rattle.tox_text.specs.declared.pick_text.PrintPickFault.{PrintPickFault}
@@ -47,7 +47,7 @@ pub record StopsPrinting (known : List ℕ → KnownFile) (request : PickRequest
     (old new : Option (List ℕ)) (failed : Bool) (fault : PrintPickFault) : Type 0 where
   pub text : List ℕ
   pub answers : Answers known request text
-  pub left : Leaves old new failed text fault
+  pub left : PickLeaves old new failed text fault
 
 -- why a pick request failed, and what was written: nothing, or a prefix of the answer where the writer has failed
 abbrev pub HasPickCause : (List ℕ → KnownFile) → PickRequest → Option (List ℕ) → Option (List ℕ)

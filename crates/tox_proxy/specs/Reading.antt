@@ -8,7 +8,7 @@ use Rattle.tox_proxy.specs.declared.reading.InputFault.TheVariants as input
 use Rattle.tox_text.specs.ArrivalsText.{arrivals_of}
 
 -- a text was read: the reader gave it, and is at its end
-pub record IsRead (before after : Option (List ℕ)) (text : List ℕ) : Type 0 where
+pub record ReadsWhole (before after : Option (List ℕ)) (text : List ℕ) : Type 0 where
   pub given : before ≡ prepend_known text after
   pub ended : IsAtEnd after
   pub short : length text ≤ 16777216
@@ -40,7 +40,7 @@ dry_fault input.ReadFault = ReadFault
 -- a text was read whose first fault is this one
 pub record SpellsFault (before after : Option (List ℕ)) (fault : DryFault) : Type 0 where
   pub text : List ℕ
-  pub read : IsRead before after text
+  pub read : ReadsWhole before after text
   pub first : arrivals_of text ≡ Err fault
 
 -- why a dry run answers a fault: of the reader's bytes, or since the reader or the writer has failed

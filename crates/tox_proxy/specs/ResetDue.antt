@@ -1,5 +1,5 @@
 -- By when operations end a stream.
-use Rattle.std.specs.Prelude.{ℕ, ◌+◌, ◌*◌, Bool, false, nat_le, Option, Some, None}
+use Rattle.std.specs.Prelude.{ℕ, ◌+◌, ◌*◌, Option, Some, None}
 use Rattle.tox_time.specs.Time.{plus}
 use Rattle.tox_defs.specs.declared.op.Op.{Op}
 use Rattle.tox_defs.specs.declared.op.Op.TheVariants.{Delay, Pace, Slow, Mute, Cutoff, Slicing, Limit}
@@ -19,8 +19,3 @@ after_op due (Mute end) = None
 after_op due (Cutoff instant) = earlier instant due
 after_op due (Slicing average variation micros lane until) = None
 after_op due (Limit bytes) = due
-
--- whether an instant is reached, if there is one
-abbrev pub is_reached : Option ℕ → ℕ → Bool
-is_reached None now = false
-is_reached (Some due) now = nat_le due now

@@ -41,7 +41,7 @@ pub record IsAtPiece (stands : Arrived → ℕ → List Item → Type 0) (piece 
   pub before : stands arrived piece.start (chunk_of piece ∷ later)
 
 -- the source's end comes next
-pub record IsAtEnd (stands : Arrived → ℕ → List Item → Type 0) (t : ℕ) : Type 0 where
+pub record IsAtSourceEnd (stands : Arrived → ℕ → List Item → Type 0) (t : ℕ) : Type 0 where
   pub arrived : Arrived
   pub position : ℕ
   pub later : List Item

@@ -1,7 +1,8 @@
 -- Which proxies are served and for how many connections, and why nothing is served.
-use Rattle.std.specs.Prelude.{◌≡◌, ℕ, Bool, true, false, ◌||◌, nat_le, List, Option, Some, None}
+use Rattle.std.specs.Prelude.{◌≡◌, ℕ, Bool, true, ◌||◌, nat_le, List, Option}
 use Rattle.std.specs.List.{Contains}
 use Rattle.tox_config.specs.Proxy.{Proxy}
+use Rattle.tox_proxy.specs.Bound.{is_reached}
 use Rattle.tox_proxy.specs.declared.serve_fault.ServeFault.{ServeFault}
 use Rattle.tox_proxy.specs.declared.serve_fault.ServeFault.TheVariants.{ListenRefused, SpawnRefused, OutOfMemory}
 
@@ -24,11 +25,6 @@ HasServeCause proxies (ListenRefused name) = HasEnabled proxies name.now
 HasServeCause proxies SpawnRefused = Unit {0}
 HasServeCause proxies OutOfMemory = Unit {0}
 
--- whether a proxy has taken as many connections as it was told
-abbrev pub has_taken : Option ℕ → ℕ → Bool
-has_taken None connections = false
-has_taken (Some links) connections = nat_le links connections
-
 -- whether a proxy stops listening: after as many connections as it was told, or as many links as a book holds
 abbrev pub is_enough : Option ℕ → ℕ → ℕ → Bool
-is_enough links connections opened = has_taken links connections || nat_le 1000000 opened
+is_enough links connections opened = is_reached links connections || nat_le 1000000 opened

@@ -5,7 +5,7 @@ use Rattle.tox_proxy.specs.declared.fault.StagesFault.{StagesFault}
 use Rattle.tox_proxy.specs.declared.fault.StagesFault.TheVariants.{Dry, Stages}
 use Rattle.tox_text.specs.ArrivalsText.{Arrived}
 use Rattle.tox_proxy.specs.Reading.{HasCause}
-use Rattle.tox_proxy.specs.DryRun.{ParsesInput, Leaves}
+use Rattle.tox_proxy.specs.DryRun.{ParsesInput, DryLeaves}
 
 -- why a run of stages answers a fault: as a dry run, or of its stages, where the text has no fault
 abbrev pub HasStagesCause : Option (List ℕ) → Option (List ℕ) → Bool → Bool → StagesFault → Type 0
@@ -18,5 +18,5 @@ HasStagesCause before after read_failed write_failed (Stages fault) =
 abbrev pub StagesLeave : Toxics → List ℕ → Option (List ℕ) → Option (List ℕ) → Option (List ℕ)
     → Option (List ℕ) → StagesFault → Type 0
 StagesLeave chain words before after old new (Dry fault) =
-    Leaves chain words before after old new fault
+    DryLeaves chain words before after old new fault
 StagesLeave chain words before after old new (Stages fault) = new ≡ old

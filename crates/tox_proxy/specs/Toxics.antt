@@ -11,9 +11,9 @@ use Rattle.tox_proxy.specs.declared.toxics.ToxicsFault.{ToxicsFault}
 use Rattle.tox_proxy.specs.declared.toxics.ToxicsFault.TheVariants.{Short, TooMany}
 
 -- what the n-th short form leaves, where it is one
-abbrev pub with_read : ℕ → Toxics → Result (Toxic × ℕ) ShortFault → Result Toxics ToxicsFault
-with_read n chain (Err fault) = Err (Short fault n)
-with_read n chain (Ok read) =
+abbrev pub with_parsed : ℕ → Toxics → Result (Toxic × ℕ) ShortFault → Result Toxics ToxicsFault
+with_parsed n chain (Err fault) = Err (Short fault n)
+with_parsed n chain (Ok read) =
     if nat_lt (length chain.entries) (lane_count chain.lanes)
     then Ok (record {
       lanes = chain.lanes;
@@ -24,7 +24,7 @@ with_read n chain (Ok read) =
 
 -- what the n-th short form leaves
 abbrev pub with_short : ℕ → Toxics → List ℕ → Result Toxics ToxicsFault
-with_short n chain text = with_read n chain (short_of text)
+with_short n chain text = with_parsed n chain (short_of text)
 
 -- what the short forms leave one after the other, from the n-th on
 abbrev pub with_shorts : ℕ → List (List ℕ) → Toxics → Result Toxics ToxicsFault

@@ -1,7 +1,7 @@
 //! An arrivals text that was read whole and has no fault, with room for its second pass.
 ghost use Rattle.std.specs.Prelude.{◌≡◌, ◌≢◌, ◌+◌, [], false, vec_capacity, IfOk, IfErr, Err};
 ghost use Rattle.tox_text.specs.Checked.{IsChecked};
-ghost use Rattle.tox_proxy.specs.Reading.{HasCause, IsRead, TakesAtMost};
+ghost use Rattle.tox_proxy.specs.Reading.{HasCause, ReadsWhole, TakesAtMost};
 
 use crate::reading::read_input;
 use crate::second_pass::PieceRoom;
@@ -23,7 +23,7 @@ pub(crate) fn read_checked<R: Source>(
 ) -> Result<CheckedInput, DryFault>
     requires { R.failed reader.old ≡ false }
     ensures read { IfOk result
-        (λ input. IsRead (R.remaining reader.old) (R.remaining reader.new) input.text.items) }
+        (λ input. ReadsWhole (R.remaining reader.old) (R.remaining reader.new) input.text.items) }
     ensures checked { IfOk result
         (λ input. IsChecked input.text.items (vec_capacity input.room.spare)) }
     ensures empty { IfOk result

@@ -1,6 +1,6 @@
 //! The dry run: arrivals in, the result of a chain out, with no clock and no socket.
 ghost use Rattle.std.specs.Prelude.{◌≡◌, ◌≢◌, ◌+◌, [], false, vec_capacity, OnOk, IfErr, Ok, Err};
-ghost use Rattle.tox_proxy.specs.DryRun.{Leaves, WritesEveryRest, WritesResult, flow_text};
+ghost use Rattle.tox_proxy.specs.DryRun.{DryLeaves, WritesEveryRest, WritesResult, flow_text};
 ghost use Rattle.tox_proxy.specs.Reading.{HasCause, TakesAtMost};
 ghost use Rattle.tox_text.specs.ArrivalsText.{Arrived, arrivals_of};
 ghost use Rattle.tox_text.specs.Checked.{IsChecked};
@@ -44,7 +44,7 @@ pub fn dry_run<R: Source, W: Sink>(
     ensures working { result ≢ Err WriteFault → W.failed writer.new ≡ false }
     ensures reading { result ≢ Err ReadFault → R.failed reader.new ≡ false }
     ensures left { IfErr result
-        (Leaves chain.now words.now (R.remaining reader.old) (R.remaining reader.new)
+        (DryLeaves chain.now words.now (R.remaining reader.old) (R.remaining reader.new)
         (W.written writer.old) (W.written writer.new)) }
     ensures most { TakesAtMost (16_777_216 + 1) (R.remaining reader.old) (R.remaining reader.new) }
 {

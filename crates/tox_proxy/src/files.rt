@@ -1,7 +1,7 @@
 //! Files, read whole.
 ghost use Rattle.std.specs.Prelude.{◌≡◌, false, None, IfOk, IfErr};
 ghost use Rattle.tox_proxy.specs.Files.{HasFileCause, IsFileFault, IsFileOf};
-ghost use Rattle.tox_proxy.specs.Reading.{IsRead};
+ghost use Rattle.tox_proxy.specs.Reading.{ReadsWhole};
 
 use crate::reading::{InputFault, MAX_INPUT, read_input};
 use std::alloc::Global;
@@ -47,7 +47,7 @@ fn read_named<'a, R: Source>(
 ) -> Result<Vec<u8>, FileFault<'a>>
     requires { R.failed reader.old ≡ false }
     ensures ok { IfOk result
-        (λ bytes. IsRead (R.remaining reader.old) (R.remaining reader.new) bytes.items) }
+        (λ bytes. ReadsWhole (R.remaining reader.old) (R.remaining reader.new) bytes.items) }
     ensures fault { IfErr result
         (HasFileCause name.now (R.remaining reader.old) (R.remaining reader.new)
         (R.failed reader.new)) }

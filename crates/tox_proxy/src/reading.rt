@@ -1,6 +1,6 @@
 //! Reading an input whole.
 ghost use Rattle.std.specs.Prelude.{◌≡◌, ◌≢◌, ◌+◌, ◌<◌, false, length, IfOk, IfErr, Err};
-ghost use Rattle.tox_proxy.specs.Reading.{HasInputCause, IsRead, TakesAtMost};
+ghost use Rattle.tox_proxy.specs.Reading.{HasInputCause, ReadsWhole, TakesAtMost};
 
 use std::alloc::{AllocError, Global};
 use tox_time::Source;
@@ -25,7 +25,7 @@ pub(crate) enum InputFault {
 pub(crate) fn read_input<R: Source>(alloc: Global, reader: &mut R) -> Result<Vec<u8>, InputFault>
     requires { R.failed reader.old ≡ false }
     ensures ok { IfOk result
-        (λ text. IsRead (R.remaining reader.old) (R.remaining reader.new) text.items) }
+        (λ text. ReadsWhole (R.remaining reader.old) (R.remaining reader.new) text.items) }
     ensures fault { IfErr result
         (HasInputCause (R.remaining reader.old) (R.remaining reader.new) (R.failed reader.new)) }
     ensures working { result ≢ Err InputFault.ReadFault → R.failed reader.new ≡ false }
@@ -52,7 +52,7 @@ fn read_by_blocks<R: Source>(
     requires working { R.failed reader.old ≡ false }
     requires room { 0 < length block.old }
     ensures ok { IfOk result
-        (λ text. IsRead (R.remaining reader.old) (R.remaining reader.new) text.items) }
+        (λ text. ReadsWhole (R.remaining reader.old) (R.remaining reader.new) text.items) }
     ensures fault { IfErr result
         (HasInputCause (R.remaining reader.old) (R.remaining reader.new) (R.failed reader.new)) }
     ensures working { result ≢ Err InputFault.ReadFault → R.failed reader.new ≡ false }

@@ -6,7 +6,7 @@ ghost use Rattle.tox_time.specs.Arrivals.{arrival_list};
 ghost use Rattle.tox_lend.specs.Run.{stop_of};
 ghost use Rattle.tox_text.specs.ArrivalsText.{Arrived};
 ghost use Rattle.tox_text.specs.ResultText.{ending_line};
-ghost use Rattle.tox_proxy.specs.SecondPass.{IsAtEnd, IsAtPiece, IsBehindAll, PrintsDownTo, chunk_of};
+ghost use Rattle.tox_proxy.specs.SecondPass.{IsAtSourceEnd, IsAtPiece, IsBehindAll, PrintsDownTo, chunk_of};
 
 use tox_lend::Piece;
 use tox_text::Buffer;
@@ -40,10 +40,10 @@ pub(crate) trait SliceSource {
 
     /// The source ended behind the last piece.
     fn end(&mut self, instant: Micros)
-        requires next { IsAtEnd (stands self.old) instant }
-        ensures stands { (at : IsAtEnd (stands self.old) instant)
+        requires next { IsAtSourceEnd (stands self.old) instant }
+        ensures stands { (at : IsAtSourceEnd (stands self.old) instant)
             → stands self.new at.arrived at.position at.later }
-        ensures same { (at : IsAtEnd (stands self.old) instant)
+        ensures same { (at : IsAtSourceEnd (stands self.old) instant)
             → text_left self.new at.arrived (arrival_list at.later)
             ≡ text_left self.old at.arrived (arrival_list (Closed instant ∷ at.later)) };
 

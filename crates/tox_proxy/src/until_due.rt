@@ -1,7 +1,8 @@
 //! Writing a socket of a link until the reset of its stream is due.
 ghost use Rattle.std.specs.Prelude.{◌≡◌, false, None, fold};
 ghost use Rattle.std.specs.Io.{WritesAtMost};
-ghost use Rattle.tox_proxy.specs.ResetDue.{after_op, is_reached};
+ghost use Rattle.tox_proxy.specs.Bound.{is_reached};
+ghost use Rattle.tox_proxy.specs.ResetDue.{after_op};
 
 use crate::link_clock::SinceStart;
 use crate::reset_due::reset_due;

@@ -19,26 +19,26 @@ const MANY: usize = 1_048_576;
 
 /// What a link is carried with: a clock at 0, a writer and a hangup that look at it, and notes.
 #[derive(Drop)]
-struct Setup {
+struct CarryCase {
     clock: RestingClock,
     ends: Ends<WatchingSink<MemorySink>, HungUp>,
     notes: Noted,
     bytes: Arc<AtomicU64>,
 }
 
-impl Setup {
+impl CarryCase {
     /// The sink has room for 16 bytes, takes at most `most` a call, and fails at the call of this number.
-    fn new(alloc: Global, most: usize, failing_call: Option<u64>) -> Result<Setup, Fail>
+    fn new(alloc: Global, most: usize, failing_call: Option<u64>) -> Result<CarryCase, Fail>
         ensures { IfOk result (λ made. made.ends.writer.sink.failed ≡ false) }
     {
-        Setup::with_sink(
+        CarryCase::with_sink(
             alloc,
             MemorySink::new(alloc, 16, most.max(1), failing_call)?,
         )
     }
 
     /// With a sink of its own.
-    fn with_sink(alloc: Global, sink: MemorySink) -> Result<Setup, Fail>
+    fn with_sink(alloc: Global, sink: MemorySink) -> Result<CarryCase, Fail>
         requires { sink.failed ≡ false }
         ensures { IfOk result (λ made. made.ends.writer.sink.failed ≡ false) }
     {
@@ -51,7 +51,7 @@ impl Setup {
             first: None,
         };
         let hangup = HungUp::new(micros.clone()?);
-        Ok(Setup {
+        Ok(CarryCase {
             clock: RestingClock { micros },
             ends: Ends { writer, hangup },
             notes: Noted {
@@ -68,7 +68,7 @@ fn carried<R, S, G>(
     toxics: &str,
     reader: S,
     reads: u64,
-    set: &mut Setup,
+    set: &mut CarryCase,
     gate: &Arc<G>,
 ) -> Result<Result<LinkReport<S>, LinkFault>, Fail>
 where
@@ -104,7 +104,7 @@ fn passed<R: Threads + Wait + Copy + Send + AllocGlobal + Abort + 'static>(
     most: usize,
     failing_call: Option<u64>,
     reads: u64,
-    set: &mut Setup,
+    set: &mut CarryCase,
 ) -> Result<Result<LinkReport<MemorySource>, LinkFault>, Fail>
     requires { set.old.ends.writer.sink.failed ≡ false }
 {
@@ -153,7 +153,7 @@ fn closed(micros: u64) -> Ending {
 
 #[test]
 fn latency_delays_two_bytes(rt: HostRuntime) -> Result<(), Fail> {
-    let mut set = Setup::new(rt.alloc(), 16, None)?;
+    let mut set = CarryCase::new(rt.alloc(), 16, None)?;
     let answer = passed(&rt, "latency:latency=1", b"ab", 16, None, 10, &mut set)?;
     compare(&rt, answer, 2, closed(1000), SourceEnding::Eof);
     let expected = [LinkEvent::Piece(2, at(0)), wrote(0, 2, 1000)];
@@ -170,7 +170,7 @@ fn latency_delays_two_bytes(rt: HostRuntime) -> Result<(), Fail> {
 
 #[test]
 fn reader_and_writer_meet(rt: HostRuntime) -> Result<(), Fail> {
-    let mut set = Setup::new(rt.alloc(), 16, None)?;
+    let mut set = CarryCase::new(rt.alloc(), 16, None)?;
     let gate = Arc::new(rt.alloc(), Meeting::new(1))?;
     let reader = MemorySource::new(b"ab".to_vec(rt.alloc())?, 16, None);
     let answer = carried(&rt, "", reader, 10, &mut set, &gate)?;
@@ -181,7 +181,7 @@ fn reader_and_writer_meet(rt: HostRuntime) -> Result<(), Fail> {
 
 #[test]
 fn a_muted_link_stays_open(rt: HostRuntime) -> Result<(), Fail> {
-    let mut set = Setup::new(rt.alloc(), 16, None)?;
+    let mut set = CarryCase::new(rt.alloc(), 16, None)?;
     let answer = passed(&rt, "timeout:timeout=0", b"", 16, None, 10, &mut set)?;
     compare(&rt, answer, 0, Ending::StillOpen, SourceEnding::NotReached);
     assert!(rt; set.notes.events.is_empty());
@@ -195,7 +195,7 @@ fn a_muted_link_stays_open(rt: HostRuntime) -> Result<(), Fail> {
 #[test]
 fn a_later_piece_has_a_later_instant(rt: HostRuntime) -> Result<(), Fail> {
     let alloc = rt.alloc();
-    let mut set = Setup::new(alloc, 16, None)?;
+    let mut set = CarryCase::new(alloc, 16, None)?;
     let gate = Arc::new(alloc, OpenGate)?;
     let missed = Arc::new(alloc, AtomicBool::new(false))?;
     let reader = WaitingSource {
@@ -225,7 +225,7 @@ fn a_later_piece_has_a_later_instant(rt: HostRuntime) -> Result<(), Fail> {
 /// The clock is read anew for each message, once it is taken.
 #[test]
 fn each_piece_has_an_instant_of_its_own(rt: HostRuntime) -> Result<(), Fail> {
-    let mut set = Setup::new(rt.alloc(), 16, None)?;
+    let mut set = CarryCase::new(rt.alloc(), 16, None)?;
     let micros = set.clock.micros.clone()?;
     let gate = Arc::new(rt.alloc(), TickingGate { micros })?;
     let reader = MemorySource::new(b"abc".to_vec(rt.alloc())?, 1, None);
@@ -244,7 +244,7 @@ fn each_piece_has_an_instant_of_its_own(rt: HostRuntime) -> Result<(), Fail> {
 
 #[test]
 fn a_slow_close_waits_for_its_instant(rt: HostRuntime) -> Result<(), Fail> {
-    let mut set = Setup::new(rt.alloc(), 16, None)?;
+    let mut set = CarryCase::new(rt.alloc(), 16, None)?;
     let answer = passed(&rt, "slow_close:delay=1", b"ab", 16, None, 10, &mut set)?;
     compare(&rt, answer, 2, closed(1000), SourceEnding::Eof);
     let expected = [LinkEvent::Piece(2, at(0)), wrote(0, 2, 0)];
@@ -255,7 +255,7 @@ fn a_slow_close_waits_for_its_instant(rt: HostRuntime) -> Result<(), Fail> {
 
 #[test]
 fn a_failing_reader_closes_the_link(rt: HostRuntime) -> Result<(), Fail> {
-    let mut set = Setup::new(rt.alloc(), 16, None)?;
+    let mut set = CarryCase::new(rt.alloc(), 16, None)?;
     let answer = passed(&rt, "", b"ab", 16, Some(2), 10, &mut set)?;
     compare(&rt, answer, 2, closed(0), SourceEnding::ReadFault);
     Ok(())
@@ -263,7 +263,7 @@ fn a_failing_reader_closes_the_link(rt: HostRuntime) -> Result<(), Fail> {
 
 #[test]
 fn reads_are_used_up(rt: HostRuntime) -> Result<(), Fail> {
-    let mut set = Setup::new(rt.alloc(), 16, None)?;
+    let mut set = CarryCase::new(rt.alloc(), 16, None)?;
     let answer = passed(&rt, "", b"ab", 1, None, 1, &mut set)?;
     compare(&rt, answer, 1, closed(0), SourceEnding::ReadsUsedUp);
     Ok(())
@@ -272,7 +272,7 @@ fn reads_are_used_up(rt: HostRuntime) -> Result<(), Fail> {
 #[test]
 fn many_small_reads_are_used_up(rt: HostRuntime) -> Result<(), Fail> {
     let sink = MemorySink::new(rt.alloc(), MANY, 16_384, None)?;
-    let mut set = Setup::with_sink(rt.alloc(), sink)?;
+    let mut set = CarryCase::with_sink(rt.alloc(), sink)?;
     let bytes = vec![in rt.alloc(); 0x61; MANY]?;
     let answer = passed(&rt, "", &bytes, 1, None, MANY as u64, &mut set)?;
     compare(&rt, answer, 1_048_576, closed(0), SourceEnding::ReadsUsedUp);
@@ -281,7 +281,7 @@ fn many_small_reads_are_used_up(rt: HostRuntime) -> Result<(), Fail> {
 
 #[test]
 fn a_failing_writer_resets_the_link(rt: HostRuntime) -> Result<(), Fail> {
-    let mut set = Setup::new(rt.alloc(), 1, Some(3))?;
+    let mut set = CarryCase::new(rt.alloc(), 1, Some(3))?;
     let answer = passed(&rt, "", b"abc", 16, None, 10, &mut set)?;
     assert!(rt; matches!(answer, Err(LinkFault::WriteFault(2))));
     assert_eq!(rt; set.ends.writer.sink.bytes(), b"ab".as_slice());
@@ -296,7 +296,7 @@ fn a_failing_writer_resets_the_link(rt: HostRuntime) -> Result<(), Fail> {
 #[test]
 fn a_writer_that_takes_nothing_resets_the_link(rt: HostRuntime) -> Result<(), Fail> {
     let sink = MemorySink::new(rt.alloc(), 0, 1, None)?;
-    let mut set = Setup::with_sink(rt.alloc(), sink)?;
+    let mut set = CarryCase::with_sink(rt.alloc(), sink)?;
     let answer = passed(&rt, "", b"abc", 16, None, 10, &mut set)?;
     assert!(rt; matches!(answer, Err(LinkFault::WriteFault(0))));
     assert!(rt; set.ends.writer.sink.bytes().is_empty());

@@ -72,13 +72,13 @@ fn compare(
     let generator = &mut Lcg64Xsh32::new(cap as u64, 1);
     for list in 0..LISTS {
         let outcome = settled(alloc, &chain, &words, &arrivals, cap, generator)?;
-        is_same(rt, alloc, &outcome, &delivered, list)?;
+        compare_outcomes(rt, alloc, &outcome, &delivered, list)?;
     }
     Ok(())
 }
 
 /// Compares tables and endings of the case of this number.
-pub fn is_same(
+pub fn compare_outcomes(
     rt: &impl Abort,
     alloc: Global,
     outcome: &Outcome,

@@ -1,5 +1,5 @@
 //! The compiled runner beside the stages one after another, on chains, words and arrivals drawn at random.
-use crate::orders::is_same;
+use crate::orders::compare_outcomes;
 use crate::staged::{outcome_of, staged_items};
 use rand_pcg::Lcg64Xsh32;
 use std::alloc::Global;
@@ -88,7 +88,7 @@ fn compare(rt: &(impl Abort + AllocGlobal), seed: u64) -> Result<(), Fail> {
     let arrivals = arrivals(alloc, generator)?;
     let delivered = deliver(alloc, &chain, &words, &arrivals)?;
     let items = staged_items(rt, alloc, &chain, &words, &arrivals)?;
-    is_same(rt, alloc, &outcome_of(alloc, &items)?, &delivered, seed)?;
+    compare_outcomes(rt, alloc, &outcome_of(alloc, &items)?, &delivered, seed)?;
     Ok(())
 }
 

@@ -14,7 +14,7 @@ ghost use Rattle.tox_stages.specs.Workers.{IsWorkerOf};
 ghost use Rattle.tox_stages.specs.declared.fault.StageFault.TheVariants.{SpawnRefused};
 
 use crate::fault::StageFault;
-use crate::parkers::{Circle, Parkers};
+use crate::sleepers::{Circle, Sleepers};
 use crate::source_and_sink::feed_and_drain;
 use crate::waiting::push_waiting;
 use crate::worker::{RingEnds, SendsFlowOf, work};
@@ -38,7 +38,7 @@ struct Pipeline<'s, R, G> {
     arrivals: &'s Arrivals,
     cap: usize,
     gate: &'s G,
-    parkers: &'s Circle,
+    sleepers: &'s Circle,
 }
 
 /// A worker that was started, and the consumer of the ring behind it.
@@ -49,7 +49,7 @@ fn spawn<'s, E: 's, R: Threads + Wait + Sync, G: Gate>(
     pipeline: &Pipeline<'s, R, G>,
     scope: &'s Scope<'s, E>,
     stage_number: usize,
-    parkers: Parkers<'s>,
+    sleepers: Sleepers<'s>,
     placed: Placed,
     consumer: Consumer<Item>,
     producer: Producer<Item>,
@@ -65,7 +65,7 @@ fn spawn<'s, E: 's, R: Threads + Wait + Sync, G: Gate>(
     let gate = pipeline.gate;
     let lanes = pipeline.lanes;
     let words = pipeline.words;
-    let (own, before, behind) = (parkers.own, parkers.before, parkers.behind);
+    let (own, before, behind) = (sleepers.own, sleepers.before, sleepers.behind);
     let promise = SendsFlowOf {
         placed,
         lanes,
@@ -82,7 +82,7 @@ fn spawn<'s, E: 's, R: Threads + Wait + Sync, G: Gate>(
             ensures flow { SendsFlow (placed_reaction (draw_in lanes words.entry.now) placed)
                 (received result.consumer) (sent result.producer) }
         {
-            let parkers = Parkers::new(own, before, behind);
+            let sleepers = Sleepers::new(own, before, behind);
             work(
                 rt,
                 gate,
@@ -90,7 +90,7 @@ fn spawn<'s, E: 's, R: Threads + Wait + Sync, G: Gate>(
                 placed,
                 lanes,
                 words,
-                &parkers,
+                &sleepers,
                 consumer,
                 producer,
             )
@@ -104,7 +104,7 @@ fn start<'s, E: 's, R: Threads + Wait + Sync, G: Gate>(
     pipeline: &Pipeline<'s, R, G>,
     scope: &'s Scope<'s, E>,
     stage_number: usize,
-    parkers: Parkers<'s>,
+    sleepers: Sleepers<'s>,
     placed: &Placed,
     consumer: Consumer<Item>,
 ) -> Result<Started<'s>, StageFault>
@@ -121,7 +121,7 @@ fn start<'s, E: 's, R: Threads + Wait + Sync, G: Gate>(
         pipeline,
         scope,
         stage_number,
-        parkers,
+        sleepers,
         *placed,
         consumer,
         producer,
@@ -158,22 +158,27 @@ fn level<'s, E: 's, R: Threads + Wait + Sync, G: Gate>(
 {
     let rt = pipeline.rt;
     let Some((toxic, later)) = toxics.split_first() else {
-        let parkers = pipeline.parkers.ends(stage_number);
+        let sleepers = pipeline.sleepers.ends(stage_number);
         return feed_and_drain(
             rt,
             pipeline.alloc,
-            &parkers,
+            &sleepers,
             pipeline.arrivals,
             first,
             consumer,
         );
     };
-    let parkers = pipeline.parkers.worker(stage_number, later.len());
-    let started = start(pipeline, scope, stage_number, parkers, toxic, consumer);
+    let sleepers = pipeline.sleepers.worker(stage_number, later.len());
+    let started = start(pipeline, scope, stage_number, sleepers, toxic, consumer);
     let (worker, next) = match started {
         Ok(started) => started,
         Err(fault) => {
-            push_waiting(rt, &pipeline.parkers.ends(stage_number), first, Item::Quiet);
+            push_waiting(
+                rt,
+                &pipeline.sleepers.ends(stage_number),
+                first,
+                Item::Quiet,
+            );
             return Err(fault);
         }
     };
@@ -211,7 +216,7 @@ pub fn run_stages<R: Threads + Wait + Sync, G: Gate>(
     ensures refused { result ≡ Err SpawnRefused → applied chain.now words.now ≢ [] }
 {
     let circle = Circle::new();
-    let parkers = &circle;
+    let sleepers = &circle;
     thread::scope(
         thread::scope_env(),
         rt,
@@ -239,7 +244,7 @@ pub fn run_stages<R: Threads + Wait + Sync, G: Gate>(
                 arrivals,
                 cap,
                 gate,
-                parkers,
+                sleepers,
             };
             let toxics = chain.applied(words);
             let (mut consumer, outcome) = level(

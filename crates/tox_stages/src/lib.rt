@@ -4,7 +4,7 @@
 mod collected;
 mod fault;
 mod levels;
-mod parkers;
+mod sleepers;
 mod source_and_sink;
 mod waiting;
 mod worker;

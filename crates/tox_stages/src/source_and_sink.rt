@@ -9,7 +9,7 @@ ghost use Rattle.tox_stages.specs.declared.fault.StageFault.TheVariants.{OutOfMe
 
 use crate::collected::Collected;
 use crate::fault::StageFault;
-use crate::parkers::Parkers;
+use crate::sleepers::Sleepers;
 use rtrb::{Consumer, Producer};
 use std::alloc::Global;
 use std::sync::Wait;
@@ -59,7 +59,7 @@ fn drain(consumer: &mut Consumer<Item>, collected: &mut Collected) -> bool
 pub(crate) fn feed_and_drain<R: Wait>(
     rt: &R,
     alloc: Global,
-    parkers: &Parkers<'_>,
+    sleepers: &Sleepers<'_>,
     arrivals: &Arrivals,
     first: &mut Producer<Item>,
     consumer: Consumer<Item>,
@@ -80,11 +80,11 @@ pub(crate) fn feed_and_drain<R: Wait>(
     for _ in rt.forever() {
         let has_sent = fill(first, &mut waiting);
         if has_sent {
-            parkers.behind.wake();
+            sleepers.behind.wake();
         }
         let has_come = drain(&mut consumer, &mut collected);
         if has_come {
-            parkers.before.wake();
+            sleepers.before.wake();
         }
         if waiting.is_empty() && collected.has_ended() {
             let Ok(outcome) = collected.into_outcome() else {
@@ -94,9 +94,9 @@ pub(crate) fn feed_and_drain<R: Wait>(
         }
         if has_sent || has_come {
             yields = 0;
-            parkers.own.resume();
+            sleepers.own.resume();
         } else {
-            parkers.own.pause(rt, &mut yields);
+            sleepers.own.pause(rt, &mut yields);
         }
     }
     unreachable!()

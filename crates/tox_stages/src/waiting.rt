@@ -2,7 +2,7 @@
 ghost use Rattle.std.specs.Prelude.{◌≡◌, [], ◌∷◌, ◌++◌};
 ghost use Rattle.rtrb.specs.Ring.{sent, received, SameProducer, SameConsumer};
 
-use crate::parkers::Parkers;
+use crate::sleepers::Sleepers;
 use rtrb::{Consumer, Producer, PushError};
 use std::sync::Wait;
 use tox_time::Item;
@@ -10,7 +10,7 @@ use tox_time::Item;
 /// Waits until the item is pushed.
 pub(crate) fn push_waiting<R: Wait>(
     rt: &R,
-    parkers: &Parkers<'_>,
+    sleepers: &Sleepers<'_>,
     producer: &mut Producer<Item>,
     item: Item,
 )
@@ -23,14 +23,14 @@ pub(crate) fn push_waiting<R: Wait>(
         match producer.push(item) {
             Ok(()) => {
                 if yields > 0 {
-                    parkers.own.resume();
+                    sleepers.own.resume();
                 }
-                parkers.behind.wake();
+                sleepers.behind.wake();
                 return;
             }
             Err(PushError::Full(back)) => item = back,
         }
-        parkers.own.pause(rt, &mut yields);
+        sleepers.own.pause(rt, &mut yields);
     }
     unreachable!()
 }
@@ -38,7 +38,7 @@ pub(crate) fn push_waiting<R: Wait>(
 /// Waits for the next item.
 pub(crate) fn pop_waiting<R: Wait>(
     rt: &R,
-    parkers: &Parkers<'_>,
+    sleepers: &Sleepers<'_>,
     consumer: &mut Consumer<Item>,
 ) -> Item
     ensures ring { SameConsumer consumer.old consumer.new }
@@ -48,12 +48,12 @@ pub(crate) fn pop_waiting<R: Wait>(
     for _ in rt.forever() {
         if let Ok(item) = consumer.pop() {
             if yields > 0 {
-                parkers.own.resume();
+                sleepers.own.resume();
             }
-            parkers.before.wake();
+            sleepers.before.wake();
             return item;
         }
-        parkers.own.pause(rt, &mut yields);
+        sleepers.own.pause(rt, &mut yields);
     }
     unreachable!()
 }

@@ -5,7 +5,7 @@ ghost use Rattle.tox_words.specs.Draw.{draw_in};
 ghost use Rattle.tox_defs.specs.Flow.{IsPlaced, placed_reaction};
 ghost use Rattle.tox_stages.specs.Passing.{SendsFlow};
 
-use crate::parkers::Parkers;
+use crate::sleepers::Sleepers;
 use crate::waiting::{pop_waiting, push_waiting};
 use rtrb::{Consumer, Producer};
 use std::snapshot::Snapshot;
@@ -43,7 +43,7 @@ impl<'w> Promise<RingEnds> for SendsFlowOf<'w> {
 /// Sends all that the stage has to emit.
 fn emit_all<R: Wait>(
     rt: &R,
-    parkers: &Parkers<'_>,
+    sleepers: &Sleepers<'_>,
     stage: &mut Stage<'_>,
     producer: &mut Producer<Item>,
 )
@@ -52,7 +52,7 @@ fn emit_all<R: Wait>(
     ensures stage { stage.new ≡ record stage.old { pending = [] } }
 {
     while let Some(item) = stage.emit() {
-        push_waiting(rt, parkers, producer, item);
+        push_waiting(rt, sleepers, producer, item);
     }
 }
 
@@ -66,7 +66,7 @@ pub(crate) fn work<R: Wait, G: Gate>(
     placed: Placed,
     lanes: Lanes,
     words: &Words,
-    parkers: &Parkers<'_>,
+    sleepers: &Sleepers<'_>,
     consumer: Consumer<Item>,
     producer: Producer<Item>,
 ) -> RingEnds
@@ -81,15 +81,15 @@ pub(crate) fn work<R: Wait, G: Gate>(
     let mut consumer = consumer;
     let mut producer = producer;
     for nth in 0..=MAX_BYTES {
-        let item = pop_waiting(rt, parkers, &mut consumer);
+        let item = pop_waiting(rt, sleepers, &mut consumer);
         gate.pass(stage_number, nth);
         if !stage.may_take(&item) {
-            push_waiting(rt, parkers, &mut producer, Item::Quiet);
+            push_waiting(rt, sleepers, &mut producer, Item::Quiet);
             return RingEnds { consumer, producer };
         }
         let is_last = item.is_final();
         stage.take(item);
-        emit_all(rt, parkers, &mut stage, &mut producer);
+        emit_all(rt, sleepers, &mut stage, &mut producer);
         if is_last {
             return RingEnds { consumer, producer };
         }

@@ -5,6 +5,6 @@ use Rattle.tox_text.specs.declared.pick_text.PrintPickFault.{PrintPickFault}
 use Rattle.tox_text.specs.declared.pick_text.PrintPickFault.TheVariants.{OutOfMemory, WriteFault}
 
 -- nothing was written, or the writer has failed and a prefix of the text is written
-abbrev pub Leaves : Option (List ℕ) → Option (List ℕ) → Bool → List ℕ → PrintPickFault → Type 0
-Leaves old new failed text OutOfMemory = new ≡ old
-Leaves old new failed text WriteFault = AppendsFront old new text × (failed ≡ true)
+abbrev pub PickLeaves : Option (List ℕ) → Option (List ℕ) → Bool → List ℕ → PrintPickFault → Type 0
+PickLeaves old new failed text OutOfMemory = new ≡ old
+PickLeaves old new failed text WriteFault = AppendsFront old new text × (failed ≡ true)

@@ -3,7 +3,7 @@ ghost use Rattle.std.specs.Prelude.{◌≡◌, ◌≢◌, ◌≤◌, ◌++◌, [
 ghost use Rattle.std.specs.Io.KnownBytes.{append_known};
 ghost use Rattle.tox_words.specs.Draw.{draws_of};
 ghost use Rattle.tox_text.specs.PickText.{applied_word, enabled_word, pick_text, proxy_line, toxic_line, toxics_text};
-ghost use Rattle.tox_text.specs.PrintingPick.{Leaves};
+ghost use Rattle.tox_text.specs.PrintingPick.{PickLeaves};
 ghost use Rattle.tox_text.specs.Writing.{Prints, Writes};
 
 use crate::buffer::Buffer;
@@ -49,7 +49,7 @@ pub fn print_pick<W: Sink>(
         ≡ append_known (W.written writer.old) (pick_text proxy.now script.now conn stream seed)) }
     ensures working { result ≢ Err PrintPickFault.WriteFault → W.failed writer.new ≡ false }
     ensures left { IfErr result
-        (Leaves (W.written writer.old) (W.written writer.new) (W.failed writer.new)
+        (PickLeaves (W.written writer.old) (W.written writer.new) (W.failed writer.new)
         (pick_text proxy.now script.now conn stream seed)) }
 {
     let Ok(words) = Words::from_seed(alloc, seed, conn, stream) else {

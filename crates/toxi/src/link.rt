@@ -15,17 +15,17 @@ pub struct LinkArguments<'a> {
 
 /// A link's table of words and its chain.
 #[derive(Drop)]
-pub struct Link {
+pub struct LinkConfig {
     pub words: Words,
     pub chain: Chain,
 }
 
 impl<'a> LinkArguments<'a> {
     /// Reads the words, then the toxics from the left.
-    pub fn read(&self, alloc: Global) -> Result<Link, Fault> {
+    pub fn read(&self, alloc: Global) -> Result<LinkConfig, Fault> {
         let words = words_of(alloc, self.words).map_err(Fault::Words)?;
         let chain = read_chain(self.lanes, &self.toxics).map_err(Fault::Toxics)?;
-        Ok(Link { words, chain })
+        Ok(LinkConfig { words, chain })
     }
 }
 

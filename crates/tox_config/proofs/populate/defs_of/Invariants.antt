@@ -1,7 +1,7 @@
 -- Each entry so far has its definition.
 use Rattle.std.proofs.Common.{◌≡◌, map, take}
-use Rattle.tox_config.specs.Entry.{entry_view}
+use Rattle.tox_config.specs.LentProxy.{lent_view}
 use Rattle.tox_config.proofs.populate.defs_of.Given as goal
 
 abbrev pub invariant-loop-entry : goal.invariant-loop-entry
-invariant-loop-entry l = l.defs.items ≡ map entry_view (take l.entry-index l.entries)
+invariant-loop-entry l = l.defs.items ≡ map lent_view (take l.entry-index l.entries)

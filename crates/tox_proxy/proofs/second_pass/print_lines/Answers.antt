@@ -10,7 +10,7 @@ use Rattle.tox_text.specs.Line.{arrival, digit_count, end, event_seen, line_of}
 use Rattle.tox_text.specs.Lines.{lines_left}
 use Rattle.tox_text.specs.Writing.{AppendsFront}
 use Rattle.tox_text.proofs.CountLemmas.{AreShort-longer}
-use Rattle.tox_proxy.specs.SecondPass.{IsAtEnd, IsAtPiece, PassesDownTo}
+use Rattle.tox_proxy.specs.SecondPass.{IsAtSourceEnd, IsAtPiece, PassesDownTo}
 use Rattle.tox_proxy.proofs.LineSteps.{IsUnderWay-first, at_data, at_last, behind_all, line_next, none_left, pairs_there}
 use Rattle.tox_proxy.proofs.Passing.{AppendsFront-both, PassesDownTo-both, PassesDownTo-none}
 use Rattle.tox_proxy.proofs.second_pass.print_lines.Goals as goal
@@ -112,7 +112,7 @@ loop-left-preserved g c =
     let t = c.in-Some-line_of.said.instant in
     let is : line_of c.first_line.result.0.now ≡ Some (end t) = sym c.in-Some-line_of.ensures.says ∙ ap (event_seen t) c.in-Eof.is in
     let last = at_last on.arrived on.number _ _ _ _ _ on.later t split is on.under_way in
-    let at : IsAtEnd (g.S.SliceSource.stands c.loop-left.source) t = record { arrived = on.arrived; position = last.position; later = last.others; before = last.ready } in
+    let at : IsAtSourceEnd (g.S.SliceSource.stands c.loop-left.source) t = record { arrived = on.arrived; position = last.position; later = last.others; before = last.ready } in
     let before = subst (λ later. PassesDownTo (g.W.Sink.written c.args.writer.now) c.args.buffer.now (g.W.Sink.written c.loop-left.writer) c.loop-left.buffer
     (g.S.SliceSource.text_left c.args.source.now on.arrived (arrival_list on.arrived.items)) (g.S.SliceSource.text_left c.loop-left.source on.arrived (arrival_list later))) last.is on.printed in
     record {

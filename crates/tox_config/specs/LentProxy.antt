@@ -1,16 +1,16 @@
--- What the entries of a reader stand for.
+-- What lent proxies stand for.
 use Rattle.std.specs.Prelude.{List, [], ◌∷◌, if◌then◌else◌}
 use Rattle.tox_config.specs.Proxy.{Proxy}
 use Rattle.tox_config.specs.Populate.{is_named}
-use Rattle.tox_config.specs.declared.entry.Entry.{Entry}
+use Rattle.tox_config.specs.declared.lent_proxy.LentProxy.{LentProxy}
 
--- the proxy that an entry stands for
-abbrev pub entry_view : Entry → Proxy
-entry_view entry = record {
-  name = entry.name.now;
-  listen = entry.listen.now;
-  upstream = entry.upstream.now;
-  enabled = entry.enabled;
+-- the proxy that a lent one stands for
+abbrev pub lent_view : LentProxy → Proxy
+lent_view lent = record {
+  name = lent.name.now;
+  listen = lent.listen.now;
+  upstream = lent.upstream.now;
+  enabled = lent.enabled;
 }
 
 -- a proxy in the place of the first one of its name, or last where none has it

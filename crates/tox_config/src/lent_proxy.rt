@@ -2,7 +2,7 @@
 ghost use Rattle.std.specs.Prelude.{◌≡◌, codes, option_map, IfOk, IfErr, Ok, Err};
 ghost use Rattle.serde_json.specs.View.{view};
 ghost use Rattle.tox_config.specs.Proxy.{enabled_of, listen_of, listen_text, name_of, proxy_of, upstream_of};
-ghost use Rattle.tox_config.specs.Entry.{entry_view};
+ghost use Rattle.tox_config.specs.LentProxy.{lent_view};
 
 use crate::address::{MAX_TEXT_LEN, is_address};
 use crate::fault::ConfigFault;
@@ -15,18 +15,18 @@ const DEFAULT_LISTEN: &str = "localhost:0";
 
 /// A proxy whose texts are lent, so that nothing is copied before it is known to be kept.
 #[derive(Clone, Copy)]
-pub(crate) struct Entry<'a> {
+pub(crate) struct LentProxy<'a> {
     pub(crate) name: &'a str,
     listen: &'a str,
     upstream: &'a str,
     enabled: bool,
 }
 
-impl<'a> Entry<'a> {
+impl<'a> LentProxy<'a> {
     /// The proxy of the value at a place, or the first of its faults.
-    pub(crate) fn read(value: &'a Value, place: usize) -> Result<Entry<'a>, ConfigFault>
+    pub(crate) fn read(value: &'a Value, place: usize) -> Result<LentProxy<'a>, ConfigFault>
         ensures ok { IfOk result
-            (λ entry. proxy_of place (view value.now) ≡ Ok (entry_view entry)) }
+            (λ entry. proxy_of place (view value.now) ≡ Ok (lent_view entry)) }
         ensures err { IfErr result (λ fault. proxy_of place (view value.now) ≡ Err fault) }
     {
         if !value.is_object() {
@@ -36,7 +36,7 @@ impl<'a> Entry<'a> {
         let listen = listen_of(value).ok_or(ConfigFault::Listen(place))?;
         let upstream = upstream_of(value).ok_or(ConfigFault::Upstream(place))?;
         let enabled = enabled_of(value).ok_or(ConfigFault::Enabled(place))?;
-        Ok(Entry {
+        Ok(LentProxy {
             name,
             listen,
             upstream,
@@ -46,7 +46,7 @@ impl<'a> Entry<'a> {
 
     /// The proxy, with its texts copied.
     pub(crate) fn to_def(&self, alloc: Global) -> Result<ProxyDef, AllocError>
-        ensures { IfOk result (λ def. def ≡ entry_view self.now) }
+        ensures { IfOk result (λ def. def ≡ lent_view self.now) }
     {
         Ok(ProxyDef {
             name: String::from_str(alloc, self.name)?,

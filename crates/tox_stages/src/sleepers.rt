@@ -45,7 +45,7 @@ impl Sleeper {
 
 /// What a thread sleeps on, and what its two neighbours do.
 #[derive(Drop)]
-pub(crate) struct Parkers<'p> {
+pub(crate) struct Sleepers<'p> {
     /// The thread's own.
     pub(crate) own: &'p Sleeper,
     /// Of the thread that pushes into the ring before it. Woken after a pop, if it waits.
@@ -54,10 +54,10 @@ pub(crate) struct Parkers<'p> {
     pub(crate) behind: &'p Sleeper,
 }
 
-impl<'p> Parkers<'p> {
-    /// The parkers of a thread, of the thread before it and of the thread behind it.
-    pub(crate) fn new(own: &'p Sleeper, before: &'p Sleeper, behind: &'p Sleeper) -> Parkers<'p> {
-        Parkers {
+impl<'p> Sleepers<'p> {
+    /// The sleepers of a thread, of the thread before it and of the thread behind it.
+    pub(crate) fn new(own: &'p Sleeper, before: &'p Sleeper, behind: &'p Sleeper) -> Sleepers<'p> {
+        Sleepers {
             own,
             before,
             behind,
@@ -68,33 +68,37 @@ impl<'p> Parkers<'p> {
 /// What each thread sleeps on: source and sink on the first, and the worker of stage k on the one after k others.
 #[derive(Drop)]
 pub(crate) struct Circle {
-    parkers: [Sleeper; 33],
+    sleepers: [Sleeper; 33],
 }
 
 impl Circle {
     /// Takes no memory.
     pub(crate) fn new() -> Circle {
         Circle {
-            parkers: array::from_fn(|_| Sleeper::new()),
+            sleepers: array::from_fn(|_| Sleeper::new()),
         }
     }
 
     /// For source and sink, with these workers between them.
-    pub(crate) fn ends(&self, workers: usize) -> Parkers<'_>
+    pub(crate) fn ends(&self, workers: usize) -> Sleepers<'_>
         requires { workers ≤ 32 }
     {
-        Parkers::new(&self.parkers[0], &self.parkers[workers], &self.parkers[1])
+        Sleepers::new(
+            &self.sleepers[0],
+            &self.sleepers[workers],
+            &self.sleepers[1],
+        )
     }
 
     /// For the worker of a stage, with these workers behind it.
-    pub(crate) fn worker(&self, stage_number: usize, later: usize) -> Parkers<'_>
+    pub(crate) fn worker(&self, stage_number: usize, later: usize) -> Sleepers<'_>
         requires { stage_number + 1 + later ≤ 32 }
     {
         let behind = if later == 0 { 0 } else { stage_number + 2 };
-        Parkers::new(
-            &self.parkers[stage_number + 1],
-            &self.parkers[stage_number],
-            &self.parkers[behind],
+        Sleepers::new(
+            &self.sleepers[stage_number + 1],
+            &self.sleepers[stage_number],
+            &self.sleepers[behind],
         )
     }
 }
