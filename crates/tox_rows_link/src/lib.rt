@@ -1,4 +1,4 @@
-//! Tests of live links: the core, `carry`, the book, and links that are served over sockets of this machine.
+//! Tests of live links: the core, `carry` and the book.
 #![tactic(auto)]
 
 #[cfg(test)]
@@ -10,8 +10,6 @@ mod cores;
 #[cfg(test)]
 mod link_ends;
 #[cfg(test)]
-mod links;
-#[cfg(test)]
-mod peers;
+mod scarce_links;
 #[cfg(test)]
 mod schedules;

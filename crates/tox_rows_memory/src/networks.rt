@@ -1,6 +1,4 @@
 //! The stage network, windows, cores and plans, with too little memory.
-use crate::scarcity::Scarcity;
-use crate::tries::{MAX_TRIES, Tried, answer_of, times_refused, try_each};
 use std::alloc::{AllocError, Global};
 use std::test::Fail;
 use tox_compile::compile;
@@ -9,7 +7,9 @@ use tox_lend::Window;
 use tox_link::{Book, LinkCore, OpenFault};
 use tox_network::{Move, Network, StepFault};
 use tox_plan::deliver;
-use tox_rows::{chain_of, table_of};
+use tox_rows::{
+    MAX_TRIES, Scarcity, Tried, answer_of, chain_of, table_of, times_refused, try_each,
+};
 use tox_time::{Arrivals, Micros};
 use tox_words::Words;
 

@@ -1,6 +1,4 @@
 //! Runs and picks, from text to text, with too little memory.
-use crate::scarcity::Scarcity;
-use crate::tries::{MAX_TRIES, Tried, answer_of, try_each};
 use std::alloc::Global;
 use std::test::Fail;
 use tox_config::{ProxyDef, read_populate};
@@ -8,7 +6,7 @@ use tox_defs::Chain;
 use tox_proxy::{
     DryFault, PrintMigratedFault, PrintPickFault, dry_run, find_proxy, print_migrated, print_pick,
 };
-use tox_rows::chain_of;
+use tox_rows::{MAX_TRIES, Scarcity, Tried, answer_of, chain_of, try_each};
 use tox_script::{Script, ScriptFault, read_script};
 use tox_time::{MemorySink, MemorySource, Stream};
 use tox_words::Words;

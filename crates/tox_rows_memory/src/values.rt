@@ -1,11 +1,10 @@
 //! Lists and files, read with too little memory.
-use crate::scarcity::Scarcity;
-use crate::tries::{answer_of, times_refused};
 use std::rt::{Env, Files};
 use std::test::Fail;
 use std::{env, fs, process};
 use tox_config::{ConfigFault, read_populate};
 use tox_proxy::{FileFault, read_file};
+use tox_rows::{Scarcity, answer_of, times_refused};
 use tox_script::{ScriptFault, migrate, read_script};
 use tox_time::{ArrivalFault, Arrivals, Micros, Stream};
 use tox_words::{Words, WordsFault};

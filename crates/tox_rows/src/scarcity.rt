@@ -38,7 +38,8 @@ pub struct Scarcity {
 /// How much of its stack a test has used before it takes all memory. A stack that grows later finds none to map.
 const STACK: usize = 196_608;
 
-/// Uses the stack. What was written there is kept, so that no compiler leaves it out.
+/// Uses the stack, in a frame that is gone when it returns. What was written there is kept, so that no compiler leaves it out.
+#[inline(never)]
 fn use_stack(alloc: Global) -> Result<Vec<u8>, AllocError> {
     let mut bytes = [0; STACK];
     for (place, byte) in bytes.iter_mut().enumerate() {

@@ -1,17 +1,15 @@
 //! Served links, with too little memory and too few threads.
-use crate::scarcity::Scarcity;
-use crate::stages::keep_stacks;
-use crate::tries::{Refusals, Tried, try_each};
+use crate::peers::{ask, echo_all};
 use std::alloc::{AllocError, Global};
-use std::io::{Read, Write};
-use std::net::{Net, Shutdown, TcpListener, TcpStream};
+use std::net::{Net, TcpListener, TcpStream};
 use std::sync::{Arc, Mutex, Wait};
 use std::test::Fail;
+use std::thread;
 use std::thread::Threads;
 use std::time::{Clock, Duration};
-use std::{io, thread};
 use tox_config::{ProxyDef, read_populate};
 use tox_proxy::serve;
+use tox_rows::{Refusals, Scarcity, Tried, keep_stacks, try_each};
 use tox_script::read_script;
 
 /// More pages than a link needs.
@@ -34,45 +32,6 @@ fn proxies(alloc: Global, upstream: &TcpListener) -> Result<Vec<ProxyDef>, Fail>
         {{\"name\":\"b\",\"listen\":\"127.0.0.1:0\",\"upstream\":\"127.0.0.1:1\"}}]"
     )?;
     Ok(read_populate(alloc, text.as_bytes())?)
-}
-
-/// Sends back what comes, to its end.
-fn echo(stream: &TcpStream) -> io::Result<()> {
-    let mut socket = stream;
-    let mut bytes = [0; 16];
-    for _ in 0..u64::MAX {
-        let count = socket.read(&mut bytes)?;
-        if count == 0 {
-            break;
-        }
-        socket.write_all(&bytes[..count])?;
-    }
-    Ok(())
-}
-
-/// Answers each connection.
-fn echo_all(listener: &TcpListener) {
-    for stream in listener.incoming() {
-        if let Ok(stream) = stream {
-            let _ = echo(&stream);
-        }
-    }
-}
-
-/// Sends two bytes, and reads until the connection is closed.
-fn ask<R: Net<Stream = TcpStream>>(rt: &R, address: &str) -> io::Result<()> {
-    let stream = TcpStream::connect(rt, address)?;
-    let mut socket = &stream;
-    let _ = socket.write_all(b"ab");
-    let _ = stream.shutdown(Shutdown::Write);
-    let mut bytes = [0; 16];
-    for _ in 0..u64::MAX {
-        match socket.read(&mut bytes) {
-            Ok(0) | Err(_) => break,
-            Ok(_) => {}
-        }
-    }
-    Ok(())
 }
 
 /// What was printed behind `start`, once something was. Empty if nothing is within a second.
@@ -145,7 +104,7 @@ fn try_links<R: Net<Stream = TcpStream> + Wait + Clock>(
     let (mut number, mut unlisted) = (1u64, 0usize);
     let links = try_each(scarcity, PAGES, |scarcity, nth| {
         scarcity.open_pages(nth.min(1));
-        ask(rt, address)?;
+        ask(rt, address, b"ab")?;
         let line = printed(rt, alloc, out, start)?;
         if line.is_empty() {
             unlisted = unlisted.saturating_add(1);
@@ -159,7 +118,7 @@ fn try_links<R: Net<Stream = TcpStream> + Wait + Clock>(
     Ok(Served { links, unlisted })
 }
 
-/// Serves links with ever more pages, where there are stacks for as many threads as these toxics have. A link has four threads.
+/// Serves links with ever more pages, where there are stacks for so many threads. A link has four threads.
 /// Under a `ulimit -s` of 10 MB or more the C library keeps fewer stacks, and no link is carried.
 ///
 /// A link of b shows that the threads of both proxies have started. They are not waited for at the end.
@@ -173,7 +132,7 @@ fn serve_behind<
         + Sync
         + 'static
         + AllocGlobal,
->(rt: &R, toxics: &str) -> Result<Served, Fail> {
+>(rt: &R, threads: usize) -> Result<Served, Fail> {
     let alloc = rt.alloc();
     let upstream = TcpListener::bind(rt, "127.0.0.1:0")?;
     let proxies = proxies(alloc, &upstream)?;
@@ -187,17 +146,17 @@ fn serve_behind<
     })?;
     let listening = printed(rt, alloc, &out, 0)?;
     let address = address_of(alloc, &listening, "a")?;
-    ask(rt, &address_of(alloc, &listening, "b")?)?;
+    ask(rt, &address_of(alloc, &listening, "b")?, b"ab")?;
     printed(rt, alloc, &out, listening.len())?;
     thread::spawn(rt, move || echo_all(&upstream))?;
-    keep_stacks(rt, alloc, toxics)?;
+    keep_stacks(rt, threads);
     scarcity.leave(alloc, CLIENT_SIXTEENS)?;
     try_links(rt, alloc, &mut scarcity, &address, &out)
 }
 
 #[test]
 fn a_served_link_is_refused_its_thread(rt: HostRuntime) -> Result<(), Fail> {
-    let served = serve_behind(&rt, "")?;
+    let served = serve_behind(&rt, 0)?;
     eprintln!(rt; "{served:?}")?;
     assert!(rt; !served.links.is_answered && served.is_refused());
     Ok(())
@@ -205,7 +164,7 @@ fn a_served_link_is_refused_its_thread(rt: HostRuntime) -> Result<(), Fail> {
 
 #[test]
 fn a_served_link_is_refused_the_other_stream(rt: HostRuntime) -> Result<(), Fail> {
-    let served = serve_behind(&rt, "latency:latency=1")?;
+    let served = serve_behind(&rt, 1)?;
     eprintln!(rt; "{served:?}")?;
     assert!(rt; !served.links.is_answered && served.is_refused());
     Ok(())
@@ -213,7 +172,7 @@ fn a_served_link_is_refused_the_other_stream(rt: HostRuntime) -> Result<(), Fail
 
 #[test]
 fn a_served_link_is_refused_a_reader(rt: HostRuntime) -> Result<(), Fail> {
-    let served = serve_behind(&rt, "latency:latency=1 latency:latency=1")?;
+    let served = serve_behind(&rt, 2)?;
     eprintln!(rt; "{served:?}")?;
     assert!(rt; !served.links.is_answered && served.is_refused());
     Ok(())
@@ -221,10 +180,7 @@ fn a_served_link_is_refused_a_reader(rt: HostRuntime) -> Result<(), Fail> {
 
 #[test]
 fn a_served_link_is_refused_memory(rt: HostRuntime) -> Result<(), Fail> {
-    let served = serve_behind(
-        &rt,
-        "latency:latency=1 latency:latency=1 latency:latency=1 latency:latency=1",
-    )?;
+    let served = serve_behind(&rt, 4)?;
     eprintln!(rt; "{served:?}")?;
     assert!(rt; served.links.is_answered && served.is_refused());
     Ok(())

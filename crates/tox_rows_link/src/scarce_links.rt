@@ -1,17 +1,15 @@
 //! Links in memory, with too little memory and too few threads.
 ghost use Rattle.std.specs.Prelude.{None};
 
-use crate::scarcity::Scarcity;
-use crate::stages::{Counting, with_stacks};
-use crate::tries::{Refusals, Tried, try_each};
-use std::alloc::{AllocError, Global};
+use std::alloc::Global;
 use std::sync::atomic::{AtomicU64, Ordering};
 use std::sync::{Arc, Wait};
 use std::test::Fail;
 use std::thread::Threads;
 use tox_compile::compile;
 use tox_defs::Chain;
-use tox_link::{Clock, Ends, Hangup, LinkEvent, LinkFault, LinkReport, Notes, carry};
+use tox_link::{Clock, Ends, Hangup, LinkFault, LinkReport, NoNotes, carry};
+use tox_rows::{CountingGate, Refusals, Scarcity, Tried, try_each, with_stacks};
 use tox_time::{Ending, MemorySink, MemorySource, Micros};
 use tox_words::Words;
 
@@ -30,18 +28,6 @@ impl Clock for StandingClock {
     }
 
     fn rest(&self, _until: Micros) {}
-}
-
-/// Notes that keep nothing.
-#[derive(Drop)]
-struct NoNotes;
-
-impl Notes for NoNotes {
-    ghost events = { λ _. None };
-
-    fn note(&mut self, _event: LinkEvent) -> Result<(), AllocError> {
-        Ok(())
-    }
 }
 
 /// Nothing hangs on these ends.
@@ -77,7 +63,7 @@ fn link<R: Threads + Wait + Copy + Send + 'static>(
 ) -> Result<Tried, Fail> {
     let words = Words::from_list(alloc, &[0])?;
     let plan = compile(&Chain::new(), &words);
-    let gate = Arc::new(alloc, Counting::new())?;
+    let gate = Arc::new(alloc, CountingGate::new())?;
     let mut ends = Ends {
         writer: MemorySink::new(alloc, 16, 16, None)?,
         hangup: NoHangup,
@@ -104,14 +90,14 @@ fn link<R: Threads + Wait + Copy + Send + 'static>(
     Ok(tried)
 }
 
-/// Carries links with ever more pages, where there are stacks for as many threads as these toxics have. Returns the refusals too
+/// Carries links with ever more pages, where there are stacks for so many threads. Returns the refusals too
 /// that came after a reader's thread had read.
 fn carry_behind<R: Threads + Wait + Copy + Send + Sync + AllocGlobal + 'static>(
     rt: &R,
-    toxics: &str,
+    threads: usize,
 ) -> Result<(Refusals, u64), Fail> {
     let alloc = rt.alloc();
-    let mut scarcity = with_stacks(rt, alloc, toxics)?;
+    let mut scarcity = with_stacks(rt, alloc, threads)?;
     let reads_refused = AtomicU64::new(0);
     let refusals = try_each(&mut scarcity, PAGES, |scarcity, pages| {
         link(rt, scarcity, alloc, pages, &reads_refused)
@@ -121,7 +107,7 @@ fn carry_behind<R: Threads + Wait + Copy + Send + Sync + AllocGlobal + 'static>(
 
 #[test]
 fn a_link_is_refused_its_thread(rt: HostRuntime) -> Result<(), Fail> {
-    let (refusals, reads_refused) = carry_behind(&rt, "")?;
+    let (refusals, reads_refused) = carry_behind(&rt, 0)?;
     eprintln!(rt; "{refusals:?}, {reads_refused} of reads")?;
     assert!(rt; !refusals.is_answered && 0 < refusals.memory && 0 < refusals.threads);
     Ok(())
@@ -129,7 +115,7 @@ fn a_link_is_refused_its_thread(rt: HostRuntime) -> Result<(), Fail> {
 
 #[test]
 fn a_link_is_refused_memory(rt: HostRuntime) -> Result<(), Fail> {
-    let (refusals, reads_refused) = carry_behind(&rt, "latency:latency=1")?;
+    let (refusals, reads_refused) = carry_behind(&rt, 1)?;
     eprintln!(rt; "{refusals:?}, {reads_refused} of reads")?;
     assert!(rt; refusals.is_answered && 0 < refusals.memory && 0 < reads_refused);
     Ok(())

@@ -1,16 +1,16 @@
 //! Running stages, with too little memory and too few threads.
-use crate::scarcity::Scarcity;
-use crate::tries::{Refusals, Tried, try_each};
 use std::alloc::Global;
 use std::sync::Wait;
-use std::sync::atomic::{AtomicU64, Ordering};
 use std::test::Fail;
 use std::thread::Threads;
 use tox_defs::Chain;
 use tox_proxy::{DryFault, StagesFault, stages_run};
-use tox_rows::{bytes_at_zero, chain_of, table_of};
+use tox_rows::{
+    CountingGate, Refusals, Scarcity, Tried, bytes_at_zero, chain_of, table_of, try_each,
+    with_stacks,
+};
 use tox_stages::{StageFault, run_stages};
-use tox_time::{Arrivals, Ending, Gate, MemorySink, MemorySource, OpenGate};
+use tox_time::{Arrivals, Ending, MemorySink, MemorySource, OpenGate};
 use tox_words::Words;
 
 const TWO_LATENCIES: &str = "latency:latency=1 latency:latency=2";
@@ -22,30 +22,6 @@ const RESULT: &str = "3000 0..1 61\n3000 1..2 62\nopen\n";
 /// More pages than running stages need.
 const PAGES: usize = 60;
 
-/// A gate that counts who passes.
-#[derive(Drop)]
-pub struct Counting {
-    passes: AtomicU64,
-}
-
-impl Counting {
-    pub fn new() -> Counting {
-        Counting {
-            passes: AtomicU64::new(0),
-        }
-    }
-
-    pub fn passes(&self) -> u64 {
-        self.passes.load(Ordering::SeqCst)
-    }
-}
-
-impl Gate for Counting {
-    fn pass(&self, _stage: usize, _nth: u64) {
-        self.passes.fetch_add(1, Ordering::SeqCst);
-    }
-}
-
 /// Running stages with little memory. Nobody passes the gate once they have answered.
 fn run<R: Threads + Wait + Sync>(
     rt: &R,
@@ -56,7 +32,7 @@ fn run<R: Threads + Wait + Sync>(
     arrivals: &Arrivals,
 ) -> Result<Tried, Fail> {
     let words = Words::from_list(alloc, &[0])?;
-    let gate = Counting::new();
+    let gate = CountingGate::new();
     scarcity.leave_pages(alloc, pages)?;
     let answer = run_stages(rt, alloc, chain, &words, arrivals, 1, &gate);
     let passes = gate.passes();
@@ -114,39 +90,15 @@ fn run_text<R: Threads + Wait + Sync>(
     Ok(tried.writing(writer.bytes(), RESULT))
 }
 
-/// Runs as many threads as there are toxics. The C library keeps their stacks for the next ones.
-pub fn keep_stacks<R: Threads + Wait + Sync>(
-    rt: &R,
-    alloc: Global,
-    toxics: &str,
-) -> Result<(), Fail> {
-    let words = Words::from_list(alloc, &[0])?;
-    let chain = chain_of(toxics).ok_or("no short forms")?;
-    let arrivals = bytes_at_zero(alloc, 2)?;
-    run_stages(rt, alloc, &chain, &words, &arrivals, 1, &OpenGate)?;
-    Ok(())
-}
-
-/// A process without memory but for the stacks of as many threads as there are toxics.
-pub fn with_stacks<R: Threads + Wait + Sync>(
-    rt: &R,
-    alloc: Global,
-    toxics: &str,
-) -> Result<Scarcity, Fail> {
-    let scarcity = Scarcity::with_threads(alloc)?;
-    keep_stacks(rt, alloc, toxics)?;
-    Ok(scarcity)
-}
-
-/// Runs two stages where there are stacks for as many threads as these toxics have.
+/// Runs two stages where there are stacks for so many threads.
 fn run_behind<R: Threads + Wait + Sync + AllocGlobal>(
     rt: &R,
-    toxics: &str,
+    threads: usize,
 ) -> Result<Refusals, Fail> {
     let alloc = rt.alloc();
     let chain = chain_of(TWO_LATENCIES).ok_or("no short forms")?;
     let arrivals = bytes_at_zero(alloc, 2)?;
-    let mut scarcity = with_stacks(rt, alloc, toxics)?;
+    let mut scarcity = with_stacks(rt, alloc, threads)?;
     try_each(&mut scarcity, PAGES, |scarcity, pages| {
         run(rt, scarcity, alloc, pages, &chain, &arrivals)
     })
@@ -155,11 +107,11 @@ fn run_behind<R: Threads + Wait + Sync + AllocGlobal>(
 /// The same from text to text.
 fn run_text_behind<R: Threads + Wait + Sync + AllocGlobal>(
     rt: &R,
-    toxics: &str,
+    threads: usize,
 ) -> Result<Refusals, Fail> {
     let alloc = rt.alloc();
     let chain = chain_of(TWO_LATENCIES).ok_or("no short forms")?;
-    let mut scarcity = with_stacks(rt, alloc, toxics)?;
+    let mut scarcity = with_stacks(rt, alloc, threads)?;
     try_each(&mut scarcity, PAGES, |scarcity, pages| {
         run_text(rt, scarcity, alloc, pages, &chain)
     })
@@ -167,7 +119,7 @@ fn run_text_behind<R: Threads + Wait + Sync + AllocGlobal>(
 
 #[test]
 fn running_stages_are_refused_each_thread(rt: HostRuntime) -> Result<(), Fail> {
-    let refusals = run_behind(&rt, "")?;
+    let refusals = run_behind(&rt, 0)?;
     eprintln!(rt; "{refusals:?}")?;
     assert!(rt; !refusals.is_answered && 0 < refusals.memory && 0 < refusals.threads);
     Ok(())
@@ -175,7 +127,7 @@ fn running_stages_are_refused_each_thread(rt: HostRuntime) -> Result<(), Fail> {
 
 #[test]
 fn running_stages_are_refused_the_second_thread(rt: HostRuntime) -> Result<(), Fail> {
-    let refusals = run_behind(&rt, "latency:latency=1")?;
+    let refusals = run_behind(&rt, 1)?;
     eprintln!(rt; "{refusals:?}")?;
     assert!(rt; !refusals.is_answered && 0 < refusals.memory && 0 < refusals.threads);
     Ok(())
@@ -183,7 +135,7 @@ fn running_stages_are_refused_the_second_thread(rt: HostRuntime) -> Result<(), F
 
 #[test]
 fn running_stages_are_refused_memory(rt: HostRuntime) -> Result<(), Fail> {
-    let refusals = run_behind(&rt, TWO_LATENCIES)?;
+    let refusals = run_behind(&rt, 2)?;
     eprintln!(rt; "{refusals:?}")?;
     assert!(rt; refusals.is_answered && 0 < refusals.memory);
     Ok(())
@@ -191,7 +143,7 @@ fn running_stages_are_refused_memory(rt: HostRuntime) -> Result<(), Fail> {
 
 #[test]
 fn a_text_in_threads_is_refused_the_second_thread(rt: HostRuntime) -> Result<(), Fail> {
-    let refusals = run_text_behind(&rt, "latency:latency=1")?;
+    let refusals = run_text_behind(&rt, 1)?;
     eprintln!(rt; "{refusals:?}")?;
     assert!(rt; !refusals.is_answered && 0 < refusals.memory && 0 < refusals.threads);
     Ok(())
@@ -199,7 +151,7 @@ fn a_text_in_threads_is_refused_the_second_thread(rt: HostRuntime) -> Result<(),
 
 #[test]
 fn a_text_in_threads_is_refused_memory(rt: HostRuntime) -> Result<(), Fail> {
-    let refusals = run_text_behind(&rt, TWO_LATENCIES)?;
+    let refusals = run_text_behind(&rt, 2)?;
     eprintln!(rt; "{refusals:?}")?;
     assert!(rt; refusals.is_answered && 0 < refusals.memory);
     Ok(())

@@ -97,7 +97,7 @@ fn served<
         };
         let answers = scope.spawn(move || answer(alloc, upstream));
         let address = listening(rt, alloc, lines)?;
-        let _ = ask(rt, alloc, &address, b"abcde");
+        let _ = ask(rt, &address, b"abcde");
         server.join(rt);
         if let Ok(answers) = answers {
             answers.join(rt);
