@@ -3,13 +3,8 @@ use std::process::Abort;
 use tox_defs::{Chain, Lanes, TooManyToxics, Toxic};
 use tox_proxy::{ToxicsFault, read_chain};
 
-/// The chain of these short forms.
-pub fn chain_of(rt: &impl Abort, toxics: &[&str]) -> Chain {
-    read_chain(Lanes::Sixteen, toxics).expect(rt, "short forms")
-}
-
 /// Adds a toxic to a chain that has room.
-pub fn push(rt: &impl Abort, chain: &mut Chain, toxic: Toxic, toxicity: u16) {
+fn push(rt: &impl Abort, chain: &mut Chain, toxic: Toxic, toxicity: u16) {
     assert!(rt; toxic.check().is_ok());
     assert!(rt; toxicity <= 1000);
     assert!(rt; chain.push(toxic, toxicity).is_ok());

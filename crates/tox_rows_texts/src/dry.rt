@@ -1,11 +1,11 @@
 //! Dry runs whose ends are short, full, endless or fail. What is printed else is in `examples/rows`.
 ghost use Rattle.std.specs.Prelude.{◌<◌};
 
-use crate::chains::chain_of;
 use std::process::Abort;
 use std::test::Fail;
 use tox_defs::Chain;
 use tox_proxy::{DryFault, MAX_INPUT, dry_run};
+use tox_rows::chain_of;
 use tox_time::{EndFault, MemorySink, MemorySource, Source};
 use tox_words::Words;
 
@@ -18,7 +18,7 @@ const READ: &str = "0 data 616263\n10 data 646566";
 const WRITTEN: &str = "1000 0..3 616263\n1010 3..4 64\nclosed 1010\n";
 
 fn limited(rt: &impl Abort) -> Chain {
-    chain_of(rt, &["limit_data:bytes=4", "latency:latency=1"])
+    chain_of("limit_data:bytes=4 latency:latency=1").expect(rt, "short forms")
 }
 
 /// What a dry run of the two toxics answers and writes. The reader gives `read_most` bytes a call, the writer has so much room
@@ -53,7 +53,7 @@ fn ends_may_move_single_bytes(rt: HostRuntime) -> Result<(), Fail> {
 #[test]
 fn five_thousand_lines_are_run(rt: HostRuntime) -> Result<(), Fail> {
     let words = Words::from_list(rt.alloc(), &[0])?;
-    let chain = chain_of(&rt, &["latency:latency=1"]);
+    let chain = chain_of("latency:latency=1").expect(&rt, "a short form");
     let read = "0 data 61\n".repeat(rt.alloc(), 5000)?;
     let mut reader = MemorySource::new(read.into_bytes(), 4096, None);
     let mut writer = MemorySink::new(rt.alloc(), 200_000, 4096, None)?;

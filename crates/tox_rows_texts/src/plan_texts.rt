@@ -1,9 +1,9 @@
 //! Plans whose writer fails.
-use crate::chains::chain_of;
 use std::process::Abort;
 use std::test::Fail;
 use tox_compile::{Plan, compile};
 use tox_proxy::{WriteFault, print_plan};
+use tox_rows::chain_of;
 use tox_time::MemorySink;
 use tox_words::Words;
 
@@ -27,7 +27,7 @@ fn fails_at(rt: &(impl Abort + AllocGlobal), plan: &Plan, call: u64) -> Result<(
 #[test]
 fn each_write_of_a_plan_may_fail(rt: HostRuntime) -> Result<(), Fail> {
     let words = Words::from_list(rt.alloc(), &[0])?;
-    let chain = chain_of(&rt, &["limit_data:bytes=3", "latency:latency=1"]);
+    let chain = chain_of("limit_data:bytes=3 latency:latency=1").expect(&rt, "short forms");
     let plan = compile(&chain, &words);
     for call in 1..=6 {
         fails_at(&rt, &plan, call)?;
