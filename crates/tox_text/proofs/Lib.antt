@@ -11,3 +11,4 @@ pub mod Writes
 pub mod CountLemmas
 pub mod FirstLines
 pub mod PieceRuns
+mod VisibleLetters

@@ -1,5 +1,7 @@
 //! Names on one line.
-ghost use Rattle.std.specs.Prelude.{◌≡◌, ◌++◌, false};
+ghost use Rattle.std.specs.Prelude.{◌≡◌, ◌++◌, false, Some};
+ghost use Rattle.std.specs.Char.{encode_utf8};
+ghost use Rattle.std.specs.Fmt.{WritesOnOk};
 ghost use Rattle.tox_text.specs.Names.{escaped, is_control, visible, visible_name};
 ghost use Rattle.tox_text.specs.Writing.{Prints};
 
@@ -12,16 +14,38 @@ use tox_time::{EndFault, Sink};
 pub struct VisibleName<'a>(pub &'a str);
 
 impl<'a> fmt::Display for VisibleName<'a> {
+    ghost output = { λ name. Some (visible_name name.0.now) };
+
     fn fmt<W: fmt::Write>(&self, f: &mut fmt::Formatter<W>) -> fmt::Result {
         for letter in self.0.chars() {
-            if letter.is_ascii_control() {
-                write!(f, "\\x{:02x}", u32::from(letter))?;
-            } else {
-                write!(f, "{letter}")?;
-            }
+            display_letter(letter, f)?;
         }
         Ok(())
     }
+}
+
+/// Displays a letter of a name.
+fn display_letter<W: fmt::Write>(letter: char, f: &mut fmt::Formatter<W>) -> fmt::Result
+    ensures { WritesOnOk W.write_str_gives f.old result (visible_name (encode_utf8 letter)) f.new }
+{
+    if letter.is_ascii_control() {
+        display_code(letter as u8, f)
+    } else {
+        f.write_char(letter)
+    }
+}
+
+/// Displays the code of a control character.
+fn display_code<W: fmt::Write>(byte: u8, f: &mut fmt::Formatter<W>) -> fmt::Result
+    ensures { WritesOnOk W.write_str_gives f.old result (escaped byte) f.new }
+{
+    let mut digits = [0; 2];
+    hex::encode_to_slice([byte], &mut digits).unwrap();
+    let Ok(text) = str::from_utf8(&digits) else {
+        unreachable!();
+    };
+    f.write_str("\\x")?;
+    f.write_str(text)
 }
 
 /// Prints a name between two texts. A name keeps to its line: a control character is printed as `\x` and its code in two
