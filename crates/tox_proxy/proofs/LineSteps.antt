@@ -21,7 +21,7 @@ use Rattle.tox_text.proofs.CountLemmas.{accepted_piece}
 use Rattle.tox_time.proofs.Steps.{bind_ok}
 use Rattle.tox_text.proofs.LineTurns.{data_taken, end_taken, pairs_taken}
 use Rattle.tox_proxy.specs.SecondPass.{IsPieceOf, chunk_at}
-use Rattle.tox_proxy.proofs.TextTurns.{arrival_behind, arrival_in, bytes_in, cancel, edge_behind, lines_leave}
+use Rattle.tox_proxy.proofs.TextTurns.{arrival_behind, arrival_in, bytes_in, cancel, edge_behind, lines_grow}
 
 -- the lines that are left, from the n-th on, leave all that arrived; a source stands before what they add
 pub record IsUnderWay (arrived : Arrived) (n : ℕ) (lines : List (List ℕ)) (stands : ℕ → List Item → Type 0) (window : Pieces) (later : List Item) : Type 0 where
@@ -61,7 +61,7 @@ at_data arrived n left line lines stands window later start t bytes arrivals sta
     let went = bind_ok (with_line n on.before line) (with_lines (n + 1) lines) arrived on.rest in
     let took = data_taken n on.before went.0 t bytes line is went.1 in
     let fits = accepted_piece (count_of on.before.items) (latest on.before.items) (length bytes) t (has_final on.before.items) took.0 in
-    let rest = lines_leave (n + 1) lines went.0 arrived went.2 in
+    let rest = lines_grow (n + 1) lines went.0 arrived went.2 in
     let stop : start ≡ count_of on.before.items = starts ∙ ap (λ w. w.stop) on.window_is in
     let chunk : Item = chunk_at start (length bytes) t in
     let same_chunk : next_chunk on.before.items (length bytes) t ≡ chunk = ap (λ m. chunk_at m (length bytes) t) (sym stop) in
@@ -114,7 +114,7 @@ at_last arrived n left line lines stands window later t split is under_way =
     let on : IsUnderWay arrived n (line ∷ lines) stands window later = subst (λ left. IsUnderWay arrived n left stands window later) split under_way in
     let went = bind_ok (with_line n on.before line) (with_lines (n + 1) lines) arrived on.rest in
     let took = end_taken n on.before went.0 t line is went.1 in
-    let rest = lines_leave (n + 1) lines went.0 arrived went.2 in
+    let rest = lines_grow (n + 1) lines went.0 arrived went.2 in
     let items : went.0.items ≡ on.before.items ++ Closed t ∷ [] = ap (λ a. a.items) took.1 in
     let whole : on.before.items ++ (Closed t ∷ rest.later) ≡ arrived.items = sym (append_assoc on.before.items (Closed t ∷ []) rest.later) ∙ ap (λ xs. xs ++ rest.later) (sym items) ∙ rest.items in
     let splits : later ≡ Closed t ∷ rest.later = cancel on.before.items later (Closed t ∷ rest.later) (on.items ∙ sym whole) in

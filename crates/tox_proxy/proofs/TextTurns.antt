@@ -48,14 +48,14 @@ pub record GrowsTo (before arrived : Arrived) : Type 0 where
   pub items : before.items ++ later ≡ arrived.items
   pub bytes : before.bytes ++ more ≡ arrived.bytes
 
-pub lines_leave : (n : ℕ) (lines : List (List ℕ)) (before arrived : Arrived) → with_lines n lines before ≡ Ok arrived → GrowsTo before arrived
-lines_leave n [] before arrived is =
+pub lines_grow : (n : ℕ) (lines : List (List ℕ)) (before arrived : Arrived) → with_lines n lines before ≡ Ok arrived → GrowsTo before arrived
+lines_grow n [] before arrived is =
     let same : before ≡ arrived = cc in
     record { later = []; more = []; items = append-nil before.items ∙ ap (λ a. a.items) same; bytes = append-nil before.bytes ∙ ap (λ a. a.bytes) same }
-lines_leave n (line ∷ lines) before arrived is =
+lines_grow n (line ∷ lines) before arrived is =
     let went = bind_ok (with_line n before line) (with_lines (n + 1) lines) arrived is in
     let added = line_adds n before went.0 line went.1 in
-    let rest = lines_leave (n + 1) lines went.0 arrived went.2 in
+    let rest = lines_grow (n + 1) lines went.0 arrived went.2 in
     record {
       later = added.items ++ rest.later;
       more = added.bytes ++ rest.more;

@@ -1,8 +1,8 @@
-//! A gate that counts.
+//! A gate that counts the items that pass it.
 use std::sync::atomic::{AtomicU64, Ordering};
 use tox_time::Gate;
 
-/// A gate that counts who passes.
+/// A gate that counts the items that pass it.
 #[derive(Drop)]
 pub struct CountingGate {
     passes: AtomicU64,

@@ -90,8 +90,8 @@ fn link<R: Threads + Wait + Copy + Send + 'static>(
     Ok(tried)
 }
 
-/// Carries links with ever more pages, where there are stacks for so many threads. Returns the refusals too
-/// that came after a reader's thread had read.
+/// Carries links with ever more pages, where there are stacks for so many threads. Returns the refusals, and how many of them came
+/// after a reader's thread had read.
 fn carry_behind<R: Threads + Wait + Copy + Send + Sync + AllocGlobal + 'static>(
     rt: &R,
     threads: usize,
