@@ -4,10 +4,7 @@ ghost use Rattle.std.specs.Char.{is_ascii_graphic};
 ghost use Rattle.std.specs.List.{list_all};
 ghost use Rattle.tox_config.specs.Address.{ends_in_port, is_address, is_port};
 
-use tox_time::{is_sized, parse_decimal};
-
-/// The most bytes of a name and of an address.
-pub(crate) const MAX_TEXT_LEN: usize = 255;
+use tox_time::{MAX_TEXT_LEN, is_sized, parse_decimal};
 
 /// The most digits of a port.
 const MAX_PORT_LEN: usize = 5;

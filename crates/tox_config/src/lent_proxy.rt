@@ -4,12 +4,12 @@ ghost use Rattle.serde_json.specs.View.{view};
 ghost use Rattle.tox_config.specs.Proxy.{enabled_of, listen_of, listen_text, name_of, proxy_of, upstream_of};
 ghost use Rattle.tox_config.specs.LentProxy.{lent_view};
 
-use crate::address::{MAX_TEXT_LEN, is_address};
+use crate::address::is_address;
 use crate::fault::ConfigFault;
 use crate::proxy::ProxyDef;
 use serde_json::Value;
 use std::alloc::{AllocError, Global};
-use tox_time::is_sized;
+use tox_time::{MAX_TEXT_LEN, is_sized};
 
 const DEFAULT_LISTEN: &str = "localhost:0";
 

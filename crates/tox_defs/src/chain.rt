@@ -8,10 +8,13 @@ use crate::fault::TooManyToxics;
 use crate::toxic::Toxic;
 use arrayvec::ArrayVec;
 use std::marker::Model;
-use tox_words::{Drawing, Lanes};
+use tox_words::{Drawing, Lanes, MAX_LANES};
 
-/// The most toxics of a chain.
-pub const MAX_TOXICS: usize = 32;
+/// The most toxics of a chain: one for each lane.
+pub const MAX_TOXICS: usize = MAX_LANES;
+
+/// The greatest toxicity, in thousandths, and the default.
+pub const MAX_TOXICITY: u16 = 1000;
 
 /// A toxic of a chain.
 #[derive(Clone, Copy, Debug, PartialEq, Eq)]

@@ -8,12 +8,10 @@ ghost use Rattle.tox_defs.specs.Printed.{type_of, values_of};
 ghost use Rattle.tox_defs.specs.Toxic.{IsInRange};
 
 use crate::fault::ToxicFault;
+use crate::ranges::MAX_ATTRIBUTES;
 use crate::toxic::Toxic;
 use crate::toxics::{bandwidth, latency, limit_data, reset_peer, slicer, slow_close, timeout};
 use arrayvec::ArrayVec;
-
-/// The most attributes of a toxic.
-pub const MAX_ATTRIBUTES: usize = 4;
 
 /// The type of a toxic.
 #[derive(Clone, Copy, Debug, PartialEq, Eq)]
@@ -140,33 +138,18 @@ impl Toxic {
                 latency,
                 jitter,
                 until,
-            } => listed(&[u64::from(latency), u64::from(jitter), u64::from(until)]),
-            Toxic::Bandwidth { rate, until } => listed(&[u64::from(rate), u64::from(until)]),
-            Toxic::SlowClose { delay } => listed(&[u64::from(delay)]),
-            Toxic::Timeout { timeout } => listed(&[u64::from(timeout)]),
-            Toxic::ResetPeer { timeout } => listed(&[u64::from(timeout)]),
+            } => latency::values(latency, jitter, until),
+            Toxic::Bandwidth { rate, until } => bandwidth::values(rate, until),
+            Toxic::SlowClose { delay } => slow_close::values(delay),
+            Toxic::Timeout { timeout } => timeout::values(timeout),
+            Toxic::ResetPeer { timeout } => reset_peer::values(timeout),
             Toxic::Slicer {
                 average_size,
                 size_variation,
                 delay,
                 until,
-            } => listed(&[
-                u64::from(average_size),
-                u64::from(size_variation),
-                delay,
-                u64::from(until),
-            ]),
-            Toxic::LimitData { bytes } => listed(&[bytes]),
+            } => slicer::values(average_size, size_variation, delay, until),
+            Toxic::LimitData { bytes } => limit_data::values(bytes),
         }
     }
-}
-
-/// A list of these values.
-fn listed(values: &[u64]) -> ArrayVec<u64, MAX_ATTRIBUTES>
-    requires { length values.now ≤ 4 }
-    ensures { result.items ≡ values.now }
-{
-    let mut list = ArrayVec::new();
-    let _ = list.try_extend_from_slice(values);
-    list
 }

@@ -21,12 +21,13 @@ mod until;
 mod varied;
 
 pub use applied::Placed;
-pub use chain::{Chain, Entry, MAX_TOXICS};
+pub use chain::{Chain, Entry, MAX_TOXICITY, MAX_TOXICS};
 pub use fault::{ShortFault, TooManyToxics, ToxicFault};
-pub use kind::{Kind, MAX_ATTRIBUTES};
+pub use kind::Kind;
 pub use op::Op;
 pub use op_cursor::{Emission, OpCursor};
 pub use position::StreamPosition;
+pub use ranges::MAX_ATTRIBUTES;
 pub use short::read_short;
 pub use stage::Stage;
 pub use state::State;

@@ -1,6 +1,11 @@
 //! Bounds and values of attributes.
-ghost use Rattle.std.specs.Prelude.{◌≡◌, slice_index};
+ghost use Rattle.std.specs.Prelude.{◌≡◌, ◌≤◌, length, slice_index};
 ghost use Rattle.tox_defs.specs.KindInside.{narrowed};
+
+use arrayvec::ArrayVec;
+
+/// The most attributes of a toxic.
+pub const MAX_ATTRIBUTES: usize = 4;
 
 /// An hour in milliseconds: the greatest latency, jitter, `until`, delay of a close, and timeout.
 pub(crate) const HOUR: u32 = 3_600_000;
@@ -20,4 +25,14 @@ pub(crate) fn saturated(values: &[u64], place: usize) -> u32
     ensures { result ≡ narrowed (slice_index values.now place) }
 {
     value(values, place).min(u64::from(u32::MAX)) as u32
+}
+
+/// A list of these values.
+pub(crate) fn listed(values: &[u64]) -> ArrayVec<u64, MAX_ATTRIBUTES>
+    requires { length values.now ≤ 4 }
+    ensures { result.items ≡ values.now }
+{
+    let mut list = ArrayVec::new();
+    let _ = list.try_extend_from_slice(values);
+    list
 }

@@ -8,14 +8,13 @@ ghost use Rattle.tox_defs.specs.declared.toxic.Toxic.{Toxic};
 
 mod pairs;
 
+use crate::chain::MAX_TOXICITY;
 use crate::fault::{ShortFault, ToxicFault};
-use crate::kind::{Kind, MAX_ATTRIBUTES};
+use crate::kind::Kind;
+use crate::ranges::MAX_ATTRIBUTES;
 use crate::toxic::Toxic;
 use arrayvec::ArrayVec;
 use pairs::{are_known, are_pairs, has_double_key, is_word, value_at};
-
-/// The greatest toxicity, in thousandths. It is the default.
-const MAX_TOXICITY: u64 = 1000;
 
 /// The toxic that a short form names, with its toxicity in thousandths.
 ///
@@ -49,7 +48,7 @@ fn read_name(name: &str) -> Result<(Toxic, u16), ShortFault>
     }
     let kind = Kind::of_name(name).ok_or(ToxicFault::UnknownType)?;
     let toxic = kind.toxic(&[])?;
-    Ok((toxic, MAX_TOXICITY as u16))
+    Ok((toxic, MAX_TOXICITY))
 }
 
 /// The toxic of a type's name with these pairs.
@@ -72,8 +71,8 @@ fn with_pairs(kind: Kind, pairs: &str) -> Result<(Toxic, u16), ShortFault>
     if has_double_key(pairs) {
         return Err(ShortFault::DoubleKey);
     }
-    let toxicity = value_at(pairs, "toxicity").unwrap_or(MAX_TOXICITY);
-    if toxicity > MAX_TOXICITY {
+    let toxicity = value_at(pairs, "toxicity").unwrap_or(u64::from(MAX_TOXICITY));
+    if toxicity > u64::from(MAX_TOXICITY) {
         return Err(ShortFault::Toxic(ToxicFault::ToxicityNotThousandths));
     }
     if !are_known(kind, pairs) {

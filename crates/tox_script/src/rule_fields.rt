@@ -7,9 +7,8 @@ ghost use Rattle.tox_script.specs.Views.{rule_fields_view};
 use crate::fault::Field;
 use crate::fields::{has_only, sized_text, tables_of, whole_between};
 use toml::Value;
+use tox_time::MAX_TEXT_LEN;
 use tox_words::MAX_CONNECTIONS;
-
-const MAX_PROXY_LEN: usize = 255;
 
 /// The fields of a rule's table, lent from it. The toxics are tables.
 #[derive(Clone, Copy)]
@@ -49,7 +48,7 @@ fn proxy_of(table: &Value) -> Result<&str, Field>
 {
     match table.get("proxy") {
         None => Err(Field::Proxy),
-        Some(value) => sized_text(value, MAX_PROXY_LEN).ok_or(Field::Proxy),
+        Some(value) => sized_text(value, MAX_TEXT_LEN).ok_or(Field::Proxy),
     }
 }
 

@@ -6,10 +6,8 @@ ghost use Rattle.tox_script.specs.Toxicity.{fraction, thousandths, told_toxicity
 use crate::fields::whole_between;
 use crate::version::Version;
 use toml::Value;
+use tox_defs::MAX_TOXICITY;
 use tox_time::parse_decimal;
-
-/// The greatest toxicity, and the default.
-const MAX_TOXICITY: u64 = 1000;
 
 /// The toxicity of a toxic's table.
 pub(crate) fn toxicity_in(version: Version, value: Option<&Value>) -> Option<u16>
@@ -18,7 +16,7 @@ pub(crate) fn toxicity_in(version: Version, value: Option<&Value>) -> Option<u16
     ensures bound { IfSome result (λ toxicity. toxicity ≤ 1000) }
 {
     match value {
-        None => Some(MAX_TOXICITY as u16),
+        None => Some(MAX_TOXICITY),
         Some(value) => {
             let toxicity = told_toxicity(version, value)?;
             Some(toxicity as u16)
@@ -33,7 +31,7 @@ fn told_toxicity(version: Version, value: &Value) -> Option<u64>
 {
     match (version, value.as_str()) {
         (Version::Two, Some(text)) => thousandths(text),
-        _ => whole_between(value, 0, MAX_TOXICITY),
+        _ => whole_between(value, 0, u64::from(MAX_TOXICITY)),
     }
 }
 
@@ -55,7 +53,7 @@ fn with_unit(unit: &str, part: u64) -> Option<u64>
     ensures bound { IfSome result (λ toxicity. toxicity ≤ 1000) }
 {
     let total = parse_decimal(unit, 1, 1)? * 1000 + part;
-    if total <= MAX_TOXICITY {
+    if total <= u64::from(MAX_TOXICITY) {
         Some(total)
     } else {
         None

@@ -34,4 +34,4 @@ pub use refusals::{end_fault, piece_fault};
 pub use slice::{Slice, SliceList};
 pub use span::{MAX_BYTES, Span};
 pub use stream::Stream;
-pub use text::{is_sized, parse_decimal};
+pub use text::{MAX_TEXT_LEN, is_sized, parse_decimal};

@@ -4,6 +4,9 @@ ghost use Rattle.std.specs.Char.{is_ascii_digit};
 ghost use Rattle.std.specs.List.{list_all};
 ghost use Rattle.tox_time.specs.Text.{decimal_value, is_sized};
 
+/// The most bytes of a proxy's name, and of an address.
+pub const MAX_TEXT_LEN: usize = 255;
+
 /// Whether a text has 1 to `most` bytes.
 pub fn is_sized(text: &str, most: usize) -> bool
     ensures { result ≡ is_sized most text.now }

@@ -3,12 +3,9 @@ ghost use Rattle.std.specs.Prelude.{◌≡◌, ◌<◌, ◌≤◌, ◌+◌, ◌*
 ghost use Rattle.tox_words.specs.Draw.{draws_of, lane_count};
 ghost use Rattle.tox_words.specs.Table.{max_words};
 
-use crate::lanes::Lanes;
+use crate::lanes::{Lanes, MAX_LANES};
 use crate::words::Words;
 use std::marker::Model;
-
-/// The most lanes that share a table.
-const MAX_LANES: usize = 32;
 
 /// What the lanes of a link draw from its table.
 #[derive(Debug, Drop)]

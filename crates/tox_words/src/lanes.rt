@@ -2,6 +2,9 @@
 ghost use Rattle.std.specs.Prelude.{◌≡◌};
 ghost use Rattle.tox_words.specs.Draw.{lane_count};
 
+/// The most lanes that share a table.
+pub const MAX_LANES: usize = 32;
+
 /// How many lanes share a table.
 #[derive(Clone, Copy, Debug, Default, PartialEq, Eq)]
 pub enum Lanes {
@@ -17,7 +20,7 @@ impl Lanes {
     {
         match self {
             Lanes::Sixteen => 16,
-            Lanes::ThirtyTwo => 32,
+            Lanes::ThirtyTwo => MAX_LANES,
         }
     }
 }

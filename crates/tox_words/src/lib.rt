@@ -10,5 +10,5 @@ mod words;
 
 pub use drawing::Drawing;
 pub use fault::WordsFault;
-pub use lanes::Lanes;
+pub use lanes::{Lanes, MAX_LANES};
 pub use words::{MAX_CONNECTIONS, MAX_WORDS, Words};

@@ -1,5 +1,5 @@
 //! bandwidth: limits a connection to `rate` KB/s, which is `rate` bytes in a millisecond, before `until`.
-ghost use Rattle.std.specs.Prelude.{◌≡◌, ◌<◌, List, false, map};
+ghost use Rattle.std.specs.Prelude.{◌≡◌, ◌<◌, List, false, map, [], ◌∷◌};
 ghost use Rattle.tox_time.specs.declared.item.Item.{Item as OneItem};
 ghost use Rattle.tox_defs.specs.KindInside.{saturated};
 ghost use Rattle.tox_defs.specs.Look.{Finds, IsFrontOf};
@@ -9,9 +9,10 @@ ghost use Rattle.tox_defs.specs.toxics.Bandwidth.{bandwidth_attributes, bandwidt
 use crate::look::Look;
 use crate::op::Op;
 use crate::pieces::front;
-use crate::ranges::{HOUR, MILLION, saturated};
+use crate::ranges::{HOUR, MAX_ATTRIBUTES, MILLION, listed, saturated};
 use crate::state::State;
 use crate::toxic::Toxic;
+use arrayvec::ArrayVec;
 use tox_time::Slice;
 
 /// The names of the attributes.
@@ -19,6 +20,13 @@ pub(crate) fn attributes() -> &'static [&'static str]
     ensures { map (λ name. name.now) result.now ≡ bandwidth_attributes }
 {
     &["rate", "until"]
+}
+
+/// The values of the attributes, in their order.
+pub(crate) fn values(rate: u32, until: u32) -> ArrayVec<u64, MAX_ATTRIBUTES>
+    ensures { result.items ≡ rate ∷ until ∷ [] }
+{
+    listed(&[u64::from(rate), u64::from(until)])
 }
 
 /// The bandwidth with these values of its attributes.

@@ -1,5 +1,5 @@
 //! latency: delays all data by `latency` plus or minus `jitter`, both in milliseconds, before `until`.
-ghost use Rattle.std.specs.Prelude.{◌≡◌, ◌+◌, ◌<◌, ◌^◌, List, false, map};
+ghost use Rattle.std.specs.Prelude.{◌≡◌, ◌+◌, ◌<◌, ◌^◌, List, false, map, [], ◌∷◌};
 ghost use Rattle.tox_time.specs.declared.item.Item.{Item as OneItem};
 ghost use Rattle.tox_words.specs.Draw.{draws_of};
 ghost use Rattle.tox_defs.specs.KindInside.{saturated};
@@ -9,10 +9,11 @@ ghost use Rattle.tox_defs.specs.toxics.Latency.{delay_of, delay_op_gives, is_lat
 
 use crate::look::Look;
 use crate::op::Op;
-use crate::ranges::{HOUR, saturated};
+use crate::ranges::{HOUR, MAX_ATTRIBUTES, listed, saturated};
 use crate::state::State;
 use crate::toxic::Toxic;
 use crate::varied::varied;
+use arrayvec::ArrayVec;
 use tox_time::Slice;
 use tox_words::Drawing;
 
@@ -21,6 +22,13 @@ pub(crate) fn attributes() -> &'static [&'static str]
     ensures { map (λ name. name.now) result.now ≡ latency_attributes }
 {
     &["latency", "jitter", "until"]
+}
+
+/// The values of the attributes, in their order.
+pub(crate) fn values(latency: u32, jitter: u32, until: u32) -> ArrayVec<u64, MAX_ATTRIBUTES>
+    ensures { result.items ≡ latency ∷ jitter ∷ until ∷ [] }
+{
+    listed(&[u64::from(latency), u64::from(jitter), u64::from(until)])
 }
 
 /// The latency with these values of its attributes.

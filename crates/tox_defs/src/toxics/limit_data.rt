@@ -1,5 +1,5 @@
 //! limit_data: closes the connection once `bytes` have passed.
-ghost use Rattle.std.specs.Prelude.{◌≡◌, ◌<◌, List, false, map};
+ghost use Rattle.std.specs.Prelude.{◌≡◌, ◌<◌, List, false, map, [], ◌∷◌};
 ghost use Rattle.tox_time.specs.declared.item.Item.{Item as OneItem};
 ghost use Rattle.tox_defs.specs.KindInside.{saturated};
 ghost use Rattle.tox_defs.specs.Look.{Finds, IsFrontOf};
@@ -9,9 +9,10 @@ ghost use Rattle.tox_defs.specs.toxics.LimitData.{is_limit_data_within, limit_da
 use crate::look::Look;
 use crate::op::Op;
 use crate::pieces::front;
-use crate::ranges::value;
+use crate::ranges::{MAX_ATTRIBUTES, listed, value};
 use crate::state::State;
 use crate::toxic::Toxic;
+use arrayvec::ArrayVec;
 use tox_time::{Ending, MAX_BYTES, Slice};
 
 /// The name of the attribute.
@@ -19,6 +20,13 @@ pub(crate) fn attributes() -> &'static [&'static str]
     ensures { map (λ name. name.now) result.now ≡ limit_data_attributes }
 {
     &["bytes"]
+}
+
+/// The value of the attribute.
+pub(crate) fn values(bytes: u64) -> ArrayVec<u64, MAX_ATTRIBUTES>
+    ensures { result.items ≡ bytes ∷ [] }
+{
+    listed(&[bytes])
 }
 
 /// The limit_data with this value of its attribute.

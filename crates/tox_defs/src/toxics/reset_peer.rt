@@ -11,8 +11,9 @@ ghost use Rattle.tox_defs.specs.toxics.ResetPeer.{cutoff_gives, is_reset_peer_wi
 
 use crate::look::Look;
 use crate::op::Op;
-use crate::ranges::{HOUR, saturated};
+use crate::ranges::{HOUR, MAX_ATTRIBUTES, listed, saturated};
 use crate::toxic::Toxic;
+use arrayvec::ArrayVec;
 use tox_time::{Ending, Micros, Slice};
 
 /// The name of the attribute.
@@ -20,6 +21,13 @@ pub(crate) fn attributes() -> &'static [&'static str]
     ensures { map (λ name. name.now) result.now ≡ reset_peer_attributes }
 {
     &["timeout"]
+}
+
+/// The value of the attribute.
+pub(crate) fn values(timeout: u32) -> ArrayVec<u64, MAX_ATTRIBUTES>
+    ensures { result.items ≡ timeout ∷ [] }
+{
+    listed(&[u64::from(timeout)])
 }
 
 /// The reset_peer with this value of its attribute.

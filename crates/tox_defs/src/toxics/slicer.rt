@@ -1,5 +1,5 @@
 //! slicer: cuts data into pieces near `average_size` bytes, varied by `size_variation`, with `delay` microseconds before each.
-ghost use Rattle.std.specs.Prelude.{◌≡◌, ◌+◌, ◌<◌, ◌^◌, List, false, map};
+ghost use Rattle.std.specs.Prelude.{◌≡◌, ◌+◌, ◌<◌, ◌^◌, List, false, map, [], ◌∷◌};
 ghost use Rattle.tox_time.specs.declared.item.Item.{Item as OneItem};
 ghost use Rattle.tox_words.specs.Draw.{draws_of};
 ghost use Rattle.tox_defs.specs.KindInside.{saturated};
@@ -10,10 +10,11 @@ ghost use Rattle.tox_defs.specs.toxics.Slicer.{is_slicer_varied_too_much, is_sli
 use crate::look::Look;
 use crate::op::Op;
 use crate::pieces::front;
-use crate::ranges::{HOUR, MILLION, saturated, value};
+use crate::ranges::{HOUR, MAX_ATTRIBUTES, MILLION, listed, saturated, value};
 use crate::state::State;
 use crate::toxic::Toxic;
 use crate::varied::varied;
+use arrayvec::ArrayVec;
 use tox_time::Slice;
 use tox_words::Drawing;
 
@@ -25,6 +26,23 @@ pub(crate) fn attributes() -> &'static [&'static str]
     ensures { map (λ name. name.now) result.now ≡ slicer_attributes }
 {
     &["average_size", "size_variation", "delay", "until"]
+}
+
+/// The values of the attributes, in their order.
+pub(crate) fn values(
+    average_size: u32,
+    size_variation: u32,
+    delay: u64,
+    until: u32,
+) -> ArrayVec<u64, MAX_ATTRIBUTES>
+    ensures { result.items ≡ average_size ∷ size_variation ∷ delay ∷ until ∷ [] }
+{
+    listed(&[
+        u64::from(average_size),
+        u64::from(size_variation),
+        delay,
+        u64::from(until),
+    ])
 }
 
 /// The slicer with these values of its attributes.

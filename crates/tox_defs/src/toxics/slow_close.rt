@@ -10,8 +10,9 @@ ghost use Rattle.tox_defs.specs.toxics.SlowClose.{is_slow_close_within, slow_clo
 
 use crate::look::Look;
 use crate::op::Op;
-use crate::ranges::{HOUR, saturated};
+use crate::ranges::{HOUR, MAX_ATTRIBUTES, listed, saturated};
 use crate::toxic::Toxic;
+use arrayvec::ArrayVec;
 use tox_time::{Ending, Slice};
 
 /// The name of the attribute.
@@ -19,6 +20,13 @@ pub(crate) fn attributes() -> &'static [&'static str]
     ensures { map (λ name. name.now) result.now ≡ slow_close_attributes }
 {
     &["delay"]
+}
+
+/// The value of the attribute.
+pub(crate) fn values(delay: u32) -> ArrayVec<u64, MAX_ATTRIBUTES>
+    ensures { result.items ≡ delay ∷ [] }
+{
+    listed(&[u64::from(delay)])
 }
 
 /// The slow_close with this value of its attribute.

@@ -1,11 +1,12 @@
 //! timeout: stops all data, and closes after `timeout` milliseconds, or never with 0.
-ghost use Rattle.std.specs.Prelude.{◌≡◌, map};
+ghost use Rattle.std.specs.Prelude.{◌≡◌, map, [], ◌∷◌};
 ghost use Rattle.tox_defs.specs.KindInside.{saturated};
 ghost use Rattle.tox_defs.specs.toxics.Timeout.{is_timeout_within, timeout_attributes, timeout_ending, timeout_of};
 
 use crate::op::Op;
-use crate::ranges::{HOUR, saturated};
+use crate::ranges::{HOUR, MAX_ATTRIBUTES, listed, saturated};
 use crate::toxic::Toxic;
+use arrayvec::ArrayVec;
 use tox_time::{Ending, Micros};
 
 /// The name of the attribute.
@@ -13,6 +14,13 @@ pub(crate) fn attributes() -> &'static [&'static str]
     ensures { map (λ name. name.now) result.now ≡ timeout_attributes }
 {
     &["timeout"]
+}
+
+/// The value of the attribute.
+pub(crate) fn values(timeout: u32) -> ArrayVec<u64, MAX_ATTRIBUTES>
+    ensures { result.items ≡ timeout ∷ [] }
+{
+    listed(&[u64::from(timeout)])
 }
 
 /// The timeout with this value of its attribute.
