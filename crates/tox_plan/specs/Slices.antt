@@ -1,5 +1,5 @@
 -- Slices lent from the offered piece.
-use Rattle.std.specs.Prelude.{◌≡◌, ◌-◌, true, List, [], ◌∷◌, Option, Some, None}
+use Rattle.std.specs.Prelude.{◌≡◌, ◌-◌, true, false, List, [], ◌∷◌, Option, Some, None}
 use Rattle.std.specs.Iterator.{Count, at_most}
 use Rattle.tox_time.specs.declared.slice.Slice.{Slice}
 use Rattle.tox_time.specs.declared.item.Item.{Item}
@@ -35,12 +35,13 @@ pub record KeepsPiece (old new : Slices) : Type 0 where
   pub finished : new.runner.finished ≡ old.runner.finished
   pub pieces : new.runner.pieces ≡ old.runner.pieces
 
--- the next slice of the runner, as the piece's own bytes at its positions
+-- the next slice of the runner, as the piece's own bytes at its positions; the runner still holds the piece
 pub record LendsNext (old new : Slices) (lent : Lent) : Type 0 where
   pub slice : Slice
   pub cut : IsCut old.runner new.runner slice
   pub starts : slice.span.start ≡ old.runner.position
   pub stops : new.runner.position ≡ slice.span.stop
+  pub busy : new.runner.idle ≡ false
   pub apart : BeginsApart slice.instant (to_come new.runner (Quiet ∷ []))
   pub exact : IsExactSlice old.piece.now slice.span slice.instant lent
 

@@ -7,7 +7,7 @@ use std::test::Fail;
 use tox_compile::compile;
 use tox_lend::{Lent, Piece};
 use tox_plan::Runner;
-use tox_rows::{at, chain_of};
+use tox_rows::{at, chain_of, slice};
 use tox_time::{Ending, Micros, Span};
 use tox_words::Words;
 
@@ -91,5 +91,28 @@ fn a_slicer_lends_slices_of_each_piece(rt: HostRuntime) -> Result<(), Fail> {
     let mut runner = offer(&rt, runner, 5, b"fg", at(100), &lent)?;
     assert!(rt; runner.is_idle());
     assert_eq!(rt; runner.quiet(), Ending::StillOpen);
+    Ok(())
+}
+
+/// A runner that is taken back before its slices are all given goes on with the rest of the piece.
+#[test]
+fn a_runner_taken_back_early_keeps_the_piece(rt: HostRuntime) -> Result<(), Fail> {
+    let words = Words::from_list(rt.alloc(), &[0])?;
+    let chain = chain_of("slicer:average_size=2,delay=10").expect(&rt, "a short form");
+    let mut runner = Runner::new(compile(&chain, &words), &words);
+    runner.offer(3, Micros::ZERO)?;
+    let piece = Piece {
+        start: 0,
+        bytes: Vec::from_slice(rt.alloc(), b"abc")?,
+        instant: Micros::ZERO,
+    };
+    let mut slices = runner.slices(&piece);
+    assert_eq!(rt; shown(&slices.next()), Some((0, 10, b"ab".as_slice())));
+    let mut runner = slices.into_runner();
+    assert!(rt; !runner.is_idle());
+    assert_eq!(rt; runner.next_cut(), Some(slice(2, 3, 20)));
+    assert!(rt; !runner.is_idle());
+    assert_eq!(rt; runner.next_cut(), None);
+    assert!(rt; runner.is_idle());
     Ok(())
 }
