@@ -21,5 +21,4 @@ mod Cuts
 mod Decimals
 pub mod Mapped
 mod ReadsBack
-mod WorkedCases
 mod Gathered
