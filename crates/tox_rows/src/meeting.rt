@@ -38,9 +38,10 @@ impl Meeting {
         }
     }
 
-    /// Whether one of the two came and the other didn't.
-    pub fn missed(&self) -> bool {
-        self.missed.load(Ordering::SeqCst)
+    /// Whether both came, and each saw the other.
+    pub fn met(&self) -> bool {
+        let came = self.first.load(Ordering::SeqCst) && self.second.load(Ordering::SeqCst);
+        came && !self.missed.load(Ordering::SeqCst)
     }
 
     fn meet(&self, mine: &AtomicBool, other: &AtomicBool) {

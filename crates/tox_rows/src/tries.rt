@@ -43,17 +43,19 @@ pub fn answer_of<T, E: PartialEq + Drop>(answer: &Result<T, E>, memory: &E) -> T
     }
 }
 
-/// How often a call was refused memory and a thread, and whether it was answered in the end.
+/// How often a call was refused memory and a thread, what the last try returned, and whether it was answered in the end.
 #[derive(Clone, Copy, Debug, PartialEq, Eq)]
 pub struct Refusals {
     pub memory: usize,
     pub threads: usize,
+    pub last: Option<Tried>,
     pub is_answered: bool,
 }
 
 impl Refusals {
     /// Counts a try. Fails at a wrong answer.
     fn add(&mut self, tried: Tried) -> Result<(), Fail> {
+        self.last = Some(tried);
         match tried {
             Tried::Answered => self.is_answered = true,
             Tried::NoMemory => self.memory = self.memory.saturating_add(1),
@@ -76,6 +78,7 @@ pub fn try_each<Try: FnMut(&mut Scarcity, usize) -> Result<Tried, Fail>>(
     let mut refusals = Refusals {
         memory: 0,
         threads: 0,
+        last: None,
         is_answered: false,
     };
     for nth in 0..tries {

@@ -174,7 +174,7 @@ fn reader_and_writer_meet(rt: HostRuntime) -> Result<(), Fail> {
     let gate = Arc::new(rt.alloc(), Meeting::new(1))?;
     let reader = MemorySource::new(b"ab".to_vec(rt.alloc())?, 16, None);
     let answer = carried(&rt, "", reader, 10, &mut set, &gate)?;
-    assert!(rt; !gate.missed());
+    assert!(rt; gate.met());
     compare(&rt, answer, 2, closed(0), SourceEnding::Eof);
     Ok(())
 }

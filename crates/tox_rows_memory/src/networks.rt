@@ -10,7 +10,7 @@ use tox_plan::deliver;
 use tox_rows::{
     MAX_TRIES, Scarcity, Tried, answer_of, chain_of, table_of, times_refused, try_each,
 };
-use tox_time::{Arrivals, Micros};
+use tox_time::{Arrivals, Ending, Micros};
 use tox_words::Words;
 
 /// Three arrivals of two bytes, and the end.
@@ -82,8 +82,9 @@ fn settle(
     let answer = network.settle(&[]);
     scarcity.end();
     network.settle(&[])?;
-    let table = table_of(alloc, &network.outcome().slices)?;
-    if table.as_slice() == expected {
+    let outcome = network.outcome();
+    let table = table_of(alloc, &outcome.slices)?;
+    if table.as_slice() == expected && outcome.ending == Ending::Closed(Micros::from_millis(3)) {
         Ok(answer_of(&answer, &StepFault::OutOfMemory))
     } else {
         Ok(Tried::Wrong)

@@ -38,8 +38,12 @@ fn real_ends_pass_bytes_on(rt: HostRuntime) -> Result<(), Fail> {
     let mut source = Real::new(b"ab".as_slice());
     let mut buffer = [0; 4];
     assert_eq!(rt; source.read(&mut buffer), Ok(2));
+    assert_eq!(rt; buffer, *b"ab\0\0");
     assert_eq!(rt; source.read(&mut buffer), Ok(0));
-    let mut sink = Real::new(Vec::new(rt.alloc()));
-    assert_eq!(rt; sink.write(&buffer[..2]), Ok(2));
+    let mut written = Vec::new(rt.alloc());
+    let mut sink = Real::new(&mut written);
+    assert_eq!(rt; sink.write(b"ab"), Ok(2));
+    assert_eq!(rt; sink.write(b"c"), Ok(1));
+    assert_eq!(rt; written.as_slice(), b"abc".as_slice());
     Ok(())
 }

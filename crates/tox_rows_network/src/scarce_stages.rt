@@ -10,7 +10,7 @@ use tox_rows::{
     with_stacks,
 };
 use tox_stages::{StageFault, run_stages};
-use tox_time::{Arrivals, Ending, MemorySink, MemorySource, OpenGate};
+use tox_time::{Arrivals, Ending, MemorySink, MemorySource};
 use tox_words::Words;
 
 const TWO_LATENCIES: &str = "latency:latency=1 latency:latency=2";
@@ -19,8 +19,14 @@ const TEXT: &str = "0 data 61\n0 data 62\n";
 
 const RESULT: &str = "3000 0..1 61\n3000 1..2 62\nopen\n";
 
+/// The room of each ring, in items.
+const CAP: usize = 1024;
+
+/// At least so many pages lie in the three rings of two stages.
+const RING_PAGES: usize = 3 * 6;
+
 /// More pages than running stages need.
-const PAGES: usize = 60;
+const PAGES: usize = 90;
 
 /// Running stages with little memory. Nobody passes the gate once they have answered.
 fn run<R: Threads + Wait + Sync>(
@@ -34,7 +40,7 @@ fn run<R: Threads + Wait + Sync>(
     let words = Words::from_list(alloc, &[0])?;
     let gate = CountingGate::new();
     scarcity.leave_pages(alloc, pages)?;
-    let answer = run_stages(rt, alloc, chain, &words, arrivals, 1, &gate);
+    let answer = run_stages(rt, alloc, chain, &words, arrivals, CAP, &gate);
     let passes = gate.passes();
     scarcity.end();
     if gate.passes() != passes {
@@ -56,7 +62,7 @@ fn run<R: Threads + Wait + Sync>(
     }
 }
 
-/// The same from text to text. Nothing is written after a refusal.
+/// The same from text to text. Nothing is written after a refusal, and nobody passes the gate after an answer.
 fn run_text<R: Threads + Wait + Sync>(
     rt: &R,
     scarcity: &mut Scarcity,
@@ -67,6 +73,7 @@ fn run_text<R: Threads + Wait + Sync>(
     let words = Words::from_list(alloc, &[0])?;
     let mut reader = MemorySource::new(TEXT.as_bytes().to_vec(alloc)?, 64, None);
     let mut writer = MemorySink::new(alloc, 100, 64, None)?;
+    let gate = CountingGate::new();
     scarcity.leave_pages(alloc, pages)?;
     let answer = stages_run(
         rt,
@@ -75,10 +82,14 @@ fn run_text<R: Threads + Wait + Sync>(
         &mut writer,
         chain,
         &words,
-        1,
-        &OpenGate,
+        CAP,
+        &gate,
     );
+    let passes = gate.passes();
     scarcity.end();
+    if gate.passes() != passes {
+        return Ok(Tried::Wrong);
+    }
     let tried = match answer {
         Ok(()) => Tried::Answered,
         Err(
@@ -121,7 +132,7 @@ fn run_text_behind<R: Threads + Wait + Sync + AllocGlobal>(
 fn running_stages_are_refused_each_thread(rt: HostRuntime) -> Result<(), Fail> {
     let refusals = run_behind(&rt, 0)?;
     eprintln!(rt; "{refusals:?}")?;
-    assert!(rt; !refusals.is_answered && 0 < refusals.memory && 0 < refusals.threads);
+    assert!(rt; 0 < refusals.memory && refusals.last == Some(Tried::NoThread));
     Ok(())
 }
 
@@ -129,7 +140,7 @@ fn running_stages_are_refused_each_thread(rt: HostRuntime) -> Result<(), Fail> {
 fn running_stages_are_refused_the_second_thread(rt: HostRuntime) -> Result<(), Fail> {
     let refusals = run_behind(&rt, 1)?;
     eprintln!(rt; "{refusals:?}")?;
-    assert!(rt; !refusals.is_answered && 0 < refusals.memory && 0 < refusals.threads);
+    assert!(rt; 0 < refusals.memory && refusals.last == Some(Tried::NoThread));
     Ok(())
 }
 
@@ -137,7 +148,7 @@ fn running_stages_are_refused_the_second_thread(rt: HostRuntime) -> Result<(), F
 fn running_stages_are_refused_memory(rt: HostRuntime) -> Result<(), Fail> {
     let refusals = run_behind(&rt, 2)?;
     eprintln!(rt; "{refusals:?}")?;
-    assert!(rt; refusals.is_answered && 0 < refusals.memory);
+    assert!(rt; refusals.is_answered && RING_PAGES < refusals.memory);
     Ok(())
 }
 
@@ -145,7 +156,7 @@ fn running_stages_are_refused_memory(rt: HostRuntime) -> Result<(), Fail> {
 fn a_text_in_threads_is_refused_the_second_thread(rt: HostRuntime) -> Result<(), Fail> {
     let refusals = run_text_behind(&rt, 1)?;
     eprintln!(rt; "{refusals:?}")?;
-    assert!(rt; !refusals.is_answered && 0 < refusals.memory && 0 < refusals.threads);
+    assert!(rt; 0 < refusals.memory && refusals.last == Some(Tried::NoThread));
     Ok(())
 }
 
@@ -153,6 +164,6 @@ fn a_text_in_threads_is_refused_the_second_thread(rt: HostRuntime) -> Result<(),
 fn a_text_in_threads_is_refused_memory(rt: HostRuntime) -> Result<(), Fail> {
     let refusals = run_text_behind(&rt, 2)?;
     eprintln!(rt; "{refusals:?}")?;
-    assert!(rt; refusals.is_answered && 0 < refusals.memory);
+    assert!(rt; refusals.is_answered && RING_PAGES < refusals.memory);
     Ok(())
 }

@@ -46,7 +46,7 @@ fn a_chain_may_have_thirty_two_workers(rt: HostRuntime) -> Result<(), Fail> {
 fn two_workers_meet(rt: HostRuntime) -> Result<(), Fail> {
     let gate = Meeting::new(1);
     let outcome = delivered(&rt, TWO_LATENCIES, 2, 1, &gate)?;
-    assert!(rt; !gate.missed());
+    assert!(rt; gate.met());
     let expected = [slice(0, 1, 3000), slice(1, 2, 3000)];
     assert_eq!(rt; outcome.slices.as_slice(), expected.as_slice());
     assert_eq!(rt; outcome.ending, Ending::StillOpen);
@@ -61,7 +61,7 @@ fn rings_have_their_room(rt: HostRuntime) -> Result<(), Fail> {
     for (cap, nth) in [(1, 2), (3, 4)] {
         let gate = Meeting::new(nth);
         let outcome = delivered(&rt, toxics, 5, cap, &gate)?;
-        assert!(rt; !gate.missed(), "rings of {cap}");
+        assert!(rt; gate.met(), "rings of {cap}");
         assert_eq!(rt; outcome.slices.as_slice().last(), Some(&slice(4, 5, 3000)));
     }
     Ok(())
