@@ -20,9 +20,9 @@ use Rattle.tox_link.specs.Carried.{Carried}
 use Rattle.tox_link.specs.Core.{core_position}
 use Rattle.tox_link.specs.Log.{heard_from, heard, said, has_source_end}
 use Rattle.tox_link.specs.Logged.{Logged, HasEnded, IsCutOff}
-use Rattle.tox_link.specs.Messages.{bytes_of, ArePieces, ReadsFrom, HandsOn, EndsFor}
+use Rattle.tox_link.specs.Messages.{bytes_of, ArePieces, ReadsFrom, AreFirstOf, HandsOn, EndsFor}
 use Rattle.tox_link.specs.declared.link_fault.LinkFault.{LinkFault}
-use Rattle.tox_link.specs.Hangups.{Call, BreaksOff}
+use Rattle.tox_link.specs.Hangups.{Call, with_call, HangsUp, BreaksOff}
 use Rattle.tox_link.specs.Reports.{Reports, HeardSo, WritesFirst, is_write_fault, written_before}
 use Rattle.tox_link.specs.Side.{IsSound, TookAll}
 use Rattle.tox_link.specs.Sources.{read_end_of}
@@ -168,13 +168,26 @@ reads-same before given after reads asked messages end failed same count sent =
     subst (λ before. ReadsFrom before asked messages end after failed) same (subst (λ reads. ReadsFrom before reads messages end after failed) count sent)
 
 -- a link that was refused before its reader's thread started
-pub broke-unstarted : (calls : Option (List Call)) (fault : LinkFault) → written_before fault ≡ 0 → is_write_fault fault ≡ false → BreaksOff calls calls fault
-broke-unstarted calls fault none cause = inl (refl, none, cause)
+pub broke-unstarted : (told : ℕ → Type 0) (calls : Option (List Call)) (fault : LinkFault) → written_before fault ≡ 0 → is_write_fault fault ≡ false → BreaksOff told [] calls calls fault
+broke-unstarted told calls fault none cause = inl (refl, none, cause)
 
 -- where a link learnt why the reading ended, it took the source's end
 took-end : (side : WriterSide) (messages : List Message) (source : Option ReadEnd) → ((end : ReadEnd) → source ≡ Some end → TookAll side messages end) → IfSome source (λ _. side.ended ≡ true)
 took-end side messages (Some end) whole = (whole end refl).ended
 took-end side messages None whole = tt
 
-pub took-source-end : (side : WriterSide) (messages : List Message) → IsSound side messages → IfSome (read_end_of side.source) (λ _. side.ended ≡ true)
-took-source-end side messages sound = took-end side messages (read_end_of side.source) sound.whole
+-- a link that ended is hung up with whether the source's end was taken
+pub hung-up : (old new : Option (List Call)) (side : WriterSide) (messages : List Message) (last : Ending) → new ≡ with_call old last side.ended → (last ≡ StillOpen → side.ended ≡ true) → IsSound side messages
+    → HangsUp old new messages last (read_end_of side.source)
+hung-up old new side messages last called stays_open sound = record {
+  called = called ∙ ap (with_call old last) sound.told;
+  stays_open = λ still. sym sound.told ∙ stays_open still;
+  known = subst (λ ended. IfSome (read_end_of side.source) (λ _. ended ≡ true)) sound.told (took-end side messages (read_end_of side.source) sound.whole);
+}
+
+-- what was taken are the first messages of the reading
+pub first-of : (messages later more left : List Message) (before after : Option (List ℕ)) (reads : ℕ) (end : ReadEnd) (failed : Bool) → later ≡ messages ++ more → ReadsFrom before reads (later ++ left) end after failed
+    → AreFirstOf before reads messages after failed
+first-of messages later more left before after reads end failed grown sent =
+    let whole : later ++ left ≡ messages ++ (more ++ left) = ap (λ later. later ++ left) grown ∙ append_assoc messages more left in
+    record { others = more ++ left; end = end; sent = subst (λ all. ReadsFrom before reads all end after failed) whole sent }

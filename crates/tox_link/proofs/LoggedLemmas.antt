@@ -9,28 +9,18 @@ use Rattle.tox_time.specs.Stream.{IsStream, span_len}
 use Rattle.tox_time.specs.Table.{table, slices_table}
 use Rattle.tox_link.specs.declared.inbox.Inbox.{Inbox}
 use Rattle.tox_link.specs.declared.notes.LinkEvent.{LinkEvent}
-use Rattle.tox_link.specs.declared.notes.LinkEvent.TheVariants.{Piece, SourceEnd, Wrote}
 use Rattle.tox_link.specs.declared.writer_side.WriterSide.{WriterSide}
 use Rattle.tox_link.specs.declared.act.Act.{Act}
 use Rattle.tox_link.specs.declared.act.Act.TheVariants.{Write, WaitUntil, WaitForInput, End}
-use Rattle.tox_link.specs.Carried.{Carried, KeepsCarried, noted_of}
+use Rattle.tox_link.specs.Carried.{Carried, KeepsCarried, ReadsOn, noted_of}
 use Rattle.tox_link.specs.Core.{CoreView, TakesSlice, remaining_output, core_position}
+use Rattle.tox_link.specs.Hangups.{IsResetAt}
 use Rattle.tox_link.specs.Log.{heard, said, has_source_end}
 use Rattle.tox_link.specs.Logged.{Logged, KeepsLogged, LogsFrom, CutsOff, CutsOffFrom}
 use Rattle.tox_link.specs.Side.{IsFresh}
 use Rattle.tox_link.specs.Sources.{read_end_of}
-use Rattle.tox_link.proofs.Logs.{gapless-bytes}
+use Rattle.tox_link.proofs.Logs.{gapless-bytes, has_source_end-append, end-same, by-later}
 use Rattle.tox_link.proofs.StepLemmas.{start-carried}
-
-pub has_source_end-append : (log more : List LinkEvent) → has_source_end (log ++ more) ≡ (has_source_end log || has_source_end more)
-has_source_end-append [] more = refl
-has_source_end-append (Piece len instant ∷ log) more = has_source_end-append log more
-has_source_end-append (SourceEnd instant ∷ log) more = refl
-has_source_end-append (Wrote slice now ∷ log) more = has_source_end-append log more
-
-or-false : (b c : Bool) → c ≡ false → (b || c) ≡ b
-or-false true c none = refl
-or-false false c none = none
 
 or-false_left : (b c : Bool) → b ≡ false → (b || c) ≡ c
 or-false_left true c none = cc
@@ -40,7 +30,7 @@ or-false_left false c none = refl
 pub logged-on : (told : ℕ → Type 0) (old new : WriterSide) (more : List LinkEvent) → KeepsCarried told old.core more new.core → has_source_end more ≡ false → new.source ≡ old.source → KeepsLogged told old more new
 logged-on told old new more keeps none source means log logged = record {
   carried = keeps means log logged.carried;
-  closed = has_source_end-append log more ∙ or-false (has_source_end log) (has_source_end more) none ∙ logged.closed ∙ ap (λ source. is_some (read_end_of source)) (sym source);
+  closed = end-same log more none ∙ logged.closed ∙ ap (λ source. is_some (read_end_of source)) (sym source);
 }
 
 -- the source's end, where it had not come
@@ -108,6 +98,12 @@ logged-fresh means told side fresh output = record {
 -- the last reading is the clock's
 pub logged-read : (told : ℕ → Type 0) (old new : WriterSide) (log : List LinkEvent) → IsFresh old → LogsFrom told old log new → (new.core.latest ≡ 0) ⊎ told new.core.latest
 logged-read told old new log fresh logs = (logs (remaining_output old.core) (logged-fresh (remaining_output old.core) told old fresh (λ items stream. refl))).carried.read
+
+-- a link that broke off is reset at its last reading
+pub resets-on : (told : ℕ → Type 0) (first old : WriterSide) (log : List LinkEvent) (t : ℕ) → IsFresh first → LogsFrom told first log old → ReadsOn told old.core.latest t → IsResetAt told log t
+resets-on told first old log t fresh logs reads =
+    let logged = logs (remaining_output first.core) (logged-fresh (remaining_output first.core) told first fresh (λ items stream. refl)) in
+    record { read = reads.read; by = by-later old.core.latest t log reads.later logged.carried.by }
 
 -- two runs of events one after the other
 pub logs-on : (told : ℕ → Type 0) (first old new : WriterSide) (log more : List LinkEvent) → LogsFrom told first log old → KeepsLogged told old more new → LogsFrom told first (log ++ more) new

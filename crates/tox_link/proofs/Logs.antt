@@ -1,5 +1,6 @@
 -- A log that grows by one event.
-use Rattle.std.proofs.Common.{◌≡◌, ℕ, ◌+◌, ◌<◌, ◌≤◌, ◌⊎◌, inl, inr, List, [], ◌∷◌, ◌++◌, length, take, Option, Some, None, replicate, refl, ap, sym, ◌∙◌, subst, append_assoc, append-nil, add_assoc, add-zero, length-append, arith}
+use Rattle.std.proofs.Common.{◌≡◌, ℕ, ◌+◌, ◌<◌, ◌≤◌, ◌⊎◌, inl, inr, Bool, true, false, List, [], ◌∷◌, ◌++◌, length, take, Option, Some, None, replicate, refl, ap, sym, ◌∙◌, subst, append_assoc, append-nil, add_assoc, add-zero, length-append, arith}
+use Rattle.std.specs.Prelude.{◌||◌}
 use Rattle.std.proofs.lemmas.List.{take-append-le, take_all, length-replicate}
 use Rattle.std.proofs.lemmas.Bool.{cases_lt}
 use Rattle.tox_time.specs.declared.slice.Slice.{Slice}
@@ -10,7 +11,7 @@ use Rattle.tox_time.specs.Table.{slices_table}
 use Rattle.tox_link.specs.declared.notes.LinkEvent.{LinkEvent}
 use Rattle.tox_link.specs.declared.notes.LinkEvent.TheVariants.{Piece, SourceEnd, Wrote}
 use Rattle.tox_link.specs.Events.{with_events}
-use Rattle.tox_link.specs.Log.{heard_from, said, heard_bytes, reading_of, IsDue, IsTimely, IsGapless, IsFaithful, Agrees}
+use Rattle.tox_link.specs.Log.{heard_from, said, heard_bytes, has_source_end, reading_of, IsDue, IsTimely, IsGapless, IsFaithful, HearsNothing, IsHeardInOrder, Agrees}
 use Rattle.tox_link.specs.Carried.{IsBy}
 
 -- a stream from an instant is one from an earlier instant
@@ -77,12 +78,57 @@ prefixes : (means : List Item → List Item) (log : List LinkEvent) (event : Lin
 prefixes means log event before now n (inr within) = subst (Agrees means) (sym (take-append-le n log (event ∷ []) within)) (before n)
 prefixes means log event before now n (inl past) = subst (Agrees means) (sym (take_all n (log ++ event ∷ []) (let more = length-append log (event ∷ []) in omega (arith, more, past)))) now
 
+pub has_source_end-append : (log more : List LinkEvent) → has_source_end (log ++ more) ≡ (has_source_end log || has_source_end more)
+has_source_end-append [] more = refl
+has_source_end-append (Piece len instant ∷ log) more = has_source_end-append log more
+has_source_end-append (SourceEnd instant ∷ log) more = refl
+has_source_end-append (Wrote slice now ∷ log) more = has_source_end-append log more
+
+pub or-false : (b c : Bool) → c ≡ false → (b || c) ≡ b
+or-false true c none = refl
+or-false false c none = none
+
+-- events without the source's end
+pub end-same : (log more : List LinkEvent) → has_source_end more ≡ false → has_source_end (log ++ more) ≡ has_source_end log
+end-same log more none = has_source_end-append log more ∙ or-false (has_source_end log) (has_source_end more) none
+
+-- a log with the source's end is that of a core that was told it
+pub open-log : (has ended : Bool) → (has ≡ true → ended ≡ true) → ended ≡ false → has ≡ false
+open-log true ended closed going = let is = closed refl in cc
+open-log false ended closed going = refl
+
+-- what an event adds to what was heard in order
+pub ordered-piece : (log : List LinkEvent) (len instant : ℕ) → IsHeardInOrder log → has_source_end log ≡ false → 0 < len → IsHeardInOrder (log ++ Piece len instant ∷ [])
+ordered-piece [] len instant ordered none some = (some, tt)
+ordered-piece (Piece n t ∷ log) len instant ordered none some = (ordered.0, ordered-piece log len instant ordered.1 none some)
+ordered-piece (SourceEnd t ∷ log) len instant ordered none some = absurd (cc)
+ordered-piece (Wrote slice now ∷ log) len instant ordered none some = ordered-piece log len instant ordered none some
+
+pub ordered-end : (log : List LinkEvent) (instant : ℕ) → IsHeardInOrder log → has_source_end log ≡ false → IsHeardInOrder (log ++ SourceEnd instant ∷ [])
+ordered-end [] instant ordered none = tt
+ordered-end (Piece n t ∷ log) instant ordered none = (ordered.0, ordered-end log instant ordered.1 none)
+ordered-end (SourceEnd t ∷ log) instant ordered none = absurd (cc)
+ordered-end (Wrote slice now ∷ log) instant ordered none = ordered-end log instant ordered none
+
+nothing-wrote : (log : List LinkEvent) (slice : Slice) (now : ℕ) → HearsNothing log → HearsNothing (log ++ Wrote slice now ∷ [])
+nothing-wrote [] slice now nothing = tt
+nothing-wrote (Piece n t ∷ log) slice now nothing = absurd nothing
+nothing-wrote (SourceEnd t ∷ log) slice now nothing = absurd nothing
+nothing-wrote (Wrote other then ∷ log) slice now nothing = nothing-wrote log slice now nothing
+
+pub ordered-wrote : (log : List LinkEvent) (slice : Slice) (now : ℕ) → IsHeardInOrder log → IsHeardInOrder (log ++ Wrote slice now ∷ [])
+ordered-wrote [] slice now ordered = tt
+ordered-wrote (Piece n t ∷ log) slice now ordered = (ordered.0, ordered-wrote log slice now ordered.1)
+ordered-wrote (SourceEnd t ∷ log) slice now ordered = nothing-wrote log slice now ordered
+ordered-wrote (Wrote other then ∷ log) slice now ordered = ordered-wrote log slice now ordered
+
 -- a faithful log stays so with an event after which it agrees
 pub faithful-append : (means : List Item → List Item) (told : ℕ → Type 0) (log : List LinkEvent) (event : LinkEvent) → IsFaithful means told log → IsBy (reading_of event) log → told (reading_of event) → IsDue event
-    → Agrees means (log ++ event ∷ []) → IsFaithful means told (log ++ event ∷ [])
-faithful-append means told log event faithful by says due now = record {
+    → IsHeardInOrder (log ++ event ∷ []) → Agrees means (log ++ event ∷ []) → IsFaithful means told (log ++ event ∷ [])
+faithful-append means told log event faithful by says due ordered now = record {
   agrees = λ n. prefixes means log event faithful.agrees now n (cases_lt (length log) n);
   timely = timely-append told 0 log event faithful.timely by (omega arith) says due;
+  ordered = ordered;
 }
 
 pub events-none : (events : Option (List LinkEvent)) → events ≡ with_events events []

@@ -12,13 +12,13 @@ use Rattle.tox_time.specs.declared.ending.Ending.{Ending}
 use Rattle.tox_lend.proofs.WindowLemmas.{JoinUpTo-push, kept_all, start_of-push}
 use Rattle.tox_link.specs.declared.inbox.Inbox.{Inbox}
 use Rattle.tox_link.specs.declared.message.Message.{Message}
-use Rattle.tox_link.specs.declared.message.Message.TheVariants.{End}
+use Rattle.tox_link.specs.declared.message.Message.TheVariants.{Piece, End}
 use Rattle.tox_link.specs.declared.message.ReadEnd.{ReadEnd}
 use Rattle.tox_link.specs.declared.source_ending.SourceEnding.TheVariants.{NotReached}
 use Rattle.tox_link.specs.declared.writer_side.WriterSide.{WriterSide}
 use Rattle.tox_link.specs.Core.{CoreView, KeepsCore, core_ending, core_position}
 use Rattle.tox_link.specs.Held.{AreOf}
-use Rattle.tox_link.specs.Messages.{bytes_of}
+use Rattle.tox_link.specs.Messages.{bytes_of, has_end}
 use Rattle.tox_link.specs.Side.{IsFresh, IsSound, GivesSlice, came}
 use Rattle.tox_link.specs.Sources.{read_end_of}
 use Rattle.tox_link.proofs.Sent.{sent_more, sent_end}
@@ -112,8 +112,20 @@ sound-inbox side inbox before messages sound same = subst (IsSound (record side 
   few = sound.few;
   live = sound.live;
   going = sound.going;
+  told = sound.told;
   whole = λ end told. let all = sound.whole end told in record { ended = all.ended; bytes = all.bytes; before = all.before; last = all.last };
 })
+
+-- a piece leaves whether the end came
+end-unsaid : (before : List Message) (message : Message) → has_end (message ∷ []) ≡ false → has_end (before ++ message ∷ []) ≡ has_end before
+end-unsaid [] message none = none
+end-unsaid (Piece piece ∷ before) message none = end-unsaid before message none
+end-unsaid (End end ∷ before) message none = refl
+
+end-said : (before : List Message) (end : ReadEnd) → has_end (before ++ End end ∷ []) ≡ true
+end-said [] end = refl
+end-said (Piece piece ∷ before) end = end-said before end
+end-said (End other ∷ before) end = refl
 
 -- what came with one more message
 pub came-more : (side : WriterSide) (before : List Message) (message : Message) → received side.inbox.receiver ≡ before ++ message ∷ [] → (more : List ℕ) × (came side ≡ bytes_of before ++ more)
@@ -134,8 +146,8 @@ none-known core none known = cc
 
 -- a message came while the ending was known, and is dropped
 pub sound-dropped : (old new : WriterSide) (before messages : List Message) (message : Message) → IsSound old before → old.ended ≡ false → IsSome (core_ending old.core)
-    → messages ≡ before ++ message ∷ [] → new.core ≡ old.core → new.window ≡ old.window → new.ended ≡ old.ended → new.source ≡ old.source → new.written ≡ old.written → IsSound new messages
-sound-dropped old new before messages message sound going known came core window ended source written = record {
+    → messages ≡ before ++ message ∷ [] → has_end (message ∷ []) ≡ false → new.core ≡ old.core → new.window ≡ old.window → new.ended ≡ old.ended → new.source ≡ old.source → new.written ≡ old.written → IsSound new messages
+sound-dropped old new before messages message sound going known came piece core window ended source written = record {
   written = written ∙ sound.written ∙ ap core_position (sym core);
   within = subst (λ core. core_position core ≤ core.bytes) (sym core) sound.within;
   stop = ap (λ (window : Pieces). window.stop) window ∙ sound.stop ∙ ap (λ (core : CoreView). core.bytes) (sym core);
@@ -146,6 +158,7 @@ sound-dropped old new before messages message sound going known came core window
   few = let bytes = ap (λ (core : CoreView). core.bytes) core in let all = ap length grown ∙ length-append (bytes_of before) (bytes_of (message ∷ [])) in omega (arith, bytes, all, sound.few);
   live = λ _ unknown. absurd (none-known old.core (ap core_ending (sym core) ∙ unknown) known);
   going = λ unended. ap (λ (core : CoreView). core.ended) core ∙ sound.going (sym ended ∙ unended);
+  told = ended ∙ sound.told ∙ sym (end-unsaid before message piece) ∙ ap has_end (sym came);
   whole = λ end told. absurd (open-source old before end sound going (ap read_end_of (sym source) ∙ told));
 }
   where
@@ -154,11 +167,11 @@ sound-dropped old new before messages message sound going known came core window
 
 -- a piece came and is kept
 pub sound-kept : (old new : WriterSide) (before messages : List Message) (message : Message) (bytes : List ℕ) (run : Run) → IsSound old before → old.ended ≡ false → core_ending old.core ≡ None
-    → messages ≡ before ++ message ∷ [] → bytes_of (message ∷ []) ≡ bytes → 0 < length bytes
+    → messages ≡ before ++ message ∷ [] → has_end (message ∷ []) ≡ false → bytes_of (message ∷ []) ≡ bytes → 0 < length bytes
     → new.core.bytes ≡ old.core.bytes + length bytes → new.core.ended ≡ false → core_position new.core ≡ core_position old.core
     → new.window ≡ record old.window { held = old.window.held ++ run ∷ []; stop = stop_of run } → run.start ≡ old.window.stop → run.bytes ≡ bytes
     → new.ended ≡ old.ended → new.source ≡ old.source → new.written ≡ old.written → IsSound new messages
-sound-kept old new before messages message bytes run sound going unknown came one some counts goes_on position window starts run_is ended source written = record {
+sound-kept old new before messages message bytes run sound going unknown came piece one some counts goes_on position window starts run_is ended source written = record {
   written = written ∙ sound.written ∙ sym position;
   within = omega (arith, position, sound.within, counts);
   stop = stop;
@@ -168,6 +181,7 @@ sound-kept old new before messages message bytes run sound going unknown came on
   few = omega (arith, all, counts, full);
   live = λ _ _. omega (arith, all, counts, full);
   going = λ _. goes_on;
+  told = ended ∙ sound.told ∙ sym (end-unsaid before message piece) ∙ ap has_end (sym came);
   whole = λ end told. absurd (open-source old before end sound going (ap read_end_of (sym source) ∙ told));
 }
   where
@@ -217,6 +231,7 @@ sound-ended old new before messages end sound going came ended counts position w
   few = omega (arith, all, counts, sound.few);
   live = λ unended unknown. absurd (ended-open new ended unended);
   going = λ unended. absurd (ended-open new ended unended);
+  told = ended ∙ sym (end-said before end) ∙ ap has_end (sym came);
   whole = λ last said.
       let is = told last said in
       record { ended = ended; bytes = counts ∙ sound.live going is.1 ∙ sym all; before = before; last = came ∙ ap (λ last. before ++ End last ∷ []) (sym is.0) };
@@ -245,6 +260,7 @@ sound-step old new messages sound kept written within stop left ended source = r
   few = omega (arith, kept.bytes, sound.few);
   live = λ unended none. kept.bytes ∙ sound.live (sym ended ∙ unended) (unknown-before old.core new.core kept none);
   going = λ unended. kept.ended ∙ sound.going (sym ended ∙ unended);
+  told = ended ∙ sound.told;
   whole = λ end told.
       let all = sound.whole end (ap read_end_of (sym source) ∙ told) in
       record { ended = ended ∙ all.ended; bytes = kept.bytes ∙ all.bytes; before = all.before; last = all.last };
@@ -282,6 +298,7 @@ sound-fresh side fresh = record {
   few = omega (arith, fresh.bytes);
   live = λ unended none. fresh.bytes ∙ sym (ap (λ messages. length (bytes_of messages)) fresh.received);
   going = λ unended. fresh.going;
+  told = fresh.ended ∙ sym (ap has_end fresh.received);
   whole = λ end told. absurd (none-told side end fresh.source told);
 }
 

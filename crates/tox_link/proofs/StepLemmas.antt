@@ -1,5 +1,5 @@
 -- The steps of a link that is carried.
-use Rattle.std.proofs.Common.{◌≡◌, ℕ, ◌+◌, ◌<◌, ◌≤◌, inl, inr, List, [], ◌∷◌, ◌++◌, replicate, refl, ap, sym, ◌∙◌, subst, append_assoc, append-nil, zero-add, arith}
+use Rattle.std.proofs.Common.{◌≡◌, ℕ, ◌+◌, ◌<◌, ◌≤◌, inl, inr, true, false, List, [], ◌∷◌, ◌++◌, replicate, refl, ap, sym, ◌∙◌, subst, append_assoc, append-nil, zero-add, arith}
 use Rattle.std.proofs.Math.Seq.{take-nil}
 use Rattle.tox_time.specs.declared.slice.Slice.{Slice}
 use Rattle.tox_time.specs.declared.item.Item.{Item}
@@ -14,9 +14,9 @@ use Rattle.tox_link.specs.declared.notes.LinkEvent.{LinkEvent}
 use Rattle.tox_link.specs.declared.notes.LinkEvent.TheVariants.{Piece, SourceEnd, Wrote}
 use Rattle.tox_link.specs.Core.{CoreView, TakesSlice, LeavesOutput, remaining_output, core_position}
 use Rattle.tox_link.specs.Acts.{After}
-use Rattle.tox_link.specs.Log.{heard_from, said, heard_bytes, Agrees, IsGapless, IsFaithful}
+use Rattle.tox_link.specs.Log.{heard_from, said, heard_bytes, has_source_end, Agrees, IsGapless, IsFaithful}
 use Rattle.tox_link.specs.Carried.{Carried, KeepsCarried, noted_of}
-use Rattle.tox_link.proofs.Logs.{stream-earlier, heard-piece, heard-end, heard-wrote, said-append, heard_bytes-append, gapless-append, by-later, by-append, faithful-append}
+use Rattle.tox_link.proofs.Logs.{stream-earlier, heard-piece, heard-end, heard-wrote, said-append, heard_bytes-append, gapless-append, by-later, by-append, faithful-append, end-same, open-log, ordered-piece, ordered-end, ordered-wrote}
 
 -- what stands now agrees with the plan
 agrees-now : (means : List Item → List Item) (core : CoreView) (log : List LinkEvent)
@@ -32,20 +32,25 @@ module _ (told : ℕ → Type 0) (old new : CoreView) (len instant : ℕ) where
   abbrev piece : Item
   piece = Chunk (record { start = old.bytes; stop = old.bytes + len }) instant
 
-  pub piece-carried : old.latest ≤ instant → IsInstant instant → told instant → 0 < len → new.latest ≡ instant → new.bytes ≡ old.bytes + len → core_position new ≡ core_position old
+  pub piece-carried : old.latest ≤ instant → IsInstant instant → told instant → 0 < len → old.ended ≡ false → new.latest ≡ instant → new.bytes ≡ old.bytes + len → core_position new ≡ core_position old
       → ((items : List Item) → remaining_output new items ≡ remaining_output old (Chunk (record { start = old.bytes; stop = old.bytes + len }) instant ∷ items))
       → KeepsCarried told old (Piece len instant ∷ []) new
-  piece-carried later fits says some latest bytes position output means log carried = record {
+  piece-carried later fits says some going latest bytes position output means log carried = record {
     tables = tables;
     endings = λ rest stream. ap (λ items. ending (means items)) (heard_is rest) ∙ carried.endings (piece ∷ rest) (goes_on rest stream) ∙ ap ending (sym (output rest));
     stream = λ rest stream. subst IsStream (sym (heard_is rest)) (carried.stream (piece ∷ rest) (goes_on rest stream));
-    faithful = faithful-append means told log (Piece len instant) carried.faithful (by-later old.latest instant log later carried.by) says tt (agrees-now means new _ tables gapless);
+    faithful = faithful-append means told log (Piece len instant) carried.faithful (by-later old.latest instant log later carried.by) says tt
+        (ordered-piece log len instant carried.faithful.ordered unended some) (agrees-now means new _ tables gapless);
     by = by-append new.latest log (Piece len instant) (by-later old.latest new.latest log (omega (arith, latest, later)) carried.by) (omega (arith, latest));
     gapless = gapless;
     bytes = let more = heard_bytes-append log (Piece len instant ∷ []) in omega (arith, more, carried.bytes, bytes);
+    closed = λ has. let none = end-same log (Piece len instant ∷ []) refl ∙ unended in absurd (cc);
     read = inr (subst told (sym latest) says);
   }
     where
+      unended : has_source_end log ≡ false
+      unended = open-log (has_source_end log) old.ended carried.closed going
+
       said_is : said (log ++ Piece len instant ∷ []) ≡ said log
       said_is = said-append log (Piece len instant ∷ []) ∙ append-nil (said log)
 
@@ -65,16 +70,18 @@ module _ (told : ℕ → Type 0) (old new : CoreView) (len instant : ℕ) where
 
 -- the source's end arrives
 module _ (told : ℕ → Type 0) (old new : CoreView) (instant : ℕ) where
-  pub end-carried : old.latest ≤ instant → IsInstant instant → told instant → new.latest ≡ instant → new.bytes ≡ old.bytes → core_position new ≡ core_position old
+  pub end-carried : old.latest ≤ instant → IsInstant instant → told instant → old.ended ≡ false → new.ended ≡ true → new.latest ≡ instant → new.bytes ≡ old.bytes → core_position new ≡ core_position old
       → ((items : List Item) → remaining_output new items ≡ remaining_output old (Closed instant ∷ [])) → KeepsCarried told old (SourceEnd instant ∷ []) new
-  end-carried later fits says latest bytes position output means log carried = record {
+  end-carried later fits says going ended latest bytes position output means log carried = record {
     tables = tables;
     endings = λ rest stream. ap (λ items. ending (means items)) (heard-end 0 log instant rest) ∙ carried.endings (Closed instant ∷ []) goes_on ∙ ap ending (sym (output rest));
     stream = λ rest stream. subst IsStream (sym (heard-end 0 log instant rest)) (carried.stream (Closed instant ∷ []) goes_on);
-    faithful = faithful-append means told log (SourceEnd instant) carried.faithful (by-later old.latest instant log later carried.by) says tt (agrees-now means new _ tables gapless);
+    faithful = faithful-append means told log (SourceEnd instant) carried.faithful (by-later old.latest instant log later carried.by) says tt
+        (ordered-end log instant carried.faithful.ordered (open-log (has_source_end log) old.ended carried.closed going)) (agrees-now means new _ tables gapless);
     by = by-append new.latest log (SourceEnd instant) (by-later old.latest new.latest log (omega (arith, latest, later)) carried.by) (omega (arith, latest));
     gapless = gapless;
     bytes = let more = heard_bytes-append log (SourceEnd instant ∷ []) in omega (arith, more, carried.bytes, bytes);
+    closed = λ has. ended;
     read = inr (subst told (sym latest) says);
   }
     where
@@ -93,7 +100,8 @@ module _ (told : ℕ → Type 0) (old new : CoreView) (instant : ℕ) where
       gapless = subst (λ slices. IsGapless 0 slices (core_position new)) (sym said_is) (subst (IsGapless 0 (said log)) (sym position) carried.gapless)
 
 -- the clock is read
-module _ (told : ℕ → Type 0) (old new : CoreView) (now : ℕ) (later : old.latest ≤ now) (says : told now) (latest : new.latest ≡ now) (bytes : new.bytes ≡ old.bytes) where
+module _ (told : ℕ → Type 0) (old new : CoreView) (now : ℕ) (later : old.latest ≤ now) (says : told now) (latest : new.latest ≡ now) (bytes : new.bytes ≡ old.bytes)
+    (stays : old.ended ≡ true → new.ended ≡ true) where
   -- what goes on from now goes on from before
   goes_on : (rest : List Item) → IsStreamFrom new.bytes new.latest rest → IsStreamFrom old.bytes now rest
   goes_on rest stream = subst (λ at. IsStreamFrom at now rest) bytes (subst (λ since. IsStreamFrom new.bytes since rest) latest stream)
@@ -110,6 +118,7 @@ module _ (told : ℕ → Type 0) (old new : CoreView) (now : ℕ) (later : old.l
     by = by-later old.latest new.latest log (omega (arith, latest, later)) carried.by;
     gapless = subst (IsGapless 0 (said log)) (sym leaves.position) carried.gapless;
     bytes = carried.bytes ∙ sym bytes;
+    closed = λ has. stays (carried.closed has);
     read = inr (subst told (sym latest) says);
   })
 
@@ -118,10 +127,12 @@ module _ (told : ℕ → Type 0) (old new : CoreView) (now : ℕ) (later : old.l
     tables = tables;
     endings = λ rest stream. ap (λ items. ending (means items)) (heard-wrote 0 log slice now rest) ∙ carried.endings rest (from_before rest stream) ∙ takes.endings rest;
     stream = λ rest stream. subst IsStream (sym (heard-wrote 0 log slice now rest)) (carried.stream rest (from_before rest stream));
-    faithful = faithful-append means told log (Wrote slice now) carried.faithful (by-later old.latest now log later carried.by) says due (agrees-now means new _ tables gapless);
+    faithful = faithful-append means told log (Wrote slice now) carried.faithful (by-later old.latest now log later carried.by) says due
+        (ordered-wrote log slice now carried.faithful.ordered) (agrees-now means new _ tables gapless);
     by = by-append new.latest log (Wrote slice now) (by-later old.latest new.latest log (omega (arith, latest, later)) carried.by) (omega (arith, latest));
     gapless = gapless;
     bytes = let more = heard_bytes-append log (Wrote slice now ∷ []) in omega (arith, more, carried.bytes, bytes);
+    closed = λ has. stays (carried.closed (sym (end-same log (Wrote slice now ∷ []) refl) ∙ has));
     read = inr (subst told (sym latest) says);
   }
     where
@@ -156,6 +167,7 @@ pub faithful-nil : (means : List Item → List Item) (told : ℕ → Type 0) →
 faithful-nil means told = record {
   agrees = λ n. subst (Agrees means) (sym (take-nil n)) (record { gapless = (0, refl); prefix = (table (means (Quiet ∷ [])), refl) });
   timely = tt;
+  ordered = tt;
 }
 
 -- nothing was heard yet
@@ -169,6 +181,7 @@ start-carried means told core bytes latest position output = record {
   by = tt;
   gapless = sym position;
   bytes = sym bytes;
+  closed = λ has. absurd (cc);
   read = inl latest;
 }
   where

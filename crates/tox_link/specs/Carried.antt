@@ -1,5 +1,5 @@
 -- A link that is carried: its log beside its core.
-use Rattle.std.specs.Prelude.{◌≡◌, ℕ, ◌≤◌, ◌⊎◌, List, [], ◌∷◌, ◌++◌}
+use Rattle.std.specs.Prelude.{◌≡◌, ℕ, ◌≤◌, ◌⊎◌, true, List, [], ◌∷◌, ◌++◌}
 use Rattle.tox_time.specs.declared.item.Item.{Item}
 use Rattle.tox_time.specs.Stream.{IsStream, IsStreamFrom}
 use Rattle.tox_time.specs.Table.{table, slices_table, ending}
@@ -8,7 +8,7 @@ use Rattle.tox_link.specs.declared.act.Act.TheVariants.{Write, WaitUntil, WaitFo
 use Rattle.tox_link.specs.declared.notes.LinkEvent.{LinkEvent}
 use Rattle.tox_link.specs.declared.notes.LinkEvent.TheVariants.{Wrote}
 use Rattle.tox_link.specs.Core.{CoreView, remaining_output, core_position}
-use Rattle.tox_link.specs.Log.{heard_from, heard_bytes, said, reading_of, IsFaithful, IsGapless}
+use Rattle.tox_link.specs.Log.{heard_from, heard_bytes, has_source_end, said, reading_of, IsFaithful, IsGapless}
 
 -- no reading is above this one
 abbrev pub IsBy : ℕ → List LinkEvent → Type 0
@@ -25,7 +25,13 @@ pub record Carried (means : List Item → List Item) (told : ℕ → Type 0) (co
   pub by : IsBy core.latest log
   pub gapless : IsGapless 0 (said log) (core_position core)
   pub bytes : heard_bytes log ≡ core.bytes
+  pub closed : has_source_end log ≡ true → core.ended ≡ true
   pub read : (core.latest ≡ 0) ⊎ told core.latest
+
+-- a core's last instant after another: it is 0 or a reading that the clock told
+pub record ReadsOn (told : ℕ → Type 0) (earlier latest : ℕ) : Type 0 where
+  pub read : (latest ≡ 0) ⊎ told latest
+  pub later : earlier ≤ latest
 
 -- a step of the core with these events keeps the link carried
 abbrev pub KeepsCarried : (ℕ → Type 0) → CoreView → List LinkEvent → CoreView → Type 0

@@ -1,9 +1,13 @@
 -- How a link is hung up.
 use Rattle.std.specs.Prelude.{◌≡◌, ℕ, ◌⊎◌, Bool, true, false, List, [], ◌∷◌, ◌++◌, Option, Some, None, IfSome}
 use Rattle.tox_time.specs.declared.ending.Ending.{Ending}
-use Rattle.tox_time.specs.declared.ending.Ending.TheVariants.{Reset}
+use Rattle.tox_time.specs.declared.ending.Ending.TheVariants.{StillOpen, Reset}
 use Rattle.tox_link.specs.declared.link_fault.LinkFault.{LinkFault}
+use Rattle.tox_link.specs.declared.message.Message.{Message}
 use Rattle.tox_link.specs.declared.message.ReadEnd.{ReadEnd}
+use Rattle.tox_link.specs.declared.notes.LinkEvent.{LinkEvent}
+use Rattle.tox_link.specs.Carried.{IsBy}
+use Rattle.tox_link.specs.Messages.{has_end}
 use Rattle.tox_link.specs.Reports.{is_write_fault, written_before}
 
 -- a call: how the link ended, and whether the source's end was taken
@@ -15,13 +19,20 @@ abbrev pub with_call : Option (List Call) → Ending → Bool → Option (List C
 with_call None ending source_ended = None
 with_call (Some calls) ending source_ended = Some (calls ++ (ending, source_ended) ∷ [])
 
--- a link that ended was hung up once, as it ended; where it learnt why the reading ended, the source's end was taken
-abbrev pub HangsUp : Option (List Call) → Option (List Call) → Ending → Option ReadEnd → Type 0
-HangsUp old new ending source =
-    (source_ended : Bool) × (new ≡ with_call old ending source_ended) × IfSome source (λ _. source_ended ≡ true)
+-- a link that took these messages and ended so was hung up once, as it ended, and with whether the source's end was among them;
+-- it was, where the link stays open and where it learnt why the reading ended
+pub record HangsUp (old new : Option (List Call)) (taken : List Message) (ending : Ending) (source : Option ReadEnd) : Type 0 where
+  pub called : new ≡ with_call old ending (has_end taken)
+  pub stays_open : ending ≡ StillOpen → has_end taken ≡ true
+  pub known : IfSome source (λ _. has_end taken ≡ true)
 
--- a link that broke off was hung up once, by a reset; or not at all, before anything was written, and then no write failed
-abbrev pub BreaksOff : Option (List Call) → Option (List Call) → LinkFault → Type 0
-BreaksOff old new fault =
+-- 0 or a reading that the clock told, and none of the log is above it
+pub record IsResetAt (told : ℕ → Type 0) (log : List LinkEvent) (t : ℕ) : Type 0 where
+  pub read : (t ≡ 0) ⊎ told t
+  pub by : IsBy t log
+
+-- a link with this log that broke off was hung up once, by a reset; or not at all, before anything was written, and then no write failed
+abbrev pub BreaksOff : (ℕ → Type 0) → List LinkEvent → Option (List Call) → Option (List Call) → LinkFault → Type 0
+BreaksOff told log old new fault =
     ((new ≡ old) × (written_before fault ≡ 0) × (is_write_fault fault ≡ false))
-    ⊎ ((t : ℕ) × (new ≡ with_call old (Reset t) false))
+    ⊎ ((t : ℕ) × (new ≡ with_call old (Reset t) false) × IsResetAt told log t)

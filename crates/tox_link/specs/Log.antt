@@ -67,7 +67,22 @@ pub record Agrees (means : List Item → List Item) (log : List LinkEvent) : Typ
   pub gapless : (stop : ℕ) × IsGapless 0 (said log) stop
   pub prefix : IsPrefix (slices_table (said log)) (table (means (heard log)))
 
--- each prefix of the log agrees with the plan, and its readings are the clock's
+-- neither a piece nor an end is heard
+abbrev pub HearsNothing : List LinkEvent → Type 0
+HearsNothing [] = Unit {0}
+HearsNothing (Piece len instant ∷ log) = ⊥
+HearsNothing (SourceEnd instant ∷ log) = ⊥
+HearsNothing (Wrote slice now ∷ log) = HearsNothing log
+
+-- each piece has bytes, and nothing is heard behind the source's end
+abbrev pub IsHeardInOrder : List LinkEvent → Type 0
+IsHeardInOrder [] = Unit {0}
+IsHeardInOrder (Piece len instant ∷ log) = (0 < len) × IsHeardInOrder log
+IsHeardInOrder (SourceEnd instant ∷ log) = HearsNothing log
+IsHeardInOrder (Wrote slice now ∷ log) = IsHeardInOrder log
+
+-- each prefix of the log agrees with the plan, its readings are the clock's, and what it heard is in order
 pub record IsFaithful (means : List Item → List Item) (told : ℕ → Type 0) (log : List LinkEvent) : Type 0 where
   pub agrees : (n : ℕ) → Agrees means (take n log)
   pub timely : IsTimely told 0 log
+  pub ordered : IsHeardInOrder log

@@ -1,5 +1,5 @@
 -- The log of a link that is carried, up to its end or to a fault.
-use Rattle.std.specs.Prelude.{◌≡◌, ℕ, ◌≤◌, List, [], ◌∷◌, ◌++◌, length, is_some}
+use Rattle.std.specs.Prelude.{◌≡◌, ℕ, ◌≤◌, true, List, [], ◌∷◌, ◌++◌, length, is_some}
 use Rattle.tox_time.specs.declared.item.Item.{Item}
 use Rattle.tox_time.specs.declared.ending.Ending.{Ending}
 use Rattle.tox_time.specs.declared.ending.Ending.TheVariants.{StillOpen, Closed as ClosedAt, Reset as ResetAt}
@@ -42,8 +42,10 @@ IsReached now StillOpen = Unit {0}
 IsReached now (ClosedAt t) = t ≤ now
 IsReached now (ResetAt t) = t ≤ now
 
--- the link has ended so: nothing else is to come, and the clock told an instant at or past the ending's
+-- the link has ended so: nothing else is to come, and the clock told an instant at or past the ending's;
+-- it stays open only once the source's end came
 pub record HasEnded (told : ℕ → Type 0) (side : WriterSide) (ending : Ending) : Type 0 where
   pub only : (items : List Item) → remaining_output side.core items ≡ final_of ending ∷ []
   pub says : told side.core.latest
   pub reached : IsReached side.core.latest ending
+  pub stays_open : ending ≡ StillOpen → side.ended ≡ true

@@ -1,5 +1,5 @@
 -- What the reader's thread sends.
-use Rattle.std.specs.Prelude.{◌≡◌, ℕ, ◌+◌, ◌<◌, ◌≤◌, ◌^◌, List, [], ◌∷◌, ◌++◌, length, Option, Bool, true}
+use Rattle.std.specs.Prelude.{◌≡◌, ℕ, ◌+◌, ◌<◌, ◌≤◌, ◌^◌, List, [], ◌∷◌, ◌++◌, length, Option, Bool, true, false}
 use Rattle.std.specs.Io.KnownBytes.{prepend_known, IsAtEnd}
 use Rattle.tox_link.specs.declared.message.Message.{Message}
 use Rattle.tox_link.specs.declared.message.Message.TheVariants.{Piece, End}
@@ -17,6 +17,12 @@ abbrev pub ArePieces : List Message → Type 0
 ArePieces [] = Unit {0}
 ArePieces (Piece piece ∷ messages) = ArePieces messages
 ArePieces (End end ∷ messages) = ⊥
+
+-- whether an end is among the messages
+abbrev pub has_end : List Message → Bool
+has_end [] = false
+has_end (Piece piece ∷ messages) = has_end messages
+has_end (End end ∷ messages) = true
 
 -- a nonempty piece may come after pieces, up to 2^40 bytes in all, and an end after pieces
 abbrev pub Allows : List Message → Message → Type 0
@@ -54,3 +60,9 @@ pub record ReadsFrom (before : Option (List ℕ)) (reads : ℕ) (messages : List
   pub cause : EndsFor end reads (length (bytes_of messages)) left failed
   -- where the reads were used up, each sent one piece
   pub spent : end ≡ ReadsUsedUp → length messages ≡ reads + 1
+
+-- these are the first messages that such a reading sent
+pub record AreFirstOf (before : Option (List ℕ)) (reads : ℕ) (taken : List Message) (left : Option (List ℕ)) (failed : Bool) : Type 0 where
+  pub others : List Message
+  pub end : ReadEnd
+  pub sent : ReadsFrom before reads (taken ++ others) end left failed

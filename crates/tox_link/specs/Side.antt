@@ -10,7 +10,7 @@ use Rattle.tox_link.specs.declared.source_ending.SourceEnding.TheVariants.{NotRe
 use Rattle.tox_link.specs.declared.writer_side.WriterSide.{WriterSide}
 use Rattle.tox_link.specs.Core.{CoreView, TakesSlice, KeepsCore, core_ending, core_position}
 use Rattle.tox_link.specs.Held.{AreOf}
-use Rattle.tox_link.specs.Messages.{bytes_of, Allows}
+use Rattle.tox_link.specs.Messages.{bytes_of, has_end, Allows}
 use Rattle.tox_link.specs.Sources.{read_end_of}
 
 -- the bytes that came through the ring
@@ -48,6 +48,7 @@ pub record IsSound (side : WriterSide) (messages : List Message) : Type 0 where
   pub few : side.core.bytes ≤ length (bytes_of messages)
   pub live : side.ended ≡ false → core_ending side.core ≡ None → side.core.bytes ≡ length (bytes_of messages)
   pub going : side.ended ≡ false → side.core.ended ≡ false
+  pub told : side.ended ≡ has_end messages
   pub whole : (end : ReadEnd) → read_end_of side.source ≡ Some end → TookAll side messages end
 
 -- a sound side at which this message has just come

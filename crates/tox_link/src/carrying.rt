@@ -5,12 +5,13 @@ ghost use Rattle.tox_time.specs.declared.item.Item.{Item as OneItem};
 ghost use Rattle.tox_time.specs.Stream.{IsStream};
 ghost use Rattle.tox_compile.specs.Meaning.{means};
 ghost use Rattle.tox_link.specs.declared.link_fault.LinkFault.TheVariants.{SpawnRefused};
+ghost use Rattle.tox_link.specs.declared.message.Message.{Message as OneMessage};
 ghost use Rattle.tox_link.specs.declared.notes.LinkEvent.{LinkEvent as OneEvent};
 ghost use Rattle.tox_link.specs.Core.{remaining_output};
 ghost use Rattle.tox_link.specs.Events.{with_events};
 ghost use Rattle.tox_link.specs.Hangups.{HangsUp, BreaksOff};
 ghost use Rattle.tox_link.specs.Logged.{IsCutOff};
-ghost use Rattle.tox_link.specs.Messages.{HandsOn, EndsFor};
+ghost use Rattle.tox_link.specs.Messages.{AreFirstOf, HandsOn, EndsFor};
 ghost use Rattle.tox_link.specs.Reports.{Reports, WritesFirst, is_write_fault, written_before};
 ghost use Rattle.tox_link.specs.Side.{IsFresh};
 ghost use Rattle.tox_link.specs.Sources.{read_end_of};
@@ -126,9 +127,13 @@ pub fn carry<
     ensures unstarted { (n : ℕ) → result ≡ Err (SpawnRefused n)
         → (ends.new ≡ ends.old) × (notes.new ≡ notes.old) }
     ensures hangs_up { IfOk result (λ report.
-        HangsUp (H.calls ends.old.hangup) (H.calls ends.new.hangup) report.ending (read_end_of report.source)) }
-    ensures breaks_off { IfErr result (λ fault.
-        BreaksOff (H.calls ends.old.hangup) (H.calls ends.new.hangup) fault) }
+        (taken : List OneMessage)
+        × AreFirstOf (S.remaining reader) reads taken (S.remaining report.reader) (S.failed report.reader)
+        × HangsUp (H.calls ends.old.hangup) (H.calls ends.new.hangup) taken
+        report.ending (read_end_of report.source)) }
+    ensures breaks_off { IfErr result (λ fault. (log : List OneEvent)
+        × (N.events notes.new ≡ with_events (N.events notes.old) log)
+        × BreaksOff (C.told clock.now) log (H.calls ends.old.hangup) (H.calls ends.new.hangup) fault) }
 {
     let (mut side, thread) = start(rt, alloc, reader, plan, words, reads, gate)?;
     let driven = drive(rt, &mut side, clock, notes, &mut ends.writer, &**gate);

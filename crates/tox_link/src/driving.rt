@@ -5,7 +5,9 @@ ghost use Rattle.rtrb.specs.Ring.{received, SameConsumer};
 ghost use Rattle.tox_lend.specs.Run.{stop_of};
 ghost use Rattle.tox_link.specs.declared.link_fault.LinkFault.TheVariants.{SpawnRefused};
 ghost use Rattle.tox_link.specs.declared.notes.LinkEvent.{LinkEvent as OneEvent};
+ghost use Rattle.tox_link.specs.Carried.{ReadsOn};
 ghost use Rattle.tox_link.specs.Events.{with_events};
+ghost use Rattle.tox_link.specs.Hangups.{IsResetAt};
 ghost use Rattle.tox_link.specs.Logged.{KeepsLogged, LogsFrom, CutsOff, CutsOffFrom, HasEnded};
 ghost use Rattle.tox_link.specs.Reports.{is_write_fault, written_before};
 ghost use Rattle.tox_link.specs.Side.{IsFresh, IsSound, GivesSlice, came};
@@ -87,6 +89,8 @@ fn act<R: Wait, C: Clock, N: Notes, W: Sink>(
         × KeepsLogged (C.told clock.now) side.old more side.new) }
     ensures err { IfErr result (λ fault. (written_before fault ≡ side.new.written)
         × CutsOff (C.told clock.now) side.old side.new.written) }
+    ensures reads { OnErr result
+        (ReadsOn (C.told clock.now) side.old.core.latest side.new.core.latest) }
     ensures cause { IfErr result (λ fault. W.failed writer.new ≡ is_write_fault fault) }
     ensures started { IfErr result (λ fault. (n : ℕ) → fault ≢ SpawnRefused n) }
     ensures unnoted { OnErr result (N.events notes.new ≡ N.events notes.old) }
@@ -137,7 +141,8 @@ pub(crate) fn drive<R: Wait, C: Clock, N: Notes, W: Sink, G: Gate>(
     ensures err { IfErr result (λ fault. (written_before fault ≡ side.new.written)
         × (log : List OneEvent)
         × (N.events notes.new ≡ with_events (N.events notes.old) log)
-        × CutsOffFrom (C.told clock.now) side.old log side.new.written) }
+        × CutsOffFrom (C.told clock.now) side.old log side.new.written
+        × IsResetAt (C.told clock.now) log side.new.core.latest) }
     ensures cause { IfErr result (λ fault. W.failed writer.new ≡ is_write_fault fault) }
     ensures started { IfErr result (λ fault. (n : ℕ) → fault ≢ SpawnRefused n) }
 {

@@ -4,7 +4,7 @@ ghost use Rattle.tox_link.specs.Events.{with_events};
 ghost use Rattle.tox_link.specs.Log.{has_source_end};
 ghost use Rattle.tox_link.specs.Core.{core_ending, core_position, kept_count, KeepsCore};
 ghost use Rattle.tox_link.specs.Acts.{Answered};
-ghost use Rattle.tox_link.specs.Carried.{KeepsCarried, noted_of};
+ghost use Rattle.tox_link.specs.Carried.{KeepsCarried, ReadsOn, noted_of};
 ghost use Rattle.tox_link.specs.declared.notes.LinkEvent.{LinkEvent as OneEvent};
 
 use crate::act::Act;
@@ -27,6 +27,7 @@ pub(crate) fn take_piece<C: Clock, N: Notes>(
     requires fits { (0 < len) × (core.old.bytes + len ≤ 2 ^ 40) }
     ensures counts { (core.new.bytes ≡ core.old.bytes + len) × (core.new.ended ≡ false)
         × (core_position core.new ≡ core_position core.old) }
+    ensures reads { ReadsOn (C.told clock.now) core.old.latest core.new.latest }
     ensures carried { OnOk result ((more : List OneEvent)
         × (N.events notes.new ≡ with_events (N.events notes.old) more)
         × KeepsCarried (C.told clock.now) core.old more core.new × (has_source_end more ≡ false)) }
@@ -50,10 +51,12 @@ pub(crate) fn take_end<C: Clock, N: Notes>(
     requires read { (core.old.latest ≡ 0) ⊎ C.told clock.now core.old.latest }
     ensures counts { (core.new.bytes ≡ core.old.bytes) × (core.new.ended ≡ true)
         × (core_position core.new ≡ core_position core.old) }
+    ensures reads { ReadsOn (C.told clock.now) core.old.latest core.new.latest }
     ensures carried { OnOk result ((more : List OneEvent)
         × (N.events notes.new ≡ with_events (N.events notes.old) more)
         × KeepsCarried (C.told clock.now) core.old more core.new
         × (has_source_end more ≡ is_none (core_ending core.old))) }
+    ensures known { IsSome (core_ending core.old) → N.events notes.new ≡ N.events notes.old }
     ensures err { OnErr result (N.events notes.new ≡ N.events notes.old) }
 {
     let now = reading(clock, core.latest());

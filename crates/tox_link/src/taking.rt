@@ -1,9 +1,10 @@
 //! Taking from the ring: pieces are kept and stamped, up to the source's end.
-ghost use Rattle.std.specs.Prelude.{◌≡◌, ◌+◌, ◌<◌, ◌≤◌, ◌^◌, ◌⊎◌, List, [], ◌∷◌, ◌++◌, length, take, false, None, IfOk, OnOk, OnErr, MatchBool};
+ghost use Rattle.std.specs.Prelude.{◌≡◌, ◌+◌, ◌<◌, ◌≤◌, ◌^◌, ◌⊎◌, List, [], ◌∷◌, ◌++◌, length, take, false, None, IsSome, IfOk, OnOk, OnErr, MatchBool};
 ghost use Rattle.rtrb.specs.Ring.{received, SameConsumer};
 ghost use Rattle.tox_link.specs.declared.message.Message.{Message as OneMessage};
 ghost use Rattle.tox_link.specs.declared.message.Message.TheVariants.{Piece as PieceOf, End as EndOf};
 ghost use Rattle.tox_link.specs.declared.notes.LinkEvent.{LinkEvent as OneEvent};
+ghost use Rattle.tox_link.specs.Carried.{ReadsOn};
 ghost use Rattle.tox_link.specs.Core.{core_ending, kept_count};
 ghost use Rattle.tox_link.specs.Events.{with_events};
 ghost use Rattle.tox_link.specs.Logged.{KeepsLogged};
@@ -36,6 +37,10 @@ fn keep_piece<C: Clock, N: Notes>(
     ensures log { OnOk result ((more : List OneEvent)
         × (N.events notes.new ≡ with_events (N.events notes.old) more)
         × KeepsLogged (C.told clock.now) side.old more side.new) }
+    ensures known { IsSome (core_ending side.old.core)
+        → N.events notes.new ≡ N.events notes.old }
+    ensures reads { OnErr result
+        (ReadsOn (C.told clock.now) side.old.core.latest side.new.core.latest) }
     ensures err { OnErr result (N.events notes.new ≡ N.events notes.old) }
 {
     let None = side.core.ending() else {
@@ -66,6 +71,10 @@ fn keep_end<C: Clock, N: Notes>(
     ensures log { OnOk result ((more : List OneEvent)
         × (N.events notes.new ≡ with_events (N.events notes.old) more)
         × KeepsLogged (C.told clock.now) side.old more side.new) }
+    ensures known { IsSome (core_ending side.old.core)
+        → N.events notes.new ≡ N.events notes.old }
+    ensures reads { OnErr result
+        (ReadsOn (C.told clock.now) side.old.core.latest side.new.core.latest) }
     ensures err { OnErr result (N.events notes.new ≡ N.events notes.old) }
 {
     side.ended = true;
@@ -98,6 +107,8 @@ pub(crate) fn take_message<C: Clock, N: Notes, G: Gate>(
     ensures log { OnOk result ((more : List OneEvent)
         × (N.events notes.new ≡ with_events (N.events notes.old) more)
         × KeepsLogged (C.told clock.now) side.old more side.new) }
+    ensures reads { OnErr result
+        (ReadsOn (C.told clock.now) side.old.core.latest side.new.core.latest) }
     ensures err { OnErr result (N.events notes.new ≡ N.events notes.old) }
 {
     if !side.may_take() {

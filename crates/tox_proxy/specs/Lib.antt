@@ -16,5 +16,4 @@ pub mod ResetDue
 pub mod Courses
 pub mod Streams
 pub mod Shutting
-pub mod Carrying
 pub mod Accepting

@@ -7,7 +7,7 @@ use Rattle.tox_link.specs.Logged.{IsCutOff}
 use Rattle.tox_link.specs.Messages.{ReadsFrom}
 use Rattle.tox_link.specs.Reports.{WritesFirst}
 use Rattle.tox_link.specs.Side.{came}
-use Rattle.tox_link.proofs.CarryLemmas.{broke-unstarted, took-source-end, link-reports, cut-nothing, writes-nothing, first-bytes, writes-first, source-told, reads-same}
+use Rattle.tox_link.proofs.CarryLemmas.{broke-unstarted, first-of, hung-up, link-reports, cut-nothing, writes-nothing, first-bytes, writes-first, source-told, reads-same}
 use Rattle.tox_link.proofs.Logs.{events-none}
 use Rattle.tox_link.proofs.LoggedLemmas.{logged-fresh}
 use Rattle.tox_link.proofs.carrying.carry.Goals as goal
@@ -25,19 +25,28 @@ returns-in_err-side-clause-broken_bytes g c =
 pub returns-in_err-side-clause-breaks_off : goal.returns-in_err-side-clause-breaks_off
 returns-in_err-side-clause-breaks_off g c =
     let p = err_from_is_err_and c.from_residual.result c.from_residual.ensures.1 in
-    rw (p.1, p.2) (broke-unstarted (g.H.Hangup.calls c.args.ends.now.hangup) _ c.in_err-side.ensures.err c.in_err-side.ensures.cause)
+    rw (p.1, p.2) ([], events-none (g.N.Notes.events c.args.notes.now), broke-unstarted (g.C.Clock.told c.args.clock.now) (g.H.Hangup.calls c.args.ends.now.hangup) _ c.in_err-side.ensures.err c.in_err-side.ensures.cause)
 
 pub returns-in-Ok-clause-hangs_up : goal.returns-in-Ok-clause-hangs_up
 returns-in-Ok-clause-hangs_up g c =
     let side = c.drive-driven.new.side in
-    let sound = rw c.in-Ok.is at c.drive-driven.ensures.ok in (
-      side.ended,
-      rw c.in-Ok.is at c.hang_up.ensures.ok,
-      took-source-end side (received side.inbox.receiver) sound,
+    let messages = received side.inbox.receiver in
+    let joined = c.join_reader-reader in
+    let more = c.drain.ensures.received in
+    let left = joined.ensures.sent in
+    let after = g.S.Source.remaining joined.result.0 in
+    let failed = g.S.Source.failed joined.result.0 in
+    let sent : ReadsFrom (g.S.Source.remaining c.args.reader) c.args.reads (received joined.new.receiver ++ left.0) joined.result.1 after failed
+    = reads-same _ _ _ _ _ _ _ _ (ap g.S.Source.remaining c.in_ok-side.ensures.reads.0) c.in_ok-side.ensures.reads.1 left.1 in (
+      messages,
+      first-of messages (received joined.new.receiver) more.0 left.0 (g.S.Source.remaining c.args.reader) after c.args.reads joined.result.1 failed (joined.ensures.received ∙ more.1) sent,
+      hung-up _ _ side messages c.in-Ok.ending (rw c.in-Ok.is at c.hang_up.ensures.ok) (rw c.in-Ok.is at c.drive-driven.ensures.ended).stays_open (rw c.in-Ok.is at c.drive-driven.ensures.ok),
     )
 
 pub returns-clause-breaks_off : goal.returns-clause-breaks_off
-returns-clause-breaks_off g c = inr (c.drive-driven.new.side.core.latest, rw c.in-Err.is at c.hang_up.ensures.err)
+returns-clause-breaks_off g c =
+    let err = rw c.in-Err.is at c.drive-driven.ensures.err in
+    (err.1, err.2, inr (c.drive-driven.new.side.core.latest, rw c.in-Err.is at c.hang_up.ensures.err, err.4))
 
 pub returns-in-Ok-clause-log : goal.returns-in-Ok-clause-log
 returns-in-Ok-clause-log g c =

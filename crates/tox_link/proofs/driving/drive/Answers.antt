@@ -3,7 +3,7 @@ use Rattle.std.proofs.Common.{rules, ◌++◌, refl, ap, sym, ◌∙◌}
 use Rattle.std.proofs.lemmas.Result.{err_from_is_err_and}
 use Rattle.std.specs.Io.KnownBytes.{append_known}
 use Rattle.tox_link.proofs.Logs.{events-append}
-use Rattle.tox_link.proofs.LoggedLemmas.{logged-read, logs-on, cut-here, cuts-on}
+use Rattle.tox_link.proofs.LoggedLemmas.{logged-read, resets-on, logs-on, cut-here, cuts-on}
 use Rattle.tox_link.proofs.SideLemmas.{came-front}
 use Rattle.tox_link.proofs.driving.drive.Goals as goal
 
@@ -21,6 +21,7 @@ returns-in_default-clause-err g c =
       c.in_default.ensures.err ∙ before.1,
       cuts-on told c.args.side.now c.loop.side before.0 c.take_message.new.side.written before.2
           (cut-here told c.loop.side c.take_message.new.side.written (c.take_message.ensures.same ∙ c.loop.invariant.sound.written)),
+      resets-on told c.args.side.now c.loop.side before.0 _ c.requires.fresh before.2 c.in_default.ensures.reads,
     )
 
 pub act-requires-clause-read : goal.act-requires-clause-read
@@ -42,6 +43,7 @@ returns-in_err-ending-clause-err g c =
       before.0 ++ taken.0,
       c.in_err-ending.ensures.unnoted ∙ events-append (g.N.Notes.events c.args.notes.now) (g.N.Notes.events c.loop.notes) (g.N.Notes.events c.take_message.new.notes) before.0 taken.0 before.1 taken.1,
       cuts-on told c.args.side.now c.take_message.new.side (before.0 ++ taken.0) c.act.new.side.written (logs-on told c.args.side.now c.loop.side c.take_message.new.side before.0 taken.0 before.2 taken.2) err.1,
+      resets-on told c.args.side.now c.take_message.new.side (before.0 ++ taken.0) _ c.requires.fresh (logs-on told c.args.side.now c.loop.side c.take_message.new.side before.0 taken.0 before.2 taken.2) c.in_err-ending.ensures.reads,
     )
 
 pub returns-in-Some-2-clause-log : goal.returns-in-Some-2-clause-log

@@ -15,7 +15,7 @@ returns-in-Some-clause-carried g c =
       [],
       events-none (g.N.Notes.events c.args.notes.now),
       wait-carried (g.C.Clock.told c.args.clock.now) c.args.core.now c.on_end.new.self c.reading-now.result
-          (omega (arith, c.reading-now.ensures.later, c.latest.ensures)) c.reading-now.ensures.told told.ended.1 told.kept.0.bytes
+          (omega (arith, c.reading-now.ensures.later, c.latest.ensures)) c.reading-now.ensures.told told.ended.1 told.kept.0.bytes (λ ended. told.ended.0)
           (record {
             output = λ position since items later stream. same-of _ _ (told.output items ∙ only (Closed c.reading-now.result ∷ []) ∙ sym (only items));
             position = told.kept.2;
@@ -29,6 +29,6 @@ returns-in_ok-note-in-None-clause-carried g c =
       SourceEnd c.reading-now.result ∷ [],
       c.in_ok-note-in-None.ensures.noted,
       end-carried (g.C.Clock.told c.args.clock.now) c.args.core.now c.on_end.new.self c.reading-now.result
-          (omega (arith, c.reading-now.ensures.later, c.latest.ensures)) c.reading-now.ensures.bound c.reading-now.ensures.told told.ended.1 told.kept.0.bytes told.kept.2 told.output,
+          (omega (arith, c.reading-now.ensures.later, c.latest.ensures)) c.reading-now.ensures.bound c.reading-now.ensures.told c.requires.first told.ended.0 told.ended.1 told.kept.0.bytes told.kept.2 told.output,
       ap is_none (sym c.in-None.is ∙ c.ending-known.ensures.value),
     )

@@ -11,7 +11,7 @@ returns-clause-carried g c =
       Piece c.args.len c.reading-now.result ∷ [],
       c.in_ok-note.ensures.noted,
       piece-carried (g.C.Clock.told c.args.clock.now) c.args.core.now c.on_piece.new.self c.args.len c.reading-now.result
-          (omega (arith, c.reading-now.ensures.later, c.latest.ensures)) c.reading-now.ensures.bound c.reading-now.ensures.told c.requires.fits.0
+          (omega (arith, c.reading-now.ensures.later, c.latest.ensures)) c.reading-now.ensures.bound c.reading-now.ensures.told c.requires.fits.0 c.requires.goes_on.0
           (ap (λ (core : CoreView). core.latest) taken) (ap (λ (core : CoreView). core.bytes) taken) (ap core_position taken) c.in-Ok.ensures.output,
       refl,
     )
