@@ -1,7 +1,7 @@
-"""The cases: what clients and upstreams do, and how each link must end then.
+"""Single links: what clients and upstreams do, and how each link must end then.
 
 The line of a link follows from the rules: a source that ends or is reset closes its stream, and shuts the target's
-writing half; a failed write breaks its stream, and shuts both sockets. The steps of a case are in an order in which only
+writing half; a failed write breaks its stream, and resets both sockets. The steps of a case are in an order in which only
 one of these can happen. Where a count of bytes is a range, the case says why.
 """
 import threading
@@ -13,6 +13,7 @@ from ends import (
     are_quiet,
     flood,
     has_ended,
+    is_reset,
     read_all,
     read_count,
     read_until_gone,
@@ -26,21 +27,9 @@ from ends import (
     shut_writing,
 )
 from manual import is_applied, words_of_seed
+from registry import case
 from served import SEED
 from waiting import check
-
-CASES = []
-
-
-def case(links, toxic=None, stream="downstream", toxicity=1000, name="shop"):
-    """Registers a case of so many links. A toxic with its attribute meets these links, and not the one after them."""
-    told = {"type": toxic[0], "attribute": toxic[1], "stream": stream, "toxicity": toxicity} if toxic else None
-
-    def register(function):
-        CASES.append((function, links, told, name))
-        return function
-
-    return register
 
 
 @case(1)
@@ -187,15 +176,14 @@ def output_is_closed(toxi):
     server.close()
 
 
-@case(11)
+@case(9)
 def descriptors_lack(toxi):
-    """A link takes four descriptors: the client's, the upstream's, and one more of each for the reader."""
-    for more in (1, 2, 3):
-        toxi.allow_descriptors(more)
-        with toxi.client() as client:
-            has_ended(client)
-        toxi.ended(more, 0, "broken", 0, "broken")
-        toxi.rests()
+    """A link takes two descriptors: the client's and the upstream's."""
+    toxi.allow_descriptors(1)
+    with toxi.client() as client:
+        has_ended(client)
+    toxi.ended(1, 0, "broken", 0, "broken")
+    toxi.rests()
     # A waiting accept has its descriptor already. So the first client may be taken, and then its upstream's is lacking.
     toxi.allow_descriptors(0)
     clients = [toxi.client() for _ in range(8)]
@@ -207,10 +195,10 @@ def descriptors_lack(toxi):
     for place, client in enumerate(clients):
         client.close()
         if place == 0 and heard[0] == b"":
-            toxi.ended(4, 0, "broken", 0, "broken")
+            toxi.ended(2, 0, "broken", 0, "broken")
         else:
             check(heard[place] == bytes([place]), f"waiting client {place} heard {heard[place]}")
-            toxi.ended(4 + place, 1, "closed", 1, "closed")
+            toxi.ended(2 + place, 1, "closed", 1, "closed")
 
 
 @case(2, ("timeout", "timeout = 0"))
@@ -268,10 +256,10 @@ def reset_by_a_rule(toxi):
         begun = time.monotonic()
         client, server = toxi.link()
         server.sendall(said)
-        heard = read_all(client)
+        heard = is_reset(client)
         check(time.monotonic() - begun >= 0.05, "the link was reset too early")
         check(heard in (b"", said), f"the client heard {heard}")
-        has_ended(server)
+        is_reset(server)
         client.close()
         server.close()
         toxi.ended(number, 0, "closed", len(heard), "reset")

@@ -17,7 +17,8 @@ APERIODIC = random.Random(1).randbytes(4_000_000)
 class Upstream:
     """A listener whose connections the cases take themselves. Its port stays taken while it is down."""
 
-    def __init__(self):
+    def __init__(self, host="127.0.0.1"):
+        self.host = host
         self.port = 0
         self.bind()
         self.up()
@@ -29,14 +30,15 @@ class Upstream:
         self.socket.close()
 
     def bind(self):
-        self.socket = socket.socket()
+        family = socket.AF_INET6 if ":" in self.host else socket.AF_INET
+        self.socket = socket.socket(family)
         self.socket.setsockopt(socket.SOL_SOCKET, socket.SO_REUSEADDR, 1)
-        self.socket.bind(("127.0.0.1", self.port))
+        self.socket.bind((self.host, self.port))
         self.socket.settimeout(LIMIT)
         self.port = self.socket.getsockname()[1]
 
-    def up(self):
-        self.socket.listen(128)
+    def up(self, queue=4096):
+        self.socket.listen(queue)
 
     def down(self):
         """Refuses connections from now on."""
@@ -111,6 +113,17 @@ def byte_or_end(end):
 
 def has_ended(end):
     check(byte_or_end(end) == b"", "a byte came where the connection should have ended")
+
+
+def is_reset(end):
+    """Reads on. The connection was reset, with no end before. Returns what came before the reset."""
+    heard = b""
+    try:
+        while more := end.recv(65536):
+            heard += more
+    except ConnectionResetError:
+        return heard
+    raise Failed("an end came where a reset should come")
 
 
 def are_quiet(*ends):

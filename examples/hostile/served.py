@@ -1,4 +1,4 @@
-"""A `toxi serve` process: its lines, its threads and its descriptors."""
+"""A `toxi serve` process: its lines, its threads, its descriptors and its sockets."""
 import contextlib
 import ctypes
 import json
@@ -16,17 +16,27 @@ PIDFD_GETFD = 438
 SEED = 1
 
 
+def address(host, port):
+    return f"[{host}]:{port}" if ":" in host else f"{host}:{port}"
+
+
+def serve_command(program, folder, proxies, script=""):
+    """The command that serves these proxies, whose files are written into the folder."""
+    config = os.path.join(folder, "proxies.json")
+    rules = os.path.join(folder, "script.toml")
+    with open(config, "w") as file:
+        json.dump(proxies, file)
+    with open(rules, "w") as file:
+        file.write(script)
+    return [program, "serve", "--config", config, "--script", rules, "--seed", str(SEED)]
+
+
 class Served:
     """A process with one proxy before an upstream, which ends by itself after so many links."""
 
     def __init__(self, program, folder, upstream, links, script, name):
-        config = os.path.join(folder, "proxies.json")
-        rules = os.path.join(folder, "script.toml")
-        with open(config, "w") as file:
-            json.dump([{"name": name, "listen": "127.0.0.1:0", "upstream": f"127.0.0.1:{upstream.port}"}], file)
-        with open(rules, "w") as file:
-            file.write(script)
-        command = [program, "serve", "--config", config, "--script", rules, "--seed", str(SEED), "--links", str(links)]
+        proxy = {"name": name, "listen": address(upstream.host, 0), "upstream": address(upstream.host, upstream.port)}
+        command = [*serve_command(program, folder, [proxy], script), "--links", str(links)]
         printed = re.escape(name.replace("\n", r"\x0a"))
         self.link_line = re.compile(LINK.format(name=printed))
         self.total_line = re.compile(TOTAL.format(name=printed))
@@ -73,20 +83,28 @@ class Served:
         soft = hard if more is None else len(self.at_rest) + more
         resource.prlimit(self.process.pid, resource.RLIMIT_NOFILE, (soft, hard))
 
-    def listener(self):
-        """Another handle of the socket that it listens at, which shares how that waits."""
+    def handle(self, descriptor):
+        """Another handle of a socket of its own."""
         process = os.pidfd_open(self.process.pid)
         library = ctypes.CDLL(None, use_errno=True)
+        handle = library.syscall(PIDFD_GETFD, process, descriptor, 0)
+        os.close(process)
+        check(handle >= 0, f"no handle of its socket: {os.strerror(ctypes.get_errno())}")
+        return socket.socket(fileno=handle)
+
+    def listener(self):
+        """Another handle of the socket that it listens at, which shares how that waits."""
         for descriptor in self.at_rest:
             if os.readlink(f"/proc/{self.process.pid}/fd/{descriptor}").startswith("socket:"):
-                handle = library.syscall(PIDFD_GETFD, process, descriptor, 0)
-                os.close(process)
-                check(handle >= 0, f"no handle of its listener: {os.strerror(ctypes.get_errno())}")
-                return socket.socket(fileno=handle)
+                return self.handle(descriptor)
         raise Failed("it has no socket")
 
+    def link_sockets(self):
+        """Handles of the sockets of its links."""
+        return [self.handle(descriptor) for descriptor in self.descriptors() if descriptor not in self.at_rest]
+
     def client(self):
-        return socket.create_connection(("127.0.0.1", self.port), timeout=LIMIT)
+        return socket.create_connection((self.upstream.host, self.port), timeout=LIMIT)
 
     def link(self):
         """A client, and the upstream's side of its link."""
@@ -105,6 +123,13 @@ class Served:
         for told, want in ((line[2], up), (line[4], down)):
             check(int(told) in (want if isinstance(want, range) else [want]), f"`{line[0]}`: {told} isn't {want}")
         check((line[3], line[5]) == (up_end, down_end), f"`{line[0]}` isn't up {up_end} down {down_end}")
+
+    def ended_alike(self, links, up, down):
+        """Waits for the lines of so many links. Each has these two ends, as bytes and word, in whatever order."""
+        wait_until(lambda: len(self.ended_links()) == links, f"the lines of {links} links")
+        for line in self.ended_links().values():
+            told = ((int(line[2]), line[3]), (int(line[4]), line[5]))
+            check(told[0] in up and told[1] in down, f"`{line[0]}` is none of up {up} down {down}")
 
     def rests(self):
         """Waits until no thread and no descriptor is left of the links that ended."""

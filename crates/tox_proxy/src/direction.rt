@@ -1,8 +1,9 @@
 //! One direction of a served link.
 ghost use Rattle.std.specs.Prelude.{◌≡◌, None, fold, IfSome};
+ghost use Rattle.std.specs.Arc.{arc_value};
 ghost use Rattle.tox_proxy.specs.LinkEnds.{carried_before};
 ghost use Rattle.tox_proxy.specs.ResetDue.{after_op};
-ghost use Rattle.tox_proxy.specs.Streams.{source_of, target_of};
+ghost use Rattle.tox_proxy.specs.Streams.{target_of};
 ghost use Rattle.tox_proxy.specs.declared.link_end.StreamEnd.TheVariants as EndOf;
 
 use crate::course::Course;
@@ -25,13 +26,14 @@ pub(crate) struct Direction {
 }
 
 impl Direction {
-    /// The direction of a course's stream. None where there is no descriptor for its reader.
-    pub(crate) fn new(link: &LinkSockets, course: Course) -> Option<Direction>
+    /// The direction of a course's stream. None where its reader can't share the link.
+    pub(crate) fn new(link: &Arc<LinkSockets, Global>, course: Course) -> Option<Direction>
         ensures course { IfSome result (λ direction. direction.course ≡ course) }
-        ensures source { IfSome result (λ direction.
-            direction.reader.source.value ≡ (source_of course.stream link.now).socket) }
+        ensures link { IfSome result (λ direction.
+            arc_value direction.reader.link ≡ arc_value link.now) }
+        ensures stream { IfSome result (λ direction. direction.reader.stream ≡ course.stream) }
     {
-        let reader = UntilCut::new(link.ends_of(course.stream).source)?;
+        let reader = UntilCut::new(link, course.stream)?;
         Some(Direction { course, reader })
     }
 }
@@ -43,14 +45,14 @@ fn writer_of<'a, 'r, R: ServeRuntime>(
     course: &Course,
     clock: SinceStart<'r, R>,
 ) -> UntilDue<'a, 'r, R>
-    ensures socket { result.socket.now ≡ (target_of course.now.stream link.now).socket }
+    ensures socket { result.socket.now ≡ target_of course.now.stream link.now }
     ensures due { result.due ≡ fold after_op None course.now.plan.ops }
 {
     let target = link.ends_of(course.stream).target;
-    UntilDue::new(rt, &target.socket, clock, course.plan.ops())
+    UntilDue::new(rt, target, clock, course.plan.ops())
 }
 
-/// Carries one direction to its end. After a fault both sockets are shut, so that the other direction ends too.
+/// Carries one direction to its end. After a fault both sockets are reset, so that the other direction ends too.
 pub(crate) fn carry_stream<R: ServeRuntime>(
     rt: &R,
     alloc: Global,
@@ -88,7 +90,7 @@ pub(crate) fn carry_stream<R: ServeRuntime>(
     match done {
         Ok(report) => after_end(stream, &report),
         Err(fault) => {
-            sockets.cut();
+            sockets.reset();
             after_fault(stream, &fault)
         }
     }

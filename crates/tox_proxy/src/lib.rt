@@ -31,6 +31,7 @@ mod serve_runtime;
 mod serving;
 mod setup;
 mod slice_source;
+mod socket_calls;
 mod sockets;
 mod stages;
 mod toxics;

@@ -15,7 +15,7 @@ use crate::serve_runtime::ServeRuntime;
 use std::alloc::Global;
 use std::io::Write;
 use std::net::{Net, TcpListener, TcpStream};
-use std::sync::{Mutex, Wait};
+use std::sync::{Arc, Mutex, Wait};
 use std::thread;
 use std::thread::Promise;
 use tox_config::ProxyDef;
@@ -122,7 +122,7 @@ fn carry_both<R: ServeRuntime, W>(
     rt: &R,
     run: &ServeRun<'_, W>,
     number: u64,
-    link: &LinkSockets,
+    link: &Arc<LinkSockets, Global>,
     start: LinkStart,
     courses: Courses,
 ) -> LinkEnd

@@ -4,6 +4,7 @@ ghost use Rattle.tox_proxy.specs.Serving.{HasServeCause, IsListenFault};
 
 use crate::addresses::listen_address;
 use crate::serve_fault::ServeFault;
+use crate::socket_calls::lengthen_queue;
 use std::alloc::Global;
 use std::net::{Net, TcpListener, TcpStream};
 use tox_config::ProxyDef;
@@ -39,7 +40,7 @@ pub(crate) fn listen_all<'a, R: Net<Listener = TcpListener, Stream = TcpStream>>
     Ok(listening)
 }
 
-/// Binds the address of a proxy.
+/// Binds the address of a proxy. Its queue of connections is as long as the system allows.
 fn listen<'a, R: Net<Listener = TcpListener, Stream = TcpStream>>(
     rt: &R,
     alloc: Global,
@@ -54,6 +55,9 @@ fn listen<'a, R: Net<Listener = TcpListener, Stream = TcpStream>>(
     let Ok(listener) = TcpListener::bind(rt, address.as_str()) else {
         return Err(ServeFault::ListenRefused(&proxy.name));
     };
+    if lengthen_queue(&listener).is_err() {
+        return Err(ServeFault::ListenRefused(&proxy.name));
+    }
     let Ok(bound) = listener.local_addr() else {
         return Err(ServeFault::ListenRefused(&proxy.name));
     };

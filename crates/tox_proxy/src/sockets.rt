@@ -2,25 +2,21 @@
 ghost use Rattle.std.specs.Prelude.{◌≡◌, None};
 ghost use Rattle.tox_proxy.specs.Shutting.{shut_of};
 
-use crate::link_sockets::LinkSocket;
-use std::io::Read;
+use crate::link_sockets::LinkSockets;
+use crate::socket_calls::{read_now, reset};
 use std::net::{Shutdown, TcpStream};
-use std::sync::atomic::Ordering;
-use std::time::Duration;
 use tox_link::Hangup;
 use tox_time::Ending;
 
 /// How many reads at most drop what a peer has sent.
 const MAX_READS: u64 = 1_024;
 
-/// How long such a read waits, in milliseconds.
-const SHORT_WAIT: u64 = 1;
-
 /// The sockets of one direction.
 #[derive(Clone, Copy)]
 pub(crate) struct Sockets<'a> {
-    pub(crate) source: &'a LinkSocket,
-    pub(crate) target: &'a LinkSocket,
+    pub(crate) link: &'a LinkSockets,
+    pub(crate) source: &'a TcpStream,
+    pub(crate) target: &'a TcpStream,
 }
 
 /// What is shut where a stream has ended.
@@ -31,8 +27,8 @@ enum Shut {
     Writing,
     /// Both sockets. What the target sent is dropped.
     Both,
-    /// Both sockets. What their peers sent stays unread.
-    Cut,
+    /// Both sockets, by resets.
+    Reset,
 }
 
 /// What is shut at a stream's ending. A close without the source's end shuts both sockets.
@@ -43,39 +39,38 @@ fn shut_of(ending: Ending, source_ended: bool) -> Shut
         Ending::StillOpen => Shut::Nothing,
         Ending::Closed(_) if source_ended => Shut::Writing,
         Ending::Closed(_) => Shut::Both,
-        Ending::Reset(_) => Shut::Cut,
+        Ending::Reset(_) => Shut::Reset,
     }
 }
 
 impl<'a> Sockets<'a> {
-    /// Shuts both sockets both ways. One that the peer has shut can't be shut again, which changes nothing.
-    fn shut(&self) {
-        let _ = self.source.socket.shutdown(Shutdown::Both);
-        let _ = self.target.socket.shutdown(Shutdown::Both);
-    }
-
-    /// From now on nothing of either socket is read.
-    fn stop_reading(&self) {
-        self.source.cut.store(true, Ordering::SeqCst);
-        self.target.cut.store(true, Ordering::SeqCst);
+    /// Shuts the target's writing half, unless the link was cut: its source may have ended by that alone, and a peer that
+    /// hears an end takes no reset after it.
+    fn end_writing(&self) {
+        if !self.link.is_cut() {
+            let _ = self.target.shutdown(Shutdown::Write);
+        }
     }
 
     /// Shuts both sockets. What the source sent stays unread. What the target sent is dropped first: a socket that is shut
     /// announces no room, and a peer that waits for it would not be told. Leaving it unread would reset the target, which
-    /// drops the last bytes that were written to it. Shutting the source comes last, since the other direction then fails and
-    /// shuts both.
+    /// drops the last bytes that were written to it.
     fn close(&self) {
-        self.stop_reading();
-        let target = &self.target.socket;
-        let _ = target.shutdown(Shutdown::Write);
-        drop_unread(target);
-        self.shut();
+        if !self.link.cut() {
+            return;
+        }
+        let _ = self.target.shutdown(Shutdown::Write);
+        drop_unread(self.target);
+        let _ = self.source.shutdown(Shutdown::Both);
+        let _ = self.target.shutdown(Shutdown::Both);
     }
 
-    /// Shuts both sockets, and leaves unread what their peers sent.
-    pub(crate) fn cut(&self) {
-        self.stop_reading();
-        self.shut();
+    /// Resets both sockets.
+    pub(crate) fn reset(&self) {
+        if self.link.cut() {
+            reset_surely(self.source);
+            reset_surely(self.target);
+        }
     }
 }
 
@@ -85,26 +80,28 @@ impl<'a> Hangup for Sockets<'a> {
     fn hang_up(&mut self, ending: Ending, source_ended: bool) {
         match shut_of(ending, source_ended) {
             Shut::Nothing => {}
-            Shut::Writing => {
-                let _ = self.target.socket.shutdown(Shutdown::Write);
-            }
+            Shut::Writing => self.end_writing(),
             Shut::Both => self.close(),
-            Shut::Cut => self.cut(),
+            Shut::Reset => self.reset(),
         }
     }
 }
 
-/// Reads and drops what a peer has sent, so that there is room again.
-fn drop_unread(mut socket: &TcpStream) {
-    if socket
-        .set_read_timeout(Some(Duration::from_millis(SHORT_WAIT)))
-        .is_err()
-    {
-        return;
+/// Resets a socket. Linux 6.4 and 6.5 refuse that while a thread waits for the socket, which goes on once it reads an end.
+/// A socket that can't be reset is shut.
+fn reset_surely(socket: &TcpStream) {
+    if reset(socket).is_err() {
+        let _ = socket.shutdown(Shutdown::Read);
+        let _ = reset(socket);
+        let _ = socket.shutdown(Shutdown::Both);
     }
+}
+
+/// Reads and drops what a peer has sent, so that there is room again.
+fn drop_unread(socket: &TcpStream) {
     let mut bytes = [0; 16_384];
     for _ in 0..MAX_READS {
-        match socket.read(&mut bytes) {
+        match read_now(socket, &mut bytes) {
             Ok(count) if count == bytes.len() => {}
             _ => return,
         }
