@@ -87,7 +87,7 @@ def haproxy(folder, upstream):
     config = os.path.join(folder, "haproxy.cfg")
     with open(config, "w") as file:
         file.write(
-            "global\n nbthread 2\n maxconn 4000\n"
+            "global\n nbthread 2\n maxconn 9000\n"
             "defaults\n mode tcp\n timeout connect 5s\n timeout client 300s\n timeout server 300s\n"
             f"listen bench\n bind 127.0.0.1:{port}\n server one 127.0.0.1:{upstream}\n"
         )
