@@ -1,17 +1,10 @@
 //! The link that a command line describes: its words and its toxics.
 use crate::fault::Fault;
 use std::alloc::Global;
+use tox_arguments::LinkArguments;
 use tox_defs::Chain;
 use tox_proxy::read_chain;
-use tox_words::{Lanes, Words, WordsFault};
-
-/// What `dry`, `plan` and `stages` are given.
-#[derive(Debug, Drop)]
-pub struct LinkArguments<'a> {
-    pub lanes: Lanes,
-    pub words: Option<&'a str>,
-    pub toxics: Vec<&'a str>,
-}
+use tox_words::{Words, WordsFault};
 
 /// A link's table of words and its chain.
 #[derive(Drop)]
@@ -20,13 +13,11 @@ pub struct LinkConfig {
     pub chain: Chain,
 }
 
-impl<'a> LinkArguments<'a> {
-    /// Reads the words, then the toxics from the left.
-    pub fn read(&self, alloc: Global) -> Result<LinkConfig, Fault> {
-        let words = words_of(alloc, self.words).map_err(Fault::Words)?;
-        let chain = read_chain(self.lanes, &self.toxics).map_err(Fault::Toxics)?;
-        Ok(LinkConfig { words, chain })
-    }
+/// Reads the words, then the toxics from the left.
+pub fn read_link(alloc: Global, link: &LinkArguments<'_>) -> Result<LinkConfig, Fault> {
+    let words = words_of(alloc, link.words).map_err(Fault::Words)?;
+    let chain = read_chain(link.lanes, &link.toxics).map_err(Fault::Toxics)?;
+    Ok(LinkConfig { words, chain })
 }
 
 /// The table of words that a text gives. Without one it is the one word 0.

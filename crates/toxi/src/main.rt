@@ -1,11 +1,8 @@
 //! The program `toxi`: a TCP proxy that adds scripted faults.
 #![tactic(auto)]
 
-mod cap;
-mod command_line;
 mod dry;
 mod fault;
-mod help;
 mod link;
 mod migrate;
 mod pick;
@@ -15,8 +12,6 @@ mod stages;
 
 use clap::Error;
 use clap::error::ErrorKind;
-use command_line::Task;
-use serve::ServeArguments;
 use std::fmt::Display;
 use std::net::{Net, TcpListener, TcpStream};
 use std::process::ExitCode;
@@ -25,6 +20,7 @@ use std::sync::Wait;
 use std::thread::Threads;
 use std::time::Clock;
 use std::{env, io};
+use tox_arguments::{ServeArguments, Task};
 use tox_proxy::ServeRuntime;
 
 /// The status of a command line that is refused.
@@ -44,7 +40,7 @@ fn main(rt: HostRuntime) -> ExitCode {
     let Ok(arguments) = arguments.collect::<Vec<String>>(rt.alloc()) else {
         return fail(&rt, &"L0 OutOfMemory");
     };
-    match command_line::read(rt.alloc(), arguments.as_slice()) {
+    match tox_arguments::read(rt.alloc(), arguments.as_slice()) {
         Ok(task) => perform(&rt, &task),
         Err(refusal) => refuse(&rt, &refusal),
     }
@@ -70,7 +66,7 @@ fn perform<
         Task::Dry(link) => tell(rt, dry::dry(rt, link)),
         Task::Plan(link) => tell(rt, plan::plan(rt, link)),
         Task::Stages(cap, link) => tell(rt, stages::stages(rt, cap, link)),
-        Task::Pick(request) => tell(rt, pick::pick(rt, request)),
+        Task::Pick(arguments) => tell(rt, pick::pick(rt, arguments)),
         Task::Migrate(script) => tell(rt, migrate::migrate(rt, script)),
         Task::Serve(arguments) => serve_files(rt, arguments),
     }

@@ -2,22 +2,11 @@
 use std::rt::Files;
 use std::sync::Mutex;
 use std::{fs, io};
+use tox_arguments::ServeArguments;
 use tox_proxy::{RealFiles, ServeFault, ServeRuntime, Setup, SetupFault, read_setup, serve};
 
 /// A file that gives and takes nothing.
 const NOTHING: &str = "/dev/null";
-
-/// What `serve` is given.
-#[derive(Clone, Copy, Debug)]
-pub struct ServeArguments<'a> {
-    /// The name of the populate file.
-    pub config: &'a str,
-    /// The name of the script file.
-    pub script: &'a str,
-    pub seed: u64,
-    /// After how many connections each proxy stops listening. None: it goes on.
-    pub links: Option<u64>,
-}
 
 /// A file that takes the number of a standard descriptor that was closed at the start. Else a socket takes it, and the
 /// lines go to its peer.

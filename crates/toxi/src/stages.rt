@@ -1,10 +1,10 @@
 //! `toxi stages`: as `toxi dry`, but by threads.
-use crate::cap::Cap;
 use crate::fault::Fault;
-use crate::link::LinkArguments;
+use crate::link::read_link;
 use std::io;
 use std::sync::Wait;
 use std::thread::Threads;
+use tox_arguments::{Cap, LinkArguments};
 use tox_proxy::stages_run;
 use tox_time::{OpenGate, Real};
 
@@ -14,7 +14,7 @@ pub fn stages<R: Input + Print + AllocGlobal + Threads + Wait + Sync>(
     cap: &Cap,
     link: &LinkArguments<'_>,
 ) -> Result<(), Fault> {
-    let link = link.read(rt.alloc())?;
+    let link = read_link(rt.alloc(), link)?;
     let mut reader = Real::new(rt.reader());
     let mut writer = Real::new(io::writer(rt));
     stages_run(

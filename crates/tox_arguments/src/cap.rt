@@ -2,10 +2,10 @@
 ghost use Rattle.std.specs.Prelude.{◌≤◌};
 
 /// The most items of a ring.
-pub const MAX_CAP: usize = 1024;
+pub(crate) const MAX_CAP: usize = 1024;
 
 /// The room of each ring without `--cap`.
-pub const DEFAULT_CAP: usize = 4;
+pub(crate) const DEFAULT_CAP: usize = 4;
 
 /// The room of each ring, in items.
 #[derive(Debug, Drop)]

@@ -1,0 +1,188 @@
+//! The commands and their options, as `clap` is told of them.
+use crate::cap::MAX_CAP;
+use crate::help;
+use clap::builder::ValueParser;
+use clap::{Arg, ArgAction, Command, value_parser};
+use std::alloc::{AllocError, Global};
+use tox_words::MAX_CONNECTIONS;
+
+/// The version, and the kit that proves and builds it.
+const VERSION: &str = "0.1.0 (rattle-kit-13b logic dac8208d650f15bf)";
+
+/// The program's command line.
+pub(crate) fn toxi<'a>(alloc: Global) -> Result<Command<'a>, AllocError> {
+    let toxi = Command::new(alloc, "toxi")
+        .bin_name("toxi")?
+        .version(VERSION)
+        .about("A TCP proxy that adds scripted faults")
+        .after_help(help::PROGRAM)
+        .subcommand_required(true);
+    toxi.subcommands(commands(alloc)?)
+}
+
+/// The commands, in the order of the help.
+fn commands<'a>(alloc: Global) -> Result<Vec<Command<'a>>, AllocError> {
+    Ok(vec![in alloc;
+        dry(alloc)?,
+        plan(alloc)?,
+        stages(alloc)?,
+        pick(alloc)?,
+        migrate(alloc)?,
+        serve(alloc)?,
+    ]?)
+}
+
+fn dry<'a>(alloc: Global) -> Result<Command<'a>, AllocError> {
+    let dry = Command::new(alloc, "dry")
+        .about("Prints when each byte would leave, and how the link would end")
+        .after_help(help::DRY);
+    with_link(alloc, dry)
+}
+
+fn plan<'a>(alloc: Global) -> Result<Command<'a>, AllocError> {
+    let plan = Command::new(alloc, "plan")
+        .about("Prints what the toxics are compiled into")
+        .after_help(help::PLAN);
+    with_link(alloc, plan)
+}
+
+fn stages<'a>(alloc: Global) -> Result<Command<'a>, AllocError> {
+    let cap = option(
+        alloc,
+        "cap",
+        "N",
+        "The room of each ring, in items: 1 to 1024 [default: 4]",
+    )
+    .value_parser(ValueParser::unsigned(1, MAX_CAP as u64));
+    let stages = Command::new(alloc, "stages")
+        .about("Prints what `dry` prints, by a thread for each toxic")
+        .after_help(help::STAGES)
+        .arg(cap)?;
+    with_link(alloc, stages)
+}
+
+/// A command with the lanes, words and toxics of a link.
+fn with_link<'a>(alloc: Global, command: Command<'a>) -> Result<Command<'a>, AllocError> {
+    command.args(vec![in alloc;
+        lanes_argument(alloc),
+        words_argument(alloc),
+        toxics_argument(alloc),
+    ]?)
+}
+
+fn pick<'a>(alloc: Global) -> Result<Command<'a>, AllocError> {
+    let conn = needed(
+        alloc,
+        "conn",
+        "N",
+        "The number of the connection, 1 to 1000000",
+    )
+    .value_parser(ValueParser::unsigned(1, MAX_CONNECTIONS));
+    let arguments = vec![in alloc;
+        config_argument(alloc),
+        script_argument(alloc),
+        needed(alloc, "proxy", "NAME", "The proxy's name"),
+        conn,
+        needed(alloc, "stream", "STREAM", "upstream or downstream"),
+        seed_argument(alloc),
+    ]?;
+    Command::new(alloc, "pick")
+        .about("Prints what a numbered connection meets, from the files and the seed alone")
+        .after_help(help::PICK)
+        .args(arguments)
+}
+
+fn migrate<'a>(alloc: Global) -> Result<Command<'a>, AllocError> {
+    Command::new(alloc, "migrate")
+        .about("Prints a script of version 1 as a script of version 2")
+        .after_help(help::MIGRATE)
+        .arg(script_argument(alloc))
+}
+
+fn serve<'a>(alloc: Global) -> Result<Command<'a>, AllocError> {
+    let links = option(
+        alloc,
+        "links",
+        "N",
+        "After how many connections each proxy stops listening, 1 to 1000000 [default: it goes on]",
+    )
+    .value_parser(ValueParser::unsigned(1, MAX_CONNECTIONS));
+    let arguments = vec![in alloc;
+        config_argument(alloc),
+        script_argument(alloc),
+        seed_argument(alloc),
+        links,
+    ]?;
+    Command::new(alloc, "serve")
+        .about("Listens for each proxy, and carries its connections under their toxics")
+        .after_help(help::SERVE)
+        .args(arguments)
+}
+
+fn config_argument<'a>(alloc: Global) -> Arg<'a> {
+    needed(
+        alloc,
+        "config",
+        "FILE",
+        "The populate file: the proxies, in JSON",
+    )
+}
+
+fn script_argument<'a>(alloc: Global) -> Arg<'a> {
+    needed(
+        alloc,
+        "script",
+        "FILE",
+        "The script: the toxics of connections, in TOML",
+    )
+}
+
+fn seed_argument<'a>(alloc: Global) -> Arg<'a> {
+    needed(
+        alloc,
+        "seed",
+        "N",
+        "What the random words are made from, 0 to 2^64 - 1",
+    )
+    .value_parser(value_parser!(u64))
+}
+
+/// An option that must be given.
+fn needed<'a>(alloc: Global, name: &'a str, value: &'a str, help: &'a str) -> Arg<'a> {
+    option(alloc, name, value, help).required(true)
+}
+
+/// An option with a value.
+fn option<'a>(alloc: Global, name: &'a str, value: &'a str, help: &'a str) -> Arg<'a> {
+    Arg::new(alloc, name)
+        .long(name)
+        .value_name(value)
+        .help(help)
+}
+
+fn lanes_argument<'a>(alloc: Global) -> Arg<'a> {
+    option(
+        alloc,
+        "lanes",
+        "L",
+        "How many lanes share the random words: 16 or 32 [default: 16]",
+    )
+    .value_parser(ValueParser::from(&["16", "32"][..]))
+}
+
+fn words_argument<'a>(alloc: Global) -> Arg<'a> {
+    option(
+        alloc,
+        "words",
+        "W",
+        "The random words: 1 to 4096 numbers up to 4294967295, separated by commas [default: 0]",
+    )
+}
+
+fn toxics_argument<'a>(alloc: Global) -> Arg<'a> {
+    Arg::new(alloc, "toxics")
+        .value_name("TOXIC")
+        .help("The toxics that the link meets, in order, at most one for each lane")
+        .num_args(0..)
+        .action(ArgAction::Append)
+}

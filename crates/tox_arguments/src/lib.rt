@@ -1,0 +1,12 @@
+//! The command line of `toxi`: its commands, their options and their help.
+#![tactic(auto)]
+
+mod arguments;
+mod cap;
+mod command_line;
+mod commands;
+mod help;
+
+pub use arguments::{LinkArguments, PickArguments, ServeArguments};
+pub use cap::Cap;
+pub use command_line::{Task, read};
