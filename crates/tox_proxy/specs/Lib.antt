@@ -17,3 +17,4 @@ pub mod Courses
 pub mod Streams
 pub mod Shutting
 pub mod Accepting
+pub mod Addresses
