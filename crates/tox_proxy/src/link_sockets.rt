@@ -8,15 +8,23 @@ use crate::sockets::Sockets;
 use std::alloc::Global;
 use std::net::TcpStream;
 use std::sync::Arc;
-use std::sync::atomic::{AtomicBool, Ordering};
+use std::sync::atomic::{AtomicU32, Ordering};
 use tox_time::Stream;
+
+/// How a link was cut: not yet, by a close of both sockets, or by a reset.
+const UNCUT: u32 = 0;
+
+const CLOSED: u32 = 1;
+
+const RESET: u32 = 2;
 
 /// The two sockets of a link, which the threads of both its directions share.
 #[derive(Drop)]
 pub(crate) struct LinkSockets {
     pub(crate) client: TcpStream,
     pub(crate) server: TcpStream,
-    cut: AtomicBool,
+    /// How the link was cut, one of the three above.
+    cut: AtomicU32,
 }
 
 impl LinkSockets {
@@ -31,7 +39,7 @@ impl LinkSockets {
     {
         prepare(&client);
         prepare(&server);
-        let cut = AtomicBool::new(false);
+        let cut = AtomicU32::new(UNCUT);
         Arc::new(
             alloc,
             LinkSockets {
@@ -45,12 +53,25 @@ impl LinkSockets {
 
     /// Whether the link was cut. Nothing of its sockets is read from then on, and no half of them is shut by itself.
     pub(crate) fn is_cut(&self) -> bool {
-        self.cut.load(Ordering::SeqCst)
+        self.cut.load(Ordering::SeqCst) != UNCUT
     }
 
-    /// Cuts the link. False if it was cut before: whoever did that ends both connections.
-    pub(crate) fn cut(&self) -> bool {
-        !self.cut.swap(true, Ordering::SeqCst)
+    /// Cuts the link, unless it was cut before. True if it is cut by a close, this one or that of the other stream.
+    pub(crate) fn cut_to_close(&self) -> bool {
+        match self
+            .cut
+            .compare_exchange(UNCUT, CLOSED, Ordering::SeqCst, Ordering::SeqCst)
+        {
+            Ok(_) => true,
+            Err(before) => before == CLOSED,
+        }
+    }
+
+    /// Cuts the link, unless it was cut before. True if it is this cut that resets it.
+    pub(crate) fn cut_to_reset(&self) -> bool {
+        self.cut
+            .compare_exchange(UNCUT, RESET, Ordering::SeqCst, Ordering::SeqCst)
+            .is_ok()
     }
 
     /// The ends of a stream. Upstream goes from the client to the server, and downstream comes back.

@@ -56,7 +56,7 @@ impl<'a> Sockets<'a> {
     /// announces no room, and a peer that waits for it would not be told. Leaving it unread would reset the target, which
     /// drops the last bytes that were written to it.
     fn close(&self) {
-        if !self.link.cut() {
+        if !self.link.cut_to_close() {
             return;
         }
         let _ = self.target.shutdown(Shutdown::Write);
@@ -65,9 +65,9 @@ impl<'a> Sockets<'a> {
         let _ = self.target.shutdown(Shutdown::Both);
     }
 
-    /// Resets both sockets.
+    /// Resets both sockets, unless the link was cut before: what was written before a close is still on its way.
     pub(crate) fn reset(&self) {
-        if self.link.cut() {
+        if self.link.cut_to_reset() {
             reset_surely(self.source);
             reset_surely(self.target);
         }
