@@ -56,10 +56,10 @@ class Served:
         self.output.close()
 
     def start(self):
-        """Waits until it listens. It has two threads then: the first one and the proxy's."""
+        """Waits until it listens. It has three threads then: the first one, the proxy's, and the one that writes the lines."""
         wait_until(lambda: self.lines() or self.process.poll() is not None, "the line `listening`")
         check(self.lines(), f"it ended with status {self.process.returncode} before it listened")
-        wait_until(lambda: self.threads() == 2, "two threads")
+        wait_until(lambda: self.threads() == 3, "three threads")
         self.port = int(self.lines()[0].rpartition(":")[2])
         self.at_rest = self.descriptors()
         check(self.at_rest == list(range(len(self.at_rest))), f"there are gaps in its descriptors {self.at_rest}")
@@ -134,7 +134,7 @@ class Served:
     def rests(self):
         """Waits until no thread and no descriptor is left of the links that ended."""
         wait_until(
-            lambda: self.threads() == 2 and self.descriptors() == self.at_rest,
+            lambda: self.threads() == 3 and self.descriptors() == self.at_rest,
             "every thread and descriptor of the ended links is given back",
         )
 

@@ -42,4 +42,4 @@ def first_thread_is_refused(program, folder):
     ended = subprocess.run(command, capture_output=True, text=True, timeout=LIMIT, preexec_fn=limit)
     check(ended.returncode == 1, f"it ended with status {ended.returncode}")
     check(ended.stderr == "toxi: F1 SpawnRefused\n", f"it said `{ended.stderr}`")
-    check(re.fullmatch(r"listening shop 127\.0\.0\.1:\d+\n", ended.stdout), f"it printed `{ended.stdout}`")
+    check(ended.stdout == "", f"it printed `{ended.stdout}`")

@@ -38,4 +38,6 @@ pub struct ServeArguments<'a> {
     pub seed: u64,
     /// After how many connections each proxy stops listening. None: it goes on.
     pub links: Option<u64>,
+    /// How many milliseconds a connect may take. None: as many as the system lets it.
+    pub connect_timeout: Option<u32>,
 }

@@ -97,7 +97,14 @@ fn serve_of<'a>(given: &ArgMatches<'a>) -> Option<ServeArguments<'a>> {
         script: given.get_str("script")?,
         seed: given.get_one::<u64>("seed")?,
         links: given.get_one::<u64>("links"),
+        connect_timeout: connect_timeout_of(given),
     })
+}
+
+/// How long a connect may take. `clap` has rejected other values.
+fn connect_timeout_of(given: &ArgMatches<'_>) -> Option<u32> {
+    let millis = given.get_one::<u64>("connect-timeout")?;
+    u32::try_from(millis).ok()
 }
 
 /// The room of each ring. `clap` has rejected other values.

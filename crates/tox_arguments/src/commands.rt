@@ -6,6 +6,9 @@ use clap::{Arg, ArgAction, Command, value_parser};
 use std::alloc::{AllocError, Global};
 use tox_words::MAX_CONNECTIONS;
 
+/// The longest time that a connect may be given, in milliseconds.
+const MAX_CONNECT_TIMEOUT: u64 = 600_000;
+
 /// The version, and the kit that proves and builds it.
 const VERSION: &str = "0.1.0 (rattle-kit-13b logic dac8208d650f15bf)";
 
@@ -107,11 +110,19 @@ fn serve<'a>(alloc: Global) -> Result<Command<'a>, AllocError> {
         "After how many connections each proxy stops listening, 1 to 1000000 [default: it goes on]",
     )
     .value_parser(ValueParser::unsigned(1, MAX_CONNECTIONS));
+    let connect_timeout = option(
+        alloc,
+        "connect-timeout",
+        "MS",
+        "How many milliseconds a connect to an upstream may take, 1 to 600000 [default: the system's]",
+    )
+    .value_parser(ValueParser::unsigned(1, MAX_CONNECT_TIMEOUT));
     let arguments = vec![in alloc;
         config_argument(alloc),
         script_argument(alloc),
         seed_argument(alloc),
         links,
+        connect_timeout,
     ]?;
     Command::new(alloc, "serve")
         .about("Listens for each proxy, and carries its connections under their toxics")

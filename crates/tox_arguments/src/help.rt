@@ -143,7 +143,8 @@ proxy ends once it stopped listening and all its links ended:
   total <name> <links> up <bytes> down <bytes>
 
 The bytes are those written upstream and downstream. An end is open, closed, reset or broken: a write failed, the
-upstream wasn't reached, or memory or a thread was refused. Each line is flushed as it is written.
+upstream wasn't reached, or memory or a thread was refused. Each line is flushed as it is written. While the output isn't
+read, lines of links past 65,536 bytes are dropped, and how many is told on standard error.
 
 Example, with the files of `toxi pick --help` as proxies.json and script.toml, and port 1 of localhost closed:
   toxi serve --config proxies.json --script script.toml --seed 1 --links 1

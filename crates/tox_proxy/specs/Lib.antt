@@ -18,3 +18,5 @@ pub mod Streams
 pub mod Shutting
 pub mod Accepting
 pub mod Addresses
+pub mod LineQueue
+pub mod LineQueueInside

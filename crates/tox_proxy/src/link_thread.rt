@@ -3,7 +3,7 @@ ghost use Rattle.std.specs.Prelude.{◌≡◌, ◌≤◌, IfSome};
 ghost use Rattle.tox_time.specs.declared.stream.Stream.TheVariants as StreamOf;
 ghost use Rattle.tox_proxy.specs.Courses.{IsCourse};
 
-use crate::addresses::connect_address;
+use crate::connecting::connect;
 use crate::course::{Course, course_of};
 use crate::direction::{Direction, carry_stream};
 use crate::link_clock::LinkStart;
@@ -13,8 +13,7 @@ use crate::printing::print_link;
 use crate::serve_run::ServeRun;
 use crate::serve_runtime::ServeRuntime;
 use std::alloc::Global;
-use std::io::Write;
-use std::net::{Net, TcpListener, TcpStream};
+use std::net::TcpStream;
 use std::sync::{Arc, Mutex, Wait};
 use std::thread;
 use std::thread::Promise;
@@ -47,9 +46,9 @@ impl Promise<Carried> for Carries {
 }
 
 /// Serves a link to its end.
-pub(crate) fn serve_link<R: ServeRuntime, W: Write>(
+pub(crate) fn serve_link<R: ServeRuntime>(
     rt: &R,
-    run: &ServeRun<'_, W>,
+    run: &ServeRun<'_>,
     proxy: &ProxyDef,
     book: &Mutex<Book>,
     taken: Taken,
@@ -59,28 +58,28 @@ pub(crate) fn serve_link<R: ServeRuntime, W: Write>(
 }
 
 /// Settles a link in the book, and prints its line.
-pub(crate) fn end_link<R: Wait, W: Write>(
+pub(crate) fn end_link<R: Wait>(
     rt: &R,
-    run: &ServeRun<'_, W>,
+    run: &ServeRun<'_>,
     proxy: &ProxyDef,
     book: &Mutex<Book>,
     end: &LinkEnd,
 ) {
     end.settle(&mut *book.lock(rt));
-    print_link(rt, run.out, &proxy.name, end);
+    print_link(rt, run.lines, &proxy.name, end);
 }
 
 /// Connects a link's upstream, and carries both directions to their ends. Both sockets are dropped then.
-fn carry_link<R: ServeRuntime, W>(
+fn carry_link<R: ServeRuntime>(
     rt: &R,
-    run: &ServeRun<'_, W>,
+    run: &ServeRun<'_>,
     proxy: &ProxyDef,
     taken: Taken,
 ) -> LinkEnd
     ensures { result.number ≡ taken.number }
 {
     let start = LinkStart::now(rt);
-    let Some(server) = connect(rt, run.alloc, &proxy.upstream) else {
+    let Some(server) = connect(rt, run.alloc, &proxy.upstream, run.options.connect_timeout) else {
         return LinkEnd::broken(taken.number);
     };
     let Some(courses) = courses_of(run, proxy, &taken) else {
@@ -93,18 +92,8 @@ fn carry_link<R: ServeRuntime, W>(
     carry_both(rt, run, number, &link, start, courses)
 }
 
-/// The socket of an upstream, or None where it can't be reached.
-fn connect<R: Net<Listener = TcpListener, Stream = TcpStream>>(
-    rt: &R,
-    alloc: Global,
-    upstream: &str,
-) -> Option<TcpStream> {
-    let address = connect_address(alloc, upstream).ok()?;
-    TcpStream::connect(rt, address.as_str()).ok()
-}
-
 /// The courses of both streams of a link. None if out of memory.
-fn courses_of<W>(run: &ServeRun<'_, W>, proxy: &ProxyDef, taken: &Taken) -> Option<Courses>
+fn courses_of(run: &ServeRun<'_>, proxy: &ProxyDef, taken: &Taken) -> Option<Courses>
     ensures up { IfSome result (λ courses. IsCourse run.now.script.now run.now.seed proxy.now.name
         taken.now.number StreamOf.Upstream courses.up) }
     ensures down { IfSome result (λ courses. IsCourse run.now.script.now run.now.seed proxy.now.name
@@ -118,9 +107,9 @@ fn courses_of<W>(run: &ServeRun<'_, W>, proxy: &ProxyDef, taken: &Taken) -> Opti
 }
 
 /// Carries both directions, one of them in a thread of its own.
-fn carry_both<R: ServeRuntime, W>(
+fn carry_both<R: ServeRuntime>(
     rt: &R,
-    run: &ServeRun<'_, W>,
+    run: &ServeRun<'_>,
     number: u64,
     link: &Arc<LinkSockets, Global>,
     start: LinkStart,

@@ -10,7 +10,6 @@ use crate::listening::Listening;
 use crate::printing::print_total;
 use crate::serve_run::ServeRun;
 use crate::serve_runtime::ServeRuntime;
-use std::io::Write;
 use std::net::{TcpListener, TcpStream};
 use std::sync::{Mutex, Wait};
 use std::thread;
@@ -20,11 +19,7 @@ use tox_link::Book;
 use tox_words::MAX_CONNECTIONS;
 
 /// Serves a proxy until it stops listening and all its links have ended.
-pub(crate) fn serve_proxy<R: ServeRuntime, W: Write + Send>(
-    rt: &R,
-    run: &ServeRun<'_, W>,
-    listening: Listening<'_>,
-) {
+pub(crate) fn serve_proxy<R: ServeRuntime>(rt: &R, run: &ServeRun<'_>, listening: Listening<'_>) {
     let Listening {
         proxy,
         listener,
@@ -35,20 +30,20 @@ pub(crate) fn serve_proxy<R: ServeRuntime, W: Write + Send>(
     thread::scope(thread::scope_env(), rt, |scope| {
         take_links(rt, run, proxy, shared, scope, listener)
     });
-    print_total(rt, run.out, &proxy.name, &book.into_inner());
+    print_total(rt, run.lines, &proxy.name, &book.into_inner());
 }
 
 /// Takes connections until there were enough, the book is full or the listener fails, and then stops listening.
-fn take_links<'s, E: 's, R: ServeRuntime, W: Write + Send>(
+fn take_links<'s, E: 's, R: ServeRuntime>(
     rt: &'s R,
-    run: &'s ServeRun<'s, W>,
+    run: &'s ServeRun<'s>,
     proxy: &'s ProxyDef,
     book: &'s Mutex<Book>,
     scope: &'s Scope<'s, E>,
     listener: TcpListener,
 ) {
     for connections in 0..u64::MAX {
-        if is_enough(run.links, connections, &*book.lock(rt)) {
+        if is_enough(run.options.links, connections, &*book.lock(rt)) {
             return;
         }
         let Some(client) = next_client(rt, &listener) else {
@@ -80,9 +75,9 @@ fn number_link(book: &mut Book, client: TcpStream) -> Option<Taken>
 }
 
 /// Serves a link in a thread of its own. If it is refused, the connection is closed and the link is broken.
-fn start_link<'s, E: 's, R: ServeRuntime, W: Write + Send>(
+fn start_link<'s, E: 's, R: ServeRuntime>(
     rt: &'s R,
-    run: &'s ServeRun<'s, W>,
+    run: &'s ServeRun<'s>,
     proxy: &'s ProxyDef,
     book: &'s Mutex<Book>,
     scope: &'s Scope<'s, E>,

@@ -1,11 +1,14 @@
 //! Serving proxies: sockets under the plans of a script.
 ghost use Rattle.std.specs.Prelude.{◌≡◌, All, false, IfErr, Ok};
+ghost use Rattle.tox_proxy.specs.LineQueue.{no_lines};
 ghost use Rattle.tox_proxy.specs.Serving.{HasServeCause};
 
+use crate::lines::{Gaps, LineChannel, LineQueue, NoGaps, write_lines};
 use crate::listening::{Listening, listen_all};
 use crate::printing::print_listening;
 use crate::proxy_thread::serve_proxy;
 use crate::serve_fault::ServeFault;
+use crate::serve_options::ServeOptions;
 use crate::serve_run::ServeRun;
 use crate::serve_runtime::ServeRuntime;
 use std::alloc::Global;
@@ -19,11 +22,7 @@ use tox_config::ProxyDef;
 use tox_script::Script;
 use tox_time::OpenGate;
 
-/// Serves the enabled proxies. Binds all their addresses first, and prints where each listens. Each connection that is
-/// taken meets the toxics of the script under the words of the seed and its number. A line tells how each link ended,
-/// and one for each proxy its totals. With `links` a proxy stops listening after so many connections.
-///
-/// Returns once no proxy listens any more and all links have ended. A fault comes before any connection is taken.
+/// [`serve_with`], with this limit of links and no other option. Dropped lines are told to nobody.
 pub fn serve<
     'a,
     R: Net<Listener = TcpListener, Stream = TcpStream>
@@ -47,6 +46,48 @@ pub fn serve<
     ensures nothing { All (λ proxy. proxy.enabled ≡ false) proxies.now → result ≡ Ok tt }
     ensures fault { IfErr result (HasServeCause proxies.now) }
 {
+    let options = ServeOptions {
+        links,
+        connect_timeout: None,
+    };
+    serve_with(rt, alloc, proxies, script, seed, out, &NoGaps, &options)
+}
+
+/// Serves the enabled proxies. Binds all their addresses first, and prints where each listens. Each connection that is
+/// taken meets the toxics of the script under the words of the seed and its number. A line tells how each link ended,
+/// and one for each proxy its totals.
+///
+/// One thread writes the lines, so a writer that waits holds up no link. At most 65,536 bytes of lines wait for it. A link's
+/// line that finds no room is dropped, and the gap is told once the lines before it are written. The other lines wait for room.
+/// If the writer fails, lines are dropped without a word.
+///
+/// Returns once no proxy listens any more, all links have ended, and the writer has taken what waited or has failed. A fault
+/// comes before any connection is taken.
+pub fn serve_with<
+    'a,
+    R: Net<Listener = TcpListener, Stream = TcpStream>
+        + Threads
+        + Wait
+        + Clock
+        + Copy
+        + Send
+        + Sync
+        + 'static,
+    W: Write + Send,
+    G: Gaps + Sync,
+>(
+    rt: &R,
+    alloc: Global,
+    proxies: &'a [ProxyDef],
+    script: &Script,
+    seed: u64,
+    out: &Mutex<W>,
+    gaps: &G,
+    options: &ServeOptions,
+) -> Result<(), ServeFault<'a>>
+    ensures nothing { All (λ proxy. proxy.enabled ≡ false) proxies.now → result ≡ Ok tt }
+    ensures fault { IfErr result (HasServeCause proxies.now) }
+{
     if !proxies.iter().any(|proxy| proxy.enabled) {
         return Ok(());
     }
@@ -54,42 +95,77 @@ pub fn serve<
     let Ok(gate) = Arc::new(alloc, OpenGate) else {
         return Err(ServeFault::OutOfMemory);
     };
+    let Ok(lines) = LineChannel::new(alloc) else {
+        return Err(ServeFault::OutOfMemory);
+    };
+    let Ok(empty) = LineQueue::new(alloc) else {
+        return Err(ServeFault::OutOfMemory);
+    };
     let run = ServeRun {
         alloc,
         script,
         seed,
-        links,
-        out,
+        options: *options,
+        lines: &lines,
         gate,
     };
-    if serve_all(rt, &run, listening) {
+    if serve_and_write(rt, &run, listening, empty, out, gaps) {
         Ok(())
     } else {
         Err(ServeFault::SpawnRefused)
     }
 }
 
-/// Serves each proxy in a thread of its own. False if one is refused: then no connection is taken.
-fn serve_all<R: ServeRuntime, W: Write + Send>(
+/// Serves the proxies beside a thread that writes the lines. False if a thread is refused: then no connection is taken.
+fn serve_and_write<R: ServeRuntime, W: Write + Send, G: Gaps + Sync>(
     rt: &R,
-    run: &ServeRun<'_, W>,
+    run: &ServeRun<'_>,
     listening: Vec<Listening<'_>>,
-) -> bool {
+    empty: LineQueue,
+    out: &Mutex<W>,
+    gaps: &G,
+) -> bool
+    requires { empty ≡ no_lines }
+{
+    let lines = run.lines;
+    thread::scope(
+        thread::scope_env(),
+        rt,
+        |scope| -> bool
+            requires { empty ≡ no_lines }
+        {
+            let writer = scope.spawn(
+                move ||
+                    requires { empty ≡ no_lines }
+                { write_lines(rt, lines, empty, out, gaps) },
+            );
+            if writer.is_err() {
+                return false;
+            }
+            let served = serve_all(rt, run, listening);
+            lines.close(rt);
+            served
+        },
+    )
+}
+
+/// Serves each proxy in a thread of its own. False if one is refused: then no connection is taken.
+fn serve_all<R: ServeRuntime>(rt: &R, run: &ServeRun<'_>, listening: Vec<Listening<'_>>) -> bool {
     let go = Mutex::new(false);
     let may_go = &go;
     thread::scope(thread::scope_env(), rt, |scope| {
         // The threads wait for the lock until all of them are there.
         let mut all_started = may_go.lock(rt);
-        print_listening(rt, run.out, &listening);
+        print_listening(rt, run.lines, &listening);
         *all_started = start_all(rt, run, may_go, scope, listening);
         *all_started
     })
 }
 
 /// Starts the threads of proxies. False if one is refused.
-fn start_all<'s, E: 's, R: ServeRuntime, W: Write + Send>(
+fn start_all<'s, E: 's, R: ServeRuntime>(
     rt: &'s R,
-    run: &'s ServeRun<'s, W>,
+    run: &'s ServeRun<'s>,
     may_go: &'s Mutex<bool>,
     scope: &'s Scope<'s, E>,
     listening: Vec<Listening<'s>>,
@@ -103,9 +179,9 @@ fn start_all<'s, E: 's, R: ServeRuntime, W: Write + Send>(
 }
 
 /// Starts the thread of a proxy, which serves it once it may go. False if the thread is refused.
-fn start_proxy<'s, E: 's, R: ServeRuntime, W: Write + Send>(
+fn start_proxy<'s, E: 's, R: ServeRuntime>(
     rt: &'s R,
-    run: &'s ServeRun<'s, W>,
+    run: &'s ServeRun<'s>,
     may_go: &'s Mutex<bool>,
     scope: &'s Scope<'s, E>,
     bound: Listening<'s>,

@@ -3,7 +3,10 @@ use std::rt::Files;
 use std::sync::Mutex;
 use std::{fs, io};
 use tox_arguments::ServeArguments;
-use tox_proxy::{RealFiles, ServeFault, ServeRuntime, Setup, SetupFault, read_setup, serve};
+use tox_proxy::{
+    Gaps, RealFiles, ServeFault, ServeOptions, ServeRuntime, Setup, SetupFault, read_setup,
+    serve_with,
+};
 
 /// A file that gives and takes nothing.
 const NOTHING: &str = "/dev/null";
@@ -27,20 +30,39 @@ pub fn set_up<'a, R: Files + AllocGlobal>(
     )
 }
 
+/// Tells on standard error how many lines were dropped.
+#[derive(Clone, Copy)]
+struct ToldGaps<'r, R> {
+    rt: &'r R,
+}
+
+impl<'r, R: Eprint> Gaps for ToldGaps<'r, R> {
+    fn dropped(&self, lines: u64) {
+        let ending = if lines == 1 { "" } else { "s" };
+        let rt = self.rt;
+        let _ = eprintln!(rt; "toxi: {lines} line{ending} dropped: the output wasn't read");
+    }
+}
+
 /// Serves the proxies of the files.
-pub fn serve_proxies<'a, R: Print + AllocGlobal + ServeRuntime>(
+pub fn serve_proxies<'a, R: Print + Eprint + AllocGlobal + ServeRuntime>(
     rt: &R,
     setup: &'a Setup,
     arguments: &ServeArguments<'_>,
 ) -> Result<(), ServeFault<'a>> {
     let out = Mutex::new(io::writer(rt));
-    serve(
+    let options = ServeOptions {
+        links: arguments.links,
+        connect_timeout: arguments.connect_timeout,
+    };
+    serve_with(
         rt,
         rt.alloc(),
         &setup.proxies,
         &setup.script,
         arguments.seed,
-        arguments.links,
         &out,
+        &ToldGaps { rt },
+        &options,
     )
 }
