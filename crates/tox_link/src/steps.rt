@@ -14,7 +14,7 @@ use crate::notes::{LinkEvent, Notes};
 use std::alloc::AllocError;
 use tox_time::Micros;
 
-/// A nonempty piece arrives, and is stamped with the greatest reading so far.
+/// A nonempty piece arrives, and is stamped with the greatest reading so far. A refused note leaves the core as it was.
 pub(crate) fn take_piece<C: Clock, N: Notes>(
     core: &mut LinkCore<'_>,
     clock: &C,
@@ -25,23 +25,24 @@ pub(crate) fn take_piece<C: Clock, N: Notes>(
     requires read { (core.old.latest ≡ 0) ⊎ C.told clock.now core.old.latest }
     requires goes_on { (core.old.ended ≡ false) × (core_ending core.old ≡ None) }
     requires fits { (0 < len) × (core.old.bytes + len ≤ 2 ^ 40) }
-    ensures counts { (core.new.bytes ≡ core.old.bytes + len) × (core.new.ended ≡ false)
-        × (core_position core.new ≡ core_position core.old) }
+    ensures counts { OnOk result ((core.new.bytes ≡ core.old.bytes + len)
+        × (core.new.ended ≡ false) × (core_position core.new ≡ core_position core.old)) }
     ensures reads { ReadsOn (C.told clock.now) core.old.latest core.new.latest }
     ensures carried { OnOk result ((more : List OneEvent)
         × (N.events notes.new ≡ with_events (N.events notes.old) more)
         × KeepsCarried (C.told clock.now) core.old more core.new × (has_source_end more ≡ false)) }
-    ensures err { OnErr result (N.events notes.new ≡ N.events notes.old) }
+    ensures err { OnErr result
+        ((N.events notes.new ≡ N.events notes.old) × (core.new ≡ core.old)) }
 {
     let now = reading(clock, core.latest());
+    notes.note(LinkEvent::Piece(len, now))?;
     let Ok(()) = core.on_piece(len, now) else {
         unreachable!()
     };
-    notes.note(LinkEvent::Piece(len, now))?;
     Ok(())
 }
 
-/// The source's end arrives. It is noted unless the ending is known.
+/// The source's end arrives. It is noted unless the ending is known. A refused note leaves the core as it was.
 pub(crate) fn take_end<C: Clock, N: Notes>(
     core: &mut LinkCore<'_>,
     clock: &C,
@@ -49,23 +50,26 @@ pub(crate) fn take_end<C: Clock, N: Notes>(
 ) -> Result<(), AllocError>
     requires first { core.old.ended ≡ false }
     requires read { (core.old.latest ≡ 0) ⊎ C.told clock.now core.old.latest }
-    ensures counts { (core.new.bytes ≡ core.old.bytes) × (core.new.ended ≡ true)
-        × (core_position core.new ≡ core_position core.old) }
+    ensures counts { OnOk result ((core.new.bytes ≡ core.old.bytes)
+        × (core.new.ended ≡ true) × (core_position core.new ≡ core_position core.old)) }
     ensures reads { ReadsOn (C.told clock.now) core.old.latest core.new.latest }
     ensures carried { OnOk result ((more : List OneEvent)
         × (N.events notes.new ≡ with_events (N.events notes.old) more)
         × KeepsCarried (C.told clock.now) core.old more core.new
         × (has_source_end more ≡ is_none (core_ending core.old))) }
     ensures known { IsSome (core_ending core.old) → N.events notes.new ≡ N.events notes.old }
-    ensures err { OnErr result (N.events notes.new ≡ N.events notes.old) }
+    ensures err { OnErr result
+        ((N.events notes.new ≡ N.events notes.old) × (core.new ≡ core.old)) }
 {
     let now = reading(clock, core.latest());
-    let known = core.ending();
-    core.on_end(now);
-    match known {
-        Some(_) => Ok(()),
+    match core.ending() {
+        Some(_) => {
+            core.on_end(now);
+            Ok(())
+        }
         None => {
             notes.note(LinkEvent::SourceEnd(now))?;
+            core.on_end(now);
             Ok(())
         }
     }

@@ -9,7 +9,7 @@ use Rattle.tox_link.proofs.taking.keep_end.Goals as goal
 pub returns-in_default-clause-ok : goal.returns-in_default-clause-ok
 returns-in_default-clause-ok g c =
     let came = c.requires.came in
-    let counts = c.take_end.ensures.counts in
+    let counts = c.in_ok-take_end.ensures.counts in
     sound-ended c.args.side.now _ came.before _ c.args.end came.sound came.going came.came refl counts.0 counts.2 refl refl
     (λ last told. absurd (open-source c.args.side.now came.before last came.sound came.going told))
 
@@ -22,7 +22,7 @@ returns-in_default-clause-log g c =
 pub returns-clause-ok : goal.returns-clause-ok
 returns-clause-ok g c =
     let came = c.requires.came in
-    let counts = c.take_end-2.ensures.counts in
+    let counts = c.in_ok-take_end-2.ensures.counts in
     sound-ended c.args.side.now _ came.before _ c.args.end came.sound came.going came.came refl counts.0 counts.2 refl refl
     (λ last told. ((cc (told, c.in_ok-side.ensures)), sym c.ending.ensures.value ∙ c.in-None.is))
 

@@ -13,7 +13,7 @@ returns-in_default-clause-ok g c =
 pub returns-clause-ok : goal.returns-clause-ok
 returns-clause-ok g c =
     let came = c.requires.came in
-    let counts = c.take_piece.ensures.counts in
+    let counts = c.in_ok-take_piece.ensures.counts in
     sound-kept c.args.side.now _ came.before _ (Piece c.args.bytes) c.args.bytes.items _ came.sound came.going (sym c.ending.ensures.value ∙ c.in-None.is) came.came refl
     (append-nil c.args.bytes.items) came.allowed.1 (omega (arith, counts.0, c.len.ensures)) counts.1 counts.2 c.add.ensures c.stop-start.ensures.value refl refl refl refl
 
