@@ -10,3 +10,4 @@ pub mod BookTotals
 pub mod SideLemmas
 pub mod LoggedLemmas
 pub mod CarryLemmas
+pub mod FollowLemmas

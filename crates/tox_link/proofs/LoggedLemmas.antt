@@ -22,7 +22,7 @@ use Rattle.tox_link.specs.Sources.{read_end_of}
 use Rattle.tox_link.proofs.Logs.{gapless-bytes, has_source_end-append, end-same, by-later}
 use Rattle.tox_link.proofs.StepLemmas.{start-carried}
 
-or-false_left : (b c : Bool) → b ≡ false → (b || c) ≡ c
+pub or-false_left : (b c : Bool) → b ≡ false → (b || c) ≡ c
 or-false_left true c none = cc
 or-false_left false c none = refl
 

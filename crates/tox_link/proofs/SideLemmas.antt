@@ -34,7 +34,7 @@ part-grows heard more bytes start within is =
     let left = length-drop start heard in
     is ∙ sym (take-append-le (length bytes) (drop start heard) more (omega (arith, left, within))) ∙ ap (take (length bytes)) (sym (drop-append-le start heard more (omega (arith, within))))
 
-parts-grow : (stop : ℕ) (heard more : List ℕ) (pieces : List Run) → JoinUpTo stop pieces → stop ≤ length heard → AreOf heard pieces → AreOf (heard ++ more) pieces
+pub parts-grow : (stop : ℕ) (heard more : List ℕ) (pieces : List Run) → JoinUpTo stop pieces → stop ≤ length heard → AreOf heard pieces → AreOf (heard ++ more) pieces
 parts-grow stop heard more [] joined within parts = tt
 parts-grow stop heard more (piece ∷ pieces) joined within parts =
     let below = start-below stop pieces joined.2 in (
@@ -43,12 +43,12 @@ parts-grow stop heard more (piece ∷ pieces) joined within parts =
     )
 
 -- one more piece
-parts-add : (heard : List ℕ) (pieces : List Run) (run : Run) → AreOf heard pieces → run.bytes ≡ take (length run.bytes) (drop run.start heard) → AreOf heard (pieces ++ run ∷ [])
+pub parts-add : (heard : List ℕ) (pieces : List Run) (run : Run) → AreOf heard pieces → run.bytes ≡ take (length run.bytes) (drop run.start heard) → AreOf heard (pieces ++ run ∷ [])
 parts-add heard [] run parts last = (last, tt)
 parts-add heard (piece ∷ pieces) run parts last = (parts.0, parts-add heard pieces run parts.1 last)
 
 -- the bytes behind others are their own part
-last-part : (heard bytes : List ℕ) (start : ℕ) → start ≡ length heard → bytes ≡ take (length bytes) (drop start (heard ++ bytes))
+pub last-part : (heard bytes : List ℕ) (start : ℕ) → start ≡ length heard → bytes ≡ take (length bytes) (drop start (heard ++ bytes))
 last-part heard bytes start at =
     sym (take_all (length bytes) bytes (omega arith)) ∙ ap (take (length bytes)) (sym (drop-append_seam heard bytes) ∙ ap (λ n. drop n (heard ++ bytes)) (sym at))
 
@@ -64,6 +64,23 @@ module _ (position : ℕ) (piece : Run) (pieces : List Run) where
   past-dropped : stop_of piece ≤ position → past position (piece ∷ pieces) ≡ past position pieces
   past-dropped ended = ap (λ test. cond test (piece ∷ past position pieces) (past position pieces)) (le-ltb position (stop_of piece) ended)
 
+-- those that stop past a position where one may start still join up
+pub past-joined : (stop position : ℕ) (pieces : List Run) → JoinUpTo stop pieces → start_of stop pieces ≤ position → position ≤ stop → JoinUpTo stop (past position pieces) × (start_of stop (past position pieces) ≤ position)
+past-joined stop position [] joined from within = (tt, from)
+past-joined stop position (piece ∷ pieces) joined from within =
+    let Left : List Run → Type 0 = λ left. JoinUpTo stop left × (start_of stop left ≤ position) in
+    elim (cases_lt position (stop_of piece)) [
+      | inl inside ↦ subst Left (sym (past-kept position piece pieces inside ∙ ap (λ rest. piece ∷ rest) (kept_all stop position pieces joined.2 (omega (arith, joined.1, inside))))) (joined, from)
+      | inr ended ↦ subst Left (sym (past-dropped position piece pieces ended)) (past-joined stop position pieces joined.2 (omega (arith, joined.1, ended)) within)
+    ]
+
+pub past-parts : (heard : List ℕ) (position : ℕ) (pieces : List Run) → AreOf heard pieces → AreOf heard (past position pieces)
+past-parts heard position [] parts = tt
+past-parts heard position (piece ∷ pieces) parts = elim (cases_lt position (stop_of piece)) [
+  | inl inside ↦ subst (AreOf heard) (sym (past-kept position piece pieces inside)) (parts.0, past-parts heard position pieces parts.1)
+  | inr ended ↦ subst (AreOf heard) (sym (past-dropped position piece pieces ended)) (past-parts heard position pieces parts.1)
+]
+
 -- the pieces that a window holds from a position on
 pub record IsLeft (heard : List ℕ) (stop position : ℕ) (left : List Run) : Type 0 where
   pub joined : JoinUpTo stop left
@@ -71,14 +88,9 @@ pub record IsLeft (heard : List ℕ) (stop position : ℕ) (left : List Run) : T
   pub parts : AreOf heard left
 
 pub past-left : (heard : List ℕ) (stop position : ℕ) (pieces : List Run) → JoinUpTo stop pieces → start_of stop pieces ≤ position → position ≤ stop → AreOf heard pieces → IsLeft heard stop position (past position pieces)
-past-left heard stop position [] joined from within parts = record { joined = tt; start = from; parts = tt }
-past-left heard stop position (piece ∷ pieces) joined from within parts = elim (cases_lt position (stop_of piece)) [
-  | inl inside ↦
-      subst (IsLeft heard stop position)
-      (sym (past-kept position piece pieces inside ∙ ap (λ rest. piece ∷ rest) (kept_all stop position pieces joined.2 (omega (arith, joined.1, inside)))))
-      (record { joined = joined; start = from; parts = parts })
-  | inr ended ↦ subst (IsLeft heard stop position) (sym (past-dropped position piece pieces ended)) (past-left heard stop position pieces joined.2 (omega (arith, joined.1, ended)) within parts.1)
-]
+past-left heard stop position pieces joined from within parts =
+    let left = past-joined stop position pieces joined from within in
+    record { joined = left.0; start = left.1; parts = past-parts heard position pieces parts }
 
 -- an open source has not told why it ended
 pub open-source : (side : WriterSide) (messages : List Message) (end : ReadEnd) → IsSound side messages → side.ended ≡ false → read_end_of side.source ≡ Some end → ⊥

@@ -14,3 +14,4 @@ pub mod Side
 pub mod Logged
 pub mod Reports
 pub mod Hangups
+pub mod direction

@@ -5,6 +5,7 @@ mod act;
 mod book;
 mod carrying;
 mod clock;
+mod direction;
 mod driving;
 mod finishing;
 mod hangup;
@@ -29,6 +30,9 @@ pub use act::Act;
 pub use book::{Book, BookFault, OpenFault};
 pub use carrying::carry;
 pub use clock::Clock;
+pub use direction::{
+    PollSink, PollSource, PolledLink, Unwritten, end_source, keep_bytes, write_on,
+};
 pub use hangup::{Ends, Hangup};
 pub use link_core::LinkCore;
 pub use link_fault::LinkFault;

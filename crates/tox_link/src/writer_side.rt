@@ -23,7 +23,7 @@ use tox_words::Words;
 const RING_SIZE: usize = 64;
 
 /// The most pieces in the window.
-const WINDOW_SIZE: usize = 1024;
+pub(crate) const WINDOW_SIZE: usize = 1024;
 
 /// The writer's side of a link.
 #[derive(Drop)]

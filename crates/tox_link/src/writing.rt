@@ -28,7 +28,7 @@ fn write_all<W: Sink>(writer: &mut W, bytes: &[u8]) -> Result<(), usize>
 }
 
 /// The first bytes of a span, as far as one piece holds them: at least one.
-fn front_of<'a>(window: &'a Window, span: &Span, instant: Micros) -> &'a [u8]
+pub(crate) fn front_of<'a>(window: &'a Window, span: &Span, instant: Micros) -> &'a [u8]
     requires held { HoldsSpan window.now span.now }
     requires some { span.now.start < span.now.stop }
     ensures some { 0 < length result.now }

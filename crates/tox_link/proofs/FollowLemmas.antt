@@ -1,0 +1,197 @@
+-- A direction that is driven by events, step by step.
+use Rattle.std.proofs.Common.{◌≡◌, ℕ, ◌+◌, ◌<◌, ◌≤◌, ◌^◌, Bool, false, true, List, [], ◌∷◌, ◌++◌, length, length-append, take, drop, Option, Some, None, refl, ap, ◌∙◌, sym, subst, append-nil, arith}
+use Rattle.std.specs.Io.KnownBytes.{append_known}
+use Rattle.std.specs.Prelude.{is_some}
+use Rattle.std.proofs.lemmas.List.{take-take, take-append-le}
+use Rattle.tox_time.specs.declared.item.Item.{Item}
+use Rattle.tox_lend.specs.Run.{Run, stop_of}
+use Rattle.tox_lend.specs.Window.{Pieces, JoinUpTo, start_of}
+use Rattle.tox_link.specs.declared.direction.polled_link.PolledLink.{PolledLink}
+use Rattle.tox_link.specs.declared.direction.unwritten.Unwritten.{Unwritten}
+use Rattle.tox_link.specs.declared.notes.LinkEvent.{LinkEvent}
+use Rattle.tox_link.specs.declared.notes.LinkEvent.TheVariants.{Wrote}
+use Rattle.tox_lend.proofs.WindowLemmas.{JoinUpTo-push, start_of-push}
+use Rattle.tox_link.specs.Carried.{Carried, KeepsCarried}
+use Rattle.tox_link.specs.Core.{CoreView, core_ending, core_position}
+use Rattle.tox_link.specs.Held.{AreOf, HoldsSpan}
+use Rattle.tox_link.specs.direction.Follows.{unsaid, IsUpTo, IsHeld, Drives, WritesOn}
+use Rattle.tox_link.specs.Log.{has_source_end, IsFaithful}
+use Rattle.tox_link.specs.Sources.{read_end_of}
+use Rattle.tox_link.proofs.LoggedLemmas.{or-false_left}
+use Rattle.tox_link.proofs.Logs.{end-same, has_source_end-append}
+use Rattle.tox_link.proofs.HeldLemmas.{written_more}
+use Rattle.tox_link.proofs.SideLemmas.{past, past-joined, past-parts, parts-grow, parts-add, last-part}
+
+-- the slice that is being written
+pub at-slice : (link : PolledLink) (unwritten : Unwritten) → IsHeld link → link.unwritten ≡ Some unwritten → IsUpTo (Some unwritten) link.written (core_position link.core)
+at-slice link unwritten held writing = subst (λ slice. IsUpTo slice link.written (core_position link.core)) writing held.up_to
+
+-- the window holds what is left of it
+pub holds-left : (link : PolledLink) (unwritten : Unwritten) → IsHeld link → link.unwritten ≡ Some unwritten → link.written ≤ unwritten.slice.span.stop → HoldsSpan link.window (record { start = link.written; stop = unwritten.slice.span.stop })
+holds-left link unwritten held writing left =
+    let at = at-slice link unwritten held writing in
+    record { joined = held.joined; from_start = held.start; in_order = left; to_stop = omega (arith, at.0, held.within, held.stop) }
+
+-- more of the slice is written
+pub held-on : (link : PolledLink) (unwritten : Unwritten) (count : ℕ) → IsHeld link → link.unwritten ≡ Some unwritten → link.written + count ≤ unwritten.slice.span.stop → IsHeld (record link { written = link.written + count })
+held-on link unwritten count held writing few =
+    let at = at-slice link unwritten held writing in
+    record {
+      stop = held.stop;
+      joined = held.joined;
+      start = omega (arith, held.start);
+      within = held.within;
+      few = held.few;
+      up_to = subst (λ slice. IsUpTo slice (link.written + count) (core_position link.core)) (sym writing) (at.0, omega (arith, at.1), omega (arith, at.0, few));
+      going = held.going;
+      unheard = held.unheard;
+    }
+
+pub writes-part : (link : PolledLink) (old new : Option (List ℕ)) (front : List ℕ) (count : ℕ) → count ≤ length front
+    → ((came : List ℕ) → AreOf came link.window.held → front ≡ take (length front) (drop link.written came)) → new ≡ append_known old (take count front)
+    → WritesOn link old [] (record link { written = link.written + count }) new
+writes-part link old new front count few part after = record {
+  core = refl;
+  source = refl;
+  ended = refl;
+  noted = refl;
+  parts = λ came parts. parts;
+  wrote = λ came before parts wrote.
+      written_more before old new came link.written count wrote
+      (after ∙ ap (λ bytes. append_known old (take count bytes)) (part came parts) ∙ ap (append_known old) (take-take count (length front) (drop link.written came) few));
+}
+
+-- nothing was written
+pub writes-none : (link : PolledLink) (old new : Option (List ℕ)) → new ≡ old → WritesOn link old [] link new
+writes-none link old new same = record { core = refl; source = refl; ended = refl; noted = refl; parts = λ came parts. parts; wrote = λ came before parts wrote. same ∙ wrote }
+
+pub writes-same : (old new : PolledLink) (known : Option (List ℕ)) → new ≡ old → WritesOn old known [] new known
+writes-same old new known same = subst (λ link. WritesOn old known [] link known) (sym same) (writes-none old known known refl)
+
+-- a slice that is written to its end is noted, and the pieces before its end are given up
+pub held-noted : (link : PolledLink) (unwritten : Unwritten) → IsHeld link → link.unwritten ≡ Some unwritten → unwritten.slice.span.stop ≤ link.written
+    → IsHeld (record link { unwritten = None; window = record link.window { held = past link.written link.window.held } })
+held-noted link unwritten held writing whole =
+    let at = at-slice link unwritten held writing in
+    let left = past-joined link.window.stop link.written link.window.held held.joined held.start (omega (arith, at.2, held.within, held.stop)) in
+    record { stop = held.stop; joined = left.0; start = left.1; within = held.within; few = held.few; up_to = omega (arith, at.0, at.2, whole); going = held.going; unheard = held.unheard }
+
+pub writes-noted : (link : PolledLink) (unwritten : Unwritten) (known : Option (List ℕ)) → link.unwritten ≡ Some unwritten
+    → WritesOn link known (Wrote unwritten.slice unwritten.reading ∷ []) (record link { unwritten = None; window = record link.window { held = past link.written link.window.held } }) known
+writes-noted link unwritten known writing = record {
+  core = refl;
+  source = refl;
+  ended = refl;
+  noted = sym (ap unsaid writing);
+  parts = λ came parts. past-parts came link.written link.window.held parts;
+  wrote = λ came before parts wrote. wrote;
+}
+
+-- where no slice is being written nothing is still to be noted
+pub bare : (means : List Item → List Item) (told : ℕ → Type 0) (core : CoreView) (unwritten : Option Unwritten) (log : List LinkEvent) → unwritten ≡ None → Carried means told core (log ++ unsaid unwritten) → Carried means told core log
+bare means told core unwritten log idle carried = subst (Carried means told core) (ap (λ slice. log ++ unsaid slice) idle ∙ append-nil log) carried
+
+pub clad : (means : List Item → List Item) (told : ℕ → Type 0) (core : CoreView) (unwritten : Option Unwritten) (log : List LinkEvent) → unwritten ≡ None → Carried means told core log → Carried means told core (log ++ unsaid unwritten)
+clad means told core unwritten log idle carried = subst (Carried means told core) (sym (ap (λ slice. log ++ unsaid slice) idle ∙ append-nil log)) carried
+
+-- what is written is no more than what came
+pub written-within : (link : PolledLink) → IsHeld link → link.unwritten ≡ None → link.written ≤ link.core.bytes
+written-within link held idle =
+    let at : link.written ≡ core_position link.core = subst (λ slice. IsUpTo slice link.written (core_position link.core)) idle held.up_to in
+    omega (arith, at, held.within)
+
+-- bytes came and are kept
+module _ (link new : PolledLink) (run : Run) (held : IsHeld link) (idle : link.unwritten ≡ None) (some : 0 < length run.bytes) (starts : run.start ≡ link.window.stop)
+    (counts : new.core.bytes ≡ link.core.bytes + length run.bytes) (position : core_position new.core ≡ core_position link.core)
+    (window : new.window ≡ record link.window { held = link.window.held ++ run ∷ []; stop = stop_of run })
+    (unwritten : new.unwritten ≡ link.unwritten) (source : new.source ≡ link.source) (ended : new.ended ≡ link.ended) (written : new.written ≡ link.written) where
+  held_is : new.window.held ≡ link.window.held ++ run ∷ []
+  held_is = ap (λ (window : Pieces). window.held) window
+
+  stop_is : new.window.stop ≡ stop_of run
+  stop_is = ap (λ (window : Pieces). window.stop) window
+
+  start_is : start_of new.window.stop new.window.held ≡ start_of link.window.stop link.window.held
+  start_is = ap (λ (window : Pieces). start_of window.stop window.held) window ∙ start_of-push link.window.stop link.window.held run starts
+
+  pub held-kept : new.core.ended ≡ false → new.core.bytes ≤ 2 ^ 40 → IsHeld new
+  held-kept going few = record {
+    stop = omega (arith, stop_is, starts, held.stop, counts);
+    joined = subst (λ pieces. JoinUpTo new.window.stop pieces) (sym held_is) (subst (λ at. JoinUpTo at (link.window.held ++ run ∷ [])) (sym stop_is) (JoinUpTo-push link.window.stop link.window.held run held.joined starts some));
+    start = omega (arith, start_is, held.start, written);
+    within = omega (arith, position, held.within, counts);
+    few = few;
+    up_to = subst (λ slice. IsUpTo slice new.written (core_position new.core)) (sym (unwritten ∙ idle))
+        (written ∙ subst (λ slice. IsUpTo slice link.written (core_position link.core)) idle held.up_to ∙ sym position);
+    going = λ unended. going;
+    unheard = λ unended. ap read_end_of source ∙ held.unheard (sym ended ∙ unended);
+  }
+
+  pub drives-kept : (told : ℕ → Type 0) (more : List LinkEvent) (known : Option (List ℕ)) → link.ended ≡ false → core_ending link.core ≡ None → KeepsCarried told link.core more new.core → has_source_end more ≡ false
+      → Drives told link known run.bytes more new known
+  drives-kept told more known going unknown keeps none means log came before follows =
+      let all = length-append came run.bytes in
+      let full : link.core.bytes ≡ length came = follows.live going unknown in
+      let carried : Carried means told new.core (log ++ more) = keeps means log (bare means told link.core link.unwritten log idle follows.carried) in
+      record {
+        carried = clad means told new.core new.unwritten (log ++ more) (unwritten ∙ idle) carried;
+        faithful = carried.faithful;
+        closed = end-same log more none ∙ follows.closed ∙ ap (λ source. is_some (read_end_of source)) (sym source);
+        parts = subst (AreOf (came ++ run.bytes)) (sym held_is)
+            (parts-add (came ++ run.bytes) link.window.held run (parts-grow link.window.stop came run.bytes link.window.held held.joined (omega (arith, held.stop, full)) follows.parts)
+            (last-part came run.bytes run.start (omega (arith, starts, held.stop, full))));
+        few = omega (arith, all, full, counts);
+        live = λ unended unknown. omega (arith, all, full, counts);
+        wrote = let few = written-within link held idle in
+            follows.wrote ∙ ap (append_known before) (sym (take-append-le link.written came run.bytes (omega (arith, few, full))) ∙ ap (λ n. take n (came ++ run.bytes)) (sym written));
+      }
+
+-- bytes came and are dropped
+pub drives-dropped : (told : ℕ → Type 0) (link : PolledLink) (bytes : List ℕ) (known : Option (List ℕ)) → IsHeld link → link.unwritten ≡ None → (core_ending link.core ≡ None → ⊥) → Drives told link known bytes [] link known
+drives-dropped told link bytes known held idle over means log came before follows =
+    let all = length-append came bytes in
+    let same : log ++ [] ≡ log = append-nil log in
+    record {
+      carried = subst (λ log. Carried means told link.core (log ++ unsaid link.unwritten)) (sym same) follows.carried;
+      faithful = subst (IsFaithful means told) (sym same) follows.faithful;
+      closed = ap has_source_end same ∙ follows.closed;
+      parts = parts-grow link.window.stop came bytes link.window.held held.joined (omega (arith, held.stop, follows.few)) follows.parts;
+      few = omega (arith, all, follows.few);
+      live = λ unended unknown. absurd (over unknown);
+      wrote = let few = written-within link held idle in
+          follows.wrote ∙ ap (append_known before) (sym (take-append-le link.written came bytes (omega (arith, few, follows.few))));
+    }
+
+shut : (ended : Bool) → ended ≡ true → ended ≡ false → ⊥
+shut ended was goes = cc
+
+-- the source ended
+module _ (link new : PolledLink) (held : IsHeld link) (idle : link.unwritten ≡ None) (counts : new.core.bytes ≡ link.core.bytes) (position : core_position new.core ≡ core_position link.core)
+    (window : new.window ≡ link.window) (unwritten : new.unwritten ≡ link.unwritten) (ended : new.ended ≡ true) (written : new.written ≡ link.written) where
+  pub held-ended : IsHeld new
+  held-ended = record {
+    stop = ap (λ (window : Pieces). window.stop) window ∙ held.stop ∙ sym counts;
+    joined = subst (λ (window : Pieces). JoinUpTo window.stop window.held) (sym window) held.joined;
+    start = subst (λ (window : Pieces). start_of window.stop window.held ≤ new.written) (sym window) (omega (arith, held.start, written));
+    within = omega (arith, position, held.within, counts);
+    few = omega (arith, held.few, counts);
+    up_to = subst (λ slice. IsUpTo slice new.written (core_position new.core)) (sym (unwritten ∙ idle))
+        (written ∙ subst (λ slice. IsUpTo slice link.written (core_position link.core)) idle held.up_to ∙ sym position);
+    going = λ unended. absurd (shut new.ended ended unended);
+    unheard = λ unended. absurd (shut new.ended ended unended);
+  }
+
+  pub drives-ended : (told : ℕ → Type 0) (more : List LinkEvent) (known : Option (List ℕ)) → link.ended ≡ false → KeepsCarried told link.core more new.core → has_source_end more ≡ is_some (read_end_of new.source)
+      → Drives told link known [] more new known
+  drives-ended told more known going keeps says means log came before follows =
+      let carried : Carried means told new.core (log ++ more) = keeps means log (bare means told link.core link.unwritten log idle follows.carried) in
+      let same : came ++ [] ≡ came = append-nil came in
+      record {
+        carried = clad means told new.core new.unwritten (log ++ more) (unwritten ∙ idle) carried;
+        faithful = carried.faithful;
+        closed = has_source_end-append log more ∙ or-false_left (has_source_end log) (has_source_end more) (follows.closed ∙ ap is_some (held.unheard going)) ∙ says;
+        parts = subst (λ came. AreOf came new.window.held) (sym same) (subst (λ (window : Pieces). AreOf came window.held) (sym window) follows.parts);
+        few = let long = ap length same in omega (arith, long, counts, follows.few);
+        live = λ unended unknown. absurd (shut new.ended ended unended);
+        wrote = follows.wrote ∙ ap (λ n. append_known before (take n came)) (sym written) ∙ ap (λ came. append_known before (take new.written came)) (sym same);
+      }

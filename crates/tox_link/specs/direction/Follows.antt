@@ -1,0 +1,78 @@
+-- A direction that is driven by events: what it holds, and what came, was noted and was written so far.
+use Rattle.std.specs.Prelude.{◌≡◌, ℕ, ◌≤◌, ◌^◌, false, List, [], ◌∷◌, ◌++◌, length, take, Option, Some, None, is_some}
+use Rattle.std.specs.Io.KnownBytes.{append_known}
+use Rattle.tox_time.specs.declared.item.Item.{Item}
+use Rattle.tox_lend.specs.Window.{JoinUpTo, start_of}
+use Rattle.tox_link.specs.declared.direction.polled_link.PolledLink.{PolledLink}
+use Rattle.tox_link.specs.declared.direction.unwritten.Unwritten.{Unwritten}
+use Rattle.tox_link.specs.declared.notes.LinkEvent.{LinkEvent}
+use Rattle.tox_link.specs.declared.notes.LinkEvent.TheVariants.{Wrote}
+use Rattle.tox_link.specs.declared.source_ending.SourceEnding.TheVariants.{NotReached}
+use Rattle.tox_link.specs.Carried.{Carried}
+use Rattle.tox_link.specs.Core.{core_ending, core_position}
+use Rattle.tox_link.specs.Held.{AreOf}
+use Rattle.tox_link.specs.Log.{has_source_end, IsFaithful}
+use Rattle.tox_link.specs.Sources.{read_end_of}
+
+-- what is noted once the slice that is being written has reached its end
+abbrev pub unsaid : Option Unwritten → List LinkEvent
+unsaid None = []
+unsaid (Some unwritten) = Wrote unwritten.slice unwritten.reading ∷ []
+
+-- what is written stops where the core's next slice starts, or within the slice before it
+abbrev pub IsUpTo : Option Unwritten → ℕ → ℕ → Type 0
+IsUpTo None written position = written ≡ position
+IsUpTo (Some unwritten) written position =
+    (unwritten.slice.span.stop ≡ position) × (unwritten.slice.span.start ≤ written) × (written ≤ position)
+
+-- the window holds the pieces from the next byte to be written on, up to the last that the core took
+pub record IsHeld (link : PolledLink) : Type 0 where
+  pub stop : link.window.stop ≡ link.core.bytes
+  pub joined : JoinUpTo link.window.stop link.window.held
+  pub start : start_of link.window.stop link.window.held ≤ link.written
+  pub within : core_position link.core ≤ link.core.bytes
+  pub few : link.core.bytes ≤ 2 ^ 40
+  pub up_to : IsUpTo link.unwritten link.written (core_position link.core)
+  pub going : link.ended ≡ false → link.core.ended ≡ false
+  pub unheard : link.ended ≡ false → read_end_of link.source ≡ None
+
+-- nothing came yet
+pub record IsNew (link : PolledLink) : Type 0 where
+  pub position : core_position link.core ≡ 0
+  pub bytes : link.core.bytes ≡ 0
+  pub latest : link.core.latest ≡ 0
+  pub going : link.core.ended ≡ false
+  pub held : link.window.held ≡ []
+  pub stop : link.window.stop ≡ 0
+  pub unwritten : link.unwritten ≡ None
+  pub source : link.source ≡ NotReached
+  pub ended : link.ended ≡ false
+  pub written : link.written ≡ 0
+
+-- these bytes came, these events were noted and these bytes are written: all that the plan means up to here, but for the slice
+-- that is being written
+pub record Follows (means : List Item → List Item) (told : ℕ → Type 0) (link : PolledLink) (log : List LinkEvent) (came : List ℕ) (before written : Option (List ℕ)) : Type 0 where
+  pub carried : Carried means told link.core (log ++ unsaid link.unwritten)
+  pub faithful : IsFaithful means told log
+  pub closed : has_source_end log ≡ is_some (read_end_of link.source)
+  pub parts : AreOf came link.window.held
+  pub few : link.core.bytes ≤ length came
+  pub live : link.ended ≡ false → core_ending link.core ≡ None → link.core.bytes ≡ length came
+  pub wrote : written ≡ append_known before (take link.written came)
+
+-- a step in which these bytes came and these events were noted
+abbrev pub Drives : (ℕ → Type 0) → PolledLink → Option (List ℕ) → List ℕ → List LinkEvent → PolledLink → Option (List ℕ) → Type 0
+Drives told old written bytes more new written_after =
+    (means : List Item → List Item) (log : List LinkEvent) (came : List ℕ) (before : Option (List ℕ))
+    → Follows means told old log came before written
+    → Follows means told new (log ++ more) (came ++ bytes) before written_after
+
+-- a step in which nothing came: what was still to be noted of the slice is noted now, or still to be noted
+pub record WritesOn (old : PolledLink) (written : Option (List ℕ)) (more : List LinkEvent) (new : PolledLink) (written_after : Option (List ℕ)) : Type 0 where
+  pub core : new.core ≡ old.core
+  pub source : new.source ≡ old.source
+  pub ended : new.ended ≡ old.ended
+  pub noted : more ++ unsaid new.unwritten ≡ unsaid old.unwritten
+  pub parts : (came : List ℕ) → AreOf came old.window.held → AreOf came new.window.held
+  pub wrote : (came : List ℕ) (before : Option (List ℕ)) → AreOf came old.window.held → written ≡ append_known before (take old.written came)
+      → written_after ≡ append_known before (take new.written came)

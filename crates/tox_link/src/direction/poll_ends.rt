@@ -1,0 +1,52 @@
+//! Readers and writers that don't wait.
+ghost use Rattle.std.specs.Prelude.{◌≡◌, ℕ, ◌<◌, ◌≤◌, Bool, false, true, List, Option, length, take, IfOk, OnOk, OnErr, IfSome, MatchOption};
+ghost use Rattle.std.specs.Io.KnownBytes.{prepend_known, append_known, IsAtEnd};
+ghost use Rattle.tox_time.specs.Ends.{takes_nothing};
+
+use tox_time::EndFault;
+
+/// A reader that answers None where it would wait. It may be called only while it has not failed.
+pub trait PollSource {
+    /// Whether it has failed.
+    ghost failed: { Self → Bool };
+
+    /// The bytes still to be read, if the source tells them.
+    ghost remaining: { Self → Option (List ℕ) };
+
+    /// Reads the next bytes into the front of the buffer and returns how many. 0 for a nonempty buffer means the end.
+    /// None reads no byte. An `Err` reads no byte, and the source has failed for good.
+    fn poll_read(&mut self, buffer: &mut [u8]) -> Result<Option<usize>, EndFault>
+        requires { failed self.old ≡ false }
+        ensures count { IfOk result (λ got. IfSome got (λ n. n ≤ length buffer.new)) }
+        ensures bytes { IfOk result (λ got. MatchOption got
+            (remaining self.new ≡ remaining self.old)
+            (λ n. remaining self.old ≡ prepend_known (take n buffer.new) (remaining self.new))) }
+        ensures end { IfOk result (λ got. IfSome got
+            (λ n. n ≡ 0 → 0 < length buffer.new → IsAtEnd (remaining self.new))) }
+        ensures working { OnOk result (failed self.new ≡ false) }
+        ensures fault { OnErr result (failed self.new ≡ true) }
+        ensures kept { OnErr result (remaining self.new ≡ remaining self.old) };
+}
+
+/// A writer that answers None where it would wait. It may be called only while it has not failed.
+pub trait PollSink {
+    /// Whether it has failed.
+    ghost failed: { Self → Bool };
+
+    /// The bytes written so far, if the sink tells them.
+    ghost written: { Self → Option (List ℕ) };
+
+    /// Appends the first of these bytes and returns how many. None appends nothing. A zero-byte write of a nonempty buffer
+    /// fails the sink. An `Err` appends nothing, and the sink has failed for good.
+    fn poll_write(&mut self, bytes: &[u8]) -> Result<Option<usize>, EndFault>
+        requires { failed self.old ≡ false }
+        ensures count { IfOk result (λ took. IfSome took (λ n. n ≤ length bytes.now)) }
+        ensures bytes { IfOk result (λ took. MatchOption took
+            (written self.new ≡ written self.old)
+            (λ n. written self.new ≡ append_known (written self.old) (take n bytes.now))) }
+        ensures working { IfOk result (λ took. MatchOption took
+            (failed self.new ≡ false)
+            (λ n. failed self.new ≡ takes_nothing n bytes.now)) }
+        ensures fault { OnErr result (failed self.new ≡ true) }
+        ensures kept { OnErr result (written self.new ≡ written self.old) };
+}

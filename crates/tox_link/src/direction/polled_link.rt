@@ -1,0 +1,50 @@
+//! What a direction holds between two events.
+ghost use Rattle.std.specs.Prelude.{◌≡◌, List, IfOk};
+ghost use Rattle.tox_time.specs.declared.item.Item.{Item as OneItem};
+ghost use Rattle.tox_time.specs.Stream.{IsStream};
+ghost use Rattle.tox_compile.specs.Meaning.{means};
+ghost use Rattle.tox_link.specs.Core.{remaining_output};
+ghost use Rattle.tox_link.specs.direction.Follows.{IsNew};
+
+use crate::direction::unwritten::Unwritten;
+use crate::link_core::LinkCore;
+use crate::source_ending::SourceEnding;
+use crate::writer_side::WINDOW_SIZE;
+use std::alloc::{AllocError, Global};
+use tox_compile::Plan;
+use tox_lend::Window;
+use tox_words::Words;
+
+/// One direction of a live link between two events: its core, the pieces that are still needed, and the slice that is being
+/// written.
+#[derive(Drop)]
+pub struct PolledLink<'w> {
+    pub(crate) core: LinkCore<'w>,
+    pub(crate) window: Window,
+    /// The slice that is being written. It is written up to `written`.
+    pub(crate) unwritten: Option<Unwritten>,
+    /// How the source ended, if its end came before the ending was known.
+    pub(crate) source: SourceEnding,
+    /// Whether nothing more is read.
+    pub(crate) ended: bool,
+    /// How many bytes are written.
+    pub(crate) written: u64,
+}
+
+impl<'w> PolledLink<'w> {
+    /// A direction under a plan, at which nothing has arrived.
+    pub fn new(alloc: Global, plan: Plan, words: &'w Words) -> Result<PolledLink<'w>, AllocError>
+        ensures meaning { IfOk result (λ link. (items : List OneItem) → IsStream items
+            → remaining_output link.core items ≡ means plan words.now items) }
+        ensures fresh { IfOk result IsNew }
+    {
+        Ok(PolledLink {
+            core: LinkCore::new(alloc, plan, words)?,
+            window: Window::new(alloc, WINDOW_SIZE)?,
+            unwritten: None,
+            source: SourceEnding::NotReached,
+            ended: false,
+            written: 0,
+        })
+    }
+}

@@ -1,0 +1,103 @@
+//! Writing on at a slice, as far as the sink takes it.
+ghost use Rattle.std.specs.Prelude.{◌≡◌, ◌<◌, ◌≤◌, List, [], ◌∷◌, ◌⊎◌, false, true, None, Some, IfErr, IfOk, OnOk, OnErr, filter, nat_lt, MatchBool};
+ghost use Rattle.tox_lend.specs.Run.{stop_of};
+ghost use Rattle.tox_link.specs.Events.{with_events};
+ghost use Rattle.tox_link.specs.Reports.{is_write_fault, written_before};
+ghost use Rattle.tox_link.specs.declared.link_fault.LinkFault.TheVariants as FaultOf;
+ghost use Rattle.tox_link.specs.declared.notes.LinkEvent.{LinkEvent as OneEvent};
+ghost use Rattle.tox_link.specs.direction.Follows.{IsHeld, WritesOn};
+
+use crate::direction::poll_ends::PollSink;
+use crate::direction::polled_link::PolledLink;
+use crate::direction::unwritten::Unwritten;
+use crate::link_fault::LinkFault;
+use crate::notes::{LinkEvent, Notes};
+use crate::writing::front_of;
+use tox_time::Span;
+
+/// Writes the next part of the slice, as far as one piece holds it. False where the sink would wait.
+fn write_part<W: PollSink>(
+    link: &mut PolledLink<'_>,
+    sink: &mut W,
+    unwritten: &Unwritten,
+) -> Result<bool, LinkFault>
+    requires held { IsHeld link.old }
+    requires writing { link.old.unwritten ≡ Some unwritten.now }
+    requires left { link.old.written < unwritten.now.slice.span.stop }
+    requires working { W.failed sink.old ≡ false }
+    ensures core { link.new.core ≡ link.old.core }
+    ensures held { IsHeld link.new }
+    ensures wrote { WritesOn link.old (W.written sink.old) [] link.new (W.written sink.new) }
+    ensures on { IfOk result (λ moved. MatchBool moved
+        (link.old.written < link.new.written) (link.new ≡ link.old)) }
+    ensures err { IfErr result (λ fault. fault ≡ FaultOf.WriteFault link.new.written) }
+    ensures working { OnOk result (W.failed sink.new ≡ false) }
+    ensures failed { OnErr result (W.failed sink.new ≡ true) }
+{
+    let left = Span {
+        start: link.written,
+        stop: unwritten.slice.span.stop,
+    };
+    let front = front_of(&link.window, &left, unwritten.slice.instant);
+    match sink.poll_write(front) {
+        Ok(None) => Ok(false),
+        Ok(Some(0)) | Err(_) => Err(LinkFault::WriteFault(link.written)),
+        Ok(Some(count)) => {
+            link.written += count as u64;
+            Ok(true)
+        }
+    }
+}
+
+/// Notes the slice, which is written to its end, and gives up the pieces before that. A refused note changes nothing.
+fn note_written<N: Notes>(
+    link: &mut PolledLink<'_>,
+    notes: &mut N,
+    unwritten: &Unwritten,
+) -> Result<(), LinkFault>
+    ensures done { OnOk result (link.new ≡ record link.old {
+      unwritten = None;
+      window = record link.old.window {
+        held = filter (λ piece. nat_lt link.old.written (stop_of piece)) link.old.window.held;
+      };
+    }) }
+    ensures noted { OnOk result (N.events notes.new ≡ with_events (N.events notes.old)
+        (OneEvent.Wrote unwritten.now.slice unwritten.now.reading ∷ [])) }
+    ensures err { IfErr result (λ fault. fault ≡ FaultOf.OutOfMemory link.new.written) }
+    ensures refused { OnErr result
+        ((N.events notes.new ≡ N.events notes.old) × (link.new ≡ link.old)) }
+{
+    let Ok(()) = notes.note(LinkEvent::Wrote(unwritten.slice, unwritten.reading)) else {
+        return Err(LinkFault::OutOfMemory(link.written));
+    };
+    link.unwritten = None;
+    link.window.drop_before(link.written);
+    Ok(())
+}
+
+/// One step of the slice that is being written: its next part is written, or it is noted once it is written to its end.
+/// False where the sink would wait.
+pub fn write_on<N: Notes, W: PollSink>(
+    link: &mut PolledLink<'_>,
+    notes: &mut N,
+    sink: &mut W,
+    unwritten: &Unwritten,
+) -> Result<bool, LinkFault>
+    requires held { IsHeld link.old }
+    requires writing { link.old.unwritten ≡ Some unwritten.now }
+    requires working { W.failed sink.old ≡ false }
+    ensures core { link.new.core ≡ link.old.core }
+    ensures held { IsHeld link.new }
+    ensures wrote { (more : List OneEvent)
+        × (N.events notes.new ≡ with_events (N.events notes.old) more)
+        × WritesOn link.old (W.written sink.old) more link.new (W.written sink.new) }
+    ensures err { IfErr result (λ fault. written_before fault ≡ link.new.written) }
+    ensures cause { IfErr result (λ fault. W.failed sink.new ≡ is_write_fault fault) }
+    ensures working { OnOk result (W.failed sink.new ≡ false) }
+{
+    if link.written < unwritten.slice.span.stop {
+        return write_part(link, sink, unwritten);
+    }
+    note_written(link, notes, unwritten)?;
+    Ok(true)
+}
