@@ -1,0 +1,305 @@
+//! One direction of a link, carried between ends in memory.
+ghost use Rattle.std.specs.Prelude.{◌≡◌, false, IfOk};
+
+use crate::link_ends::{HungUp, Noted, RestingClock, TickingGate, WaitingSource, WatchingSink};
+use std::alloc::Global;
+use std::process::Abort;
+use std::sync::atomic::{AtomicBool, AtomicU64, Ordering};
+use std::sync::{Arc, Wait};
+use std::test::Fail;
+use std::thread::Threads;
+use tests_support::{Meeting, at, chain_of, slice};
+use tox_compile::compile;
+use tox_link::{Ends, LinkEvent, LinkFault, LinkReport, SourceEnding, carry};
+use tox_time::{Ending, Gate, MemorySink, MemorySource, OpenGate, Source};
+use tox_words::Words;
+
+/// How many reads of one byte a long link takes.
+const MANY: usize = 1_048_576;
+
+/// What a link is carried with: a clock at 0, a writer and a hangup that look at it, and notes.
+#[derive(Drop)]
+struct CarryCase {
+    clock: RestingClock,
+    ends: Ends<WatchingSink<MemorySink>, HungUp>,
+    notes: Noted,
+    bytes: Arc<AtomicU64>,
+}
+
+impl CarryCase {
+    /// The sink has room for 16 bytes, takes at most `most` a call, and fails at the call of this number.
+    fn new(alloc: Global, most: usize, failing_call: Option<u64>) -> Result<CarryCase, Fail>
+        ensures { IfOk result (λ made. made.ends.writer.sink.failed ≡ false) }
+    {
+        CarryCase::with_sink(
+            alloc,
+            MemorySink::new(alloc, 16, most.max(1), failing_call)?,
+        )
+    }
+
+    /// With a sink of its own.
+    fn with_sink(alloc: Global, sink: MemorySink) -> Result<CarryCase, Fail>
+        requires { sink.failed ≡ false }
+        ensures { IfOk result (λ made. made.ends.writer.sink.failed ≡ false) }
+    {
+        let micros = Arc::new(alloc, AtomicU64::new(0))?;
+        let bytes = Arc::new(alloc, AtomicU64::new(0))?;
+        let writer = WatchingSink {
+            sink,
+            micros: micros.clone()?,
+            bytes: bytes.clone()?,
+            first: None,
+        };
+        let hangup = HungUp::new(micros.clone()?);
+        Ok(CarryCase {
+            clock: RestingClock { micros },
+            ends: Ends { writer, hangup },
+            notes: Noted {
+                events: Vec::new(alloc),
+            },
+            bytes,
+        })
+    }
+}
+
+/// Carries what a reader gives in at most `reads` reads through these toxics.
+fn carried<R, S, G>(
+    rt: &R,
+    toxics: &str,
+    reader: S,
+    reads: u64,
+    set: &mut CarryCase,
+    gate: &Arc<G>,
+) -> Result<Result<LinkReport<S>, LinkFault>, Fail>
+where
+    R: Threads + Wait + Copy + Send + AllocGlobal + Abort + 'static,
+    S: Source + Send + Drop + 'static,
+    G: Gate + Send + Drop + 'static,
+    requires reader { S.failed reader ≡ false }
+    requires writer { set.old.ends.writer.sink.failed ≡ false }
+{
+    let words = Words::from_list(rt.alloc(), &[0])?;
+    let chain = chain_of(toxics).expect(rt, "short forms");
+    let plan = compile(&chain, &words);
+    Ok(carry(
+        rt,
+        rt.alloc(),
+        reader,
+        &mut set.ends,
+        &set.clock,
+        plan,
+        &words,
+        reads,
+        &mut set.notes,
+        gate,
+    ))
+}
+
+/// The same through an open gate, of a reader in memory that gives at most `most` bytes a call and fails at the call of this
+/// number.
+fn passed<R: Threads + Wait + Copy + Send + AllocGlobal + Abort + 'static>(
+    rt: &R,
+    toxics: &str,
+    bytes: &[u8],
+    most: usize,
+    failing_call: Option<u64>,
+    reads: u64,
+    set: &mut CarryCase,
+) -> Result<Result<LinkReport<MemorySource>, LinkFault>, Fail>
+    requires { set.old.ends.writer.sink.failed ≡ false }
+{
+    let gate = Arc::new(rt.alloc(), OpenGate)?;
+    let reader = MemorySource::new(bytes.to_vec(rt.alloc())?, most.max(1), failing_call);
+    carried(rt, toxics, reader, reads, set, &gate)
+}
+
+/// Compares what a link reports: bytes that were taken and written, and how link and source ended.
+fn compare<S: Drop>(
+    rt: &impl Abort,
+    answer: Result<LinkReport<S>, LinkFault>,
+    bytes: u64,
+    ending: Ending,
+    source: SourceEnding,
+) {
+    let report = answer.expect(rt, "no fault");
+    assert_eq!(rt; (report.taken, report.written), (bytes, bytes));
+    assert_eq!(rt; report.ending, ending);
+    assert_eq!(rt; report.source, source);
+}
+
+/// Compares the notes with the expected events and, behind so many of them, the source's end at an instant.
+fn compare_notes(rt: &impl Abort, notes: &Noted, expected: &[LinkEvent], ends: &[(usize, u64)]) {
+    let mut place = 0usize;
+    let mut end = None;
+    for event in notes.events.as_slice() {
+        if let LinkEvent::SourceEnd(instant) = event {
+            end = Some((place, instant.get()));
+        } else {
+            assert_eq!(rt; Some(event), expected.get(place));
+            place = place.saturating_add(1);
+        }
+    }
+    assert_eq!(rt; place, expected.len());
+    assert!(rt; end.is_some_and(|end| ends.contains(&end)));
+}
+
+fn wrote(start: u64, stop: u64, micros: u64) -> LinkEvent {
+    LinkEvent::Wrote(slice(start, stop, micros), at(micros))
+}
+
+fn closed(micros: u64) -> Ending {
+    Ending::Closed(at(micros))
+}
+
+#[test]
+fn latency_delays_two_bytes(rt: HostRuntime) -> Result<(), Fail> {
+    let mut set = CarryCase::new(rt.alloc(), 16, None)?;
+    let answer = passed(&rt, "latency:latency=1", b"ab", 16, None, 10, &mut set)?;
+    compare(&rt, answer, 2, closed(1000), SourceEnding::Eof);
+    let expected = [LinkEvent::Piece(2, at(0)), wrote(0, 2, 1000)];
+    compare_notes(&rt, &set.notes, &expected, &[(1, 0), (1, 1000), (2, 1000)]);
+    assert_eq!(rt; set.ends.writer.sink.bytes(), b"ab".as_slice());
+    assert_eq!(rt; set.ends.writer.first, Some(1000));
+    assert_eq!(rt;
+        (set.ends.hangup.calls, set.ends.hangup.source_ended),
+        (1, true)
+    );
+    assert_eq!(rt; set.ends.hangup.ending, closed(1000));
+    Ok(())
+}
+
+#[test]
+fn reader_and_writer_meet(rt: HostRuntime) -> Result<(), Fail> {
+    let mut set = CarryCase::new(rt.alloc(), 16, None)?;
+    let gate = Arc::new(rt.alloc(), Meeting::new(1))?;
+    let reader = MemorySource::new(b"ab".to_vec(rt.alloc())?, 16, None);
+    let answer = carried(&rt, "", reader, 10, &mut set, &gate)?;
+    assert!(rt; gate.met());
+    compare(&rt, answer, 2, closed(0), SourceEnding::Eof);
+    Ok(())
+}
+
+#[test]
+fn a_muted_link_stays_open(rt: HostRuntime) -> Result<(), Fail> {
+    let mut set = CarryCase::new(rt.alloc(), 16, None)?;
+    let answer = passed(&rt, "timeout:timeout=0", b"", 16, None, 10, &mut set)?;
+    compare(&rt, answer, 0, Ending::StillOpen, SourceEnding::NotReached);
+    assert!(rt; set.notes.events.is_empty());
+    assert_eq!(rt;
+        (set.ends.hangup.calls, set.ends.hangup.source_ended),
+        (1, true)
+    );
+    Ok(())
+}
+
+#[test]
+fn a_later_piece_has_a_later_instant(rt: HostRuntime) -> Result<(), Fail> {
+    let alloc = rt.alloc();
+    let mut set = CarryCase::new(alloc, 16, None)?;
+    let gate = Arc::new(alloc, OpenGate)?;
+    let missed = Arc::new(alloc, AtomicBool::new(false))?;
+    let reader = WaitingSource {
+        source: MemorySource::new(b"ab".to_vec(alloc)?, 1, None),
+        bytes: set.bytes.clone()?,
+        reads: 0,
+        missed: missed.clone()?,
+    };
+    let answer = carried(&rt, "latency:latency=1", reader, 10, &mut set, &gate)?;
+    assert!(rt; !missed.load(Ordering::SeqCst));
+    compare(&rt, answer, 2, closed(2000), SourceEnding::Eof);
+    let expected = [
+        LinkEvent::Piece(1, at(0)),
+        wrote(0, 1, 1000),
+        LinkEvent::Piece(1, at(1000)),
+        wrote(1, 2, 2000),
+    ];
+    compare_notes(
+        &rt,
+        &set.notes,
+        &expected,
+        &[(3, 1000), (3, 2000), (4, 2000)],
+    );
+    Ok(())
+}
+
+/// The clock is read anew for each message, once it is taken.
+#[test]
+fn each_piece_has_an_instant_of_its_own(rt: HostRuntime) -> Result<(), Fail> {
+    let mut set = CarryCase::new(rt.alloc(), 16, None)?;
+    let micros = set.clock.micros.clone()?;
+    let gate = Arc::new(rt.alloc(), TickingGate { micros })?;
+    let reader = MemorySource::new(b"abc".to_vec(rt.alloc())?, 1, None);
+    let answer = carried(&rt, "", reader, 10, &mut set, &gate)?;
+    compare(&rt, answer, 3, closed(40), SourceEnding::Eof);
+    let mut instant = 0u64;
+    for event in set.notes.events.as_slice() {
+        if let LinkEvent::Piece(_, taken) = event {
+            instant = instant.saturating_add(10);
+            assert_eq!(rt; *taken, at(instant));
+        }
+    }
+    assert_eq!(rt; instant, 30);
+    Ok(())
+}
+
+#[test]
+fn a_slow_close_waits_for_its_instant(rt: HostRuntime) -> Result<(), Fail> {
+    let mut set = CarryCase::new(rt.alloc(), 16, None)?;
+    let answer = passed(&rt, "slow_close:delay=1", b"ab", 16, None, 10, &mut set)?;
+    compare(&rt, answer, 2, closed(1000), SourceEnding::Eof);
+    let expected = [LinkEvent::Piece(2, at(0)), wrote(0, 2, 0)];
+    compare_notes(&rt, &set.notes, &expected, &[(1, 0), (2, 0)]);
+    assert_eq!(rt; (set.ends.hangup.calls, set.ends.hangup.at), (1, 1000));
+    Ok(())
+}
+
+#[test]
+fn a_failing_reader_closes_the_link(rt: HostRuntime) -> Result<(), Fail> {
+    let mut set = CarryCase::new(rt.alloc(), 16, None)?;
+    let answer = passed(&rt, "", b"ab", 16, Some(2), 10, &mut set)?;
+    compare(&rt, answer, 2, closed(0), SourceEnding::ReadFault);
+    Ok(())
+}
+
+#[test]
+fn reads_are_used_up(rt: HostRuntime) -> Result<(), Fail> {
+    let mut set = CarryCase::new(rt.alloc(), 16, None)?;
+    let answer = passed(&rt, "", b"ab", 1, None, 1, &mut set)?;
+    compare(&rt, answer, 1, closed(0), SourceEnding::ReadsUsedUp);
+    Ok(())
+}
+
+#[test]
+fn many_small_reads_are_used_up(rt: HostRuntime) -> Result<(), Fail> {
+    let sink = MemorySink::new(rt.alloc(), MANY, 16_384, None)?;
+    let mut set = CarryCase::with_sink(rt.alloc(), sink)?;
+    let bytes = vec![in rt.alloc(); 0x61; MANY]?;
+    let answer = passed(&rt, "", &bytes, 1, None, MANY as u64, &mut set)?;
+    compare(&rt, answer, 1_048_576, closed(0), SourceEnding::ReadsUsedUp);
+    Ok(())
+}
+
+#[test]
+fn a_failing_writer_resets_the_link(rt: HostRuntime) -> Result<(), Fail> {
+    let mut set = CarryCase::new(rt.alloc(), 1, Some(3))?;
+    let answer = passed(&rt, "", b"abc", 16, None, 10, &mut set)?;
+    assert!(rt; matches!(answer, Err(LinkFault::WriteFault(2))));
+    assert_eq!(rt; set.ends.writer.sink.bytes(), b"ab".as_slice());
+    assert_eq!(rt; set.ends.hangup.ending, Ending::Reset(at(0)));
+    assert_eq!(rt;
+        (set.ends.hangup.calls, set.ends.hangup.source_ended),
+        (1, false)
+    );
+    Ok(())
+}
+
+#[test]
+fn a_writer_that_takes_nothing_resets_the_link(rt: HostRuntime) -> Result<(), Fail> {
+    let sink = MemorySink::new(rt.alloc(), 0, 1, None)?;
+    let mut set = CarryCase::with_sink(rt.alloc(), sink)?;
+    let answer = passed(&rt, "", b"abc", 16, None, 10, &mut set)?;
+    assert!(rt; matches!(answer, Err(LinkFault::WriteFault(0))));
+    assert!(rt; set.ends.writer.sink.bytes().is_empty());
+    assert_eq!(rt; set.ends.hangup.ending, Ending::Reset(at(0)));
+    Ok(())
+}

@@ -1,0 +1,136 @@
+//! What a link is carried with in tests: a clock, notes and ends that remember.
+ghost use Rattle.std.specs.Prelude.{Some, None};
+
+use std::alloc::{AllocError, Global};
+use std::sync::Arc;
+use std::sync::atomic::{AtomicBool, AtomicU64, Ordering};
+use tests_support::comes_true;
+use tox_link::{Clock, Hangup, LinkEvent, Notes};
+use tox_time::{EndFault, Ending, Gate, Micros, Sink, Source};
+
+/// A clock that stands at 0, goes to `until` in `rest`, and moves nowhere else.
+#[derive(Drop)]
+pub struct RestingClock {
+    pub micros: Arc<AtomicU64>,
+}
+
+impl Clock for RestingClock {
+    ghost told = { λ _ _. Unit {0} };
+
+    fn now(&self) -> Micros {
+        Micros::ZERO.after(self.micros.load(Ordering::SeqCst))
+    }
+
+    fn rest(&self, until: Micros) {
+        self.micros.store(until.get(), Ordering::SeqCst);
+    }
+}
+
+/// Notes that keep their events.
+#[derive(Drop)]
+pub struct Noted {
+    pub events: Vec<LinkEvent>,
+}
+
+impl Notes for Noted {
+    ghost events = { λ s. Some s.events.items };
+
+    fn note(&mut self, event: LinkEvent) -> Result<(), AllocError> {
+        self.events.extend_from_slice(&[event])
+    }
+}
+
+/// A gate that moves the clock on by 10 at each message that the writer's side takes.
+#[derive(Drop)]
+pub struct TickingGate {
+    pub micros: Arc<AtomicU64>,
+}
+
+impl Gate for TickingGate {
+    fn pass(&self, stage: usize, _nth: u64) {
+        if stage == 1 {
+            self.micros.fetch_add(10, Ordering::SeqCst);
+        }
+    }
+}
+
+/// A sink that looks at the clock at each write, and counts its bytes.
+#[derive(Drop)]
+pub struct WatchingSink<W> {
+    pub sink: W,
+    pub micros: Arc<AtomicU64>,
+    pub bytes: Arc<AtomicU64>,
+    /// The clock at the first write.
+    pub first: Option<u64>,
+}
+
+impl<W: Sink> Sink for WatchingSink<W> {
+    ghost failed = { λ s. W.failed s.sink };
+
+    ghost written = { λ s. W.written s.sink };
+
+    fn write(&mut self, bytes: &[u8]) -> Result<usize, EndFault> {
+        if self.first.is_none() {
+            self.first = Some(self.micros.load(Ordering::SeqCst));
+        }
+        let count = self.sink.write(bytes)?;
+        self.bytes.fetch_add(count as u64, Ordering::SeqCst);
+        Ok(count)
+    }
+}
+
+/// A source that yields before its second read until a sink has a byte.
+#[derive(Drop)]
+pub struct WaitingSource<S> {
+    pub source: S,
+    pub bytes: Arc<AtomicU64>,
+    pub reads: u64,
+    pub missed: Arc<AtomicBool>,
+}
+
+impl<S: Source> Source for WaitingSource<S> {
+    ghost failed = { λ s. S.failed s.source };
+
+    ghost remaining = { λ s. S.remaining s.source };
+
+    fn read(&mut self, buffer: &mut [u8]) -> Result<usize, EndFault> {
+        self.reads = self.reads.saturating_add(1);
+        if self.reads == 2 && !comes_true(|| self.bytes.load(Ordering::SeqCst) != 0) {
+            self.missed.store(true, Ordering::SeqCst);
+        }
+        self.source.read(buffer)
+    }
+}
+
+/// Remembers how a link ended, and the clock at that.
+#[derive(Drop)]
+pub struct HungUp {
+    pub calls: u64,
+    pub ending: Ending,
+    pub source_ended: bool,
+    pub micros: Arc<AtomicU64>,
+    pub at: u64,
+}
+
+impl HungUp {
+    pub fn new(micros: Arc<AtomicU64>) -> HungUp {
+        HungUp {
+            calls: 0,
+            ending: Ending::StillOpen,
+            source_ended: false,
+            micros,
+            at: 0,
+        }
+    }
+}
+
+impl Hangup for HungUp {
+    ghost calls = { λ _. None };
+
+    fn hang_up(&mut self, ending: Ending, source_ended: bool) {
+        self.calls = self.calls.saturating_add(1);
+        self.ending = ending;
+        self.source_ended = source_ended;
+        self.at = self.micros.load(Ordering::SeqCst);
+    }
+}

@@ -1,0 +1,145 @@
+//! A link core beside `deliver`, on schedules drawn at random.
+ghost use Rattle.std.specs.Prelude.{◌≡◌};
+
+use crate::cores::{ask, give};
+use rand_pcg::Lcg64Xsh32;
+use std::alloc::AllocError;
+use std::process::Abort;
+use std::test::Fail;
+use tests_support::{below, drawn_words, table_of};
+use tox_compile::compile;
+use tox_defs::{Chain, read_short};
+use tox_link::{Act, LinkCore};
+use tox_plan::deliver;
+use tox_time::{Arrivals, Ending, Micros, SliceList};
+
+/// The toxics of drawn chains.
+const TOXICS: [&str; 10] = [
+    "latency:latency=1",
+    "latency:latency=2,jitter=2",
+    "bandwidth:rate=2",
+    "slow_close:delay=1",
+    "timeout:timeout=0",
+    "timeout:timeout=9",
+    "reset_peer:timeout=4",
+    "slicer:average_size=20,size_variation=7,delay=300",
+    "limit_data:bytes=90",
+    "limit_data:bytes=0",
+];
+
+fn drawn_chain(rt: &impl Abort, generator: &mut Lcg64Xsh32) -> Chain {
+    let mut chain = Chain::new();
+    for _ in 0..below(generator, 4) {
+        let drawn = below(generator, 10) as usize;
+        let (toxic, toxicity) = read_short(TOXICS[drawn]).expect(rt, "a short form");
+        assert!(rt; chain.push(toxic, toxicity).is_ok());
+    }
+    chain
+}
+
+/// A core, what arrived and was accepted, and what it had written.
+#[derive(Drop)]
+struct Run<'w> {
+    core: LinkCore<'w>,
+    arrivals: Arrivals,
+    slices: SliceList,
+    ended: bool,
+    ghost same: { ended ≡ core.ended },
+}
+
+impl<'w> Run<'w> {
+    /// One drawn event at `now`: a piece, the source's end, or nothing.
+    fn hear(
+        &mut self,
+        rt: &impl Abort,
+        generator: &mut Lcg64Xsh32,
+        now: Micros,
+    ) -> Result<(), Fail> {
+        match below(generator, 12) {
+            0..8 if self.core.has_room() => {
+                let len = u64::from(1 + below(generator, 60));
+                if give(rt, &mut self.core, len, now).is_ok() {
+                    self.arrivals.push(len, now)?;
+                }
+            }
+            8 if !self.ended => {
+                if self.core.ending().is_none() {
+                    self.arrivals.eof(now)?;
+                }
+                assert!(rt; self.core.latest() <= now);
+                self.core.on_end(now);
+                self.ended = true;
+            }
+            _ => {}
+        }
+        Ok(())
+    }
+
+    /// Asks the core at `now` until it writes nothing more.
+    fn write(&mut self, rt: &impl Abort, now: Micros) -> Result<Act, AllocError> {
+        for _ in 0..1000 {
+            match ask(rt, &mut self.core, now) {
+                Act::Write(slice) => {
+                    assert!(rt; slice.instant <= now);
+                    self.slices.push(slice)?;
+                }
+                act => return Ok(act),
+            }
+        }
+        panic!(rt; "too many slices")
+    }
+
+    /// Hears drawn events at drawn instants, and is asked at some of them. Returns the last instant.
+    fn drive(&mut self, rt: &impl Abort, generator: &mut Lcg64Xsh32) -> Result<Micros, Fail> {
+        let mut now = Micros::ZERO;
+        for _ in 0..below(generator, 30) {
+            now = now.after(u64::from(below(generator, 1500)));
+            self.hear(rt, generator, now)?;
+            if below(generator, 3) == 0 {
+                self.write(rt, now)?;
+            }
+        }
+        Ok(now)
+    }
+
+    /// Goes on from `now` until nothing is left to do. Returns the ending.
+    fn settle(&mut self, rt: &impl Abort, mut now: Micros) -> Result<Ending, AllocError> {
+        for _ in 0..1000 {
+            match self.write(rt, now)? {
+                Act::WaitUntil(instant) => now = instant,
+                Act::End(ending) => return Ok(ending),
+                _ => return Ok(Ending::StillOpen),
+            }
+        }
+        panic!(rt; "no end")
+    }
+}
+
+/// Compares a core on what a seed draws with what is delivered.
+fn compare(rt: &(impl Abort + AllocGlobal), seed: u64) -> Result<(), Fail> {
+    let alloc = rt.alloc();
+    let generator = &mut Lcg64Xsh32::new(seed, 1);
+    let chain = drawn_chain(rt, generator);
+    let words = drawn_words(alloc, generator)?;
+    let mut run = Run {
+        core: LinkCore::new(alloc, compile(&chain, &words), &words)?,
+        arrivals: Arrivals::new(alloc),
+        slices: SliceList::new(alloc),
+        ended: false,
+    };
+    let now = run.drive(rt, generator)?;
+    let ending = run.settle(rt, now)?;
+    let outcome = deliver(alloc, &chain, &words, &run.arrivals)?;
+    let table = table_of(alloc, &run.slices)?;
+    assert_eq!(rt; table, table_of(alloc, &outcome.slices)?, "seed {seed}");
+    assert_eq!(rt; ending, outcome.ending, "seed {seed}");
+    Ok(())
+}
+
+#[test]
+fn schedules_write_what_is_delivered(rt: HostRuntime) -> Result<(), Fail> {
+    for seed in 0..1000 {
+        compare(&rt, seed)?;
+    }
+    Ok(())
+}

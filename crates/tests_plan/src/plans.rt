@@ -1,0 +1,65 @@
+//! What chains are compiled into. What `plan` prints of them is in `tests/rows`.
+use std::test::Fail;
+use tests_support::{at, chain_of};
+use tox_compile::{Op, compile};
+use tox_time::{Ending, Micros};
+use tox_words::Words;
+
+#[test]
+fn each_toxic_has_its_operation(rt: HostRuntime) -> Result<(), Fail> {
+    let words = Words::from_list(rt.alloc(), &[0])?;
+    let chain = chain_of(
+        "latency:latency=3 \
+         bandwidth:rate=7 \
+         latency:latency=5,jitter=2 \
+         slow_close:delay=2 \
+         limit_data:bytes=9 \
+         slicer:average_size=4,size_variation=1,delay=6 \
+         reset_peer:timeout=8",
+    )
+    .expect(&rt, "short forms");
+    let plan = compile(&chain, &words);
+    let ops = [
+        Op::Delay {
+            fixed: 3,
+            latency: 0,
+            jitter: 0,
+            lane: 0,
+            until: 0,
+        },
+        Op::Pace { rate: 7, until: 0 },
+        Op::Delay {
+            fixed: 0,
+            latency: 5,
+            jitter: 2,
+            lane: 2,
+            until: 0,
+        },
+        Op::Slow { millis: 2 },
+        Op::Limit { bytes: 9 },
+        Op::Slicing {
+            average: 4,
+            variation: 1,
+            micros: 6,
+            lane: 5,
+            until: 0,
+        },
+        Op::Cutoff {
+            instant: Micros::from_millis(8),
+        },
+    ];
+    assert_eq!(rt; plan.ops(), ops.as_slice());
+    assert_eq!(rt; plan.deadline(), Some(Micros::from_millis(8)));
+    Ok(())
+}
+
+#[test]
+fn a_timeout_stands_alone(rt: HostRuntime) -> Result<(), Fail> {
+    let words = Words::from_list(rt.alloc(), &[0])?;
+    let chain = chain_of("timeout:timeout=50 bandwidth:rate=7").expect(&rt, "short forms");
+    let plan = compile(&chain, &words);
+    let ending = Ending::Closed(at(50_000));
+    assert_eq!(rt; plan.ops(), [Op::Mute { ending }].as_slice());
+    assert_eq!(rt; plan.deadline(), Some(Micros::ZERO));
+    Ok(())
+}
