@@ -134,7 +134,7 @@ class Served:
     def rests(self):
         """Waits until no thread and no descriptor is left of the links that ended."""
         wait_until(
-            lambda: self.threads() == 3 and self.descriptors() == self.at_rest,
+            lambda: self.threads() == (2 if self.output.closed else 3) and self.descriptors() == self.at_rest,
             "every thread and descriptor of the ended links is given back",
         )
 
