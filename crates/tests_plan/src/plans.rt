@@ -5,21 +5,9 @@ use tox_compile::{Op, compile};
 use tox_time::{Ending, Micros};
 use tox_words::Words;
 
-#[test]
-fn each_toxic_has_its_operation(rt: HostRuntime) -> Result<(), Fail> {
-    let words = Words::from_list(rt.alloc(), &[0])?;
-    let chain = chain_of(
-        "latency:latency=3 \
-         bandwidth:rate=7 \
-         latency:latency=5,jitter=2 \
-         slow_close:delay=2 \
-         limit_data:bytes=9 \
-         slicer:average_size=4,size_variation=1,delay=6 \
-         reset_peer:timeout=8",
-    )
-    .expect(&rt, "short forms");
-    let plan = compile(&chain, &words);
-    let ops = [
+/// The operations of the toxics below, in order.
+fn operations() -> [Op; 7] {
+    [
         Op::Delay {
             fixed: 3,
             latency: 0,
@@ -47,8 +35,24 @@ fn each_toxic_has_its_operation(rt: HostRuntime) -> Result<(), Fail> {
         Op::Cutoff {
             instant: Micros::from_millis(8),
         },
-    ];
-    assert_eq!(rt; plan.ops(), ops.as_slice());
+    ]
+}
+
+#[test]
+fn each_toxic_has_its_operation(rt: HostRuntime) -> Result<(), Fail> {
+    let words = Words::from_list(rt.alloc(), &[0])?;
+    let chain = chain_of(
+        "latency:latency=3 \
+         bandwidth:rate=7 \
+         latency:latency=5,jitter=2 \
+         slow_close:delay=2 \
+         limit_data:bytes=9 \
+         slicer:average_size=4,size_variation=1,delay=6 \
+         reset_peer:timeout=8",
+    )
+    .expect(&rt, "short forms");
+    let plan = compile(&chain, &words);
+    assert_eq!(rt; plan.ops(), operations().as_slice());
     assert_eq!(rt; plan.deadline(), Some(Micros::from_millis(8)));
     Ok(())
 }

@@ -1,38 +1,16 @@
 -- One toxic more: what the operations so far become stays, there are few of them, and they add little.
-use Rattle.std.proofs.Common.{◌≡◌, ℕ, zero, suc, ◌+◌, ◌*◌, ◌<◌, ◌≤◌, false, List, [], ◌∷◌, ◌++◌, length, map, take, get_or, arith, ap, sym, ◌∙◌, subst}
-use Rattle.std.specs.Prelude.{◌&&◌, All, fold}
-use Rattle.std.proofs.lemmas.Bool.{and_parts, leb-true}
+use Rattle.std.proofs.Common.{◌≡◌, ℕ, ◌+◌, ◌*◌, ◌<◌, ◌≤◌, List, [], ◌∷◌, ◌++◌, length, map, take, get_or, arith, ap, sym, ◌∙◌, subst}
+use Rattle.std.specs.Prelude.{All, fold}
 use Rattle.std.proofs.lemmas.List.{map-append, take_all, take_more}
 use Rattle.std.proofs.lemmas.List.Sums.{fold-append}
 use Rattle.tox_words.specs.declared.lanes.Lanes.{Lanes}
-use Rattle.tox_defs.specs.declared.applied.Placed.{Placed}
-use Rattle.tox_defs.specs.declared.op.Op.{Op}
-use Rattle.tox_defs.specs.declared.toxic.Toxic.{Toxic}
-use Rattle.tox_defs.specs.declared.toxic.Toxic.TheVariants.{Latency, Bandwidth, SlowClose, Timeout, ResetPeer, Slicer, LimitData}
-use Rattle.tox_defs.specs.Toxic.{IsInRange, is_within}
-use Rattle.tox_defs.specs.Ranges.{is_within_hour}
+use Rattle.tox_defs.specs.declared.chain.applied.Placed.{Placed}
+use Rattle.tox_defs.specs.declared.operations.op.Op.{Op}
 use Rattle.tox_defs.specs.Flow.{IsPlaced}
-use Rattle.tox_defs.specs.Op.{op_of}
-use Rattle.tox_defs.proofs.OpOf.{both_tests}
+use Rattle.tox_defs.proofs.ToxicProofs.{toxic_facts}
 use Rattle.tox_compile.specs.Compiled.{op_of_placed}
 use Rattle.tox_compile.specs.Normal.{with_op}
-use Rattle.tox_compile.specs.NormalInside.{millis_of}
 use Rattle.tox_compile.proofs.Sums.{AddAtMost, length-with_op, with_op_adds}
-
--- a toxic's operation adds an hour at most
-pub millis-op_of : (place : ℕ) (toxic : Toxic) → IsInRange toxic → millis_of (op_of place toxic) ≤ 3_600_000
-millis-op_of place (Latency latency zero until) fits =
-    let within = both_tests (is_within (Latency latency 0 until)) false fits in
-    let first = and_parts (is_within_hour latency && is_within_hour 0) (is_within_hour until) within.0 in
-    leb-true latency 3_600_000 (and_parts (is_within_hour latency) (is_within_hour 0) first.0).0
-millis-op_of place (Latency latency (suc jitter) until) fits = omega arith
-millis-op_of place (Bandwidth rate until) fits = omega arith
-millis-op_of place (SlowClose delay) fits =
-    let within = both_tests (is_within (SlowClose delay)) false fits in leb-true delay 3_600_000 within.0
-millis-op_of place (Timeout timeout) fits = omega arith
-millis-op_of place (ResetPeer timeout) fits = omega arith
-millis-op_of place (Slicer average variation delay until) fits = omega arith
-millis-op_of place (LimitData bytes) fits = omega arith
 
 -- what the loop over the applied toxics keeps
 pub record Compiles (toxics : List Placed) (count : ℕ) (ops : List Op) : Type 0 where
@@ -45,7 +23,7 @@ pub compiles-more : (lanes : Lanes) (toxics : List Placed) (count : ℕ) (ops : 
     → All (IsPlaced lanes) toxics → Compiles toxics count ops → Compiles toxics (count + 1) (with_op ops (op_of_placed toxic))
 compiles-more lanes toxics count ops toxic d here is placed so_far =
     let in_range : IsPlaced lanes toxic = subst (IsPlaced lanes) (sym is) (placed count d here) in
-    let hour = millis-op_of toxic.place toxic.toxic in_range.0 in
+    let hour = (toxic_facts toxic.toxic).delays toxic.place in_range.0 in
     let more : 3_600_000 * count + 3_600_000 ≡ 3_600_000 * (count + 1) = omega arith in
     let most = length-with_op ops (op_of_placed toxic) in
     let before = map op_of_placed (take count toxics) in

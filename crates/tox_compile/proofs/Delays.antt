@@ -1,13 +1,13 @@
 -- Delays: two add where one of them is the same for all chunks, and one of nothing does nothing.
 use Rattle.std.proofs.Common.{◌≡◌, ℕ, zero, suc, ◌+◌, ◌*◌, ◌≤◌, max, Bool, true, false, ◌++◌, ◌∙◌, if◌then◌else◌, List, [], ◌∷◌, refl, arith, ap}
 use Rattle.std.specs.Prelude.{nat_le}
-use Rattle.tox_time.specs.declared.span.Span.{Span}
-use Rattle.tox_time.specs.declared.item.Item.{Item}
-use Rattle.tox_time.specs.declared.item.Item.TheVariants.{Chunk, Closed, Reset, Quiet}
+use Rattle.tox_time.specs.declared.streams.span.Span.{Span}
+use Rattle.tox_time.specs.declared.streams.item.Item.{Item}
+use Rattle.tox_time.specs.declared.streams.item.Item.TheVariants.{Chunk, Closed, Reset, Quiet}
 use Rattle.tox_time.specs.Time.{horizon, plus}
-use Rattle.tox_time.specs.Stream.{span_len, IsStreamFrom}
-use Rattle.tox_defs.specs.Reaction.{Reaction, counted, flow_from}
-use Rattle.tox_defs.specs.Until.{late_answer, until}
+use Rattle.tox_time.specs.streams.Stream.{span_len, IsStreamFrom}
+use Rattle.tox_defs.specs.stage.Reaction.{Reaction, counted, flow_from}
+use Rattle.tox_defs.specs.operations.Until.{late_answer, until}
 use Rattle.tox_defs.specs.toxics.Latency.{delay_gives}
 use Rattle.tox_defs.proofs.OpenStates.{open_state}
 

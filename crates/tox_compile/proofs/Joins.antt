@@ -4,20 +4,21 @@ use Rattle.std.specs.Prelude.{◌==◌}
 use Rattle.std.proofs.lemmas.Bool.{eqb-true}
 use Rattle.std.proofs.Math.Dec.{eqb-suc-zero}
 use mathlib.Core.Path.{fun_ext}
-use Rattle.tox_time.specs.declared.item.Item.{Item}
-use Rattle.tox_time.specs.declared.ending.Ending.{Ending}
-use Rattle.tox_time.specs.declared.ending.Ending.TheVariants.{StillOpen, Closed as ClosedAt, Reset as ResetAt}
-use Rattle.tox_time.specs.Stream.{IsStream}
-use Rattle.tox_time.specs.Table.{final_of}
+use Rattle.tox_time.specs.declared.streams.item.Item.{Item}
+use Rattle.tox_time.specs.declared.streams.ending.Ending.{Ending}
+use Rattle.tox_time.specs.declared.streams.ending.Ending.TheVariants.{StillOpen, Closed as ClosedAt, Reset as ResetAt}
+use Rattle.tox_time.specs.streams.Stream.{IsStream}
+use Rattle.tox_time.specs.streams.Table.{final_of}
 use Rattle.tox_words.specs.Draw.{Draws}
-use Rattle.tox_defs.specs.declared.op.Op.{Op}
-use Rattle.tox_defs.specs.declared.op.Op.TheVariants.{Delay, Slow, Mute, Cutoff, Limit}
-use Rattle.tox_defs.specs.Reaction.{counted, flow}
+use Rattle.tox_defs.specs.declared.operations.op.Op.{Op}
+use Rattle.tox_defs.specs.declared.operations.op.Op.TheVariants.{Delay, Slow, Mute, Cutoff, Limit}
+use Rattle.tox_defs.specs.stage.Reaction.{counted, flow}
 use Rattle.tox_defs.specs.toxics.Latency.{delay_gives}
-use Rattle.tox_defs.specs.Varied.{varied}
-use Rattle.tox_defs.specs.Op.{op_giving, op_reaction, IsOp, EndsInTime}
+use Rattle.tox_defs.specs.toxics.Varied.{varied}
+use Rattle.tox_defs.specs.operations.Op.{op_giving, op_reaction, IsOp, EndsInTime}
 use Rattle.tox_defs.specs.toxics.Latency.{IsNormal}
-use Rattle.tox_defs.proofs.OpStreams.{IsStream-final, IsStream-op_flow}
+use Rattle.tox_defs.proofs.Finals.{IsStream-final}
+use Rattle.tox_defs.proofs.OpStreams.{IsStream-op_flow}
 use Rattle.tox_defs.proofs.ToxicProofs.Timeout.{flow_from-muted}
 use Rattle.tox_compile.specs.Normal.{joined, after_mute}
 use Rattle.tox_compile.proofs.Delays.{delays_join_second, delays_join_first}

@@ -3,12 +3,12 @@ use Rattle.std.proofs.Common.{◌≡◌, ℕ, zero, suc, ◌+◌, ◌-◌, min, 
 use Rattle.std.specs.Prelude.{nat_lt}
 use Rattle.std.proofs.lemmas.Bool.{ltb-true, ltb-false, lt-ltb, le-ltb}
 use Rattle.std.proofs.lemmas.List.{append-nil}
-use Rattle.tox_time.specs.declared.span.Span.{Span}
-use Rattle.tox_time.specs.declared.item.Item.{Item}
-use Rattle.tox_time.specs.declared.item.Item.TheVariants.{Chunk, Closed, Reset, Quiet}
-use Rattle.tox_time.specs.Stream.{span_len, IsStreamFrom}
-use Rattle.tox_defs.specs.declared.state.State.{State}
-use Rattle.tox_defs.specs.Reaction.{state_after, counted, flow_from}
+use Rattle.tox_time.specs.declared.streams.span.Span.{Span}
+use Rattle.tox_time.specs.declared.streams.item.Item.{Item}
+use Rattle.tox_time.specs.declared.streams.item.Item.TheVariants.{Chunk, Closed, Reset, Quiet}
+use Rattle.tox_time.specs.streams.Stream.{span_len, IsStreamFrom}
+use Rattle.tox_defs.specs.declared.operations.state.State.{State}
+use Rattle.tox_defs.specs.stage.Reaction.{state_after, counted, flow_from}
 use Rattle.tox_defs.specs.toxics.LimitData.{limit_gives, first_bytes}
 use Rattle.tox_defs.proofs.FlowLemmas.{flow_from-done}
 use Rattle.tox_defs.proofs.OpenStates.{open_state, has_final-first_bytes}

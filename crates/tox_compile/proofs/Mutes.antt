@@ -1,12 +1,13 @@
 -- Mutes: what follows one changes its ending alone.
 use Rattle.std.proofs.Common.{◌≡◌, [], ◌∷◌, refl, ap, sym, ◌∙◌}
-use Rattle.tox_time.specs.declared.ending.Ending.{Ending}
-use Rattle.tox_time.specs.Table.{ending, final_of}
+use Rattle.tox_time.specs.declared.streams.ending.Ending.{Ending}
+use Rattle.tox_time.specs.streams.Table.{ending, final_of}
 use Rattle.tox_words.specs.Draw.{Draws}
-use Rattle.tox_defs.specs.declared.op.Op.{Op}
-use Rattle.tox_defs.specs.Reaction.{Answer, counted, first_state, flow}
-use Rattle.tox_defs.specs.Op.{op_giving, op_reaction, op_until}
-use Rattle.tox_defs.proofs.Finals.{ending-final_of, gives-final}
+use Rattle.tox_defs.specs.declared.operations.op.Op.{Op}
+use Rattle.tox_defs.specs.stage.Reaction.{Answer, counted, first_state, flow}
+use Rattle.tox_defs.specs.operations.Op.{op_giving, op_reaction, op_until}
+use Rattle.tox_defs.proofs.Finals.{ending-final_of}
+use Rattle.tox_defs.proofs.OpStreams.{gives-final}
 use Rattle.tox_defs.proofs.FlowLemmas.{flow_from-last}
 use Rattle.tox_defs.proofs.Stopping.{is_late-final, until-early}
 use Rattle.tox_compile.specs.Normal.{after_mute}

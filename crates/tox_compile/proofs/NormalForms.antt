@@ -3,17 +3,17 @@ use Rattle.std.proofs.Common.{◌≡◌, ℕ, ◌*◌, Bool, true, false, List, 
 use Rattle.std.specs.Prelude.{◌==◌, All, fold}
 use Rattle.std.proofs.lemmas.Bool.{and_parts, eqb-true}
 use Rattle.std.proofs.lemmas.List.Elements.{All-nil, All-cons, All-head, All-tail}
-use Rattle.tox_time.specs.declared.item.Item.{Item}
-use Rattle.tox_time.specs.Stream.{IsStream}
-use Rattle.tox_time.specs.Table.{final_of}
+use Rattle.tox_time.specs.declared.streams.item.Item.{Item}
+use Rattle.tox_time.specs.streams.Stream.{IsStream}
+use Rattle.tox_time.specs.streams.Table.{final_of}
 use Rattle.tox_words.specs.Draw.{Draws}
-use Rattle.tox_defs.specs.declared.op.Op.{Op}
-use Rattle.tox_defs.specs.declared.op.Op.TheVariants.{Delay, Pace, Slow, Mute, Cutoff, Slicing, Limit}
-use Rattle.tox_defs.specs.Chain.{Toxics, IsChain}
-use Rattle.tox_defs.specs.Reaction.{counted, flow, flow_through}
-use Rattle.tox_defs.specs.Until.{until as stopping}
+use Rattle.tox_defs.specs.declared.operations.op.Op.{Op}
+use Rattle.tox_defs.specs.declared.operations.op.Op.TheVariants.{Delay, Pace, Slow, Mute, Cutoff, Slicing, Limit}
+use Rattle.tox_defs.specs.chain.Chain.{Toxics, IsChain}
+use Rattle.tox_defs.specs.stage.Reaction.{counted, flow, flow_through}
+use Rattle.tox_defs.specs.operations.Until.{until as stopping}
 use Rattle.tox_defs.specs.Flow.{chain_draws, chain_flow}
-use Rattle.tox_defs.specs.Op.{op_reaction, IsOp}
+use Rattle.tox_defs.specs.operations.Op.{op_reaction, IsOp}
 use Rattle.tox_defs.specs.toxics.Latency.{IsNormal}
 use Rattle.tox_defs.proofs.OpStreams.{IsStream-op_flow}
 use Rattle.tox_defs.proofs.ToxicProofs.Timeout.{flow_from-muted}

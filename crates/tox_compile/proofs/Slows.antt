@@ -1,10 +1,10 @@
 -- Slow closes: two add, and one of zero does nothing.
 use Rattle.std.proofs.Common.{◌≡◌, ℕ, ◌+◌, List, [], ◌∷◌, refl, arith, ap}
-use Rattle.tox_time.specs.declared.item.Item.{Item}
-use Rattle.tox_time.specs.declared.item.Item.TheVariants.{Chunk, Closed, Reset, Quiet}
+use Rattle.tox_time.specs.declared.streams.item.Item.{Item}
+use Rattle.tox_time.specs.declared.streams.item.Item.TheVariants.{Chunk, Closed, Reset, Quiet}
 use Rattle.tox_time.specs.Time.{plus}
-use Rattle.tox_time.specs.Stream.{span_len, IsStreamFrom}
-use Rattle.tox_defs.specs.Reaction.{counted, flow_from}
+use Rattle.tox_time.specs.streams.Stream.{span_len, IsStreamFrom}
+use Rattle.tox_defs.specs.stage.Reaction.{counted, flow_from}
 use Rattle.tox_defs.specs.toxics.SlowClose.{slow_gives}
 use Rattle.tox_defs.proofs.OpenStates.{open_state}
 

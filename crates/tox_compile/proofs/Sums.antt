@@ -3,11 +3,10 @@ use Rattle.std.proofs.Common.{◌≡◌, ℕ, zero, suc, ◌+◌, ◌≤◌, min
 use Rattle.std.specs.Prelude.{◌==◌, All}
 use Rattle.std.proofs.Math.Dec.{eqb-suc-zero}
 use Rattle.std.proofs.lemmas.List.Elements.{All-nil, All-cons, All-head, All-tail}
-use Rattle.tox_defs.specs.declared.op.Op.{Op}
-use Rattle.tox_defs.specs.declared.op.Op.TheVariants.{Delay, Pace, Slow, Mute, Cutoff, Slicing, Limit}
-use Rattle.tox_defs.specs.Op.{is_mute}
+use Rattle.tox_defs.specs.declared.operations.op.Op.{Op}
+use Rattle.tox_defs.specs.declared.operations.op.Op.TheVariants.{Delay, Pace, Slow, Mute, Cutoff, Slicing, Limit}
+use Rattle.tox_defs.specs.operations.Op.{is_mute, millis_of}
 use Rattle.tox_compile.specs.Normal.{vanishes, after_mute, joined, one_or_two, with_last, with_op}
-use Rattle.tox_compile.specs.NormalInside.{millis_of}
 
 -- the last operation alone is joined
 pub with_last-append : (front : List Op) (last op : Op) → with_last (front ++ last ∷ []) op ≡ front ++ one_or_two (joined last op) last op

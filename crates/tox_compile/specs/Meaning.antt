@@ -1,13 +1,13 @@
 -- What a plan does to a stream, and from when on arrivals change nothing.
 use Rattle.std.specs.Prelude.{ℕ, ◌≤◌, min, All, List, [], ◌∷◌, length, map, Option, Some, None}
-use Rattle.tox_time.specs.declared.item.Item.{Item}
+use Rattle.tox_time.specs.declared.streams.item.Item.{Item}
 use Rattle.tox_words.specs.declared.lanes.Lanes.{Lanes}
 use Rattle.tox_words.specs.Draw.{Draws, draw_in}
-use Rattle.tox_defs.specs.declared.op.Op.{Op}
-use Rattle.tox_defs.specs.declared.op.Op.TheVariants.{Mute, Cutoff}
-use Rattle.tox_defs.specs.Chain.{max_toxics}
-use Rattle.tox_defs.specs.Reaction.{Reaction, flow_through}
-use Rattle.tox_defs.specs.Op.{op_reaction, IsOp}
+use Rattle.tox_defs.specs.declared.operations.op.Op.{Op}
+use Rattle.tox_defs.specs.declared.operations.op.Op.TheVariants.{Mute, Cutoff}
+use Rattle.tox_defs.specs.chain.Chain.{max_toxics}
+use Rattle.tox_defs.specs.stage.Reaction.{Reaction, flow_through}
+use Rattle.tox_defs.specs.operations.Op.{op_reaction, IsOp}
 
 -- what a plan is seen as: its lanes, and its operations in order
 pub record Ops : Type 0 where

@@ -1,12 +1,12 @@
 -- The normal form of a plan: each operation joined to the last one where a rule allows.
 use Rattle.std.specs.Prelude.{ℕ, ◌+◌, ◌==◌, ◌&&◌, min, Bool, false, List, [], ◌∷◌, fold, Option, None, Some, if◌then◌else◌}
-use Rattle.tox_time.specs.declared.ending.Ending.{Ending}
-use Rattle.tox_time.specs.Table.{ending, final_of}
-use Rattle.tox_defs.specs.declared.op.Op.{Op}
-use Rattle.tox_defs.specs.declared.op.Op.TheVariants.{Delay, Slow, Mute, Cutoff, Limit}
-use Rattle.tox_defs.specs.Chain.{Toxics}
-use Rattle.tox_defs.specs.Op.{op_giving}
-use Rattle.tox_defs.specs.Reaction.{first_state}
+use Rattle.tox_time.specs.declared.streams.ending.Ending.{Ending}
+use Rattle.tox_time.specs.streams.Table.{ending, final_of}
+use Rattle.tox_defs.specs.declared.operations.op.Op.{Op}
+use Rattle.tox_defs.specs.declared.operations.op.Op.TheVariants.{Delay, Slow, Mute, Cutoff, Limit}
+use Rattle.tox_defs.specs.chain.Chain.{Toxics}
+use Rattle.tox_defs.specs.operations.Op.{op_giving}
+use Rattle.tox_defs.specs.stage.Reaction.{first_state}
 use Rattle.tox_compile.specs.Compiled.{applied_ops}
 
 -- whether an operation does nothing: a delay of zero without jitter, or a slow close of zero

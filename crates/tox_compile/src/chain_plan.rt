@@ -1,8 +1,8 @@
 //! The plan of a chain.
 ghost use Rattle.std.specs.Prelude.{◌≡◌, ◌<◌, List, [], ◌∷◌, ◌++◌};
 ghost use Rattle.arrayvec.specs.ArrayVec.{array_vec_len};
-ghost use Rattle.tox_time.specs.declared.item.Item.{Item as OneItem};
-ghost use Rattle.tox_time.specs.Stream.{IsStream};
+ghost use Rattle.tox_time.specs.declared.streams.item.Item.{Item as OneItem};
+ghost use Rattle.tox_time.specs.streams.Stream.{IsStream};
 ghost use Rattle.tox_defs.specs.Flow.{chain_flow};
 ghost use Rattle.tox_compile.specs.Normal.{normal_form};
 ghost use Rattle.tox_compile.specs.Meaning.{means};

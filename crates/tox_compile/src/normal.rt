@@ -1,9 +1,10 @@
 //! The joining of operations.
 ghost use Rattle.std.specs.Prelude.{◌≡◌, ◌+◌, ◌<◌, ◌^◌, [], ◌∷◌, ◌++◌, All};
 ghost use Rattle.arrayvec.specs.ArrayVec.{array_vec_len};
-ghost use Rattle.tox_defs.specs.Chain.{max_toxics};
+ghost use Rattle.tox_defs.specs.chain.Chain.{max_toxics};
+ghost use Rattle.tox_defs.specs.operations.Op.{millis_of};
 ghost use Rattle.tox_compile.specs.Normal.{vanishes, joined, with_last, with_op};
-ghost use Rattle.tox_compile.specs.NormalInside.{millis_of, with_more};
+ghost use Rattle.tox_compile.specs.NormalInside.{with_more};
 
 use arrayvec::ArrayVec;
 use tox_defs::{MAX_TOXICS, Op, State};

@@ -2,19 +2,18 @@
 use Rattle.std.proofs.Common.{ℕ, ◌+◌, ◌%◌, Bool, true, false, List, [], ◌∷◌, map, arith, if◌then◌else◌}
 use Rattle.std.specs.Prelude.{All, nat_lt}
 use Rattle.std.proofs.lemmas.List.Elements.{All-nil, All-cons, All-head, All-tail}
-use Rattle.tox_time.specs.declared.item.Item.{Item}
-use Rattle.tox_time.specs.Stream.{IsStream}
+use Rattle.tox_time.specs.declared.streams.item.Item.{Item}
+use Rattle.tox_time.specs.streams.Stream.{IsStream}
 use Rattle.tox_words.specs.Draw.{Draws}
 use Rattle.tox_defs.specs.declared.chain.Entry.{Entry}
 use Rattle.tox_defs.specs.declared.toxic.Toxic.{Toxic}
 use Rattle.tox_defs.specs.Toxic.{IsInRange}
-use Rattle.tox_defs.specs.Chain.{Toxics, IsEntry, IsChain}
-use Rattle.tox_defs.specs.Reaction.{flow_through}
-use Rattle.tox_defs.specs.declared.applied.Placed.{Placed}
+use Rattle.tox_defs.specs.chain.Chain.{Toxics, IsEntry, IsChain}
+use Rattle.tox_defs.specs.stage.Reaction.{flow_through}
+use Rattle.tox_defs.specs.declared.chain.applied.Placed.{Placed}
 use Rattle.tox_defs.specs.Flow.{toxic_reaction, applied_from, applied, chain_draws, chain_flow}
 use Rattle.tox_defs.specs.Laws.{toxic_flow, IsKeptBy, KeepsStreams}
-use Rattle.tox_defs.proofs.ToxicStreams.{IsStream-toxic_flow}
-use Rattle.tox_defs.proofs.Passing.{arrived-toxic_flow}
+use Rattle.tox_defs.proofs.ToxicStreams.{IsStream-toxic_flow, arrived-toxic_flow}
 
 applied_by : (met : Bool) (place : ℕ) (entry : Entry) (others : List Placed) → IsInRange entry.toxic → All (λ placed. IsInRange placed.toxic) others
     → All (λ placed. IsInRange placed.toxic) (if met then record { place = place; toxic = entry.toxic } ∷ others else others)

@@ -3,17 +3,17 @@ use Rattle.std.proofs.Common.{◌≡◌, ℕ, zero, suc, ◌+◌, ◌-◌, ◌<�
 use Rattle.std.proofs.Math.Dec.{leb}
 use Rattle.std.proofs.lemmas.Bool.{le-ltb, lt-ltb, ne_eqb}
 use Rattle.std.proofs.lemmas.Bool.Decides.{leb_tells}
-use Rattle.tox_time.specs.declared.span.Span.{Span}
-use Rattle.tox_time.specs.declared.slice.Slice.{Slice}
-use Rattle.tox_time.specs.declared.item.Item.{Item}
-use Rattle.tox_time.specs.declared.item.Item.TheVariants.{Chunk}
+use Rattle.tox_time.specs.declared.streams.span.Span.{Span}
+use Rattle.tox_time.specs.declared.streams.slice.Slice.{Slice}
+use Rattle.tox_time.specs.declared.streams.item.Item.{Item}
+use Rattle.tox_time.specs.declared.streams.item.Item.TheVariants.{Chunk}
 use Rattle.tox_time.specs.Time.{plus}
-use Rattle.tox_time.specs.Stream.{span_len}
-use Rattle.tox_defs.specs.declared.state.State.{State}
-use Rattle.tox_defs.specs.Reaction.{Giving, counted, state_after, with_piece, with_chunk, flow_from, state_from}
-use Rattle.tox_defs.specs.Pieces.{cut, pieces_of, leave}
-use Rattle.tox_defs.specs.Look.{as_chunk, rest_of, Continues, after_piece_of}
-use Rattle.tox_defs.specs.Pieces.{first_span}
+use Rattle.tox_time.specs.streams.Stream.{span_len}
+use Rattle.tox_defs.specs.declared.operations.state.State.{State}
+use Rattle.tox_defs.specs.stage.Reaction.{Giving, counted, state_after, with_piece, with_chunk, flow_from, state_from}
+use Rattle.tox_defs.specs.toxics.Pieces.{cut, pieces_of, leave}
+use Rattle.tox_defs.specs.operations.Look.{as_chunk, rest_of, Continues, after_piece_of}
+use Rattle.tox_defs.specs.toxics.Pieces.{first_span}
 use Rattle.tox_defs.proofs.FlowLemmas.{state_same, Continues-counted}
 
 -- room for more pieces than there are bytes changes nothing

@@ -9,7 +9,7 @@ use Rattle.std.proofs.lemmas.Fmt.{decimal_nonempty, digits_decimal, digits_value
 use Rattle.std.proofs.lemmas.Grind.{common_steps}
 use Rattle.tox_time.proofs.Numbers.{ascii_digits}
 use Rattle.tox_defs.proofs.Cuts.{lacks}
-use Rattle.tox_defs.specs.Pairs.{number_of}
+use Rattle.tox_defs.specs.short.Pairs.{pair_number}
 
 digit_no_comma : (byte : ℕ) → is_ascii_digit byte ≡ true → not (byte == 44) ≡ true
 digit_no_comma byte digit = grind (arith, nat_tests)
@@ -20,8 +20,8 @@ digits_no_comma (byte ∷ text) digits =
     let parts = and_parts (is_ascii_digit byte) (list_all is_ascii_digit text) digits in
     rw (digit_no_comma byte parts.0) (digits_no_comma text parts.1)
 
-number_of-decimal : (n : ℕ) → n < 10 ^ 18 → number_of (decimal n) ≡ Some n
-number_of-decimal n small =
+pair_number-decimal : (n : ℕ) → n < 10 ^ 18 → pair_number (decimal n) ≡ Some n
+pair_number-decimal n small =
     let wide : n < 2 ^ 64 = omega arith in
     let some = decimal_nonempty n wide in
     let short = length-decimal-le 18 n (omega arith) small wide in
@@ -34,5 +34,5 @@ decimal_no_comma n small = digits_no_comma (decimal n) (digits_decimal ascii_dig
 
 -- a number up to 18 digits is read as itself, and may stand between commas
 pub read_decimal : (n : ℕ) → n < 10 ^ 18
-    → (number_of (decimal n) ≡ Some n) × (lacks (λ byte. byte == 44) (decimal n) ≡ true)
-read_decimal n small = (number_of-decimal n small, decimal_no_comma n small)
+    → (pair_number (decimal n) ≡ Some n) × (lacks (λ byte. byte == 44) (decimal n) ≡ true)
+read_decimal n small = (pair_number-decimal n small, decimal_no_comma n small)

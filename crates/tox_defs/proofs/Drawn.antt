@@ -1,6 +1,6 @@
 -- The bounds of a number that a drawn word varies.
 use Rattle.std.proofs.Common.{ℕ, ◌+◌, ◌-◌, ◌*◌, ◌%◌, ◌<◌, ◌≤◌, arith}
-use Rattle.tox_defs.specs.Varied.{varied}
+use Rattle.tox_defs.specs.toxics.Varied.{varied}
 
 pub varied-within : (middle variation word : ℕ) → (middle - variation ≤ varied middle variation word) × (varied middle variation word ≤ middle + variation)
 varied-within middle variation word =

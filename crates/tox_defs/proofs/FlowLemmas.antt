@@ -1,10 +1,10 @@
 -- Flows of every reaction: one item at a time, in two parts, and after a final.
 use Rattle.std.proofs.Common.{◌≡◌, ℕ, Bool, true, false, List, [], ◌∷◌, ◌++◌, refl, ap, sym, ◌∙◌, append_assoc, if◌then◌else◌}
 use Rattle.std.proofs.lemmas.List.{append-nil}
-use Rattle.tox_time.specs.declared.item.Item.{Item}
-use Rattle.tox_defs.specs.declared.state.State.{State}
-use Rattle.tox_defs.specs.Reaction.{Answer, Reaction, Giving, react, counted, state_after, flow, flow_from, state_from, flow_through}
-use Rattle.tox_defs.specs.Look.{Continues}
+use Rattle.tox_time.specs.declared.streams.item.Item.{Item}
+use Rattle.tox_defs.specs.declared.operations.state.State.{State}
+use Rattle.tox_defs.specs.stage.Reaction.{Answer, Reaction, Giving, react, counted, state_after, flow, flow_from, state_from, flow_through}
+use Rattle.tox_defs.specs.operations.Look.{Continues}
 
 -- states that count the same are the same
 pub state_same : (previous chunks chunks' pieces pieces' passed passed' : ℕ) (done : Bool) → chunks ≡ chunks' → pieces ≡ pieces' → passed ≡ passed'

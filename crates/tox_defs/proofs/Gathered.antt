@@ -4,10 +4,10 @@ use Rattle.std.specs.Prelude.{All}
 use Rattle.std.proofs.lemmas.List.{append-nil, append_assoc, drop_all}
 use Rattle.std.proofs.lemmas.List.Elements.{All-nil, All-push}
 use Rattle.tox_words.specs.Draw.{Draws}
-use Rattle.tox_defs.specs.declared.applied.Placed.{Placed}
+use Rattle.tox_defs.specs.declared.chain.applied.Placed.{Placed}
 use Rattle.tox_defs.specs.declared.chain.Entry.{Entry}
-use Rattle.tox_defs.specs.Applied.{is_applied}
-use Rattle.tox_defs.specs.Chain.{Toxics, IsChain, IsEntry}
+use Rattle.tox_defs.specs.chain.Applied.{is_applied}
+use Rattle.tox_defs.specs.chain.Chain.{Toxics, IsChain, IsEntry}
 use Rattle.tox_defs.specs.Flow.{IsPlaced, applied, applied_from, chain_draws}
 
 -- what the loop over the entries keeps: behind those met before a place come those from it on

@@ -1,14 +1,14 @@
 -- A reaction that keeps streams at each item gives a stream for a stream.
 use Rattle.std.proofs.Common.{◌≡◌, ℕ, zero, suc, ◌+◌, ◌-◌, ◌<◌, ◌≤◌, min, max, Bool, true, false, List, [], ◌∷◌, ◌++◌, refl, ap, ◌∙◌, arith, sym, subst, inl, inr, ◌⊎◌}
 use Rattle.std.proofs.lemmas.List.{append-nil}
-use Rattle.tox_time.specs.declared.span.Span.{Span}
-use Rattle.tox_time.specs.declared.item.Item.{Item}
-use Rattle.tox_time.specs.declared.item.Item.TheVariants.{Chunk, Closed, Reset, Quiet}
+use Rattle.tox_time.specs.declared.streams.span.Span.{Span}
+use Rattle.tox_time.specs.declared.streams.item.Item.{Item}
+use Rattle.tox_time.specs.declared.streams.item.Item.TheVariants.{Chunk, Closed, Reset, Quiet}
 use Rattle.tox_time.specs.Time.{horizon, plus, IsInstant}
-use Rattle.tox_time.specs.Stream.{has_final, latest_from, is_final, IsStreamFrom}
-use Rattle.tox_defs.specs.Reaction.{Answer, Giving, Reaction, counted, flow_from}
-use Rattle.tox_defs.specs.declared.state.State.{State}
-use Rattle.tox_defs.specs.Pieces.{cut, leave}
+use Rattle.tox_time.specs.streams.Stream.{has_final, latest_from, is_final, IsStreamFrom}
+use Rattle.tox_defs.specs.stage.Reaction.{Answer, Giving, Reaction, counted, flow_from}
+use Rattle.tox_defs.specs.declared.operations.state.State.{State}
+use Rattle.tox_defs.specs.toxics.Pieces.{cut, leave}
 use Rattle.tox_defs.proofs.OpenStates.{open_state}
 use Rattle.tox_defs.proofs.FlowLemmas.{flow_from-done, flow_from-last}
 

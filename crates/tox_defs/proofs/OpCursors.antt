@@ -3,19 +3,19 @@ use Rattle.std.proofs.Common.{◌≡◌, ℕ, ◌+◌, ◌-◌, ◌<◌, ◌≤�
 use Rattle.std.specs.Prelude.{◌==◌}
 use Rattle.std.proofs.lemmas.Bool.{le-ltb, lt-ltb}
 use Rattle.std.proofs.lemmas.List.{append-nil}
-use Rattle.tox_time.specs.declared.slice.Slice.{Slice}
-use Rattle.tox_time.specs.declared.item.Item.{Item}
-use Rattle.tox_time.specs.declared.ending.Ending.{Ending}
-use Rattle.tox_time.specs.Table.{final_of}
+use Rattle.tox_time.specs.declared.streams.slice.Slice.{Slice}
+use Rattle.tox_time.specs.declared.streams.item.Item.{Item}
+use Rattle.tox_time.specs.declared.streams.ending.Ending.{Ending}
+use Rattle.tox_time.specs.streams.Table.{final_of}
 use Rattle.tox_words.specs.Draw.{Draws}
-use Rattle.tox_defs.specs.declared.state.State.{State}
-use Rattle.tox_defs.specs.declared.op_cursor.OpCursor.{OpCursor}
-use Rattle.tox_defs.specs.declared.look.Look.TheVariants.{Piece, LastPiece, Ended, Late}
-use Rattle.tox_defs.specs.Reaction.{flow_from, state_from, with_piece, with_chunk, with_ending}
-use Rattle.tox_defs.specs.Op.{op_reaction}
-use Rattle.tox_defs.specs.Until.{with_previous}
-use Rattle.tox_defs.specs.Look.{as_chunk, rest_of, Finds, after_piece_of, IsFront}
-use Rattle.tox_defs.specs.OpCursor.{ending_or, ended_or, cursor_gives, cursor_leaves, IsSound, IsNextPiece, GivesOnlyEnding}
+use Rattle.tox_defs.specs.declared.operations.state.State.{State}
+use Rattle.tox_defs.specs.declared.operations.op_cursor.OpCursor.{OpCursor}
+use Rattle.tox_defs.specs.declared.operations.look.Look.TheVariants.{Piece, LastPiece, Ended, Late}
+use Rattle.tox_defs.specs.stage.Reaction.{flow_from, state_from, with_piece, with_chunk, with_ending}
+use Rattle.tox_defs.specs.operations.Op.{op_reaction}
+use Rattle.tox_defs.specs.operations.Until.{with_previous}
+use Rattle.tox_defs.specs.operations.Look.{as_chunk, rest_of, Finds, after_piece_of, IsFront}
+use Rattle.tox_defs.specs.operations.OpCursor.{ending_or, ended_or, cursor_gives, cursor_leaves, IsSoundCursor, IsNextPiece, GivesOnlyEnding}
 use Rattle.tox_defs.proofs.FlowLemmas.{flow_from-done}
 
 -- nothing is left of a chunk that was read to its end
@@ -69,7 +69,7 @@ same_done true state piece = refl
 same_done false state piece = refl
 
 -- a cursor whose look found a piece
-pub cursor_at_piece : (draws : Draws) (start : ℕ) (cursor : OpCursor) (piece : Slice) → cursor.ending ≡ None → start < cursor.stop → IsSound start cursor
+pub cursor_at_piece : (draws : Draws) (start : ℕ) (cursor : OpCursor) (piece : Slice) → cursor.ending ≡ None → start < cursor.stop → IsSoundCursor start cursor
     → ((items : List Item) → Finds (op_reaction cursor.op draws) cursor.state (rest_at start cursor) items (Piece piece)) → IsFront (rest_at start cursor) piece
     → IsNextPiece draws start cursor (record { op = cursor.op; state = after_piece_of cursor.stop cursor.state piece; stop = cursor.stop; instant = cursor.instant; ending = cursor.ending }) piece
 cursor_at_piece draws start cursor piece running some sound finds front =
@@ -100,7 +100,7 @@ cursor_at_piece draws start cursor piece running some sound finds front =
     }
 
 -- a cursor whose look found that the rest is late
-pub cursor_at_late : (draws : Draws) (start : ℕ) (cursor : OpCursor) (piece : Slice) → cursor.ending ≡ None → start < cursor.stop → IsSound start cursor
+pub cursor_at_late : (draws : Draws) (start : ℕ) (cursor : OpCursor) (piece : Slice) → cursor.ending ≡ None → start < cursor.stop → IsSoundCursor start cursor
     → ((items : List Item) → Finds (op_reaction cursor.op draws) cursor.state (rest_at start cursor) items (Late piece)) → piece.span ≡ (rest_at start cursor).span
     → IsNextPiece draws start cursor (record { op = cursor.op; state = with_previous cursor.state piece.instant; stop = cursor.stop; instant = cursor.instant; ending = cursor.ending }) piece
 cursor_at_late draws start cursor piece running some sound finds whole =
@@ -133,7 +133,7 @@ cursor_at_late draws start cursor piece running some sound finds whole =
     }
 
 -- a cursor whose look found its last piece
-pub cursor_at_last_piece : (draws : Draws) (start : ℕ) (cursor : OpCursor) (piece : Slice) (ending : Ending) → cursor.ending ≡ None → start < cursor.stop → IsSound start cursor
+pub cursor_at_last_piece : (draws : Draws) (start : ℕ) (cursor : OpCursor) (piece : Slice) (ending : Ending) → cursor.ending ≡ None → start < cursor.stop → IsSoundCursor start cursor
     → ((items : List Item) → Finds (op_reaction cursor.op draws) cursor.state (rest_at start cursor) items (LastPiece piece ending)) → IsFront (rest_at start cursor) piece
     → IsNextPiece draws start cursor (record { op = cursor.op; state = with_ending (with_chunk (with_piece cursor.state piece)) ending; stop = cursor.stop; instant = cursor.instant; ending = Some ending }) piece
 cursor_at_last_piece draws start cursor piece ending running some sound finds front =

@@ -1,12 +1,12 @@
 -- States that have given no final, and whether givings give one.
 use Rattle.std.proofs.Common.{◌≡◌, ℕ, zero, suc, max, true, false, List, [], ◌∷◌, ◌++◌, refl}
-use Rattle.tox_time.specs.declared.span.Span.{Span}
-use Rattle.tox_time.specs.declared.item.Item.TheVariants.{Closed}
+use Rattle.tox_time.specs.declared.streams.span.Span.{Span}
+use Rattle.tox_time.specs.declared.streams.item.Item.TheVariants.{Closed}
 use Rattle.tox_time.specs.Time.{plus}
-use Rattle.tox_time.specs.Stream.{span_len, has_final}
-use Rattle.tox_defs.specs.declared.state.State.{State}
+use Rattle.tox_time.specs.streams.Stream.{span_len, has_final}
+use Rattle.tox_defs.specs.declared.operations.state.State.{State}
 use Rattle.tox_defs.specs.toxics.LimitData.{first_bytes}
-use Rattle.tox_defs.specs.Pieces.{leave}
+use Rattle.tox_defs.specs.toxics.Pieces.{leave}
 
 -- a state that has given no final
 abbrev pub open_state : ℕ → ℕ → ℕ → ℕ → State

@@ -1,12 +1,12 @@
 -- Reactions that give no more bytes than they took.
 use Rattle.std.proofs.Common.{ℕ, zero, suc, ◌+◌, ◌-◌, ◌≤◌, min, max, Bool, true, false, List, [], ◌∷◌, arith, if◌then◌else◌}
-use Rattle.tox_time.specs.declared.item.Item.{Item}
+use Rattle.tox_time.specs.declared.streams.item.Item.{Item}
 use Rattle.tox_time.specs.Time.{plus}
-use Rattle.tox_time.specs.Stream.{arrived}
+use Rattle.tox_time.specs.streams.Stream.{arrived}
 use Rattle.tox_time.proofs.StreamLemmas.{arrived-append}
-use Rattle.tox_defs.specs.declared.state.State.{State}
-use Rattle.tox_defs.specs.Reaction.{Reaction, react, flow_from}
-use Rattle.tox_defs.specs.Pieces.{cut, leave}
+use Rattle.tox_defs.specs.declared.operations.state.State.{State}
+use Rattle.tox_defs.specs.stage.Reaction.{Reaction, react, flow_from}
+use Rattle.tox_defs.specs.toxics.Pieces.{cut, leave}
 
 -- what is given for an item has no more bytes than the item
 abbrev pub PassesAtMost : Reaction → Type 0

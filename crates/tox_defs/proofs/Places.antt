@@ -2,13 +2,13 @@
 use Rattle.std.proofs.Common.{◌≡◌, ℕ, ◌+◌, ◌^◌, ◌<◌, ◌≤◌, not, true, false, List, [], ◌∷◌, length, refl, arith}
 use Rattle.std.specs.Prelude.{◌==◌, ◌&&◌, nat_le, nat_lt}
 use Rattle.std.proofs.lemmas.Bool.{and_parts, eqb-true, ltb-true}
-use Rattle.tox_time.specs.declared.span.Span.{Span}
-use Rattle.tox_defs.specs.declared.position.StreamPosition.{StreamPosition}
+use Rattle.tox_time.specs.declared.streams.span.Span.{Span}
+use Rattle.tox_time.specs.declared.streams.position.StreamPosition.{StreamPosition}
 use Rattle.std.proofs.lemmas.Bool.Decides.{nat_tests}
-use Rattle.tox_time.specs.declared.item.Item.{Item}
-use Rattle.tox_time.specs.declared.item.Item.TheVariants.{Chunk, Closed, Reset, Quiet}
-use Rattle.tox_time.specs.Stream.{IsStreamFrom, arrived}
-use Rattle.tox_defs.specs.StreamPosition.{fits, AllFit}
+use Rattle.tox_time.specs.declared.streams.item.Item.{Item}
+use Rattle.tox_time.specs.declared.streams.item.Item.TheVariants.{Chunk, Closed, Reset, Quiet}
+use Rattle.tox_time.specs.streams.Stream.{IsStreamFrom, arrived}
+use Rattle.tox_time.specs.streams.StreamPosition.{fits, AllFit}
 
 AllFit-none : (position since : ℕ) (items : List Item) → items ≡ [] → AllFit (record { position = position; latest = since; ended = true }) items
 AllFit-none position since items none = rw none tt

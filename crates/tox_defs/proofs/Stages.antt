@@ -1,22 +1,22 @@
 -- A stage that takes a final.
 use Rattle.std.proofs.Common.{◌≡◌, ℕ, ◌<◌, false, List, [], ◌∷◌, ◌++◌, None, ap, sym, ◌∙◌, arith}
 use Rattle.std.proofs.lemmas.List.{append-nil}
-use Rattle.tox_time.specs.declared.item.Item.{Item}
-use Rattle.tox_time.specs.declared.item.Item.TheVariants.{Chunk}
-use Rattle.tox_time.specs.declared.span.Span.{Span}
-use Rattle.tox_time.specs.declared.ending.Ending.{Ending}
-use Rattle.tox_time.specs.declared.ending.Ending.TheVariants.{StillOpen, Closed, Reset}
-use Rattle.tox_time.specs.Table.{final_of}
+use Rattle.tox_time.specs.declared.streams.item.Item.{Item}
+use Rattle.tox_time.specs.declared.streams.item.Item.TheVariants.{Chunk}
+use Rattle.tox_time.specs.declared.streams.span.Span.{Span}
+use Rattle.tox_time.specs.declared.streams.ending.Ending.{Ending}
+use Rattle.tox_time.specs.declared.streams.ending.Ending.TheVariants.{StillOpen, Closed, Reset}
+use Rattle.tox_time.specs.streams.Table.{final_of}
 use Rattle.tox_words.specs.Draw.{Draws, DrawingView, draws_of}
-use Rattle.tox_defs.specs.declared.state.State.{State}
-use Rattle.tox_defs.specs.declared.op_cursor.OpCursor.{OpCursor}
-use Rattle.tox_defs.specs.declared.position.StreamPosition.{StreamPosition}
-use Rattle.tox_defs.specs.Reaction.{Reaction, counted, react, flow_from, state_from, state_after, with_ending}
-use Rattle.tox_defs.specs.Op.{op_giving, op_reaction, op_until}
-use Rattle.tox_defs.specs.StreamPosition.{position_after}
-use Rattle.tox_defs.specs.Look.{rest_of}
-use Rattle.tox_defs.specs.OpCursor.{cursor_gives, cursor_leaves}
-use Rattle.tox_defs.specs.Stage.{Staged, taken}
+use Rattle.tox_defs.specs.declared.operations.state.State.{State}
+use Rattle.tox_defs.specs.declared.operations.op_cursor.OpCursor.{OpCursor}
+use Rattle.tox_time.specs.declared.streams.position.StreamPosition.{StreamPosition}
+use Rattle.tox_defs.specs.stage.Reaction.{Reaction, counted, react, flow_from, state_from, state_after, with_ending}
+use Rattle.tox_defs.specs.operations.Op.{op_giving, op_reaction, op_until}
+use Rattle.tox_time.specs.streams.StreamPosition.{position_after}
+use Rattle.tox_defs.specs.operations.Look.{rest_of}
+use Rattle.tox_defs.specs.operations.OpCursor.{cursor_gives, cursor_leaves}
+use Rattle.tox_defs.specs.stage.Stage.{Staged, taken}
 use Rattle.tox_defs.proofs.FlowLemmas.{state_same, react-running}
 use Rattle.tox_defs.proofs.Stopping.{is_late-final, until-early}
 use Rattle.tox_defs.proofs.OpCursors.{rest_of-read, rest_of-unread, cursor_gives-running, cursor_leaves-running}

@@ -2,22 +2,22 @@
 use Rattle.std.proofs.Common.{◌≡◌, ℕ, zero, suc, ◌*◌, ◌<◌, ◌≤◌, max, Bool, true, false, List, [], ◌∷◌, ◌++◌, refl, ap, sym, subst, ◌∙◌, append_assoc, arith, inl, ◌⊎◌, if◌then◌else◌}
 use Rattle.std.specs.Prelude.{nat_le, nat_lt}
 use Rattle.std.proofs.lemmas.List.{append-nil}
-use Rattle.tox_time.specs.declared.span.Span.{Span}
-use Rattle.tox_time.specs.declared.item.Item.{Item}
-use Rattle.tox_time.specs.declared.item.Item.TheVariants.{Chunk, Closed, Reset, Quiet}
-use Rattle.tox_time.specs.declared.slice.Slice.{Slice}
-use Rattle.tox_time.specs.declared.ending.Ending.{Ending}
-use Rattle.tox_time.specs.declared.ending.Ending.TheVariants.{StillOpen, Closed as ClosedAt, Reset as ResetAt}
+use Rattle.tox_time.specs.declared.streams.span.Span.{Span}
+use Rattle.tox_time.specs.declared.streams.item.Item.{Item}
+use Rattle.tox_time.specs.declared.streams.item.Item.TheVariants.{Chunk, Closed, Reset, Quiet}
+use Rattle.tox_time.specs.declared.streams.slice.Slice.{Slice}
+use Rattle.tox_time.specs.declared.streams.ending.Ending.{Ending}
+use Rattle.tox_time.specs.declared.streams.ending.Ending.TheVariants.{StillOpen, Closed as ClosedAt, Reset as ResetAt}
 use Rattle.tox_time.specs.Time.{horizon}
-use Rattle.tox_time.specs.Stream.{arrived, is_final, IsStreamFrom}
-use Rattle.tox_time.specs.Table.{final_of}
-use Rattle.tox_defs.specs.declared.state.State.{State}
-use Rattle.tox_defs.specs.declared.look.Look.{Look}
-use Rattle.tox_defs.specs.declared.look.Look.TheVariants.{Piece, LastPiece, Ended, Late}
-use Rattle.tox_defs.specs.Ordered.{in_order}
-use Rattle.tox_defs.specs.Reaction.{Answer, Reaction, react, flow_from, state_from}
-use Rattle.tox_defs.specs.Look.{as_chunk, rest_of, Continues, Finds}
-use Rattle.tox_defs.specs.Until.{is_late, late_answer, until, with_previous}
+use Rattle.tox_time.specs.streams.Stream.{arrived, is_final, IsStreamFrom}
+use Rattle.tox_time.specs.streams.Table.{final_of}
+use Rattle.tox_defs.specs.declared.operations.state.State.{State}
+use Rattle.tox_defs.specs.declared.operations.look.Look.{Look}
+use Rattle.tox_defs.specs.declared.operations.look.Look.TheVariants.{Piece, LastPiece, Ended, Late}
+use Rattle.tox_defs.specs.toxics.Ordered.{in_order}
+use Rattle.tox_defs.specs.stage.Reaction.{Answer, Reaction, react, flow_from, state_from}
+use Rattle.tox_defs.specs.operations.Look.{as_chunk, rest_of, Continues, Finds}
+use Rattle.tox_defs.specs.operations.Until.{is_late, late_answer, until, with_previous}
 use Rattle.tox_defs.proofs.OpenStates.{open_state}
 use Rattle.tox_defs.proofs.FlowLemmas.{react-running, flow_from-append, state_from-append}
 use Rattle.tox_defs.proofs.KeepingStreams.{GoesOn, EndsThere, KeepsStreams, Follows}

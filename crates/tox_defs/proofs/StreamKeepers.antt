@@ -1,12 +1,12 @@
 -- What the proofs share that each giving keeps streams.
 use Rattle.std.proofs.Common.{◌≡◌, ℕ, ◌+◌, ◌-◌, ◌<◌, ◌≤◌, max, true, List, [], ◌∷◌, refl, arith}
-use Rattle.tox_time.specs.declared.span.Span.{Span}
-use Rattle.tox_time.specs.declared.item.Item.{Item}
-use Rattle.tox_time.specs.declared.item.Item.TheVariants.{Chunk, Closed, Reset, Quiet}
+use Rattle.tox_time.specs.declared.streams.span.Span.{Span}
+use Rattle.tox_time.specs.declared.streams.item.Item.{Item}
+use Rattle.tox_time.specs.declared.streams.item.Item.TheVariants.{Chunk, Closed, Reset, Quiet}
 use Rattle.tox_time.specs.Time.{horizon, plus}
-use Rattle.tox_time.specs.Stream.{span_len, latest_from, is_final, IsStreamFrom}
-use Rattle.tox_defs.specs.Ordered.{in_order}
-use Rattle.tox_defs.specs.Pieces.{cut, leave}
+use Rattle.tox_time.specs.streams.Stream.{span_len, latest_from, is_final, IsStreamFrom}
+use Rattle.tox_defs.specs.toxics.Ordered.{in_order}
+use Rattle.tox_defs.specs.toxics.Pieces.{cut, leave}
 use Rattle.tox_defs.proofs.OpenStates.{has_final-leave}
 use Rattle.tox_defs.proofs.KeepingStreams.{CanFollow, GoesOn, AreChunks-leave}
 

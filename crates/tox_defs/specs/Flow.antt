@@ -1,44 +1,25 @@
 -- What toxics and chains do to a list of items.
-use Rattle.std.specs.Prelude.{ℕ, ◌+◌, ◌*◌, ◌<◌, List, [], ◌∷◌, map, if◌then◌else◌}
-use Rattle.tox_time.specs.declared.item.Item.{Item}
-use Rattle.tox_time.specs.Time.{micros_of}
-use Rattle.tox_time.specs.Table.{final_of}
+use Rattle.std.specs.Prelude.{ℕ, ◌+◌, ◌<◌, List, [], ◌∷◌, map, if◌then◌else◌}
+use Rattle.tox_time.specs.declared.streams.item.Item.{Item}
 use Rattle.tox_words.specs.declared.lanes.Lanes.{Lanes}
 use Rattle.tox_words.specs.Draw.{Draws, DrawingView, draws_of, lane_count}
 use Rattle.tox_defs.specs.declared.toxic.Toxic.{Toxic}
-use Rattle.tox_defs.specs.declared.toxic.Toxic.TheVariants.{Latency, Bandwidth, SlowClose, Timeout, ResetPeer, Slicer, LimitData}
-use Rattle.tox_defs.specs.declared.applied.Placed.{Placed}
+use Rattle.tox_defs.specs.declared.chain.applied.Placed.{Placed}
 use Rattle.tox_defs.specs.declared.chain.Entry.{Entry}
-use Rattle.tox_defs.specs.Applied.{is_applied}
-use Rattle.tox_defs.specs.Chain.{Toxics}
+use Rattle.tox_defs.specs.chain.Applied.{is_applied}
+use Rattle.tox_defs.specs.chain.Chain.{Toxics}
 use Rattle.tox_defs.specs.Toxic.{IsInRange}
-use Rattle.tox_defs.specs.Reaction.{Giving, Reaction, counted, flow_through}
-use Rattle.tox_defs.specs.Until.{until}
-use Rattle.tox_defs.specs.toxics.Latency.{latency_gives}
-use Rattle.tox_defs.specs.toxics.Bandwidth.{pace_gives}
-use Rattle.tox_defs.specs.toxics.SlowClose.{slow_gives}
-use Rattle.tox_defs.specs.toxics.Timeout.{mute_gives, timeout_ending}
-use Rattle.tox_defs.specs.toxics.ResetPeer.{cutoff_gives}
-use Rattle.tox_defs.specs.toxics.Slicer.{slicer_gives}
-use Rattle.tox_defs.specs.toxics.LimitData.{limit_gives}
+use Rattle.tox_defs.specs.stage.Reaction.{Giving, Reaction, counted, flow_through}
+use Rattle.tox_defs.specs.operations.Until.{until}
+use Rattle.tox_defs.specs.toxics.{meaning_of}
 
 -- what a toxic gives, by the words of its lane
 abbrev pub toxic_giving : Toxic → (ℕ → ℕ) → Giving
-toxic_giving (Latency latency jitter until) words = latency_gives latency jitter words
-toxic_giving (Bandwidth rate until) words = pace_gives rate
-toxic_giving (SlowClose delay) words = slow_gives (1000 * delay)
-toxic_giving (Timeout timeout) words = mute_gives (final_of (timeout_ending timeout))
-toxic_giving (ResetPeer timeout) words = cutoff_gives (micros_of timeout)
-toxic_giving (Slicer average_size size_variation delay until) words =
-    slicer_gives average_size size_variation delay words
-toxic_giving (LimitData bytes) words = limit_gives bytes
+toxic_giving toxic words = (meaning_of toxic).gives words
 
 -- the milliseconds from which on a toxic lets chunks pass; 0: it never does
 abbrev pub toxic_until : Toxic → ℕ
-toxic_until (Latency latency jitter until) = until
-toxic_until (Bandwidth rate until) = until
-toxic_until (Slicer average_size size_variation delay until) = until
-toxic_until toxic = 0
+toxic_until toxic = (meaning_of toxic).until
 
 -- the reaction of a toxic, by the words of its lane
 abbrev pub toxic_reaction : Toxic → (ℕ → ℕ) → Reaction

@@ -1,18 +1,11 @@
 -- What each toxic promises, for every word table and arrival list.
 use Rattle.std.specs.Prelude.{◌≡◌, ℕ, ◌≤◌, List}
-use Rattle.tox_time.specs.declared.item.Item.{Item}
-use Rattle.tox_time.specs.Stream.{arrived, IsStream, IsArrivalList}
+use Rattle.tox_time.specs.declared.streams.item.Item.{Item}
+use Rattle.tox_time.specs.streams.Stream.{arrived, IsStream, IsArrivalList}
 use Rattle.tox_defs.specs.declared.toxic.Toxic.{Toxic}
-use Rattle.tox_defs.specs.declared.toxic.Toxic.TheVariants.{Latency, Bandwidth, SlowClose, Timeout, ResetPeer, Slicer, LimitData}
-use Rattle.tox_defs.specs.Reaction.{flow}
+use Rattle.tox_defs.specs.stage.Reaction.{flow}
 use Rattle.tox_defs.specs.Flow.{toxic_reaction, toxic_until}
-use Rattle.tox_defs.specs.toxics.Latency.{LatencyLaw}
-use Rattle.tox_defs.specs.toxics.Bandwidth.{BandwidthLaw}
-use Rattle.tox_defs.specs.toxics.SlowClose.{SlowCloseLaw}
-use Rattle.tox_defs.specs.toxics.Timeout.{TimeoutLaw}
-use Rattle.tox_defs.specs.toxics.ResetPeer.{ResetPeerLaw}
-use Rattle.tox_defs.specs.toxics.Slicer.{SlicerLaw}
-use Rattle.tox_defs.specs.toxics.LimitData.{LimitDataLaw}
+use Rattle.tox_defs.specs.toxics.{meaning_of}
 
 -- what a toxic makes of a stream
 abbrev pub toxic_flow : Toxic → (ℕ → ℕ) → List Item → List Item
@@ -20,20 +13,7 @@ toxic_flow toxic words items = flow (toxic_reaction toxic words) items
 
 -- what is promised of a toxic, of the words of its lane, and of an arrival list
 abbrev pub KeepsLaw : Toxic → (ℕ → ℕ) → List Item → Type 0
-KeepsLaw (Latency latency jitter until) words items =
-    LatencyLaw latency jitter items (toxic_flow (Latency latency jitter until) words items)
-KeepsLaw (Bandwidth rate until) words items =
-    BandwidthLaw rate items (toxic_flow (Bandwidth rate until) words items)
-KeepsLaw (SlowClose delay) words items =
-    SlowCloseLaw items (toxic_flow (SlowClose delay) words items)
-KeepsLaw (Timeout timeout) words items = TimeoutLaw (toxic_flow (Timeout timeout) words items)
-KeepsLaw (ResetPeer timeout) words items =
-    ResetPeerLaw timeout (toxic_flow (ResetPeer timeout) words items)
-KeepsLaw (Slicer average_size size_variation delay until) words items =
-    SlicerLaw average_size size_variation items
-    (toxic_flow (Slicer average_size size_variation delay until) words items)
-KeepsLaw (LimitData bytes) words items =
-    LimitDataLaw bytes items (toxic_flow (LimitData bytes) words items)
+KeepsLaw toxic words items = (meaning_of toxic).law items (toxic_flow toxic words items)
 
 -- the law of a toxic that never stops, whatever the words and the arrivals
 abbrev pub HasLaw : Toxic → Type 0

@@ -1,27 +1,43 @@
--- The ranges of a toxic's attributes.
-use Rattle.std.specs.Prelude.{◌≡◌, Bool, false, Option, Some, None, if◌then◌else◌}
+-- The name of a toxic's type, its attributes, and why a toxic is refused.
+use Rattle.std.specs.Prelude.{◌≡◌, ℕ, Bool, false, List, Option, Some, None, Result, Ok, Err, if◌then◌else◌}
+use Rattle.std.specs.List.{find}
+use Rattle.std.specs.Str.{bytes_eq}
+use Rattle.tox_defs.specs.declared.attributes.limits.Limits.{Limits}
 use Rattle.tox_defs.specs.declared.toxic.Toxic.{Toxic}
-use Rattle.tox_defs.specs.declared.toxic.Toxic.TheVariants.{Latency, Bandwidth, SlowClose, Timeout, ResetPeer, Slicer, LimitData}
+use Rattle.tox_defs.specs.declared.toxic.Toxic.TheVariants.{Slicer}
 use Rattle.tox_defs.specs.declared.fault.ToxicFault.{ToxicFault}
 use Rattle.tox_defs.specs.declared.fault.ToxicFault.TheVariants.{OutOfRange, Variation}
-use Rattle.tox_defs.specs.toxics.Latency.{is_latency_within}
-use Rattle.tox_defs.specs.toxics.Bandwidth.{is_bandwidth_within}
-use Rattle.tox_defs.specs.toxics.SlowClose.{is_slow_close_within}
-use Rattle.tox_defs.specs.toxics.Timeout.{is_timeout_within}
-use Rattle.tox_defs.specs.toxics.ResetPeer.{is_reset_peer_within}
-use Rattle.tox_defs.specs.toxics.Slicer.{is_slicer_within, is_slicer_varied_too_much}
-use Rattle.tox_defs.specs.toxics.LimitData.{is_limit_data_within}
+use Rattle.tox_defs.specs.toxics.Ranges.{are_in}
+use Rattle.tox_defs.specs.toxics.{each_type, meaning_of}
+use Rattle.tox_defs.specs.toxics.Slicer.{is_slicer_varied_too_much}
+
+-- the name of a toxic's type
+abbrev pub name_of : Toxic → List ℕ
+name_of toxic = (meaning_of toxic).description.name
+
+-- the names of its attributes, in order
+abbrev pub attributes_of : Toxic → List (List ℕ)
+attributes_of toxic = (meaning_of toxic).description.attributes
+
+-- their ranges
+abbrev pub limits_of : Toxic → List Limits
+limits_of toxic = (meaning_of toxic).description.limits
+
+-- their values
+abbrev pub values_of : Toxic → List ℕ
+values_of toxic = (meaning_of toxic).description.values
+
+-- the toxic of a type's name, with zeros
+abbrev pub toxic_named : List ℕ → Option Toxic
+toxic_named name = find (λ toxic. bytes_eq (name_of toxic) name) each_type
+
+-- the toxic of the same type with these values of its attributes, in order
+abbrev pub with_values : Toxic → List ℕ → Toxic
+with_values toxic values = (meaning_of toxic).with_values values
 
 -- whether each attribute is in its range, but for a size's variation
 abbrev pub is_within : Toxic → Bool
-is_within (Latency latency jitter until) = is_latency_within latency jitter until
-is_within (Bandwidth rate until) = is_bandwidth_within rate until
-is_within (SlowClose delay) = is_slow_close_within delay
-is_within (Timeout timeout) = is_timeout_within timeout
-is_within (ResetPeer timeout) = is_reset_peer_within timeout
-is_within (Slicer average_size size_variation delay until) =
-    is_slicer_within average_size delay until
-is_within (LimitData bytes) = is_limit_data_within bytes
+is_within toxic = are_in (limits_of toxic) (values_of toxic)
 
 -- whether sizes vary by their average or more
 abbrev pub is_varied_too_much : Toxic → Bool
@@ -38,3 +54,12 @@ toxic_fault toxic =
 -- the attributes are in their ranges
 abbrev pub IsInRange : Toxic → Type 0
 IsInRange toxic = toxic_fault toxic ≡ None
+
+-- a toxic, unless it has a fault
+abbrev pub unless : Option ToxicFault → Toxic → Result Toxic ToxicFault
+unless (Some fault) toxic = Err fault
+unless None toxic = Ok toxic
+
+-- a toxic, unless it is refused
+abbrev pub checked : Toxic → Result Toxic ToxicFault
+checked toxic = unless (toxic_fault toxic) toxic

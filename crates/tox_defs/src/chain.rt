@@ -2,7 +2,9 @@
 ghost use Rattle.std.specs.Prelude.{◌≡◌, ℕ, ◌+◌, ◌<◌, ◌≤◌, ◌↔◌, List, [], ◌∷◌, ◌++◌, length, slice_get, Some, IsTrue, IsOk, OnOk, OnErr, IsSomeAnd};
 ghost use Rattle.tox_words.specs.declared.lanes.Lanes.TheVariants.{Sixteen};
 ghost use Rattle.tox_words.specs.Draw.{draws_of, lane_count};
-ghost use Rattle.tox_defs.specs.Applied.{is_applied};
+ghost use Rattle.tox_defs.specs.chain.Applied.{is_applied};
+
+pub(crate) mod applied;
 
 use crate::fault::TooManyToxics;
 use crate::toxic::Toxic;
@@ -61,11 +63,11 @@ pub struct Chain {
 }
 
 impl Model for Chain {
-    ghost use Rattle.tox_defs.specs.Chain.{Toxics};
+    ghost use Rattle.tox_defs.specs.chain.Chain.{Toxics};
 
     ghost Value = { Toxics };
 
-    ghost use Rattle.tox_defs.specs.ChainInside.{toxics, IsKept};
+    ghost use Rattle.tox_defs.specs.chain.ChainInside.{toxics, IsKept};
 
     ghost view = { toxics };
 
@@ -74,11 +76,11 @@ impl Model for Chain {
 
 impl Chain {
     ghost use Rattle.tox_defs.specs.Toxic.{IsInRange};
-    ghost use Rattle.tox_defs.specs.Chain.{IsChain, is_full};
+    ghost use Rattle.tox_defs.specs.chain.Chain.{IsChain, is_full};
     ghost use Rattle.tox_defs.specs.Flow.{chain_flow};
     ghost use Rattle.tox_defs.specs.Laws.{IsKeptBy};
-    ghost use Rattle.tox_time.specs.declared.item.Item.{Item as OneItem};
-    ghost use Rattle.tox_time.specs.Stream.{IsStream, arrived};
+    ghost use Rattle.tox_time.specs.declared.streams.item.Item.{Item as OneItem};
+    ghost use Rattle.tox_time.specs.streams.Stream.{IsStream, arrived};
 
     /// The empty chain of 16 lanes, which changes nothing.
     pub fn new() -> Chain

@@ -1,17 +1,16 @@
 //! Short forms: a toxic and its toxicity in one word, as `latency:latency=100,toxicity=500`.
 ghost use Rattle.std.specs.Prelude.{◌≡◌, ℕ, ◌≤◌, [], IfOk};
-ghost use Rattle.tox_defs.specs.Pairs.{pairs_of};
-ghost use Rattle.tox_defs.specs.Printed.{printed_short};
-ghost use Rattle.tox_defs.specs.Short.{short_of, values_in, with_name, with_pairs};
+ghost use Rattle.tox_defs.specs.short.Pairs.{pairs_of};
+ghost use Rattle.tox_defs.specs.short.Printed.{printed_short};
+ghost use Rattle.tox_defs.specs.short.Short.{short_of, pair_values, with_name, with_pairs};
 ghost use Rattle.tox_defs.specs.Toxic.{IsInRange};
 ghost use Rattle.tox_defs.specs.declared.toxic.Toxic.{Toxic};
 
 mod pairs;
 
+use crate::attributes::values::MAX_ATTRIBUTES;
 use crate::chain::MAX_TOXICITY;
 use crate::fault::{ShortFault, ToxicFault};
-use crate::kind::Kind;
-use crate::ranges::MAX_ATTRIBUTES;
 use crate::toxic::Toxic;
 use arrayvec::ArrayVec;
 use pairs::{are_known, are_pairs, has_double_key, is_word, value_at};
@@ -46,8 +45,8 @@ fn read_name(name: &str) -> Result<(Toxic, u16), ShortFault>
     if !is_word(name) {
         return Err(ShortFault::BadForm);
     }
-    let kind = Kind::of_name(name).ok_or(ToxicFault::UnknownType)?;
-    let toxic = kind.toxic(&[])?;
+    let toxic = Toxic::of_name(name).ok_or(ToxicFault::UnknownType)?;
+    let toxic = toxic.with_values(&[])?;
     Ok((toxic, MAX_TOXICITY))
 }
 
@@ -59,13 +58,13 @@ fn read_pairs(name: &str, pairs: &str) -> Result<(Toxic, u16), ShortFault>
     if !is_word(name) || !are_pairs(pairs) {
         return Err(ShortFault::BadForm);
     }
-    let kind = Kind::of_name(name).ok_or(ToxicFault::UnknownType)?;
-    with_pairs(kind, pairs)
+    let toxic = Toxic::of_name(name).ok_or(ToxicFault::UnknownType)?;
+    with_pairs(&toxic, pairs)
 }
 
-/// The toxic of a type with these pairs.
-fn with_pairs(kind: Kind, pairs: &str) -> Result<(Toxic, u16), ShortFault>
-    ensures value { result ≡ with_pairs kind (pairs_of pairs.now) }
+/// A toxic with the values of these pairs.
+fn with_pairs(toxic: &Toxic, pairs: &str) -> Result<(Toxic, u16), ShortFault>
+    ensures value { result ≡ with_pairs toxic.now (pairs_of pairs.now) }
     ensures fits { IfOk result (λ read. IsInRange read.0 × (read.1 ≤ 1000)) }
 {
     if has_double_key(pairs) {
@@ -75,19 +74,19 @@ fn with_pairs(kind: Kind, pairs: &str) -> Result<(Toxic, u16), ShortFault>
     if toxicity > u64::from(MAX_TOXICITY) {
         return Err(ShortFault::Toxic(ToxicFault::ToxicityNotThousandths));
     }
-    if !are_known(kind, pairs) {
+    if !are_known(toxic, pairs) {
         return Err(ShortFault::Toxic(ToxicFault::UnknownAttribute));
     }
-    let toxic = kind.toxic(&values_in(kind, pairs))?;
+    let toxic = toxic.with_values(&pair_values(toxic, pairs))?;
     Ok((toxic, toxicity as u16))
 }
 
-/// The values of the type's attributes, in order, where an absent one is 0.
-fn values_in(kind: Kind, pairs: &str) -> ArrayVec<u64, MAX_ATTRIBUTES>
-    ensures { result.items ≡ values_in kind (pairs_of pairs.now) }
+/// The values of the toxic's attributes, in order, where an absent one is 0.
+fn pair_values(toxic: &Toxic, pairs: &str) -> ArrayVec<u64, MAX_ATTRIBUTES>
+    ensures { result.items ≡ pair_values toxic.now (pairs_of pairs.now) }
 {
     let mut values = ArrayVec::new();
-    for key in kind.attributes() {
+    for key in toxic.attributes() {
         values.push(value_at(pairs, key).unwrap_or(0));
     }
     values

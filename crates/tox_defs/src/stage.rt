@@ -3,18 +3,17 @@ ghost use Rattle.std.specs.Prelude.{◌≡◌, ◌^◌, ◌<◌, ◌≤◌, ◌�
 ghost use Rattle.tox_words.specs.Draw.{draw_in, lane_count};
 ghost use Rattle.tox_defs.specs.Toxic.{IsInRange};
 ghost use Rattle.tox_defs.specs.Flow.{toxic_reaction};
-ghost use Rattle.tox_defs.specs.Op.{op_of, op_reaction};
-ghost use Rattle.tox_defs.specs.StreamPosition.{fits, AllFit};
+ghost use Rattle.tox_defs.specs.operations.Op.{op_of, op_reaction};
+ghost use Rattle.tox_time.specs.streams.StreamPosition.{fits, AllFit};
 ghost use Rattle.tox_defs.specs.Laws.{HasLaw, KeepsStreams};
-ghost use Rattle.tox_time.specs.declared.item.Item.{Item as OneItem};
-ghost use Rattle.tox_time.specs.Stream.{IsStream, arrived};
+ghost use Rattle.tox_time.specs.declared.streams.item.Item.{Item as OneItem};
+ghost use Rattle.tox_time.specs.streams.Stream.{IsStream, arrived};
 
-use crate::op::Op;
-use crate::op_cursor::{Emission, OpCursor};
-use crate::position::StreamPosition;
+use crate::operations::op::Op;
+use crate::operations::op_cursor::{Emission, OpCursor};
 use crate::toxic::Toxic;
 use std::marker::Model;
-use tox_time::{Ending, Item};
+use tox_time::{Ending, Item, StreamPosition};
 use tox_words::{Drawing, Lanes, Words};
 
 /// A toxic at work on one stream: it takes an item, and then emits what the toxic gives for it.
@@ -29,11 +28,11 @@ pub struct Stage<'w> {
 }
 
 impl<'w> Model for Stage<'w> {
-    ghost use Rattle.tox_defs.specs.Stage.{Staged};
+    ghost use Rattle.tox_defs.specs.stage.Stage.{Staged};
 
     ghost Value = { Staged };
 
-    ghost use Rattle.tox_defs.specs.StageInside.{staged, IsKept};
+    ghost use Rattle.tox_defs.specs.stage.StageInside.{staged, IsKept};
 
     ghost view = { staged };
 
@@ -41,7 +40,7 @@ impl<'w> Model for Stage<'w> {
 }
 
 impl<'w> Stage<'w> {
-    ghost use Rattle.tox_defs.specs.Stage.{first_stage, taken, MatchEmitted};
+    ghost use Rattle.tox_defs.specs.stage.Stage.{first_stage, taken, MatchEmitted};
 
     /// The stage of a toxic at this place of its chain, before its first item. It draws from the lane of that number.
     pub fn new(toxic: Toxic, lanes: Lanes, lane: usize, words: &'w Words) -> Stage<'w>

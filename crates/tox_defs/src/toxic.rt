@@ -1,8 +1,10 @@
 //! The toxics with their attributes.
-ghost use Rattle.std.specs.Prelude.{◌≡◌, ◌↔◌, None, Some, IsOk, IfErr};
-ghost use Rattle.tox_defs.specs.Toxic.{is_varied_too_much, is_within, toxic_fault};
+ghost use Rattle.std.specs.Prelude.{◌≡◌, ◌≤◌, length};
+ghost use Rattle.tox_defs.specs.DescriptionInside.{description_view};
+ghost use Rattle.tox_defs.specs.Toxic.{checked, is_varied_too_much, with_values};
+ghost use Rattle.tox_defs.specs.toxics.{meaning_of};
 
-use crate::fault::ToxicFault;
+use crate::attributes::description::Description;
 use crate::toxics::{bandwidth, latency, limit_data, reset_peer, slicer, slow_close, timeout};
 
 /// A fault that a link can meet, with the attributes of Toxiproxy's toxic of the same name.
@@ -49,44 +51,69 @@ pub enum Toxic {
 }
 
 impl Toxic {
-    /// Whether the attributes are in their ranges: first `OutOfRange`, then `Variation`.
-    pub fn check(&self) -> Result<(), ToxicFault>
-        ensures ok { IsOk result ↔ (toxic_fault self.now ≡ None) }
-        ensures fault { IfErr result (λ e. toxic_fault self.now ≡ Some e) }
-    {
-        if !self.is_within() {
-            return Err(ToxicFault::OutOfRange);
-        }
-        if self.is_varied_too_much() {
-            return Err(ToxicFault::Variation);
-        }
-        Ok(())
-    }
+    /// A toxic of each type, with zeros.
+    pub(crate) const EACH_TYPE: [Toxic; 7] = [
+        Toxic::Latency {
+            latency: 0,
+            jitter: 0,
+            until: 0,
+        },
+        Toxic::Bandwidth { rate: 0, until: 0 },
+        Toxic::SlowClose { delay: 0 },
+        Toxic::Timeout { timeout: 0 },
+        Toxic::ResetPeer { timeout: 0 },
+        Toxic::Slicer {
+            average_size: 0,
+            size_variation: 0,
+            delay: 0,
+            until: 0,
+        },
+        Toxic::LimitData { bytes: 0 },
+    ];
 
-    fn is_within(&self) -> bool
-        ensures { result ≡ is_within self.now }
+    /// The name of the type, and the attributes.
+    pub(crate) fn description(&self) -> Description
+        ensures described { description_view result ≡ (meaning_of self.now).description }
+        ensures few { length result.attributes.now ≤ 4 }
     {
         match *self {
             Toxic::Latency {
                 latency,
                 jitter,
                 until,
-            } => latency::is_within(latency, jitter, until),
-            Toxic::Bandwidth { rate, until } => bandwidth::is_within(rate, until),
-            Toxic::SlowClose { delay } => slow_close::is_within(delay),
-            Toxic::Timeout { timeout } => timeout::is_within(timeout),
-            Toxic::ResetPeer { timeout } => reset_peer::is_within(timeout),
+            } => latency::description(latency, jitter, until),
+            Toxic::Bandwidth { rate, until } => bandwidth::description(rate, until),
+            Toxic::SlowClose { delay } => slow_close::description(delay),
+            Toxic::Timeout { timeout } => timeout::description(timeout),
+            Toxic::ResetPeer { timeout } => reset_peer::description(timeout),
             Toxic::Slicer {
                 average_size,
+                size_variation,
                 delay,
                 until,
-                ..
-            } => slicer::is_within(average_size, delay, until),
-            Toxic::LimitData { bytes } => limit_data::is_within(bytes),
+            } => slicer::description(average_size, size_variation, delay, until),
+            Toxic::LimitData { bytes } => limit_data::description(bytes),
         }
     }
 
-    fn is_varied_too_much(&self) -> bool
+    /// The toxic of the same type with these values of its attributes, or with the greatest of an attribute's type in place of
+    /// a larger one, which is as much out of range.
+    pub(crate) fn saturated(&self, values: &[u64]) -> Toxic
+        ensures { checked result ≡ checked (with_values self.now values.now) }
+    {
+        match self {
+            Toxic::Latency { .. } => latency::from_values(values),
+            Toxic::Bandwidth { .. } => bandwidth::from_values(values),
+            Toxic::SlowClose { .. } => slow_close::from_values(values),
+            Toxic::Timeout { .. } => timeout::from_values(values),
+            Toxic::ResetPeer { .. } => reset_peer::from_values(values),
+            Toxic::Slicer { .. } => slicer::from_values(values),
+            Toxic::LimitData { .. } => limit_data::from_values(values),
+        }
+    }
+
+    /// Whether sizes vary by their average or more.
+    pub(crate) fn is_varied_too_much(&self) -> bool
         ensures { result ≡ is_varied_too_much self.now }
     {
         match *self {

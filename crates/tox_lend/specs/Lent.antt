@@ -1,6 +1,6 @@
 -- Exact slices: what is lent of a piece is its own bytes, at their own positions.
 use Rattle.std.specs.Prelude.{◌≡◌, ℕ}
-use Rattle.tox_time.specs.declared.span.Span.{Span}
+use Rattle.tox_time.specs.declared.streams.span.Span.{Span}
 use Rattle.tox_lend.specs.declared.lent.Lent.{Lent}
 use Rattle.tox_lend.specs.Run.{Run, bytes_at}
 

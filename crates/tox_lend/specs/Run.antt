@@ -1,6 +1,6 @@
 -- Bytes that stand at neighbouring positions of a link and have one instant.
 use Rattle.std.specs.Prelude.{ℕ, ◌+◌, ◌-◌, ◌≤◌, List, length, slice_range}
-use Rattle.tox_time.specs.declared.span.Span.{Span}
+use Rattle.tox_time.specs.declared.streams.span.Span.{Span}
 
 -- bytes from a position on, their instant, and how many bytes their vector has room for: what a piece is seen as
 pub record Run : Type 0 where

@@ -5,8 +5,8 @@ use Rattle.std.proofs.lemmas.Option.{none-some, same_Some}
 use Rattle.tox_network.specs.declared.moves.Move.{Move}
 use Rattle.tox_network.specs.NetworkState.{NetworkState}
 use Rattle.tox_network.specs.Moves.{after, entering, leaving}
-use Rattle.tox_network.specs.EventualDelivery.{to_enter, coming, eventual_delivery, moves_left}
-use Rattle.tox_network.specs.Runs.{after_all, IsRun}
+use Rattle.tox_network.specs.runs.EventualDelivery.{to_enter, coming, eventual_delivery, moves_left}
+use Rattle.tox_network.specs.runs.Runs.{after_all, IsRun}
 use Rattle.tox_network.specs.Rings.{sent_in, given_in}
 use Rattle.tox_network.proofs.Coming.{IsShaped}
 use Rattle.tox_network.proofs.Kept.{keeps_stages, keeps_shape, keeps_eventual_delivery, enters, leaves, one_less}

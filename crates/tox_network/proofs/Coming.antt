@@ -3,11 +3,11 @@ use Rattle.std.proofs.Common.{ℕ, zero, suc, ◌+◌, ◌<◌, ◌≤◌, ◌�
 use Rattle.std.specs.List.{slice_get}
 use Rattle.std.proofs.lemmas.Bool.{cases_lt}
 use Rattle.std.proofs.lemmas.Option.{slice_get_within}
-use Rattle.tox_time.specs.declared.item.Item.{Item}
-use Rattle.tox_defs.specs.Reaction.{flow_from}
+use Rattle.tox_time.specs.declared.streams.item.Item.{Item}
+use Rattle.tox_defs.specs.stage.Reaction.{flow_from}
 use Rattle.tox_network.specs.NetworkState.{NetworkState, queue}
 use Rattle.tox_network.specs.Moves.{reacted}
-use Rattle.tox_network.specs.EventualDelivery.{to_give, coming}
+use Rattle.tox_network.specs.runs.EventualDelivery.{to_give, coming}
 use Rattle.tox_network.proofs.Replaced.{slice_get-set_same, slice_get-set_other}
 use Rattle.tox_network.proofs.MoveForms.{Arrives, Takes, Puts, Delivers}
 

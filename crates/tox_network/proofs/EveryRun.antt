@@ -3,17 +3,17 @@ use Rattle.std.proofs.Common.{ℕ, zero, suc, ◌+◌, ◌*◌, ◌≤◌, ◌�
 use Rattle.std.specs.List.{slice_get}
 use Rattle.std.proofs.lemmas.List.{append-nil, take_all}
 use Rattle.std.proofs.lemmas.Option.{none-some, same_Some}
-use Rattle.tox_time.specs.declared.item.Item.{Item}
-use Rattle.tox_time.specs.Stream.{IsPrefix, IsStream, arrived}
-use Rattle.tox_defs.specs.Chain.{Toxics, IsChain}
+use Rattle.tox_time.specs.declared.streams.item.Item.{Item}
+use Rattle.tox_time.specs.streams.Stream.{IsPrefix, IsStream, arrived}
+use Rattle.tox_defs.specs.chain.Chain.{Toxics, IsChain}
 use Rattle.tox_defs.specs.Flow.{reactions_of}
-use Rattle.tox_defs.specs.Reaction.{Reaction, flow, flow_through}
+use Rattle.tox_defs.specs.stage.Reaction.{Reaction, flow, flow_through}
 use Rattle.tox_network.specs.declared.moves.Move.{Move}
 use Rattle.tox_network.specs.NetworkState.{NetworkState, start, queue}
-use Rattle.tox_network.specs.EventualDelivery.{coming, eventual_delivery, moves_left, IsEmpty}
-use Rattle.tox_network.specs.Runs.{IsRun, IsAtRest, RestingRun}
+use Rattle.tox_network.specs.runs.EventualDelivery.{coming, eventual_delivery, moves_left, IsEmpty}
+use Rattle.tox_network.specs.runs.Runs.{IsRun, IsAtRest, RestingRun}
 use Rattle.tox_network.specs.Rings.{Ring, PassOn, sent_in, given_in, IsRunOf}
-use Rattle.tox_network.specs.RunLaws.{HasRunLaws}
+use Rattle.tox_network.specs.runs.RunLaws.{HasRunLaws}
 use Rattle.tox_network.proofs.Streams.{few_in_front}
 use Rattle.tox_network.proofs.Kept.{HasRoomKept, keeps_room}
 use Rattle.tox_network.proofs.AlongRuns.{run_keeps, run_shape, run_eventual_delivery, run_moves, run_sent, run_given}

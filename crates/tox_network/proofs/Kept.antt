@@ -5,12 +5,12 @@ use Rattle.std.specs.List.{slice_get}
 use Rattle.std.proofs.lemmas.Bool.{cases_eq, eq-eqb, ne_eqb}
 use Rattle.std.proofs.lemmas.List.{append-nil, length_push}
 use Rattle.std.proofs.lemmas.Option.{slice_get_within}
-use Rattle.tox_time.specs.declared.item.Item.{Item}
+use Rattle.tox_time.specs.declared.streams.item.Item.{Item}
 use Rattle.tox_network.specs.declared.moves.Move.{Move}
 use Rattle.tox_network.specs.declared.moves.Move.TheVariants.{Arrive, Take, Put, Deliver}
 use Rattle.tox_network.specs.NetworkState.{NetworkState, queue, unsent_of, unsent_at}
 use Rattle.tox_network.specs.Moves.{reacted, after, only_at, entering, leaving}
-use Rattle.tox_network.specs.EventualDelivery.{to_give, to_enter, coming, eventual_delivery, sum_to, moves_left}
+use Rattle.tox_network.specs.runs.EventualDelivery.{to_give, to_enter, coming, eventual_delivery, sum_to, moves_left}
 use Rattle.tox_network.proofs.MoveForms.{arrives, takes, puts, delivers}
 use Rattle.tox_network.proofs.Coming.{IsShaped, taken_arrivals, taken_coming, taken_coming_at, taken_given, taken_stage, put_coming, put_given, put_stage, arrived_coming, arrived_stages, delivered_coming, delivered_coming_last, delivered_stages}
 

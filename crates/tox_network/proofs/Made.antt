@@ -6,13 +6,13 @@ use Rattle.std.specs.Option.{option_map}
 use Rattle.std.proofs.lemmas.Bool.{cases_eq}
 use Rattle.std.proofs.lemmas.List.{map-set}
 use Rattle.std.proofs.lemmas.Option.{same_Some, slice_get-map, slice_get_within}
-use Rattle.tox_time.specs.declared.item.Item.{Item}
-use Rattle.tox_defs.specs.Stage.{Staged, taken}
+use Rattle.tox_time.specs.declared.streams.item.Item.{Item}
+use Rattle.tox_defs.specs.stage.Stage.{Staged, taken}
 use Rattle.tox_network.specs.declared.moves.Move.{Move}
 use Rattle.tox_network.specs.declared.moves.Move.TheVariants.{Arrive, Take, Put, Deliver}
 use Rattle.tox_network.specs.NetworkState.{NetworkState, StageState, queue}
 use Rattle.tox_network.specs.Moves.{after, only_at}
-use Rattle.tox_network.specs.NetworkView.{NetworkView, stage_of, state_of, IsStep, IsSound}
+use Rattle.tox_network.specs.NetworkView.{NetworkView, stage_of, state_of, IsStep, IsSoundNetwork}
 use Rattle.tox_network.proofs.Replaced.{slice_get-set_same, slice_get-set_other}
 use Rattle.tox_network.proofs.MoveForms.{arrive_is, take_is, put_is, deliver_is}
 use Rattle.tox_network.proofs.Kept.{only_at-same, only_at-other}
@@ -32,9 +32,9 @@ state_parts network waiting queues stages delivered a q s d =
     ∙ ap (λ ss. make network.waiting network.queues ss delivered) (sym s)
     ∙ ap (make network.waiting network.queues (map stage_of network.stages)) (sym d)
 
-pub arrive_made : (old new : NetworkView) (item : Item) → IsSound old → old.waiting ≡ item ∷ new.waiting → length (queue (state_of old) 0) < old.cap
+pub arrive_made : (old new : NetworkView) (item : Item) → IsSoundNetwork old → old.waiting ≡ item ∷ new.waiting → length (queue (state_of old) 0) < old.cap
     → new.queues ≡ slice_set old.queues 0 (queue (state_of old) 0 ++ item ∷ []) → new.stages ≡ old.stages → new.delivered ≡ old.delivered
-    → new.cap ≡ old.cap → new.arrived ≡ old.arrived → new.steps ≡ old.steps + 1 → IsSound new × IsStep Arrive old new
+    → new.cap ≡ old.cap → new.arrived ≡ old.arrived → new.steps ≡ old.steps + 1 → IsSoundNetwork new × IsStep Arrive old new
 arrive_made old new item sound first room queues stages delivered cap arrived steps =
     let made : after old.cap (state_of old) Arrive ≡ Some (state_of new) =
     arrive_is old.cap (state_of old) item new.waiting first room ∙ ap Some (state_parts new _ _ _ _ refl queues (ap (map stage_of) stages) delivered) in (
@@ -42,9 +42,9 @@ arrive_made old new item sound first room queues stages delivered cap arrived st
       step_made old new Arrive sound made cap arrived steps,
     )
 
-pub take_made : (old new : NetworkView) (k : ℕ) (stage : Staged) (item : Item) → IsSound old → slice_get old.stages k ≡ Some stage → stage.pending ≡ [] → queue (state_of old) k ≡ item ∷ drop 1 (queue (state_of old) k)
+pub take_made : (old new : NetworkView) (k : ℕ) (stage : Staged) (item : Item) → IsSoundNetwork old → slice_get old.stages k ≡ Some stage → stage.pending ≡ [] → queue (state_of old) k ≡ item ∷ drop 1 (queue (state_of old) k)
     → new.queues ≡ slice_set old.queues k (drop 1 (queue (state_of old) k)) → new.stages ≡ slice_set old.stages k (taken stage item) → new.waiting ≡ old.waiting → new.delivered ≡ old.delivered
-    → new.cap ≡ old.cap → new.arrived ≡ old.arrived → new.steps ≡ old.steps + 1 → IsSound new × IsStep (Take k) old new
+    → new.cap ≡ old.cap → new.arrived ≡ old.arrived → new.steps ≡ old.steps + 1 → IsSoundNetwork new × IsStep (Take k) old new
 take_made old new k stage item sound at idle first queues stages waiting delivered cap arrived steps =
     let n : NetworkState = state_of old in
     let within : k < length old.stages = slice_get_within old.stages k stage at in
@@ -67,9 +67,9 @@ take_made old new k stage item sound at idle first queues stages waiting deliver
       step_made old new (Take k) sound made cap arrived steps,
     )
 
-pub put_made : (old new : NetworkView) (k : ℕ) (stage after_it : Staged) (item : Item) → IsSound old → slice_get old.stages k ≡ Some stage → stage.pending ≡ item ∷ after_it.pending → after_it ≡ record stage { pending = after_it.pending } → length (queue (state_of old) (k + 1)) < old.cap
+pub put_made : (old new : NetworkView) (k : ℕ) (stage after_it : Staged) (item : Item) → IsSoundNetwork old → slice_get old.stages k ≡ Some stage → stage.pending ≡ item ∷ after_it.pending → after_it ≡ record stage { pending = after_it.pending } → length (queue (state_of old) (k + 1)) < old.cap
     → new.queues ≡ slice_set old.queues (k + 1) (queue (state_of old) (k + 1) ++ item ∷ []) → new.stages ≡ slice_set old.stages k after_it → new.waiting ≡ old.waiting → new.delivered ≡ old.delivered
-    → new.cap ≡ old.cap → new.arrived ≡ old.arrived → new.steps ≡ old.steps + 1 → IsSound new × IsStep (Put k) old new
+    → new.cap ≡ old.cap → new.arrived ≡ old.arrived → new.steps ≡ old.steps + 1 → IsSoundNetwork new × IsStep (Put k) old new
 put_made old new k stage after_it item sound at first emitted room queues stages waiting delivered cap arrived steps =
     let n : NetworkState = state_of old in
     let within : k < length old.stages = slice_get_within old.stages k stage at in
@@ -91,9 +91,9 @@ put_made old new k stage after_it item sound at first emitted room queues stages
       step_made old new (Put k) sound made cap arrived steps,
     )
 
-pub deliver_made : (old new : NetworkView) (item : Item) → IsSound old → queue (state_of old) (length old.stages) ≡ item ∷ drop 1 (queue (state_of old) (length old.stages))
+pub deliver_made : (old new : NetworkView) (item : Item) → IsSoundNetwork old → queue (state_of old) (length old.stages) ≡ item ∷ drop 1 (queue (state_of old) (length old.stages))
     → new.queues ≡ slice_set old.queues (length old.stages) (drop 1 (queue (state_of old) (length old.stages))) → new.delivered ≡ old.delivered ++ item ∷ [] → new.stages ≡ old.stages → new.waiting ≡ old.waiting
-    → new.cap ≡ old.cap → new.arrived ≡ old.arrived → new.steps ≡ old.steps + 1 → IsSound new × IsStep Deliver old new
+    → new.cap ≡ old.cap → new.arrived ≡ old.arrived → new.steps ≡ old.steps + 1 → IsSoundNetwork new × IsStep Deliver old new
 deliver_made old new item sound first queues delivered stages waiting cap arrived steps =
     let n : NetworkState = state_of old in
     let last = length n.stages in
@@ -113,5 +113,5 @@ deliver_made old new item sound first queues delivered stages waiting cap arrive
     )
 
 -- a step from the fields is one from the network that they are
-pub step_from : {old now new : NetworkView} {move : Move} → old ≡ now → IsSound new × IsStep move old new → IsStep move now new
+pub step_from : {old now new : NetworkView} {move : Move} → old ≡ now → IsSoundNetwork new × IsStep move old new → IsStep move now new
 step_from {old} {now} {new} {move} same made = subst (λ network. IsStep move network new) same made.1

@@ -5,7 +5,7 @@ use Rattle.std.specs.Option.{option_and_then}
 use Rattle.std.specs.List.{slice_get}
 use Rattle.std.proofs.lemmas.Option.{none-some, same_Some}
 use Rattle.std.proofs.lemmas.Bool.{ltb-true, lt-ltb, le-ltb}
-use Rattle.tox_time.specs.declared.item.Item.{Item}
+use Rattle.tox_time.specs.declared.streams.item.Item.{Item}
 use Rattle.tox_network.specs.NetworkState.{NetworkState, StageState, queue}
 use Rattle.tox_network.specs.Moves.{with_queue, arrive, reacted, take_first, take_at, put_first, put_at, deliver}
 

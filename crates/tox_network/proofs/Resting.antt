@@ -5,13 +5,13 @@ use Rattle.std.specs.Option.{option_and_then}
 use Rattle.std.proofs.lemmas.Bool.{cases_eq}
 use Rattle.std.proofs.lemmas.List.{append-nil, get_or_past}
 use Rattle.std.proofs.lemmas.Option.{none-some, same_Some, slice_get_cases, slice_get_within}
-use Rattle.tox_time.specs.declared.item.Item.{Item}
+use Rattle.tox_time.specs.declared.streams.item.Item.{Item}
 use Rattle.tox_network.specs.declared.moves.Move.{Move}
 use Rattle.tox_network.specs.declared.moves.Move.TheVariants.{Arrive, Take, Put, Deliver}
 use Rattle.tox_network.specs.NetworkState.{NetworkState, StageState, queue, unsent_of, unsent_at}
 use Rattle.tox_network.specs.Moves.{after, arrive, take_first, take_at, put_first, put_at, deliver}
-use Rattle.tox_network.specs.EventualDelivery.{to_give, to_enter, coming, eventual_delivery, sum_to, moves_left, IsEmpty}
-use Rattle.tox_network.specs.Runs.{after_all, IsAtRest, RestingRun}
+use Rattle.tox_network.specs.runs.EventualDelivery.{to_give, to_enter, coming, eventual_delivery, sum_to, moves_left, IsEmpty}
+use Rattle.tox_network.specs.runs.Runs.{after_all, IsAtRest, RestingRun}
 use Rattle.tox_network.specs.Possible.{if_any, possible, possible_before}
 use Rattle.tox_network.proofs.Coming.{IsShaped}
 use Rattle.tox_network.proofs.MoveForms.{arrive_is, take_is, put_is, deliver_is}

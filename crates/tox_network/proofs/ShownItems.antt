@@ -1,14 +1,14 @@
 -- What slices and an ending show before and after one more item.
 use Rattle.std.proofs.Common.{◌≡◌, List, [], ◌∷◌, ◌++◌, map, Option, Some, None, true, false, refl, sym, ◌∙◌, ap, replicate}
 use Rattle.std.proofs.lemmas.List.{map-append}
-use Rattle.tox_time.specs.declared.item.Item.{Item}
-use Rattle.tox_time.specs.declared.slice.Slice.{Slice}
-use Rattle.tox_time.specs.declared.ending.Ending.{Ending}
-use Rattle.tox_time.specs.declared.ending.Ending.TheVariants.{StillOpen, Closed, Reset}
-use Rattle.tox_time.specs.declared.outcome.Outcome.{Outcome}
-use Rattle.tox_time.specs.Stream.{has_final, span_len}
-use Rattle.tox_time.specs.Table.{table, slices_table, ending, IsOutcomeOf}
-use Rattle.tox_defs.specs.Look.{as_chunk}
+use Rattle.tox_time.specs.declared.streams.item.Item.{Item}
+use Rattle.tox_time.specs.declared.streams.slice.Slice.{Slice}
+use Rattle.tox_time.specs.declared.streams.ending.Ending.{Ending}
+use Rattle.tox_time.specs.declared.streams.ending.Ending.TheVariants.{StillOpen, Closed, Reset}
+use Rattle.tox_time.specs.declared.streams.outcome.Outcome.{Outcome}
+use Rattle.tox_time.specs.streams.Stream.{has_final, span_len}
+use Rattle.tox_time.specs.streams.Table.{table, slices_table, ending, IsOutcomeOf}
+use Rattle.tox_defs.specs.operations.Look.{as_chunk}
 use Rattle.tox_network.specs.Shown.{shown}
 
 final_is_shown : (slices : List Slice) (end : Ending) → has_final (shown slices (Some end)) ≡ true

@@ -4,28 +4,28 @@ use Rattle.std.specs.List.{slice_get}
 use Rattle.std.proofs.lemmas.List.{length-map, length-replicate, take_all}
 use Rattle.std.proofs.lemmas.Option.{none-some, same_Some, slice_get_within}
 use Rattle.std.proofs.Math.Nat.{mul-le-mul_left}
-use Rattle.tox_time.specs.declared.item.Item.{Item}
-use Rattle.tox_time.specs.Stream.{IsStream, arrived, has_final}
+use Rattle.tox_time.specs.declared.streams.item.Item.{Item}
+use Rattle.tox_time.specs.streams.Stream.{IsStream, arrived, has_final}
 use Rattle.tox_words.specs.Draw.{Draws, DrawingView, draws_of}
 use Rattle.tox_time.proofs.StreamLemmas.{final_of_stream}
 use Rattle.tox_defs.specs.declared.chain.Entry.{Entry}
-use Rattle.tox_defs.specs.declared.position.StreamPosition.{StreamPosition}
-use Rattle.tox_defs.specs.Applied.{is_applied}
-use Rattle.tox_defs.specs.Chain.{Toxics, IsChain, max_toxics}
-use Rattle.tox_defs.specs.Reaction.{flow_through}
-use Rattle.tox_defs.specs.declared.applied.Placed.{Placed}
+use Rattle.tox_time.specs.declared.streams.position.StreamPosition.{StreamPosition}
+use Rattle.tox_defs.specs.chain.Applied.{is_applied}
+use Rattle.tox_defs.specs.chain.Chain.{Toxics, IsChain, max_toxics}
+use Rattle.tox_defs.specs.stage.Reaction.{flow_through}
+use Rattle.tox_defs.specs.declared.chain.applied.Placed.{Placed}
 use Rattle.tox_defs.specs.Flow.{toxic_reaction, applied_from, applied, chain_drawing, chain_draws, reactions_of}
-use Rattle.tox_defs.specs.StreamPosition.{fits, first_position, position_after, AllFit}
-use Rattle.tox_defs.specs.Stage.{Staged}
+use Rattle.tox_time.specs.streams.StreamPosition.{fits, first_position, position_after, AllFit}
+use Rattle.tox_defs.specs.stage.Stage.{Staged}
 use Rattle.tox_words.proofs.LaneCounts.{lane_count-most}
-use Rattle.tox_defs.proofs.OpOf.{op_reaction-op_of}
+use Rattle.tox_defs.proofs.ToxicProofs.{toxic_facts}
 use Rattle.tox_defs.proofs.Places.{AllFit-stream}
 use Rattle.tox_network.specs.declared.moves.Move.{Move}
 use Rattle.tox_network.specs.NetworkState.{NetworkState, StageState, idle_stage, start, queue}
 use Rattle.tox_network.specs.Moves.{after, leaving}
-use Rattle.tox_network.specs.EventualDelivery.{coming, eventual_delivery, moves_left, most_moves}
-use Rattle.tox_network.specs.Runs.{IsAtRest}
-use Rattle.tox_network.specs.NetworkView.{NetworkView, stage_of, placed_stage, state_of, IsStart, IsStep, IsSound}
+use Rattle.tox_network.specs.runs.EventualDelivery.{coming, eventual_delivery, moves_left, most_moves}
+use Rattle.tox_network.specs.runs.Runs.{IsAtRest}
+use Rattle.tox_network.specs.NetworkView.{NetworkView, stage_of, placed_stage, state_of, IsStart, IsStep, IsSoundNetwork}
 use Rattle.tox_network.proofs.Coming.{IsShaped, coming_first}
 use Rattle.tox_network.proofs.Kept.{keeps_stages, keeps_shape, keeps_eventual_delivery, leaves, one_less}
 use Rattle.tox_network.proofs.Starting.{start_coming, start_eventual_delivery, start_moves}
@@ -35,7 +35,7 @@ use Rattle.tox_network.proofs.Streams.{kept_by_front, few_in_front, no_final_bef
 pub stage_count : (network : NetworkView) → length (state_of network).stages ≡ length network.stages
 stage_count network = length-map network.stages stage_of
 
-pub sound_shape : (network : NetworkView) → IsSound network → IsShaped (state_of network)
+pub sound_shape : (network : NetworkView) → IsSoundNetwork network → IsShaped (state_of network)
 sound_shape network sound = sound.shaped ∙ ap (λ count. count + 1) (sym (stage_count network))
 
 -- The places of stages
@@ -57,7 +57,7 @@ PlacesMoveOn move old new =
 
 -- Moves
 
-pub sound_after : (old new : NetworkView) (move : Move) → IsSound old → after old.cap (state_of old) move ≡ Some (state_of new) → new.cap ≡ old.cap → new.arrived ≡ old.arrived → new.steps ≡ old.steps + 1 → PlacesMoveOn move old new → IsSound new
+pub sound_after : (old new : NetworkView) (move : Move) → IsSoundNetwork old → after old.cap (state_of old) move ≡ Some (state_of new) → new.cap ≡ old.cap → new.arrived ≡ old.arrived → new.steps ≡ old.steps + 1 → PlacesMoveOn move old new → IsSoundNetwork new
 sound_after old new move sound made cap arrived steps places =
     let n : NetworkState = state_of old in
     let t : NetworkState = state_of new in
@@ -79,7 +79,7 @@ sound_after old new move sound made cap arrived steps places =
       small = subst (λ bound. bound < 2 ^ 64) (sym most) sound.small;
     }
 
-pub step_made : (old new : NetworkView) (move : Move) → IsSound old → after old.cap (state_of old) move ≡ Some (state_of new) → new.cap ≡ old.cap → new.arrived ≡ old.arrived → new.steps ≡ old.steps + 1 → IsStep move old new
+pub step_made : (old new : NetworkView) (move : Move) → IsSoundNetwork old → after old.cap (state_of old) move ≡ Some (state_of new) → new.cap ≡ old.cap → new.arrived ≡ old.arrived → new.steps ≡ old.steps + 1 → IsStep move old new
 step_made old new move sound made cap arrived steps =
     let shaped = sound_shape old sound in
     record {
@@ -92,20 +92,20 @@ step_made old new move sound made cap arrived steps =
     }
 
 -- the first item of a queue may be taken
-pub may_take : (network : NetworkView) (k : ℕ) (stage : Staged) (item : Item) (rest : List Item) → IsSound network → slice_get network.stages k ≡ Some stage → queue (state_of network) k ≡ item ∷ rest → fits stage.place item ≡ true
+pub may_take : (network : NetworkView) (k : ℕ) (stage : Staged) (item : Item) (rest : List Item) → IsSoundNetwork network → slice_get network.stages k ≡ Some stage → queue (state_of network) k ≡ item ∷ rest → fits stage.place item ≡ true
 may_take network k stage item rest sound at first =
     let comes = coming_first (state_of network) k item rest first in
     (subst (AllFit stage.place) comes.1 (sound.fits k stage at)).0
 
 -- while an item is still to be delivered no final was
-pub no_final_yet : (network : NetworkView) (item : Item) (rest : List Item) → IsSound network → queue (state_of network) (length network.stages) ≡ item ∷ rest → has_final network.delivered ≡ false
+pub no_final_yet : (network : NetworkView) (item : Item) (rest : List Item) → IsSoundNetwork network → queue (state_of network) (length network.stages) ≡ item ∷ rest → has_final network.delivered ≡ false
 no_final_yet network item rest sound first =
     let here : queue (state_of network) (length (state_of network).stages) ≡ item ∷ rest = subst (λ k. queue (state_of network) k ≡ item ∷ rest) (sym (stage_count network)) first in
     let comes = coming_first (state_of network) (length (state_of network).stages) item rest here in
     no_final_before 0 0 network.delivered item comes.0 (subst (λ items. IsStream (network.delivered ++ items)) comes.1 sound.whole)
 
 -- at rest the final was delivered
-pub final_at_rest : (network : NetworkView) → IsSound network → IsAtRest network.cap (state_of network) → has_final network.delivered ≡ true
+pub final_at_rest : (network : NetworkView) → IsSoundNetwork network → IsAtRest network.cap (state_of network) → has_final network.delivered ≡ true
 final_at_rest network sound rest =
     let empty = rest_empty network.cap (state_of network) sound.room (sound_shape network sound) rest in
     final_of_stream 0 0 network.delivered (subst IsStream (empty_eventual_delivery (state_of network) empty) sound.whole)
@@ -126,7 +126,7 @@ length-applied_from place (entry ∷ entries) draws =
 states_of_toxics : (toxics : List Placed) (drawing : DrawingView) → map stage_of (map (placed_stage drawing) toxics) ≡ map idle_stage (map (λ placed. toxic_reaction placed.toxic (draws_of drawing placed.place)) toxics)
 states_of_toxics [] drawing = refl
 states_of_toxics (placed ∷ toxics) drawing =
-    ap (λ reaction. idle_stage reaction ∷ map stage_of (map (placed_stage drawing) toxics)) (op_reaction-op_of placed.place placed.toxic (draws_of drawing))
+    ap (λ reaction. idle_stage reaction ∷ map stage_of (map (placed_stage drawing) toxics)) ((toxic_facts placed.toxic).reacts placed.place (draws_of drawing))
     ∙ ap (λ stages. idle_stage (toxic_reaction placed.toxic (draws_of drawing placed.place)) ∷ stages) (states_of_toxics toxics drawing)
 
 places_of_toxics : (toxics : List Placed) (drawing : DrawingView) (k : ℕ) (stage : Staged) → slice_get (map (placed_stage drawing) toxics) k ≡ Some stage → stage.place ≡ first_position
@@ -155,7 +155,7 @@ first_state_of cap chain words items =
     ap (λ count. with (replicate (count + 1) []) (map stage_of (map (placed_stage (chain_drawing chain words)) toxics))) same
     ∙ ap (with (replicate (length (reactions_of chain words) + 1) [])) (states_of_toxics toxics (chain_drawing chain words))
 
-pub sound_start : (cap : ℕ) (chain : Toxics) (words : List ℕ) (items : List Item) → 1 ≤ cap → IsChain chain → IsStream items → arrived items ≤ 2 ^ 40 → IsSound (first_network cap (chain_drawing chain words) (applied chain words) items)
+pub sound_start : (cap : ℕ) (chain : Toxics) (words : List ℕ) (items : List Item) → 1 ≤ cap → IsChain chain → IsStream items → arrived items ≤ 2 ^ 40 → IsSoundNetwork (first_network cap (chain_drawing chain words) (applied chain words) items)
 unfolding first_network
 sound_start cap chain words items room fits stream bytes =
     let toxics = applied chain words in
@@ -186,7 +186,7 @@ sound_start cap chain words items room fits stream bytes =
 -- a network made of these parts is sound, and made no move yet
 pub first_made : (network : NetworkView) (cap : ℕ) (chain : Toxics) (words : List ℕ) (items : List Item) → 1 ≤ cap → IsChain chain → IsStream items → arrived items ≤ 2 ^ 40
     → network.cap ≡ cap → network.arrived ≡ items → network.steps ≡ 0 → network.waiting ≡ items → network.queues ≡ replicate (length network.stages + 1) []
-    → network.stages ≡ map (placed_stage (chain_drawing chain words)) (applied chain words) → network.delivered ≡ [] → IsSound network × IsStart chain words items cap network
+    → network.stages ≡ map (placed_stage (chain_drawing chain words)) (applied chain words) → network.delivered ≡ [] → IsSoundNetwork network × IsStart chain words items cap network
 unfolding first_network
 first_made network cap chain words items room fits stream bytes same_cap same_arrived same_steps same_waiting same_queues same_stages same_delivered =
     let toxics = applied chain words in
@@ -201,6 +201,6 @@ first_made network cap chain words items room fits stream bytes same_cap same_ar
     ∙ ap (λ q. make cap items 0 items q network.stages network.delivered) queues
     ∙ ap (λ s. make cap items 0 items (replicate (length toxics + 1) []) s network.delivered) same_stages
     ∙ ap (make cap items 0 items (replicate (length toxics + 1) []) (map (placed_stage (chain_drawing chain words)) toxics)) same_delivered in (
-      subst IsSound (sym same) (sound_start cap chain words items room fits stream bytes),
+      subst IsSoundNetwork (sym same) (sound_start cap chain words items room fits stream bytes),
       record { state = ap state_of same ∙ first_state_of cap chain words items; cap = same_cap; arrived = same_arrived; steps = same_steps },
     )

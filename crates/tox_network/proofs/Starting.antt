@@ -4,10 +4,10 @@ use Rattle.std.specs.List.{slice_get}
 use Rattle.std.specs.Option.{option_map}
 use Rattle.std.proofs.lemmas.List.{length-replicate, length-map, take_all}
 use Rattle.std.proofs.lemmas.Option.{none-some, same_Some, slice_get-map, slice_get_cases}
-use Rattle.tox_time.specs.declared.item.Item.{Item}
-use Rattle.tox_defs.specs.Reaction.{Reaction, flow, flow_through}
+use Rattle.tox_time.specs.declared.streams.item.Item.{Item}
+use Rattle.tox_defs.specs.stage.Reaction.{Reaction, flow, flow_through}
 use Rattle.tox_network.specs.NetworkState.{NetworkState, idle_stage, start, queue}
-use Rattle.tox_network.specs.EventualDelivery.{to_give, to_enter, coming, eventual_delivery, sum_to, moves_left}
+use Rattle.tox_network.specs.runs.EventualDelivery.{to_give, to_enter, coming, eventual_delivery, sum_to, moves_left}
 use Rattle.tox_network.proofs.Coming.{IsShaped}
 
 pub start_stages : (reactions : List Reaction) (arrivals : List Item) → length (start reactions arrivals).stages ≡ length reactions

@@ -2,14 +2,14 @@
 use Rattle.std.proofs.Common.{◌≡◌, ℕ, zero, suc, ◌+◌, ◌≤◌, false, List, [], ◌∷◌, ◌++◌, map, take, length, refl, arith}
 use Rattle.std.specs.Prelude.{All}
 use Rattle.std.proofs.lemmas.List.Elements.{All-head, All-tail}
-use Rattle.tox_time.specs.declared.item.Item.{Item}
-use Rattle.tox_time.specs.declared.item.Item.TheVariants.{Chunk, Closed, Reset, Quiet}
-use Rattle.tox_time.specs.Stream.{IsStreamFrom, IsStream, arrived, has_final}
+use Rattle.tox_time.specs.declared.streams.item.Item.{Item}
+use Rattle.tox_time.specs.declared.streams.item.Item.TheVariants.{Chunk, Closed, Reset, Quiet}
+use Rattle.tox_time.specs.streams.Stream.{IsStreamFrom, IsStream, arrived, has_final}
 use Rattle.tox_words.specs.Draw.{Draws}
 use Rattle.tox_defs.specs.Toxic.{IsInRange}
-use Rattle.tox_defs.specs.Chain.{Toxics, IsChain}
-use Rattle.tox_defs.specs.Reaction.{flow_through}
-use Rattle.tox_defs.specs.declared.applied.Placed.{Placed}
+use Rattle.tox_defs.specs.chain.Chain.{Toxics, IsChain}
+use Rattle.tox_defs.specs.stage.Reaction.{flow_through}
+use Rattle.tox_defs.specs.declared.chain.applied.Placed.{Placed}
 use Rattle.tox_defs.specs.Flow.{toxic_reaction, applied, chain_draws, reactions_of}
 use Rattle.tox_defs.specs.Laws.{toxic_flow, IsKeptBy}
 use Rattle.tox_defs.proofs.ChainStreams.{toxic_keeps, in_range-applied}

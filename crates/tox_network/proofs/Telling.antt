@@ -3,16 +3,16 @@ use Rattle.std.proofs.Common.{◌≡◌, ℕ, suc, ◌+◌, List, [], ◌∷◌,
 use Rattle.std.specs.List.{slice_get}
 use Rattle.std.specs.Prelude.{◌↔◌, is_some, IsNone, IsSome, IfSome, IfNone}
 use Rattle.std.proofs.lemmas.Option.{none-some}
-use Rattle.tox_time.specs.declared.item.Item.{Item}
-use Rattle.tox_defs.specs.Stage.{Staged}
+use Rattle.tox_time.specs.declared.streams.item.Item.{Item}
+use Rattle.tox_defs.specs.stage.Stage.{Staged}
 use Rattle.tox_network.specs.declared.moves.Move.{Move}
 use Rattle.tox_network.specs.declared.moves.Move.TheVariants.{Take, Put}
 use Rattle.tox_network.specs.NetworkState.{queue, unsent_of}
 use Rattle.tox_network.specs.Moves.{after}
-use Rattle.tox_network.specs.EventualDelivery.{IsEmpty}
-use Rattle.tox_network.specs.Runs.{IsAtRest}
+use Rattle.tox_network.specs.runs.EventualDelivery.{IsEmpty}
+use Rattle.tox_network.specs.runs.Runs.{IsAtRest}
 use Rattle.tox_network.specs.Possible.{if_any, possible, possible_before}
-use Rattle.tox_network.specs.NetworkView.{NetworkView, state_of, IsSound}
+use Rattle.tox_network.specs.NetworkView.{NetworkView, state_of, IsSoundNetwork}
 use Rattle.tox_network.proofs.Resting.{Finds, finds_possible, empty_rest}
 use Rattle.tox_network.proofs.Sound.{sound_shape}
 use Rattle.tox_network.proofs.Made.{state_at}
@@ -31,12 +31,12 @@ tells_found network (Some move) found = record {
   empty = tt;
 }
 
-pub tells : (network : NetworkView) (told : Option Move) → IsSound network → told ≡ possible (state_of network) → Tells network told
+pub tells : (network : NetworkView) (told : Option Move) → IsSoundNetwork network → told ≡ possible (state_of network) → Tells network told
 tells network told sound is =
     subst (Tells network) (sym is) (tells_found network (possible (state_of network)) (finds_possible network.cap (state_of network) sound.room (sound_shape network sound)))
 
-pub tells_at : (network now : NetworkView) (told : Option Move) → IsSound network → network ≡ now → told ≡ possible (state_of now) → Tells now told
-tells_at network now told sound same is = tells now told (subst IsSound same sound) is
+pub tells_at : (network now : NetworkView) (told : Option Move) → IsSoundNetwork network → network ≡ now → told ≡ possible (state_of now) → Tells now told
+tells_at network now told sound same is = tells now told (subst IsSoundNetwork same sound) is
 
 -- an idle stage has no item, so its queue is looked at
 pub before_idle : (network : NetworkView) (place k : ℕ) (stage : Staged) → k + 1 ≡ place → slice_get network.stages k ≡ Some stage → stage.pending ≡ []

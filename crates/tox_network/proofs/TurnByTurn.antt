@@ -10,9 +10,9 @@ use Rattle.tox_network.specs.declared.moves.Move.{Move}
 use Rattle.tox_network.specs.declared.moves.Move.TheVariants.{Deliver}
 use Rattle.tox_network.specs.NetworkState.{NetworkState}
 use Rattle.tox_network.specs.Moves.{after}
-use Rattle.tox_network.specs.Runs.{after_all, IsRun}
+use Rattle.tox_network.specs.runs.Runs.{after_all, IsRun}
 use Rattle.tox_network.specs.NetworkView.{NetworkView, state_of, IsStep, HasChunkFirst}
-use Rattle.tox_network.specs.Settling.{turn, Follows, Settles, IsRefusedAt}
+use Rattle.tox_network.specs.runs.Settling.{turn, FollowsTurns, Settles, IsRefusedAt}
 use Rattle.tox_network.proofs.AlongRuns.{went_on}
 
 run_more : (cap : ℕ) (n u t : NetworkState) (moves : List Move) (move : Move) → IsRun cap n moves u → after cap u move ≡ Some t → IsRun cap n (moves ++ move ∷ []) t
@@ -31,7 +31,7 @@ first_of_rest listed zero = refl
 first_of_rest [] (suc k) = refl
 first_of_rest (move ∷ moves) (suc k) = first_of_rest moves k
 
-follows_more : (cap : ℕ) (listed made : List Move) (n u : NetworkState) (move : Move) → IsRun cap n made u → Follows cap listed made n → turn cap (slice_get listed (length made)) u ≡ Some move → Follows cap listed (made ++ move ∷ []) n
+follows_more : (cap : ℕ) (listed made : List Move) (n u : NetworkState) (move : Move) → IsRun cap n made u → FollowsTurns cap listed made n → turn cap (slice_get listed (length made)) u ≡ Some move → FollowsTurns cap listed (made ++ move ∷ []) n
 follows_more cap listed [] n u move run follows next = (ap (turn cap (slice_get listed 0)) (same_Some _ _ run) ∙ next, λ t made. tt)
 follows_more cap listed (first ∷ made) n u move run follows next =
     let on = went_on (after_all cap made) (after cap n first) u run in

@@ -2,10 +2,10 @@
 use Rattle.std.proofs.Common.{◌≡◌, ℕ, ◌+◌, ◌≤◌, Bool, List, [], ◌∷◌, ◌++◌, drop, not, length, refl, ◌∙◌, ap, arith, length-append, length-drop}
 use Rattle.std.specs.List.{list_all}
 use Rattle.std.proofs.lemmas.List.{append-nil}
-use Rattle.tox_time.specs.declared.item.Item.{Item}
-use Rattle.tox_time.specs.declared.item.Item.TheVariants.{Chunk, Closed, Reset, Quiet}
-use Rattle.tox_time.specs.Arrivals.{arrival_list}
-use Rattle.tox_time.specs.Stream.{arrived, is_final, span_len}
+use Rattle.tox_time.specs.declared.streams.item.Item.{Item}
+use Rattle.tox_time.specs.declared.streams.item.Item.TheVariants.{Chunk, Closed, Reset, Quiet}
+use Rattle.tox_time.specs.streams.Arrivals.{arrival_list}
+use Rattle.tox_time.specs.streams.Stream.{arrived, is_final, span_len}
 use Rattle.tox_network.specs.Arriving.{Arriving}
 use Rattle.tox_network.specs.WaitingInside.{quiet_item}
 

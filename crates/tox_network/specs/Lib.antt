@@ -1,14 +1,11 @@
 pub mod NetworkState
 pub mod Moves
-pub mod EventualDelivery
-pub mod Runs
+pub mod runs
 pub mod Possible
 pub mod Rings
-pub mod RunLaws
 pub mod Shown
 pub mod Queued
 pub mod Arriving
 pub mod WaitingInside
 pub mod NetworkView
 pub mod NetworkInside
-pub mod Settling

@@ -1,8 +1,8 @@
 -- The moves of a network: which are possible, and what each one changes.
 use Rattle.std.specs.Prelude.{ℕ, ◌+◌, ◌==◌, List, [], ◌∷◌, ◌++◌, length, take, nat_lt, if◌then◌else◌, Option, Some, None, slice_get, slice_set}
 use Rattle.std.specs.Option.{option_and_then}
-use Rattle.tox_time.specs.declared.item.Item.{Item}
-use Rattle.tox_defs.specs.Reaction.{react}
+use Rattle.tox_time.specs.declared.streams.item.Item.{Item}
+use Rattle.tox_defs.specs.stage.Reaction.{react}
 use Rattle.tox_network.specs.declared.moves.Move.{Move}
 use Rattle.tox_network.specs.declared.moves.Move.TheVariants.{Arrive, Take, Put, Deliver}
 use Rattle.tox_network.specs.NetworkState.{NetworkState, StageState, queue, unsent_at}

@@ -1,6 +1,6 @@
 -- What a contract sees of a `Network`, and what its fields keep.
 use Rattle.tox_network.specs.declared.network.Network.TheInside.{Inside}
-use Rattle.tox_network.specs.NetworkView.{NetworkView, IsSound}
+use Rattle.tox_network.specs.NetworkView.{NetworkView, IsSoundNetwork}
 
 abbrev pub network_view : Inside → NetworkView
 network_view network = record {
@@ -14,4 +14,4 @@ network_view network = record {
 }
 
 abbrev pub IsKept : Inside → Type 0
-IsKept network = IsSound (network_view network)
+IsKept network = IsSoundNetwork (network_view network)

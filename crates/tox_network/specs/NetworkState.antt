@@ -1,8 +1,8 @@
 -- The state of a network: queues with stages between them.
 use Rattle.std.specs.Prelude.{ℕ, ◌+◌, List, [], map, length, replicate, Option, Some, None, slice_get, slice_index_or}
-use Rattle.tox_time.specs.declared.item.Item.{Item}
-use Rattle.tox_defs.specs.declared.state.State.{State}
-use Rattle.tox_defs.specs.Reaction.{Reaction, first_state}
+use Rattle.tox_time.specs.declared.streams.item.Item.{Item}
+use Rattle.tox_defs.specs.declared.operations.state.State.{State}
+use Rattle.tox_defs.specs.stage.Reaction.{Reaction, first_state}
 
 -- a toxic at work: its reaction, the state that this is in, and what it gave and has still to put
 pub record StageState : Type 0 where

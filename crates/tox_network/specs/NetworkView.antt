@@ -1,18 +1,18 @@
 -- A network as a value.
 use Rattle.std.specs.Prelude.{◌≡◌, ℕ, ◌+◌, ◌≤◌, ◌<◌, ◌^◌, ◌∷◌, false, List, map, length, Some, slice_get}
-use Rattle.tox_time.specs.declared.item.Item.{Item}
-use Rattle.tox_time.specs.Stream.{IsStream, is_final}
+use Rattle.tox_time.specs.declared.streams.item.Item.{Item}
+use Rattle.tox_time.specs.streams.Stream.{IsStream, is_final}
 use Rattle.tox_words.specs.Draw.{DrawingView}
-use Rattle.tox_defs.specs.Chain.{Toxics}
-use Rattle.tox_defs.specs.declared.applied.Placed.{Placed}
+use Rattle.tox_defs.specs.chain.Chain.{Toxics}
+use Rattle.tox_defs.specs.declared.chain.applied.Placed.{Placed}
 use Rattle.tox_defs.specs.Flow.{reactions_of}
-use Rattle.tox_defs.specs.Op.{op_of}
-use Rattle.tox_defs.specs.StreamPosition.{AllFit}
-use Rattle.tox_defs.specs.Stage.{Staged, first_stage, reaction_of}
+use Rattle.tox_defs.specs.operations.Op.{op_of}
+use Rattle.tox_time.specs.streams.StreamPosition.{AllFit}
+use Rattle.tox_defs.specs.stage.Stage.{Staged, first_stage, reaction_of}
 use Rattle.tox_network.specs.declared.moves.Move.{Move}
 use Rattle.tox_network.specs.NetworkState.{NetworkState, StageState, start, queue}
 use Rattle.tox_network.specs.Moves.{after}
-use Rattle.tox_network.specs.EventualDelivery.{coming, eventual_delivery, moves_left, most_moves}
+use Rattle.tox_network.specs.runs.EventualDelivery.{coming, eventual_delivery, moves_left, most_moves}
 
 -- what a network is seen as: the room of each queue, all arrivals, the moves made, and the parts of its state
 pub record NetworkView : Type 0 where
@@ -67,7 +67,7 @@ HasChunkFirst network =
     × (queue (state_of network) (length network.stages) ≡ item ∷ rest) × (is_final item ≡ false)
 
 -- what every move keeps
-pub record IsSound (network : NetworkView) : Type 0 where
+pub record IsSoundNetwork (network : NetworkView) : Type 0 where
   pub room : 1 ≤ network.cap
   -- a queue before each stage and one behind the last
   pub shaped : length network.queues ≡ length network.stages + 1

@@ -1,6 +1,6 @@
 -- Queues with room for so many items each.
 use Rattle.std.specs.Prelude.{ℕ, List, [], slice_index_or}
-use Rattle.tox_time.specs.declared.item.Item.{Item}
+use Rattle.tox_time.specs.declared.streams.item.Item.{Item}
 
 -- what the queues are seen as
 pub record Queued : Type 0 where

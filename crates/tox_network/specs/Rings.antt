@@ -1,12 +1,12 @@
 -- The network in running threads: a ring in place of each queue, at work all at once.
 use Rattle.std.specs.Prelude.{◌≡◌, ℕ, List, [], ◌∷◌, ◌++◌, length, Some, slice_get}
 use Rattle.std.specs.Option.{option_map_or}
-use Rattle.tox_time.specs.declared.item.Item.{Item}
-use Rattle.tox_defs.specs.Reaction.{Reaction, flow}
+use Rattle.tox_time.specs.declared.streams.item.Item.{Item}
+use Rattle.tox_defs.specs.stage.Reaction.{Reaction, flow}
 use Rattle.tox_network.specs.declared.moves.Move.{Move}
 use Rattle.tox_network.specs.NetworkState.{NetworkState, start}
 use Rattle.tox_network.specs.Moves.{after, entering, leaving}
-use Rattle.tox_network.specs.Runs.{RestingRun}
+use Rattle.tox_network.specs.runs.Runs.{RestingRun}
 
 -- all that a ring was sent, and all that it gave
 pub record Ring : Type 0 where

@@ -1,8 +1,8 @@
 -- What a contract sees of a `Waiting`, and what its fields keep.
 use Rattle.std.specs.Prelude.{◌≤◌, ◌++◌, ◌∷◌, [], List, Bool, true, false, drop, length}
-use Rattle.tox_time.specs.declared.item.Item.{Item}
-use Rattle.tox_time.specs.declared.item.Item.TheVariants.{Quiet}
-use Rattle.tox_time.specs.Arrivals.{arrival_list}
+use Rattle.tox_time.specs.declared.streams.item.Item.{Item}
+use Rattle.tox_time.specs.declared.streams.item.Item.TheVariants.{Quiet}
+use Rattle.tox_time.specs.streams.Arrivals.{arrival_list}
 use Rattle.tox_network.specs.declared.waiting.Waiting.TheInside.{Inside}
 use Rattle.tox_network.specs.Arriving.{Arriving}
 

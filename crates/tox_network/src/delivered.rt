@@ -1,6 +1,6 @@
 //! The list of delivered items.
 ghost use Rattle.std.specs.Prelude.{◌≡◌, [], ◌∷◌, ◌++◌, true, false, Some, OnOk, OnErr};
-ghost use Rattle.tox_time.specs.Stream.{has_final, is_final};
+ghost use Rattle.tox_time.specs.streams.Stream.{has_final, is_final};
 ghost use Rattle.tox_network.specs.Shown.{shown};
 
 use std::alloc::{AllocError, Global};
@@ -16,7 +16,7 @@ pub struct Delivered {
 
 impl Model for Delivered {
     ghost use Rattle.std.specs.Prelude.{List};
-    ghost use Rattle.tox_time.specs.declared.item.Item.{Item as OneItem};
+    ghost use Rattle.tox_time.specs.declared.streams.item.Item.{Item as OneItem};
     ghost use Rattle.tox_network.specs.Shown.{shown};
 
     ghost Value = { List OneItem };

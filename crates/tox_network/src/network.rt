@@ -1,15 +1,15 @@
 //! A network of stages, and its moves.
 ghost use Rattle.std.specs.Prelude.{◌≡◌, ◌≤◌, ◌↔◌, Some, None, IfNone, IfSome, IfErr, IfOk, length, IsNone, IsSome, IsSomeAnd, OnOk, OnErr, IsTrue, IsFalse};
 ghost use Rattle.std.specs.Result.{IsErrOf};
-ghost use Rattle.tox_time.specs.Arrivals.{arrival_list};
-ghost use Rattle.tox_time.specs.Table.{IsOutcomeOf};
+ghost use Rattle.tox_time.specs.streams.Arrivals.{arrival_list};
+ghost use Rattle.tox_time.specs.streams.Table.{IsOutcomeOf};
 ghost use Rattle.tox_network.specs.declared.moves.Move.TheVariants.{Arrive, Take, Put, Deliver};
 ghost use Rattle.tox_network.specs.Moves.{after};
-ghost use Rattle.tox_network.specs.RunLaws.{HasRunLaws};
-ghost use Rattle.tox_network.specs.Runs.{IsAtRest};
-ghost use Rattle.tox_network.specs.EventualDelivery.{IsEmpty, most_moves};
+ghost use Rattle.tox_network.specs.runs.RunLaws.{HasRunLaws};
+ghost use Rattle.tox_network.specs.runs.Runs.{IsAtRest};
+ghost use Rattle.tox_network.specs.runs.EventualDelivery.{IsEmpty, most_moves};
 ghost use Rattle.tox_network.specs.Possible.{possible, possible_before};
-ghost use Rattle.tox_network.specs.Settling.{turn, Settles, IsRefusedAt};
+ghost use Rattle.tox_network.specs.runs.Settling.{turn, Settles, IsRefusedAt};
 ghost use Rattle.tox_network.specs.Shown.{shown};
 
 use crate::delivered::Delivered;

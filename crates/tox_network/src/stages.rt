@@ -1,6 +1,6 @@
 //! The stages of a chain.
 ghost use Rattle.std.specs.Prelude.{◌≡◌, IfOk, map};
-ghost use Rattle.tox_defs.specs.Chain.{IsChain};
+ghost use Rattle.tox_defs.specs.chain.Chain.{IsChain};
 ghost use Rattle.tox_defs.specs.Flow.{applied, chain_drawing};
 ghost use Rattle.tox_network.specs.NetworkView.{placed_stage};
 

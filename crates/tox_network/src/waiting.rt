@@ -1,8 +1,8 @@
 //! The arrivals that wait in front of a network.
 ghost use Rattle.std.specs.Prelude.{◌≡◌, ◌≢◌, ◌≤◌, ◌↔◌, ◌^◌, [], ◌∷◌, IsTrue, not};
 ghost use Rattle.std.specs.List.{list_all};
-ghost use Rattle.tox_time.specs.Arrivals.{arrival_list};
-ghost use Rattle.tox_time.specs.Stream.{IsArrivalList, arrived, is_final};
+ghost use Rattle.tox_time.specs.streams.Arrivals.{arrival_list};
+ghost use Rattle.tox_time.specs.streams.Stream.{IsArrivalList, arrived, is_final};
 
 use std::marker::Model;
 use tox_time::{Arrivals, Item};

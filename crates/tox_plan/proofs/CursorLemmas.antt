@@ -1,16 +1,16 @@
 -- What is still to come from nested cursors.
 use Rattle.std.proofs.Common.{◌≡◌, ℕ, ◌<◌, ◌≤◌, false, List, [], ◌∷◌, ◌++◌, append_assoc, None, refl, ap, sym, ◌∙◌, arith, inr}
 use Rattle.std.proofs.lemmas.List.{append-nil}
-use Rattle.tox_time.specs.declared.slice.Slice.{Slice}
-use Rattle.tox_time.specs.declared.item.Item.{Item}
-use Rattle.tox_time.specs.declared.ending.Ending.{Ending}
-use Rattle.tox_time.specs.Table.{final_of}
+use Rattle.tox_time.specs.declared.streams.slice.Slice.{Slice}
+use Rattle.tox_time.specs.declared.streams.item.Item.{Item}
+use Rattle.tox_time.specs.declared.streams.ending.Ending.{Ending}
+use Rattle.tox_time.specs.streams.Table.{final_of}
 use Rattle.tox_words.specs.Draw.{Draws}
-use Rattle.tox_defs.specs.declared.op_cursor.OpCursor.{OpCursor}
-use Rattle.tox_defs.specs.Reaction.{Answer, counted, flow_from}
-use Rattle.tox_defs.specs.Op.{op_giving, op_reaction, op_until}
-use Rattle.tox_defs.specs.Look.{as_chunk, rest_of}
-use Rattle.tox_defs.specs.OpCursor.{cursor_gives}
+use Rattle.tox_defs.specs.declared.operations.op_cursor.OpCursor.{OpCursor}
+use Rattle.tox_defs.specs.stage.Reaction.{Answer, counted, flow_from}
+use Rattle.tox_defs.specs.operations.Op.{op_giving, op_reaction, op_until}
+use Rattle.tox_defs.specs.operations.Look.{as_chunk, rest_of}
+use Rattle.tox_defs.specs.operations.OpCursor.{cursor_gives}
 use Rattle.tox_defs.proofs.FlowLemmas.{flow_from-last, react-running}
 use Rattle.tox_defs.proofs.Stopping.{is_late-final, until-early}
 use Rattle.tox_defs.proofs.OpCursors.{rest_of-read, rest_of-unread, cursor_gives-running}

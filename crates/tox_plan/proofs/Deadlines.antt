@@ -5,20 +5,20 @@ use Rattle.std.proofs.lemmas.Bool.{le-ltb, ltb-true, ltb-false}
 use Rattle.std.proofs.lemmas.Option.{same_Some}
 use Rattle.tox_time.specs.Time.{horizon}
 use Rattle.tox_time.proofs.StreamLemmas.{final_of_stream}
-use Rattle.tox_time.specs.declared.slice.Slice.{Slice}
-use Rattle.tox_time.specs.declared.item.Item.{Item}
-use Rattle.tox_time.specs.declared.item.Item.TheVariants.{Chunk, Closed, Reset, Quiet}
-use Rattle.tox_time.specs.declared.ending.Ending.{Ending}
-use Rattle.tox_time.specs.Stream.{has_final, IsStreamFrom}
+use Rattle.tox_time.specs.declared.streams.slice.Slice.{Slice}
+use Rattle.tox_time.specs.declared.streams.item.Item.{Item}
+use Rattle.tox_time.specs.declared.streams.item.Item.TheVariants.{Chunk, Closed, Reset, Quiet}
+use Rattle.tox_time.specs.declared.streams.ending.Ending.{Ending}
+use Rattle.tox_time.specs.streams.Stream.{has_final, IsStreamFrom}
 use Rattle.tox_words.specs.Draw.{Draws, draws_of}
-use Rattle.tox_defs.specs.declared.op.Op.{Op}
-use Rattle.tox_defs.specs.declared.op.Op.TheVariants.{Delay, Pace, Slow, Mute, Cutoff, Slicing, Limit}
-use Rattle.tox_defs.specs.declared.op_cursor.OpCursor.{OpCursor}
-use Rattle.tox_defs.specs.declared.state.State.{State}
-use Rattle.tox_defs.specs.Reaction.{flow_from}
+use Rattle.tox_defs.specs.declared.operations.op.Op.{Op}
+use Rattle.tox_defs.specs.declared.operations.op.Op.TheVariants.{Delay, Pace, Slow, Mute, Cutoff, Slicing, Limit}
+use Rattle.tox_defs.specs.declared.operations.op_cursor.OpCursor.{OpCursor}
+use Rattle.tox_defs.specs.declared.operations.state.State.{State}
+use Rattle.tox_defs.specs.stage.Reaction.{flow_from}
 use Rattle.tox_defs.specs.toxics.ResetPeer.{is_before, cutoff_gives}
-use Rattle.tox_defs.specs.Op.{op_reaction, is_mute}
-use Rattle.tox_defs.specs.OpCursor.{cursor_gives}
+use Rattle.tox_defs.specs.operations.Op.{op_reaction, is_mute}
+use Rattle.tox_defs.specs.operations.OpCursor.{cursor_gives}
 use Rattle.tox_defs.proofs.FlowLemmas.{Continues-counted, flow_from-done}
 use Rattle.tox_defs.proofs.OpCursors.{rest_of-read, cursor_gives-running}
 use Rattle.tox_compile.specs.Meaning.{deadline_of, earlier}

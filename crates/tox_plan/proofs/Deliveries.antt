@@ -2,19 +2,19 @@
 use Rattle.std.proofs.Common.{◌≡◌, ℕ, zero, suc, ◌+◌, ◌-◌, ◌<◌, ◌≤◌, ◌^◌, List, [], ◌∷◌, ◌++◌, map, length, drop, get_or, add-one, drop-cons, replicate, None, refl, ap, ◌∙◌, sym, subst, arith, append_assoc}
 use Rattle.std.specs.Prelude.{Any}
 use Rattle.std.proofs.lemmas.List.{append-nil, replicate-append-replicate}
-use Rattle.tox_time.specs.declared.span.Span.{Span}
-use Rattle.tox_time.specs.declared.slice.Slice.{Slice}
-use Rattle.tox_time.specs.declared.outcome.Outcome.{Outcome}
-use Rattle.tox_time.specs.declared.item.Item.{Item}
-use Rattle.tox_time.specs.declared.item.Item.TheVariants.{Chunk, Closed, Reset, Quiet}
-use Rattle.tox_time.specs.declared.ending.Ending.{Ending}
-use Rattle.tox_time.specs.declared.ending.Ending.TheVariants.{StillOpen, Closed as ClosedAt, Reset as ResetAt}
-use Rattle.tox_time.specs.Stream.{IsStreamFrom, HasReset, arrived, latest_from, span_len}
-use Rattle.tox_time.specs.Arrivals.{arrival_list}
-use Rattle.tox_time.specs.Table.{final_of, table, slices_table, ending, IsOutcomeOf}
-use Rattle.tox_time.specs.Neighbours.{AreNeighbours, LiesInChunk}
+use Rattle.tox_time.specs.declared.streams.span.Span.{Span}
+use Rattle.tox_time.specs.declared.streams.slice.Slice.{Slice}
+use Rattle.tox_time.specs.declared.streams.outcome.Outcome.{Outcome}
+use Rattle.tox_time.specs.declared.streams.item.Item.{Item}
+use Rattle.tox_time.specs.declared.streams.item.Item.TheVariants.{Chunk, Closed, Reset, Quiet}
+use Rattle.tox_time.specs.declared.streams.ending.Ending.{Ending}
+use Rattle.tox_time.specs.declared.streams.ending.Ending.TheVariants.{StillOpen, Closed as ClosedAt, Reset as ResetAt}
+use Rattle.tox_time.specs.streams.Stream.{IsStreamFrom, HasReset, arrived, latest_from, span_len}
+use Rattle.tox_time.specs.streams.Arrivals.{arrival_list}
+use Rattle.tox_time.specs.streams.Table.{final_of, table, slices_table, ending, IsOutcomeOf}
+use Rattle.tox_time.specs.streams.Neighbours.{AreNeighbours, LiesInChunk}
 use Rattle.tox_time.proofs.StreamLemmas.{table-append}
-use Rattle.tox_defs.specs.Look.{as_chunk}
+use Rattle.tox_defs.specs.operations.Look.{as_chunk}
 use Rattle.tox_plan.specs.RunnerView.{RunnerView, to_come, no_piece}
 use Rattle.tox_plan.specs.Cuts.{Reach, IsCut, IsWithin}
 use Rattle.tox_plan.specs.Delivering.{PreservesOutput, stop_from, MayFollow, EndsAt, StandsAt, StandsBehind}

@@ -1,15 +1,15 @@
 -- An ending passes through drained cursors as an ending.
 use Rattle.std.proofs.Common.{◌≡◌, ℕ, List, [], ◌∷◌, ap, ◌∙◌}
-use Rattle.tox_time.specs.declared.slice.Slice.{Slice}
-use Rattle.tox_time.specs.declared.ending.Ending.{Ending}
-use Rattle.tox_time.specs.Table.{ending, final_of}
+use Rattle.tox_time.specs.declared.streams.slice.Slice.{Slice}
+use Rattle.tox_time.specs.declared.streams.ending.Ending.{Ending}
+use Rattle.tox_time.specs.streams.Table.{ending, final_of}
 use Rattle.tox_words.specs.Draw.{Draws}
-use Rattle.tox_defs.specs.declared.op.Op.{Op}
-use Rattle.tox_defs.specs.declared.state.State.{State}
-use Rattle.tox_defs.specs.declared.op_cursor.OpCursor.{OpCursor}
-use Rattle.tox_defs.specs.Op.{op_giving}
-use Rattle.tox_defs.specs.OpCursor.{cursor_gives}
-use Rattle.tox_defs.proofs.Finals.{gives-final}
+use Rattle.tox_defs.specs.declared.operations.op.Op.{Op}
+use Rattle.tox_defs.specs.declared.operations.state.State.{State}
+use Rattle.tox_defs.specs.declared.operations.op_cursor.OpCursor.{OpCursor}
+use Rattle.tox_defs.specs.operations.Op.{op_giving}
+use Rattle.tox_defs.specs.operations.OpCursor.{cursor_gives}
+use Rattle.tox_defs.proofs.OpStreams.{gives-final}
 use Rattle.tox_plan.specs.OpCursors.{to_come_from, AreNested, AreDrained}
 use Rattle.tox_plan.proofs.CursorLemmas.{cursor_gives-final, to_come_from-read}
 

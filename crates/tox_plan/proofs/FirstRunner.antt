@@ -1,13 +1,13 @@
 -- A runner that was offered nothing yet.
 use Rattle.std.proofs.Common.{◌≡◌, ◌≤◌, true, false, List, length, Option, Some, None, refl, ap, ◌∙◌, sym, arith, inr}
 use Rattle.std.specs.Prelude.{is_some, IsSome, All, MatchOption}
-use Rattle.tox_time.specs.declared.item.Item.{Item}
-use Rattle.tox_time.specs.declared.ending.Ending.{Ending}
-use Rattle.tox_time.specs.Stream.{IsStream}
+use Rattle.tox_time.specs.declared.streams.item.Item.{Item}
+use Rattle.tox_time.specs.declared.streams.ending.Ending.{Ending}
+use Rattle.tox_time.specs.streams.Stream.{IsStream}
 use Rattle.tox_words.specs.Draw.{DrawingView, draws_of}
-use Rattle.tox_defs.specs.declared.op.Op.{Op}
-use Rattle.tox_defs.specs.Reaction.{flow_through}
-use Rattle.tox_defs.specs.Op.{IsOp}
+use Rattle.tox_defs.specs.declared.operations.op.Op.{Op}
+use Rattle.tox_defs.specs.stage.Reaction.{flow_through}
+use Rattle.tox_defs.specs.operations.Op.{IsOp}
 use Rattle.tox_compile.specs.Meaning.{op_reactions}
 use Rattle.tox_plan.specs.OpCursors.{cursors_at_start, AreDrained, OnlyEnds, HaveEnded}
 use Rattle.tox_plan.specs.RunnerView.{RunnerView, IsRunning, to_come, no_piece}

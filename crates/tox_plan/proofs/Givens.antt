@@ -1,11 +1,11 @@
 -- What a runner has given, after each of its calls.
 use Rattle.std.proofs.Common.{◌≡◌, List, [], ◌∷◌, ◌++◌, refl, ap, ◌∙◌, sym, subst, append_assoc}
 use Rattle.std.proofs.lemmas.List.{append-nil}
-use Rattle.tox_time.specs.declared.slice.Slice.{Slice}
-use Rattle.tox_time.specs.declared.item.Item.{Item}
-use Rattle.tox_time.specs.declared.item.Item.TheVariants.{Chunk, Closed, Reset, Quiet}
-use Rattle.tox_time.specs.Stream.{IsStream}
-use Rattle.tox_time.specs.Table.{table, slices_table, ending}
+use Rattle.tox_time.specs.declared.streams.slice.Slice.{Slice}
+use Rattle.tox_time.specs.declared.streams.item.Item.{Item}
+use Rattle.tox_time.specs.declared.streams.item.Item.TheVariants.{Chunk, Closed, Reset, Quiet}
+use Rattle.tox_time.specs.streams.Stream.{IsStream}
+use Rattle.tox_time.specs.streams.Table.{table, slices_table, ending}
 use Rattle.tox_compile.specs.Meaning.{Ops, means}
 use Rattle.tox_plan.specs.RunnerView.{RunnerView, to_come, HasNoChunk}
 use Rattle.tox_plan.specs.Cuts.{IsCut}

@@ -1,8 +1,8 @@
 -- Where the ending of a runner is known.
 use Rattle.std.proofs.Common.{◌≡◌, ◌≢◌, true, [], ◌∷◌, Option, Some, None, refl, ◌∙◌, sym, ◌⊎◌, inl, inr}
 use Rattle.std.specs.Prelude.{IsSome}
-use Rattle.tox_time.specs.declared.ending.Ending.{Ending}
-use Rattle.tox_time.specs.Table.{final_of}
+use Rattle.tox_time.specs.declared.streams.ending.Ending.{Ending}
+use Rattle.tox_time.specs.streams.Table.{final_of}
 use Rattle.tox_words.specs.Draw.{draws_of}
 use Rattle.tox_plan.specs.RunnerView.{RunnerView, IsRunning, to_come}
 use Rattle.tox_plan.proofs.CursorLemmas.{drained-silent}

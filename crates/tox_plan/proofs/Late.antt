@@ -2,27 +2,27 @@
 use Rattle.std.proofs.Common.{◌≡◌, ℕ, zero, suc, ◌+◌, ◌-◌, ◌*◌, ◌≤◌, max, if◌then◌else◌, Bool, true, false, List, [], ◌∷◌, ◌++◌, refl, ap, ◌∙◌, sym, subst, arith}
 use Rattle.std.specs.Prelude.{nat_lt}
 use Rattle.std.specs.Int.{div_ceil}
-use Rattle.tox_time.specs.declared.span.Span.{Span}
-use Rattle.tox_time.specs.declared.item.Item.{Item}
-use Rattle.tox_time.specs.declared.item.Item.TheVariants.{Chunk, Closed, Reset, Quiet}
-use Rattle.tox_time.specs.declared.ending.Ending.{Ending}
-use Rattle.tox_time.specs.declared.ending.Ending.TheVariants.{StillOpen, Closed as ClosedAt, Reset as ResetAt}
+use Rattle.tox_time.specs.declared.streams.span.Span.{Span}
+use Rattle.tox_time.specs.declared.streams.item.Item.{Item}
+use Rattle.tox_time.specs.declared.streams.item.Item.TheVariants.{Chunk, Closed, Reset, Quiet}
+use Rattle.tox_time.specs.declared.streams.ending.Ending.{Ending}
+use Rattle.tox_time.specs.declared.streams.ending.Ending.TheVariants.{StillOpen, Closed as ClosedAt, Reset as ResetAt}
 use Rattle.tox_time.specs.Time.{horizon, plus}
-use Rattle.tox_time.specs.Stream.{span_len, has_final, IsStreamFrom}
-use Rattle.tox_time.specs.Table.{final_of}
+use Rattle.tox_time.specs.streams.Stream.{span_len, has_final, IsStreamFrom}
+use Rattle.tox_time.specs.streams.Table.{final_of}
 use Rattle.tox_time.proofs.StreamLemmas.{has_final-append}
 use Rattle.tox_words.specs.Draw.{Draws}
-use Rattle.tox_defs.specs.declared.op.Op.{Op}
-use Rattle.tox_defs.specs.declared.op.Op.TheVariants.{Delay, Pace, Slow, Mute, Cutoff, Slicing, Limit}
-use Rattle.tox_defs.specs.declared.state.State.{State}
-use Rattle.tox_defs.specs.Reaction.{Answer, counted, flow_from, react}
-use Rattle.tox_defs.specs.Until.{is_late, late_answer}
-use Rattle.tox_defs.specs.Ordered.{in_order}
+use Rattle.tox_defs.specs.declared.operations.op.Op.{Op}
+use Rattle.tox_defs.specs.declared.operations.op.Op.TheVariants.{Delay, Pace, Slow, Mute, Cutoff, Slicing, Limit}
+use Rattle.tox_defs.specs.declared.operations.state.State.{State}
+use Rattle.tox_defs.specs.stage.Reaction.{Answer, counted, flow_from, react}
+use Rattle.tox_defs.specs.operations.Until.{is_late, late_answer}
+use Rattle.tox_defs.specs.toxics.Ordered.{in_order}
 use Rattle.tox_defs.specs.toxics.LimitData.{first_bytes}
-use Rattle.tox_defs.specs.Pieces.{leave, pieces_of}
+use Rattle.tox_defs.specs.toxics.Pieces.{leave, pieces_of}
 use Rattle.tox_defs.specs.toxics.ResetPeer.{is_before}
-use Rattle.tox_defs.specs.Varied.{varied}
-use Rattle.tox_defs.specs.Op.{op_giving, op_reaction, op_until, is_mute}
+use Rattle.tox_defs.specs.toxics.Varied.{varied}
+use Rattle.tox_defs.specs.operations.Op.{op_giving, op_reaction, op_until, is_mute}
 use Rattle.tox_defs.proofs.FlowLemmas.{react-running}
 use Rattle.tox_defs.proofs.Stopping.{is_late-final, until-early}
 use Rattle.tox_plan.proofs.Endings.{giving-final}

@@ -4,13 +4,13 @@ use Rattle.std.proofs.Math.Nat.{mul-le-mul_right}
 use Rattle.std.proofs.Math.Seq.{take-append_seam}
 use Rattle.std.specs.List.{refill}
 use Rattle.std.specs.Prelude.{is_some, IsSome, IsNone, IfSome}
-use Rattle.tox_time.specs.declared.slice.Slice.{Slice}
-use Rattle.tox_time.specs.declared.item.Item.{Item}
-use Rattle.tox_time.specs.declared.item.Item.TheVariants.{Chunk, Closed, Reset, Quiet}
-use Rattle.tox_time.specs.declared.ending.Ending.{Ending}
-use Rattle.tox_time.specs.Table.{final_of}
+use Rattle.tox_time.specs.declared.streams.slice.Slice.{Slice}
+use Rattle.tox_time.specs.declared.streams.item.Item.{Item}
+use Rattle.tox_time.specs.declared.streams.item.Item.TheVariants.{Chunk, Closed, Reset, Quiet}
+use Rattle.tox_time.specs.declared.streams.ending.Ending.{Ending}
+use Rattle.tox_time.specs.streams.Table.{final_of}
 use Rattle.tox_words.specs.Draw.{draws_of}
-use Rattle.tox_defs.specs.declared.op_cursor.OpCursor.{OpCursor}
+use Rattle.tox_defs.specs.declared.operations.op_cursor.OpCursor.{OpCursor}
 use Rattle.tox_plan.specs.OpCursors.{AreNested, AreDrained, IsNext, HaveEnded, AreOpenUnless}
 use Rattle.tox_plan.specs.RunnerView.{RunnerView, IsRunning, IsFound, to_come, reader_at, round_due, HasNoChunk}
 use Rattle.tox_plan.specs.Cuts.{BeginsApart, EndsHere}

@@ -1,9 +1,9 @@
 -- A runner after an accepted offer.
 use Rattle.std.proofs.Common.{◌≡◌, ℕ, ◌<◌, ◌≤◌, ◌+◌, ◌*◌, ◌^◌, true, false, List, ◌∷◌, length, None, refl, ap, ◌∙◌, sym, subst, arith}
 use Rattle.std.specs.Prelude.{is_some, IsSome, IfSome}
-use Rattle.tox_time.specs.declared.item.Item.{Item}
+use Rattle.tox_time.specs.declared.streams.item.Item.{Item}
 use Rattle.tox_words.specs.Draw.{draws_of}
-use Rattle.tox_defs.specs.Look.{as_chunk}
+use Rattle.tox_defs.specs.operations.Look.{as_chunk}
 use Rattle.tox_plan.specs.OpCursors.{AreDrained}
 use Rattle.tox_plan.specs.RunnerView.{RunnerView, IsRunning, IsFound, to_come, reader_at, next_piece}
 use Rattle.tox_plan.proofs.CursorLemmas.{nested-longer, drained-at, drained-offered}

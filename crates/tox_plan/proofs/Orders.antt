@@ -2,15 +2,15 @@
 use Rattle.std.proofs.Common.{◌≡◌, ◌≢◌, ℕ, zero, suc, ◌<◌, ◌≤◌, List, [], ◌∷◌, ◌++◌, replicate, ap, ◌∙◌, sym, subst, arith, append_assoc}
 use Rattle.std.specs.Prelude.{All}
 use Rattle.std.proofs.lemmas.List.Elements.{All-head, All-tail}
-use Rattle.tox_time.specs.declared.slice.Slice.{Slice}
-use Rattle.tox_time.specs.declared.item.Item.{Item}
-use Rattle.tox_time.specs.declared.item.Item.TheVariants.{Chunk, Closed, Reset, Quiet}
-use Rattle.tox_time.specs.Stream.{IsStream, IsStreamFrom, span_len}
-use Rattle.tox_time.specs.Table.{table, slices_table}
+use Rattle.tox_time.specs.declared.streams.slice.Slice.{Slice}
+use Rattle.tox_time.specs.declared.streams.item.Item.{Item}
+use Rattle.tox_time.specs.declared.streams.item.Item.TheVariants.{Chunk, Closed, Reset, Quiet}
+use Rattle.tox_time.specs.streams.Stream.{IsStream, IsStreamFrom, span_len}
+use Rattle.tox_time.specs.streams.Table.{table, slices_table}
 use Rattle.tox_words.specs.Draw.{Draws, draw_in}
-use Rattle.tox_defs.specs.declared.op.Op.{Op}
-use Rattle.tox_defs.specs.Reaction.{flow, flow_through}
-use Rattle.tox_defs.specs.Op.{IsOp, op_reaction}
+use Rattle.tox_defs.specs.declared.operations.op.Op.{Op}
+use Rattle.tox_defs.specs.stage.Reaction.{flow, flow_through}
+use Rattle.tox_defs.specs.operations.Op.{IsOp, op_reaction}
 use Rattle.tox_defs.proofs.OpStreams.{IsStream-op_flow}
 use Rattle.tox_compile.specs.Meaning.{Ops, IsPlan, means, op_reactions}
 use Rattle.tox_plan.specs.Cuts.{BeginsApart}

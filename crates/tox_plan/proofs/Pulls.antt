@@ -1,17 +1,17 @@
 -- What a pull brings is what comes next from all the cursors.
 use Rattle.std.proofs.Common.{◌≡◌, ℕ, ◌^◌, ◌≤◌, false, List, [], ◌∷◌, Option, None, Some, ap, sym, subst, ◌∙◌, arith, inl}
 use Rattle.std.specs.Prelude.{MatchOption, is_some}
-use Rattle.tox_time.specs.declared.slice.Slice.{Slice}
-use Rattle.tox_time.specs.declared.item.Item.{Item}
-use Rattle.tox_time.specs.declared.ending.Ending.{Ending}
-use Rattle.tox_time.specs.Table.{final_of}
+use Rattle.tox_time.specs.declared.streams.slice.Slice.{Slice}
+use Rattle.tox_time.specs.declared.streams.item.Item.{Item}
+use Rattle.tox_time.specs.declared.streams.ending.Ending.{Ending}
+use Rattle.tox_time.specs.streams.Table.{final_of}
 use Rattle.tox_words.specs.Draw.{Draws}
-use Rattle.tox_defs.specs.declared.op_cursor.OpCursor.{OpCursor}
-use Rattle.tox_defs.specs.Op.{op_giving, is_mute}
-use Rattle.tox_defs.specs.Look.{as_chunk}
-use Rattle.tox_defs.specs.OpCursor.{cursor_gives, IsSound, IsNextPiece, GivesOnlyEnding, MatchEmission}
-use Rattle.tox_defs.specs.declared.op_cursor.Emission.{Emission}
-use Rattle.tox_defs.specs.declared.op_cursor.Emission.TheVariants.{Piece, End}
+use Rattle.tox_defs.specs.declared.operations.op_cursor.OpCursor.{OpCursor}
+use Rattle.tox_defs.specs.operations.Op.{op_giving, is_mute}
+use Rattle.tox_defs.specs.operations.Look.{as_chunk}
+use Rattle.tox_defs.specs.operations.OpCursor.{cursor_gives, IsSoundCursor, IsNextPiece, GivesOnlyEnding, MatchEmission}
+use Rattle.tox_defs.specs.declared.operations.op_cursor.Emission.{Emission}
+use Rattle.tox_defs.specs.declared.operations.op_cursor.Emission.TheVariants.{Piece, End}
 use Rattle.tox_plan.specs.OpCursors.{to_come_from, AreNested, AreDrained, AreRead, IsNext, IsFrom, MatchPulled, OnlyEnds}
 use Rattle.tox_plan.proofs.CursorLemmas.{nested-below, cursor_gives-filled, cursor_gives-final}
 
@@ -46,7 +46,7 @@ module _ (draws : Draws) (start : ℕ) (old upstream : List OpCursor) (cursor : 
   filled-end new ending at_end items = filled-gives items ∙ at_end.gives (to_come_from draws piece.span.stop upstream source items)
 
 -- an ending that comes from upstream
-pub upstream-end : (draws : Draws) (start : ℕ) (upstream : List OpCursor) (cursor : OpCursor) (source : Slice) (ending last : Ending) → cursor.ending ≡ None → cursor.stop ≡ start → IsSound start cursor
+pub upstream-end : (draws : Draws) (start : ℕ) (upstream : List OpCursor) (cursor : OpCursor) (source : Slice) (ending last : Ending) → cursor.ending ≡ None → cursor.stop ≡ start → IsSoundCursor start cursor
     → OnlyEnds draws start upstream source ending → ((draws : Draws) → op_giving cursor.op draws cursor.state (final_of ending) ≡ final_of last ∷ []) → OnlyEnds draws start (cursor ∷ upstream) source last
 upstream-end draws start upstream cursor source ending last running read sound only gives items =
     ap (λ stop. cursor_gives draws start cursor (to_come_from draws stop upstream source items)) read

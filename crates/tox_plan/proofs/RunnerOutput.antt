@@ -1,16 +1,16 @@
 -- What is to come from a runner, by what it has found and whether it is idle.
 use Rattle.std.proofs.Common.{◌≡◌, ℕ, Bool, true, false, List, [], ◌∷◌, ◌++◌, Option, Some, None, refl, ap, ◌∙◌, sym, subst, inl, inr}
 use Rattle.std.specs.Prelude.{is_some, IsSome, IfSome}
-use Rattle.tox_time.specs.declared.slice.Slice.{Slice}
-use Rattle.tox_time.specs.declared.item.Item.{Item}
-use Rattle.tox_time.specs.declared.item.Item.TheVariants.{Chunk, Closed, Reset, Quiet}
-use Rattle.tox_time.specs.declared.ending.Ending.{Ending}
-use Rattle.tox_time.specs.declared.ending.Ending.TheVariants.{StillOpen, Closed as ClosedEnding, Reset as ResetEnding}
-use Rattle.tox_time.specs.Table.{final_of, table}
+use Rattle.tox_time.specs.declared.streams.slice.Slice.{Slice}
+use Rattle.tox_time.specs.declared.streams.item.Item.{Item}
+use Rattle.tox_time.specs.declared.streams.item.Item.TheVariants.{Chunk, Closed, Reset, Quiet}
+use Rattle.tox_time.specs.declared.streams.ending.Ending.{Ending}
+use Rattle.tox_time.specs.declared.streams.ending.Ending.TheVariants.{StillOpen, Closed as ClosedEnding, Reset as ResetEnding}
+use Rattle.tox_time.specs.streams.Table.{final_of, table}
 use Rattle.tox_words.specs.Draw.{Draws, draws_of}
-use Rattle.tox_defs.specs.declared.op_cursor.OpCursor.{OpCursor}
-use Rattle.tox_defs.specs.Look.{as_chunk}
-use Rattle.tox_defs.specs.OpCursor.{ending_or}
+use Rattle.tox_defs.specs.declared.operations.op_cursor.OpCursor.{OpCursor}
+use Rattle.tox_defs.specs.operations.Look.{as_chunk}
+use Rattle.tox_defs.specs.operations.OpCursor.{ending_or}
 use Rattle.tox_plan.specs.OpCursors.{to_come_from, AreNested, AreDrained, HaveEnded}
 use Rattle.tox_plan.specs.RunnerView.{RunnerView, IsRunning, IsFound, to_come, found_chunk, reader_at, HasNoChunk}
 use Rattle.tox_plan.proofs.Endings.{drained-final}

@@ -1,10 +1,10 @@
 -- What a runner has given so far, beside its plan's meaning.
 use Rattle.std.specs.Prelude.{◌≡◌, ℕ, ◌<◌, List, [], ◌∷◌, ◌++◌}
-use Rattle.tox_time.specs.declared.slice.Slice.{Slice}
-use Rattle.tox_time.specs.declared.item.Item.{Item}
-use Rattle.tox_time.specs.declared.item.Item.TheVariants.{Quiet}
-use Rattle.tox_time.specs.Stream.{IsStream, IsPrefix}
-use Rattle.tox_time.specs.Table.{table, slices_table, ending}
+use Rattle.tox_time.specs.declared.streams.slice.Slice.{Slice}
+use Rattle.tox_time.specs.declared.streams.item.Item.{Item}
+use Rattle.tox_time.specs.declared.streams.item.Item.TheVariants.{Quiet}
+use Rattle.tox_time.specs.streams.Stream.{IsStream, IsPrefix}
+use Rattle.tox_time.specs.streams.Table.{table, slices_table, ending}
 use Rattle.tox_compile.specs.Meaning.{Ops, means}
 use Rattle.tox_plan.specs.RunnerView.{RunnerView, to_come}
 

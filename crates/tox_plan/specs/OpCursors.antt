@@ -1,19 +1,19 @@
 -- What is still to come from the cursors of a plan, the last operation first.
 use Rattle.std.specs.Prelude.{◌≡◌, ◌≢◌, ℕ, ◌^◌, ◌<◌, ◌≤◌, Bool, false, List, [], ◌∷◌, ◌++◌, Option, Some, None, IsSome, ◌⊎◌}
-use Rattle.tox_time.specs.declared.slice.Slice.{Slice}
-use Rattle.tox_time.specs.declared.item.Item.{Item}
-use Rattle.tox_time.specs.declared.ending.Ending.{Ending}
-use Rattle.tox_time.specs.Table.{final_of}
+use Rattle.tox_time.specs.declared.streams.slice.Slice.{Slice}
+use Rattle.tox_time.specs.declared.streams.item.Item.{Item}
+use Rattle.tox_time.specs.declared.streams.ending.Ending.{Ending}
+use Rattle.tox_time.specs.streams.Table.{final_of}
 use Rattle.tox_words.specs.Draw.{Draws}
-use Rattle.tox_defs.specs.declared.op.Op.{Op}
-use Rattle.tox_defs.specs.declared.op.Op.TheVariants.{Mute}
-use Rattle.tox_defs.specs.declared.op_cursor.OpCursor.{OpCursor}
-use Rattle.tox_defs.specs.Reaction.{first_state}
-use Rattle.tox_defs.specs.Op.{is_mute}
-use Rattle.tox_defs.specs.Look.{as_chunk, rest_of}
-use Rattle.tox_defs.specs.OpCursor.{cursor_gives, IsSound}
-use Rattle.tox_defs.specs.declared.op_cursor.Emission.{Emission}
-use Rattle.tox_defs.specs.declared.op_cursor.Emission.TheVariants.{Piece, End}
+use Rattle.tox_defs.specs.declared.operations.op.Op.{Op}
+use Rattle.tox_defs.specs.declared.operations.op.Op.TheVariants.{Mute}
+use Rattle.tox_defs.specs.declared.operations.op_cursor.OpCursor.{OpCursor}
+use Rattle.tox_defs.specs.stage.Reaction.{first_state}
+use Rattle.tox_defs.specs.operations.Op.{is_mute}
+use Rattle.tox_defs.specs.operations.Look.{as_chunk, rest_of}
+use Rattle.tox_defs.specs.operations.OpCursor.{cursor_gives, IsSoundCursor}
+use Rattle.tox_defs.specs.declared.operations.op_cursor.Emission.{Emission}
+use Rattle.tox_defs.specs.declared.operations.op_cursor.Emission.TheVariants.{Piece, End}
 
 -- the ending that an operation has from the start
 abbrev pub ending_at_start : Op → Option Ending
@@ -43,7 +43,7 @@ to_come_from draws start (cursor ∷ cursors) source items =
 
 -- a cursor whose reader stands at `start`, and that lets something through unless its ending is known
 pub record IsCursor (start : ℕ) (cursor : OpCursor) : Type 0 where
-  pub sound : IsSound start cursor
+  pub sound : IsSoundCursor start cursor
   pub heard : cursor.ending ≡ None → is_mute cursor.op ≡ false
 
 -- ends nest: each cursor's reader stands in its chunk or at the chunk's end

@@ -1,15 +1,15 @@
 -- A runner as a value, and its remaining output.
 use Rattle.std.specs.Prelude.{◌≡◌, ℕ, ◌+◌, ◌*◌, ◌<◌, ◌≤◌, ◌^◌, Bool, true, false, if◌then◌else◌, List, [], ◌∷◌, ◌++◌, length, Option, None, IsSome, IfSome, ◌⊎◌, Result, Ok, Err, Some, is_some}
-use Rattle.tox_time.specs.declared.slice.Slice.{Slice}
-use Rattle.tox_time.specs.declared.item.Item.{Item}
-use Rattle.tox_time.specs.declared.item.Item.TheVariants.{Chunk, Closed, Reset, Quiet}
-use Rattle.tox_time.specs.declared.ending.Ending.{Ending}
-use Rattle.tox_time.specs.declared.arrivals.ArrivalFault.{ArrivalFault}
-use Rattle.tox_time.specs.Arrivals.{piece_fault}
+use Rattle.tox_time.specs.declared.streams.slice.Slice.{Slice}
+use Rattle.tox_time.specs.declared.streams.item.Item.{Item}
+use Rattle.tox_time.specs.declared.streams.item.Item.TheVariants.{Chunk, Closed, Reset, Quiet}
+use Rattle.tox_time.specs.declared.streams.ending.Ending.{Ending}
+use Rattle.tox_time.specs.declared.streams.arrivals.ArrivalFault.{ArrivalFault}
+use Rattle.tox_time.specs.streams.Arrivals.{piece_fault}
 use Rattle.tox_words.specs.Draw.{DrawingView, draws_of}
-use Rattle.tox_defs.specs.declared.op_cursor.OpCursor.{OpCursor}
-use Rattle.tox_defs.specs.Look.{as_chunk}
-use Rattle.tox_defs.specs.OpCursor.{ending_or}
+use Rattle.tox_defs.specs.declared.operations.op_cursor.OpCursor.{OpCursor}
+use Rattle.tox_defs.specs.operations.Look.{as_chunk}
+use Rattle.tox_defs.specs.operations.OpCursor.{ending_or}
 use Rattle.tox_plan.specs.OpCursors.{to_come_from, AreNested, AreDrained, HaveEnded, AreOpenUnless}
 
 -- what a runner is seen as

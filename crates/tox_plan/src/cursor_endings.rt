@@ -1,7 +1,7 @@
 //! The endings of cursors that have nothing left.
 ghost use Rattle.std.specs.Prelude.{◌≡◌, ℕ, ◌<◌, List, [], ◌∷◌, None, IsSome, MatchOption};
-ghost use Rattle.tox_time.specs.Table.{final_of};
-ghost use Rattle.tox_time.specs.declared.slice.Slice.{Slice as OneSlice};
+ghost use Rattle.tox_time.specs.streams.Table.{final_of};
+ghost use Rattle.tox_time.specs.declared.streams.slice.Slice.{Slice as OneSlice};
 ghost use Rattle.tox_words.specs.Draw.{Draws};
 ghost use Rattle.tox_plan.specs.OpCursors.{AreNested, AreDrained, AreRead, HaveEnded, OnlyEnds, to_come_from};
 

@@ -1,14 +1,14 @@
 //! What a whole list of arrivals comes to.
 ghost use Rattle.std.specs.Prelude.{◌≡◌, ◌≤◌, List, [], ◌∷◌, Any, IfOk, OnOk, true, None};
-ghost use Rattle.tox_time.specs.declared.item.Item.{Item as OneItem};
-ghost use Rattle.tox_time.specs.declared.slice.Slice.{Slice as OneSlice};
-ghost use Rattle.tox_time.specs.Arrivals.{arrival_list};
-ghost use Rattle.tox_time.specs.Stream.{IsStream, latest_from};
-ghost use Rattle.tox_time.specs.Table.{IsOutcomeOf};
-ghost use Rattle.tox_time.specs.Neighbours.{AreNeighbours, LiesInChunk};
+ghost use Rattle.tox_time.specs.declared.streams.item.Item.{Item as OneItem};
+ghost use Rattle.tox_time.specs.declared.streams.slice.Slice.{Slice as OneSlice};
+ghost use Rattle.tox_time.specs.streams.Arrivals.{arrival_list};
+ghost use Rattle.tox_time.specs.streams.Stream.{IsStream, latest_from};
+ghost use Rattle.tox_time.specs.streams.Table.{IsOutcomeOf};
+ghost use Rattle.tox_time.specs.streams.Neighbours.{AreNeighbours, LiesInChunk};
 ghost use Rattle.tox_defs.specs.Flow.{chain_flow};
 ghost use Rattle.tox_compile.specs.Meaning.{means};
-ghost use Rattle.tox_network.specs.Runs.{OfEveryRest};
+ghost use Rattle.tox_network.specs.runs.Runs.{OfEveryRest};
 ghost use Rattle.tox_plan.specs.Delivering.{MayFollow, EndsAt, StandsAt, StandsBehind, PreservesOutput, stop_from};
 
 use crate::runner::Runner;

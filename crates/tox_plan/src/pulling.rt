@@ -1,11 +1,11 @@
 //! The next piece through the cursors of a plan. The cursors stand last operation first, and their ends nest: cursor k's
 //! unread bytes are `cursor[k-1].stop..cursor[k].stop`.
 ghost use Rattle.std.specs.Prelude.{◌≡◌, ℕ, ◌+◌, ◌^◌, ◌<◌, ◌≤◌, List, [], ◌∷◌, ◌++◌, length, take, drop, All, None, Some, false};
-ghost use Rattle.tox_time.specs.declared.slice.Slice.{Slice as OneSlice};
+ghost use Rattle.tox_time.specs.declared.streams.slice.Slice.{Slice as OneSlice};
 ghost use Rattle.tox_words.specs.Draw.{Draws, draws_of};
-ghost use Rattle.tox_defs.specs.declared.op_cursor.OpCursor.{OpCursor as OneCursor};
-ghost use Rattle.tox_defs.specs.Op.{is_mute};
-ghost use Rattle.tox_defs.specs.OpCursor.{IsSound, MatchEmission};
+ghost use Rattle.tox_defs.specs.declared.operations.op_cursor.OpCursor.{OpCursor as OneCursor};
+ghost use Rattle.tox_defs.specs.operations.Op.{is_mute};
+ghost use Rattle.tox_defs.specs.operations.OpCursor.{IsSoundCursor, MatchEmission};
 ghost use Rattle.tox_plan.specs.OpCursors.{AreNested, AreOpenUnless, IsRead, BeginsUnread, IsFrom, MatchPulled, ops_of};
 
 use tox_defs::{Emission, OpCursor};
@@ -185,7 +185,7 @@ fn advance(
     requires some { start < cursor.old.stop }
     requires heard { is_mute cursor.old.op ≡ false }
     requires open { cursor.old.ending ≡ None }
-    requires sound { IsSound start cursor.old }
+    requires sound { IsSoundCursor start cursor.old }
     ensures given { MatchEmission (draws_of drawing.now) start cursor.old cursor.new result }
     ensures from { IsFrom start (Some result) }
     ensures op { cursor.new.op ≡ cursor.old.op }

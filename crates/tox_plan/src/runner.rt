@@ -1,11 +1,11 @@
 //! The runner of a plan: pieces in, slices out, one at a time.
 ghost use Rattle.std.specs.Prelude.{◌≡◌, ◌≢◌, ℕ, ◌+◌, ◌*◌, ◌^◌, ◌<◌, ◌≤◌, ◌↔◌, ◌⊎◌, List, [], ◌∷◌, ◌++◌, length, true, false, None, Some, IsSome, IsNone, IfSome, IfNone, MatchOption, OnOk, OnErr};
-ghost use Rattle.tox_time.specs.declared.item.Item.{Item as OneItem};
-ghost use Rattle.tox_time.specs.declared.item.Item.TheVariants.{Closed, Quiet};
-ghost use Rattle.tox_time.specs.declared.slice.Slice.{Slice as OneSlice};
-ghost use Rattle.tox_time.specs.Stream.{IsStream, IsStreamFrom};
-ghost use Rattle.tox_time.specs.Table.{final_of, table};
-ghost use Rattle.tox_defs.specs.Look.{as_chunk};
+ghost use Rattle.tox_time.specs.declared.streams.item.Item.{Item as OneItem};
+ghost use Rattle.tox_time.specs.declared.streams.item.Item.TheVariants.{Closed, Quiet};
+ghost use Rattle.tox_time.specs.declared.streams.slice.Slice.{Slice as OneSlice};
+ghost use Rattle.tox_time.specs.streams.Stream.{IsStream, IsStreamFrom};
+ghost use Rattle.tox_time.specs.streams.Table.{final_of, table};
+ghost use Rattle.tox_defs.specs.operations.Look.{as_chunk};
 ghost use Rattle.tox_compile.specs.Meaning.{Ops, IsPlan, means, deadline_of};
 ghost use Rattle.tox_plan.specs.OpCursors.{cursors_at_start, ops_of};
 ghost use Rattle.tox_plan.specs.RunnerView.{to_come, HasNoChunk, known_ending, next_piece, no_piece, offer_answer};
@@ -19,7 +19,7 @@ use arrayvec::ArrayVec;
 use std::marker::Model;
 use tox_compile::Plan;
 use tox_defs::{Emission, MAX_TOXICS, OpCursor};
-use tox_time::{ArrivalFault, Ending, Micros, Slice, Span, piece_fault};
+use tox_time::{ArrivalFault, Ending, Micros, Slice, Span, StreamPosition};
 use tox_words::{Drawing, Words};
 
 /// A plan at work on one stream: it is offered pieces one at a time, and cuts them into slices.
@@ -129,9 +129,12 @@ impl<'w> Runner<'w> {
         ensures err { OnErr result (self.new ≡ self.old) }
     {
         let start = self.piece.span.stop;
-        if let Some(fault) = piece_fault(start, self.latest, self.ending.is_some(), len, instant) {
-            return Err(fault);
-        }
+        let offered = StreamPosition {
+            position: start,
+            latest: self.latest,
+            ended: self.ending.is_some(),
+        };
+        offered.with_piece(len, instant)?;
         self.piece = Slice {
             span: Span {
                 start,

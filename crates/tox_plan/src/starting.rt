@@ -1,6 +1,6 @@
 //! The cursors of a plan before anything was offered.
 ghost use Rattle.std.specs.Prelude.{◌≡◌, ◌+◌, ◌<◌, ◌≤◌, ◌++◌, length, None};
-ghost use Rattle.tox_defs.specs.Chain.{max_toxics};
+ghost use Rattle.tox_defs.specs.chain.Chain.{max_toxics};
 ghost use Rattle.tox_plan.specs.OpCursors.{cursors_at_start, ending_at_start};
 
 use arrayvec::ArrayVec;

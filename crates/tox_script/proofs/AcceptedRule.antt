@@ -5,11 +5,11 @@ use Rattle.toml.specs.Data.{Data, string, integer, float, boolean, datetime, arr
 use Rattle.tox_script.proofs.AcceptedToxic.{AtEach-among, IsFound, needed_read, optional_read, toxic_shallow}
 use Rattle.tox_script.proofs.Shallow.{IsShallow, IsShallow-scalar, ItemsAreShallow, MembersAreShallow-each, is_among-found, is_scalar, is_scalar-read}
 use Rattle.tox_time.proofs.Steps.{bind_ok, map_err_ok, passing_some}
-use Rattle.tox_script.specs.Fields.{all_tables, has_only, is_between, natural, optional, sized_text, tables, tables_of, whole_between}
-use Rattle.tox_script.specs.Rule.{Rule, RuleFields, first_of, last_of, proxy_of, rule_fields, rule_of}
+use Rattle.tox_script.specs.fields.Fields.{all_tables, has_only, is_between, natural, optional, sized_text, tables, tables_of, whole_between}
+use Rattle.tox_script.specs.Rule.{Rule, RuleFields, first_field, last_field, proxy_field, rule_fields, rule_of}
 use Rattle.tox_script.specs.Script.{rules_from}
-use Rattle.tox_script.specs.Toxic.{NamedToxic}
-use Rattle.tox_script.specs.Toxics.{behind, chains_of, read_chains, toxic_at, toxics_from}
+use Rattle.tox_script.specs.chains.Toxic.{NamedToxic}
+use Rattle.tox_script.specs.chains.Toxics.{behind, chains_of, read_chains, toxic_at, toxics_from}
 use Rattle.tox_script.specs.declared.fault.Field.{Field}
 use Rattle.tox_script.specs.declared.fault.Field.TheVariants as field
 use Rattle.tox_script.specs.declared.fault.Location.{Location}
@@ -57,17 +57,17 @@ rule_keys = codes "proxy" ∷ codes "first" ∷ codes "last" ∷ codes "toxic" �
 
 -- the fields of an accepted rule were each read
 record AreRuleFields (d : Data) (fields : RuleFields) : Type 0 where
-  proxy : proxy_of d ≡ Ok fields.proxy
-  first : first_of d ≡ Ok fields.first
-  last : last_of fields.first d ≡ Ok fields.last
+  proxy : proxy_field d ≡ Ok fields.proxy
+  first : first_field d ≡ Ok fields.first
+  last : last_field fields.first d ≡ Ok fields.last
   toxics : tables_of field.Toxic (get (codes "toxic") d) ≡ Ok fields.toxics
   known : has_only rule_keys d ≡ true
 
 abbrev rule_with : List ℕ → ℕ → Option ℕ → Items → RuleFields
 rule_with proxy first last toxics = record { proxy = proxy; first = first; last = last; toxics = toxics }
 
-AreRuleFields-last : (d : Data) (p : List ℕ) (f : ℕ) (last : Result (Option ℕ) Field) (toxics : Result Items Field) (known : Bool) (fields : RuleFields) → proxy_of d ≡ Ok p → first_of d ≡ Ok f
-    → last_of f d ≡ last → tables_of field.Toxic (get (codes "toxic") d) ≡ toxics → has_only rule_keys d ≡ known
+AreRuleFields-last : (d : Data) (p : List ℕ) (f : ℕ) (last : Result (Option ℕ) Field) (toxics : Result Items Field) (known : Bool) (fields : RuleFields) → proxy_field d ≡ Ok p → first_field d ≡ Ok f
+    → last_field f d ≡ last → tables_of field.Toxic (get (codes "toxic") d) ≡ toxics → has_only rule_keys d ≡ known
     → (last >>= (λ l. toxics >>= (λ t. cond known (Ok (rule_with p f l t)) (Err field.Unknown)))) ≡ Ok fields → AreRuleFields d fields
 AreRuleFields-last d p f (Err e) toxics known fields ep ef el et ek is = absurd (cc)
 AreRuleFields-last d p f (Ok l) (Err e) known fields ep ef el et ek is = absurd (cc)
@@ -76,13 +76,13 @@ AreRuleFields-last d p f (Ok l) (Ok t) true fields ep ef el et ek is =
     let same : rule_with p f l t ≡ fields = cc in
     rw (← same) (record { proxy = ep; first = ef; last = el; toxics = et; known = ek })
 
-AreRuleFields-read : (d : Data) (proxy : Result (List ℕ) Field) (first : Result ℕ Field) (fields : RuleFields) → proxy_of d ≡ proxy → first_of d ≡ first
-    → (proxy >>= (λ p. first >>= (λ f. last_of f d >>= (λ l. tables_of field.Toxic (get (codes "toxic") d) >>= (λ t. cond (has_only rule_keys d) (Ok (rule_with p f l t)) (Err field.Unknown)))))) ≡ Ok fields
+AreRuleFields-read : (d : Data) (proxy : Result (List ℕ) Field) (first : Result ℕ Field) (fields : RuleFields) → proxy_field d ≡ proxy → first_field d ≡ first
+    → (proxy >>= (λ p. first >>= (λ f. last_field f d >>= (λ l. tables_of field.Toxic (get (codes "toxic") d) >>= (λ t. cond (has_only rule_keys d) (Ok (rule_with p f l t)) (Err field.Unknown)))))) ≡ Ok fields
     → AreRuleFields d fields
 AreRuleFields-read d (Err e) first fields ep ef is = absurd (cc)
 AreRuleFields-read d (Ok p) (Err e) fields ep ef is = absurd (cc)
 AreRuleFields-read d (Ok p) (Ok f) fields ep ef is =
-    AreRuleFields-last d p f (last_of f d) (tables_of field.Toxic (get (codes "toxic") d)) (has_only rule_keys d) fields ep ef refl refl refl is
+    AreRuleFields-last d p f (last_field f d) (tables_of field.Toxic (get (codes "toxic") d)) (has_only rule_keys d) fields ep ef refl refl refl is
 
 sized_scalar : (most : ℕ) (d : Data) (text : List ℕ) → sized_text most d ≡ Some text → is_scalar d ≡ true
 sized_scalar most d text is = is_scalar-read d (λ s z. option_and_then (passing (is_sized most)) s) text refl is
@@ -103,7 +103,7 @@ rule_shallow settings number (table ms) rule is sorted =
     let at : Location = record { rule = number; toxic = 0 } in
     let (fields, was_read, was_rule) = bind_ok (map_err (fault.Field at) (rule_fields d))
     (λ (fields : RuleFields). read_chains settings number fields.toxics >>= (λ chains. Ok (record { proxy = fields.proxy; first = fields.first; last = fields.last; chains = chains }))) rule is in
-    let read = AreRuleFields-read d (proxy_of d) (first_of d) fields refl refl (map_err_ok (fault.Field at) (rule_fields d) fields was_read) in
+    let read = AreRuleFields-read d (proxy_field d) (first_field d) fields refl refl (map_err_ok (fault.Field at) (rule_fields d) fields was_read) in
     let (chains, was_chains, done) = bind_ok (read_chains settings number fields.toxics) (λ chains. Ok (record { proxy = fields.proxy; first = fields.first; last = fields.last; chains = chains })) rule was_rule in
     let (toxics, was_toxics, joined) = bind_ok (toxics_from settings number [] fields.toxics) (λ toxics. Ok (chains_of settings.lanes toxics)) chains was_chains in
     let proxy : IsFound 3 ms (codes "proxy") = λ e found here.

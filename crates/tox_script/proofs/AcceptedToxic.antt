@@ -3,19 +3,18 @@ use Rattle.std.proofs.Common.{◌≡◌, ℕ, Bool, true, false, cond, ◌||◌,
 use Rattle.std.proofs.lemmas.Slice.Eq.{bytes_eq-Decides}
 use Rattle.std.specs.Str.{bytes_eq}
 use Rattle.toml.specs.Data.{Data, string, integer, float, boolean, datetime, array, table, Members, as_str, get, get_member, is_sorted, members_are_sorted}
-use Rattle.tox_defs.specs.Kind.{attributes_of as keys_of_kind, checked, kind_of, toxic_of}
+use Rattle.tox_defs.specs.Toxic.{attributes_of, checked, toxic_named, with_values}
 use Rattle.tox_defs.specs.declared.fault.ToxicFault.{ToxicFault}
 use Rattle.tox_defs.specs.declared.fault.ToxicFault.TheVariants.{OutOfRange, UnknownAttribute, UnknownType, ToxicityNotThousandths}
-use Rattle.tox_defs.specs.declared.kind.Kind.{Kind}
 use Rattle.tox_defs.specs.declared.toxic.Toxic.{Toxic as AnyToxic}
 use Rattle.tox_script.proofs.Shallow.{IsShallow, IsShallow-scalar, MembersAreShallow, MembersAreShallow-each, is_among-found, is_scalar, is_scalar-read}
 use Rattle.tox_time.proofs.Steps.{bind_ok, map_err_ok, ok_or_ok, passing_some}
-use Rattle.tox_script.specs.Attributes.{all_some, toxic_with, value_in, values_in}
-use Rattle.tox_script.specs.Fields.{has_only, is_among, is_between, is_table, natural, needed, optional, whole}
-use Rattle.tox_script.specs.Toxic.{NamedToxic, default_name, named_toxic}
-use Rattle.tox_script.specs.ToxicFields.{ToxicFields, attributes_of, is_plain, name_of, plain_name, stream_of, stream_text, toxic_fields, type_of}
-use Rattle.tox_script.specs.Toxicity.{told_toxicity, toxicity_in}
-use Rattle.tox_script.specs.Toxics.{toxic_at}
+use Rattle.tox_script.specs.fields.Attributes.{all_some, toxic_with, value_in, values_in}
+use Rattle.tox_script.specs.fields.Fields.{has_only, is_among, is_between, is_table, natural, needed, optional, whole}
+use Rattle.tox_script.specs.chains.Toxic.{NamedToxic, default_name, named_toxic}
+use Rattle.tox_script.specs.fields.ToxicFields.{ToxicFields, attributes_field, is_plain, name_field, plain_name, stream_field, stream_text, toxic_fields, type_field}
+use Rattle.tox_script.specs.fields.Toxicity.{told_toxicity, toxicity_in}
+use Rattle.tox_script.specs.chains.Toxics.{toxic_at}
 use Rattle.tox_script.specs.declared.fault.Field.{Field}
 use Rattle.tox_script.specs.declared.fault.Field.TheVariants as field
 use Rattle.tox_script.specs.declared.fault.Location.{Location}
@@ -23,10 +22,10 @@ use Rattle.tox_script.specs.declared.fault.ScriptFault.TheVariants as fault
 use Rattle.tox_script.specs.declared.version.Version.{Version}
 use Rattle.tox_script.specs.declared.version.Version.TheVariants.{One, Two}
 use Rattle.tox_time.specs.Steps.{◌>>=◌, map_err}
-use Rattle.tox_time.specs.StreamName.{stream_named}
+use Rattle.tox_time.specs.streams.StreamName.{stream_named}
 use Rattle.tox_time.specs.Text.{is_sized, passing}
-use Rattle.tox_time.specs.declared.stream.Stream.{Stream}
-use Rattle.tox_time.specs.declared.stream.Stream.TheVariants.{Downstream}
+use Rattle.tox_time.specs.declared.streams.stream.Stream.{Stream}
+use Rattle.tox_time.specs.declared.streams.stream.Stream.TheVariants.{Downstream}
 
 -- what holds of each of some texts
 abbrev pub AtEach : (List ℕ → Type 0) → List (List ℕ) → Type 0
@@ -100,33 +99,33 @@ all_some-each f (text ∷ texts) values is =
     all_some-step f text texts values (f text) (all_some (map f texts)) refl is (all_some-each f texts)
 
 -- attributes that are accepted are known, and each is a whole number
-pub record AreAttributes (kind : Kind) (d : Data) : Type 0 where
-  pub known : has_only (keys_of_kind kind) d ≡ true
-  pub values : AtEach (HasValue (value_in (Some d))) (keys_of_kind kind)
+pub record AreAttributes (zeros : AnyToxic) (d : Data) : Type 0 where
+  pub known : has_only (attributes_of zeros) d ≡ true
+  pub values : AtEach (HasValue (value_in (Some d))) (attributes_of zeros)
 
-attributes_read : (kind : Kind) (d : Data) (known : Bool) (values : Option (List ℕ)) (toxic : AnyToxic) → has_only (keys_of_kind kind) d ≡ known → values_in kind (Some d) ≡ values
-    → cond known (ok_or values OutOfRange >>= (λ vs. checked (toxic_of kind vs))) (Err UnknownAttribute) ≡ Ok toxic → AreAttributes kind d
-attributes_read kind d false values toxic known all is = absurd (cc)
-attributes_read kind d true None toxic known all is = absurd (cc)
-attributes_read kind d true (Some vs) toxic known all is =
-    record { known = known; values = all_some-each (value_in (Some d)) (keys_of_kind kind) vs all }
+attributes_read : (zeros : AnyToxic) (d : Data) (known : Bool) (values : Option (List ℕ)) (toxic : AnyToxic) → has_only (attributes_of zeros) d ≡ known → values_in zeros (Some d) ≡ values
+    → cond known (ok_or values OutOfRange >>= (λ vs. checked (with_values zeros vs))) (Err UnknownAttribute) ≡ Ok toxic → AreAttributes zeros d
+attributes_read zeros d false values toxic known all is = absurd (cc)
+attributes_read zeros d true None toxic known all is = absurd (cc)
+attributes_read zeros d true (Some vs) toxic known all is =
+    record { known = known; values = all_some-each (value_in (Some d)) (attributes_of zeros) vs all }
 
 value_scalar : (ms : Members) (key : List ℕ) (e : Data) → HasValue (value_in (Some (table ms))) key → get_member key ms ≡ Some e → is_scalar e ≡ true
 value_scalar ms key e has found = whole_scalar e has.0 (rw found at has.1)
 
 -- a table of accepted attributes has whole numbers alone
-attributes_shallow : (kind : Kind) (d : Data) (toxic : AnyToxic) → is_table d ≡ true → toxic_with kind (Some d) ≡ Ok toxic → is_sorted d ≡ true → IsShallow 1 d
-attributes_shallow kind (string s) toxic is gives sorted = absurd (cc)
-attributes_shallow kind (integer z) toxic is gives sorted = absurd (cc)
-attributes_shallow kind (float f) toxic is gives sorted = absurd (cc)
-attributes_shallow kind (boolean b) toxic is gives sorted = absurd (cc)
-attributes_shallow kind (datetime dt) toxic is gives sorted = absurd (cc)
-attributes_shallow kind (array ds) toxic is gives sorted = absurd (cc)
-attributes_shallow kind (table ms) toxic is gives sorted =
-    let read = attributes_read kind (table ms) (has_only (keys_of_kind kind) (table ms)) (values_in kind (Some (table ms))) toxic refl refl gives in
+attributes_shallow : (zeros : AnyToxic) (d : Data) (toxic : AnyToxic) → is_table d ≡ true → toxic_with zeros (Some d) ≡ Ok toxic → is_sorted d ≡ true → IsShallow 1 d
+attributes_shallow zeros (string s) toxic is gives sorted = absurd (cc)
+attributes_shallow zeros (integer z) toxic is gives sorted = absurd (cc)
+attributes_shallow zeros (float f) toxic is gives sorted = absurd (cc)
+attributes_shallow zeros (boolean b) toxic is gives sorted = absurd (cc)
+attributes_shallow zeros (datetime dt) toxic is gives sorted = absurd (cc)
+attributes_shallow zeros (array ds) toxic is gives sorted = absurd (cc)
+attributes_shallow zeros (table ms) toxic is gives sorted =
+    let read = attributes_read zeros (table ms) (has_only (attributes_of zeros) (table ms)) (values_in zeros (Some (table ms))) toxic refl refl gives in
     let all = MembersAreShallow-each 0 ms sorted
     (λ key e found here. IsShallow-scalar 0 e
-    (value_scalar ms key e (AtEach-among (HasValue (value_in (Some (table ms)))) (keys_of_kind kind) key read.values (is_among-found (keys_of_kind kind) ms key e read.known found)) found)) in
+    (value_scalar ms key e (AtEach-among (HasValue (value_in (Some (table ms)))) (attributes_of zeros) key read.values (is_among-found (attributes_of zeros) ms key e read.known found)) found)) in
     record { deep = omega (arith, all.deep); dates = all.dates }
 
 -- the keys of a toxic's table
@@ -135,10 +134,10 @@ toxic_keys = codes "name" ∷ codes "type" ∷ codes "stream" ∷ codes "toxicit
 
 -- the fields of an accepted toxic were each read
 record AreFields (d : Data) (fields : ToxicFields) : Type 0 where
-  name : name_of d ≡ Ok fields.name
-  type_name : type_of d ≡ Ok fields.type_name
-  stream : stream_of d ≡ Ok fields.stream
-  attributes : attributes_of d ≡ Ok fields.attributes
+  name : name_field d ≡ Ok fields.name
+  type_name : type_field d ≡ Ok fields.type_name
+  stream : stream_field d ≡ Ok fields.stream
+  attributes : attributes_field d ≡ Ok fields.attributes
   toxicity : get (codes "toxicity") d ≡ fields.toxicity
   known : has_only toxic_keys d ≡ true
 
@@ -147,7 +146,7 @@ fields_with name type_name stream attributes toxicity =
     record { name = name; type_name = type_name; stream = stream; toxicity = toxicity; attributes = attributes }
 
 AreFields-read : (d : Data) (name : Result (Option (List ℕ)) Field) (type_name : Result (List ℕ) Field) (stream : Result Stream Field) (attributes : Result (Option Data) Field) (known : Bool) (fields : ToxicFields)
-    → name_of d ≡ name → type_of d ≡ type_name → stream_of d ≡ stream → attributes_of d ≡ attributes → has_only toxic_keys d ≡ known
+    → name_field d ≡ name → type_field d ≡ type_name → stream_field d ≡ stream → attributes_field d ≡ attributes → has_only toxic_keys d ≡ known
     → (name >>= (λ n. type_name >>= (λ t. stream >>= (λ s. attributes >>= (λ a. cond known (Ok (fields_with n t s a (get (codes "toxicity") d))) (Err field.Unknown)))))) ≡ Ok fields
     → AreFields d fields
 AreFields-read d (Err e) type_name stream attributes known fields en et es ea ek is = absurd (cc)
@@ -161,40 +160,40 @@ AreFields-read d (Ok n) (Ok t) (Ok s) (Ok a) true fields en et es ea ek is =
 
 -- what an accepted toxic's fields stood for
 pub record IsNamed (version : Version) (fields : ToxicFields) : Type 0 where
-  pub kind : Kind
+  pub zeros : AnyToxic
   pub toxicity : ℕ
   pub toxic : AnyToxic
   pub is_toxicity : toxicity_in version fields.toxicity ≡ Some toxicity
-  pub is_toxic : toxic_with kind fields.attributes ≡ Ok toxic
+  pub is_toxic : toxic_with zeros fields.attributes ≡ Ok toxic
 
-abbrev pub named_with : ToxicFields → Kind → ℕ → AnyToxic → NamedToxic
-named_with fields kind toxicity toxic = record {
+abbrev pub named_with : ToxicFields → ℕ → AnyToxic → NamedToxic
+named_with fields toxicity toxic = record {
   stream = fields.stream;
   entry = record { toxic = toxic; toxicity = toxicity };
-  name = unwrap_or fields.name (default_name kind fields.stream);
+  name = unwrap_or fields.name (default_name toxic fields.stream);
 }
 
-IsNamed-last : (version : Version) (fields : ToxicFields) (kind : Kind) (toxicity : ℕ) (toxic : Result AnyToxic ToxicFault) (named : NamedToxic) → toxicity_in version fields.toxicity ≡ Some toxicity
-    → toxic_with kind fields.attributes ≡ toxic → (toxic >>= (λ x. Ok (named_with fields kind toxicity x))) ≡ Ok named → IsNamed version fields
-IsNamed-last version fields kind toxicity (Err e) named et ex is = absurd (cc)
-IsNamed-last version fields kind toxicity (Ok x) named et ex is = record { kind = kind; toxicity = toxicity; toxic = x; is_toxicity = et; is_toxic = ex }
+IsNamed-last : (version : Version) (fields : ToxicFields) (zeros : AnyToxic) (toxicity : ℕ) (toxic : Result AnyToxic ToxicFault) (named : NamedToxic) → toxicity_in version fields.toxicity ≡ Some toxicity
+    → toxic_with zeros fields.attributes ≡ toxic → (toxic >>= (λ x. Ok (named_with fields toxicity x))) ≡ Ok named → IsNamed version fields
+IsNamed-last version fields zeros toxicity (Err e) named et ex is = absurd (cc)
+IsNamed-last version fields zeros toxicity (Ok x) named et ex is = record { zeros = zeros; toxicity = toxicity; toxic = x; is_toxicity = et; is_toxic = ex }
 
-pub IsNamed-read : (version : Version) (fields : ToxicFields) (kind : Option Kind) (toxicity : Option ℕ) (named : NamedToxic) → toxicity_in version fields.toxicity ≡ toxicity
-    → (ok_or kind UnknownType >>= (λ k. ok_or toxicity ToxicityNotThousandths >>= (λ t. toxic_with k fields.attributes >>= (λ x. Ok (named_with fields k t x))))) ≡ Ok named → IsNamed version fields
+pub IsNamed-read : (version : Version) (fields : ToxicFields) (zeros : Option AnyToxic) (toxicity : Option ℕ) (named : NamedToxic) → toxicity_in version fields.toxicity ≡ toxicity
+    → (ok_or zeros UnknownType >>= (λ k. ok_or toxicity ToxicityNotThousandths >>= (λ t. toxic_with k fields.attributes >>= (λ x. Ok (named_with fields t x))))) ≡ Ok named → IsNamed version fields
 IsNamed-read version fields None toxicity named et is = absurd (cc)
-IsNamed-read version fields (Some kind) None named et is = absurd (cc)
-IsNamed-read version fields (Some kind) (Some toxicity) named et is = IsNamed-last version fields kind toxicity (toxic_with kind fields.attributes) named et refl is
+IsNamed-read version fields (Some zeros) None named et is = absurd (cc)
+IsNamed-read version fields (Some zeros) (Some toxicity) named et is = IsNamed-last version fields zeros toxicity (toxic_with zeros fields.attributes) named et refl is
 
 -- what a value of a toxic's table is, where a key finds it
 abbrev pub IsFound : ℕ → Members → List ℕ → Type 0
 IsFound levels ms key = (e : Data) → get_member key ms ≡ Some e → is_sorted e ≡ true → IsShallow levels e
 
-attributes_found : (ms : Members) (fields : ToxicFields) (kind : Kind) (toxic : AnyToxic) (e : Data) → attributes_of (table ms) ≡ Ok fields.attributes → toxic_with kind fields.attributes ≡ Ok toxic
+attributes_found : (ms : Members) (fields : ToxicFields) (zeros : AnyToxic) (toxic : AnyToxic) (e : Data) → attributes_field (table ms) ≡ Ok fields.attributes → toxic_with zeros fields.attributes ≡ Ok toxic
     → get_member (codes "attributes") ms ≡ Some e → is_sorted e ≡ true → IsShallow 1 e
-attributes_found ms fields kind toxic e read gives found sorted =
+attributes_found ms fields zeros toxic e read gives found sorted =
     let (y, passes, is) = optional_read field.Attributes (passing is_table) (get (codes "attributes") (table ms)) e fields.attributes found read in
     let (tested, same) = passing_some e y (is_table e) passes in
-    attributes_shallow kind e toxic tested (rw (is, ← same) at gives) sorted
+    attributes_shallow zeros e toxic tested (rw (is, ← same) at gives) sorted
 
 members_shallow : (version : Version) (ms : Members) (fields : ToxicFields) → AreFields (table ms) fields → IsNamed version fields → members_are_sorted ms ≡ true → MembersAreShallow 1 ms
 members_shallow version ms fields read named sorted =
@@ -209,7 +208,7 @@ members_shallow version ms fields read named sorted =
     IsShallow-scalar 1 e (stream_scalar e y text) in
     let toxicity : IsFound 1 ms (codes "toxicity") = λ e found here.
     IsShallow-scalar 1 e (toxicity_scalar version fields.toxicity e named.toxicity (sym read.toxicity ∙ found) named.is_toxicity) in
-    let attributes : IsFound 1 ms (codes "attributes") = λ e found here. attributes_found ms fields named.kind named.toxic e read.attributes named.is_toxic found here in
+    let attributes : IsFound 1 ms (codes "attributes") = λ e found here. attributes_found ms fields named.zeros named.toxic e read.attributes named.is_toxic found here in
     MembersAreShallow-each 1 ms sorted
     (λ key e found here. AtEach-among (IsFound 1 ms) toxic_keys key (name, (type_name, (stream, (toxicity, (attributes, tt))))) (is_among-found toxic_keys ms key e read.known found) e found here)
 
@@ -224,7 +223,7 @@ toxic_shallow version at (array ds) toxic is sorted = absurd (cc)
 toxic_shallow version at (table ms) toxic is sorted =
     let d : Data = table ms in
     let (fields, was_read, was_named) = bind_ok (map_err (fault.Field at) (toxic_fields d)) (λ fields. map_err (fault.Toxic at) (named_toxic version fields)) toxic is in
-    let read = AreFields-read d (name_of d) (type_of d) (stream_of d) (attributes_of d) (has_only toxic_keys d) fields refl refl refl refl refl (map_err_ok (fault.Field at) (toxic_fields d) fields was_read) in
-    let named = IsNamed-read version fields (kind_of fields.type_name) (toxicity_in version fields.toxicity) toxic refl (map_err_ok (fault.Toxic at) (named_toxic version fields) toxic was_named) in
+    let read = AreFields-read d (name_field d) (type_field d) (stream_field d) (attributes_field d) (has_only toxic_keys d) fields refl refl refl refl refl (map_err_ok (fault.Field at) (toxic_fields d) fields was_read) in
+    let named = IsNamed-read version fields (toxic_named fields.type_name) (toxicity_in version fields.toxicity) toxic refl (map_err_ok (fault.Toxic at) (named_toxic version fields) toxic was_named) in
     let all = members_shallow version ms fields read named sorted in
     record { deep = omega (arith, all.deep); dates = all.dates }

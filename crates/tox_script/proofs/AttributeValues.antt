@@ -2,9 +2,9 @@
 use Rattle.std.proofs.Common.{◌≡◌, ℕ, zero, suc, ◌<◌, ◌≤◌, List, [], ◌∷◌, Option, Some, None, Bor, length, map, get_or, take, option_map, refl, ap, sym, ◌∙◌, arith}
 use Rattle.std.proofs.lemmas.List.{get_or-map, length-map, take_all}
 use Rattle.toml.specs.Data.{Data}
-use Rattle.tox_defs.specs.declared.kind.Kind.{Kind}
-use Rattle.tox_defs.specs.Kind.{attributes_of}
-use Rattle.tox_script.specs.Attributes.{all_some, value_in, values_in}
+use Rattle.tox_defs.specs.declared.toxic.Toxic.{Toxic}
+use Rattle.tox_defs.specs.Toxic.{attributes_of}
+use Rattle.tox_script.specs.fields.Attributes.{all_some, value_in, values_in}
 
 -- the values, where each is there
 all_some-Some : (values : List ℕ) → all_some (map Some values) ≡ Some values
@@ -27,18 +27,18 @@ map_now : (table : Option Data) (keys : List (Bor (List ℕ))) → map (value_in
 map_now table [] = refl
 map_now table (key ∷ keys) = ap (λ values. value_in table key.now ∷ values) (map_now table keys)
 
-module _ (kind : Kind) (table : Option Data) (keys : List (Bor (List ℕ))) (names : map (λ (key : Bor (List ℕ)). key.now) keys ≡ attributes_of kind) where
-  values_in-keys : values_in kind table ≡ all_some (map (value_by table) keys)
+module _ (toxic : Toxic) (table : Option Data) (keys : List (Bor (List ℕ))) (names : map (λ (key : Bor (List ℕ)). key.now) keys ≡ attributes_of toxic) where
+  values_in-keys : values_in toxic table ≡ all_some (map (value_by table) keys)
   values_in-keys = ap (λ names. all_some (map (value_in table) names)) (sym names) ∙ ap all_some (map_now table keys)
 
   -- one attribute isn't there
-  pub values_in-none : (k : ℕ) (key : Bor (List ℕ)) → k < length keys → value_by table (get_or keys k key) ≡ None → values_in kind table ≡ None
+  pub values_in-none : (k : ℕ) (key : Bor (List ℕ)) → k < length keys → value_by table (get_or keys k key) ≡ None → values_in toxic table ≡ None
   values_in-none k key here none =
       values_in-keys
       ∙ all_some-None (map (value_by table) keys) k (value_by table key) (omega (arith, length-map keys (value_by table)))
       (get_or-map (value_by table) keys k key (value_by table key) here ∙ none)
 
   -- all are there
-  pub values_in-all : (k : ℕ) (values : List ℕ) → length keys ≤ k → map (value_by table) (take k keys) ≡ map Some values → values_in kind table ≡ Some values
+  pub values_in-all : (k : ℕ) (values : List ℕ) → length keys ≤ k → map (value_by table) (take k keys) ≡ map Some values → values_in toxic table ≡ Some values
   values_in-all k values past so_far =
       values_in-keys ∙ ap (λ some. all_some (map (value_by table) some)) (sym (take_all k keys past)) ∙ ap all_some so_far ∙ all_some-Some values

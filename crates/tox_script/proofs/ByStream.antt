@@ -5,15 +5,15 @@ use Rattle.std.specs.Str.{bytes_eq}
 use Rattle.std.proofs.lemmas.List.{length-map, map-append}
 use Rattle.std.proofs.lemmas.List.Elements.{filter-append}
 use Rattle.std.proofs.lemmas.List.Sums.{length-filter}
-use Rattle.tox_time.specs.declared.stream.Stream.{Stream}
-use Rattle.tox_time.specs.declared.stream.Stream.TheVariants.{Upstream, Downstream}
-use Rattle.tox_defs.specs.Chain.{is_full}
-use Rattle.tox_script.specs.Chains.{has_name, on, pushed, put_toxic}
+use Rattle.tox_time.specs.declared.streams.stream.Stream.{Stream}
+use Rattle.tox_time.specs.declared.streams.stream.Stream.TheVariants.{Upstream, Downstream}
+use Rattle.tox_defs.specs.chain.Chain.{is_full}
+use Rattle.tox_script.specs.chains.Chains.{has_name, on, pushed, put_toxic}
 use Rattle.tox_time.specs.Steps.{◌>>=◌}
-use Rattle.tox_script.specs.NamedChain.{NamedToxics, with_toxic}
-use Rattle.tox_time.specs.StreamName.{same_stream}
-use Rattle.tox_script.specs.Toxic.{NamedToxic}
-use Rattle.tox_script.specs.Toxics.{behind, chain_on, chains_of, is_on}
+use Rattle.tox_script.specs.chains.NamedChain.{NamedToxics, with_toxic}
+use Rattle.tox_time.specs.streams.StreamName.{same_stream}
+use Rattle.tox_script.specs.chains.Toxic.{NamedToxic}
+use Rattle.tox_script.specs.chains.Toxics.{behind, chain_on, chains_of, is_on}
 use Rattle.tox_script.specs.declared.chains.Chains.{Chains}
 use Rattle.tox_words.specs.declared.lanes.Lanes.{Lanes}
 use Rattle.tox_words.specs.Draw.{lane_count}

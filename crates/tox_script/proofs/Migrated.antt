@@ -9,10 +9,10 @@ use Rattle.tox_script.proofs.AcceptedToxic.{optional_read}
 use Rattle.tox_script.proofs.Migrating.{in_version, rules_two}
 use Rattle.tox_time.proofs.Steps.{bind_ok, bind_from, map_err_ok}
 use Rattle.tox_script.proofs.Texts.{toml_of-text}
-use Rattle.tox_script.specs.Chains.{on}
+use Rattle.tox_script.specs.chains.Chains.{on}
 use Rattle.tox_script.specs.Covering.{chains_in, covers, toxics_for}
-use Rattle.tox_script.specs.Document.{DocumentFields, document_fields, document_keys}
-use Rattle.tox_script.specs.Fields.{all_tables, has_only, optional, tables, tables_of}
+use Rattle.tox_script.specs.fields.Document.{DocumentFields, document_fields, document_keys}
+use Rattle.tox_script.specs.fields.Fields.{all_tables, has_only, optional, tables, tables_of}
 use Rattle.tox_script.specs.Migrated.{IsMigrated, in_version_1, rules_in, version_2}
 use Rattle.tox_script.specs.Rule.{Rule, Rules}
 use Rattle.tox_script.specs.Script.{rules_from, script_in, script_of, toml_of}
@@ -25,7 +25,7 @@ use Rattle.tox_script.specs.declared.settings.Settings.{Settings}
 use Rattle.tox_script.specs.declared.version.Version.{Version}
 use Rattle.tox_script.specs.declared.version.Version.TheVariants.{One, Two}
 use Rattle.tox_time.specs.Steps.{◌>>=◌, map_err}
-use Rattle.tox_time.specs.declared.stream.Stream.{Stream}
+use Rattle.tox_time.specs.declared.streams.stream.Stream.{Stream}
 use Rattle.tox_words.specs.declared.lanes.Lanes.{Lanes}
 use Rattle.tox_words.specs.declared.lanes.Lanes.TheVariants.{Sixteen}
 

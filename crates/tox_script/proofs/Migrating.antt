@@ -1,17 +1,17 @@
 -- What a script of version 1 says, the same tables say in version 2.
 use Rattle.std.proofs.Common.{◌≡◌, ℕ, ◌+◌, List, [], ◌∷◌, ◌++◌, length, Option, Some, None, Ok, ok_or, refl, sym, ap, ◌∙◌}
 use Rattle.toml.specs.Data.{Data, string, integer, float, boolean, datetime, array, table, Items, no_items, item}
-use Rattle.tox_defs.specs.Kind.{kind_of}
+use Rattle.tox_defs.specs.Toxic.{toxic_named}
 use Rattle.tox_defs.specs.declared.fault.ToxicFault.TheVariants.{UnknownType, ToxicityNotThousandths}
 use Rattle.tox_script.proofs.AcceptedToxic.{IsNamed-read, named_with}
 use Rattle.tox_time.proofs.Steps.{bind_ok, bind_from, map_err_ok}
-use Rattle.tox_script.specs.Attributes.{toxic_with}
+use Rattle.tox_script.specs.fields.Attributes.{toxic_with}
 use Rattle.tox_script.specs.Rule.{Rule, RuleFields, rule_fields, rule_of}
 use Rattle.tox_script.specs.Script.{rules_from}
-use Rattle.tox_script.specs.Toxic.{NamedToxic, named_toxic}
-use Rattle.tox_script.specs.ToxicFields.{ToxicFields, toxic_fields}
-use Rattle.tox_script.specs.Toxicity.{told_toxicity, toxicity_in}
-use Rattle.tox_script.specs.Toxics.{behind, chains_of, read_chains, toxic_at, toxics_from}
+use Rattle.tox_script.specs.chains.Toxic.{NamedToxic, named_toxic}
+use Rattle.tox_script.specs.fields.ToxicFields.{ToxicFields, toxic_fields}
+use Rattle.tox_script.specs.fields.Toxicity.{told_toxicity, toxicity_in}
+use Rattle.tox_script.specs.chains.Toxics.{behind, chains_of, read_chains, toxic_at, toxics_from}
 use Rattle.tox_script.specs.declared.chains.Chains.{Chains}
 use Rattle.tox_script.specs.declared.fault.Location.{Location}
 use Rattle.tox_script.specs.declared.fault.ScriptFault.TheVariants as fault
@@ -36,9 +36,9 @@ toxicity_two (Some d) n is = told_two d n is
 
 named_two : (fields : ToxicFields) (named : NamedToxic) → named_toxic One fields ≡ Ok named → named_toxic Two fields ≡ Ok named
 named_two fields named is =
-    let read = IsNamed-read One fields (kind_of fields.type_name) (toxicity_in One fields.toxicity) named refl is in
+    let read = IsNamed-read One fields (toxic_named fields.type_name) (toxicity_in One fields.toxicity) named refl is in
     let same : toxicity_in Two fields.toxicity ≡ toxicity_in One fields.toxicity = toxicity_two fields.toxicity read.toxicity read.is_toxicity ∙ sym read.is_toxicity in
-    ap (λ (toxicity : Option ℕ). ok_or (kind_of fields.type_name) UnknownType >>= (λ k. ok_or toxicity ToxicityNotThousandths >>= (λ t. toxic_with k fields.attributes >>= (λ x. Ok (named_with fields k t x))))) same
+    ap (λ (toxicity : Option ℕ). ok_or (toxic_named fields.type_name) UnknownType >>= (λ k. ok_or toxicity ToxicityNotThousandths >>= (λ t. toxic_with k fields.attributes >>= (λ x. Ok (named_with fields t x))))) same
     ∙ is
 
 toxic_two : (at : Location) (d : Data) (toxic : NamedToxic) → toxic_at One at d ≡ Ok toxic → toxic_at Two at d ≡ Ok toxic

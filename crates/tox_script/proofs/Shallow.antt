@@ -9,7 +9,7 @@ use Rattle.std.specs.Cmp.Lexicographic.{slice_cmp}
 use Rattle.std.specs.List.{list_all}
 use Rattle.toml.proofs.Blanks.{below, below_from}
 use Rattle.toml.specs.Data.{Data, string, integer, float, boolean, datetime, array, table, Items, Members, no_members, member, as_integer, as_str, depth, items_depth, members_depth, get_member, has_valid_dates, items_have_valid_dates, members_have_valid_dates, is_before, is_sorted, members_are_sorted}
-use Rattle.tox_script.specs.Fields.{is_among, member_keys}
+use Rattle.tox_script.specs.fields.Fields.{is_among, member_keys}
 
 -- a value nests no deeper than so many levels
 pub record IsShallow (levels : ℕ) (d : Data) : Type 0 where

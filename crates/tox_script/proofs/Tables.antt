@@ -4,7 +4,7 @@ use Rattle.std.specs.List.{list_all}
 use Rattle.std.specs.Map.{keys_of}
 use Rattle.toml.specs.View.{items_view, members_view, view}
 use Rattle.toml.specs.declared.value.Value.{Value}
-use Rattle.tox_script.specs.Fields.{all_tables, is_table, member_keys}
+use Rattle.tox_script.specs.fields.Fields.{all_tables, is_table, member_keys}
 
 -- each value is a table where each of the views is
 pub all_tables-view : (values : List Value) → all_tables (items_view values) ≡ list_all (λ value. is_table (view value)) values

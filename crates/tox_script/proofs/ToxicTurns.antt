@@ -3,10 +3,10 @@ use Rattle.std.proofs.Common.{◌≡◌, ℕ, ◌+◌, ◌<◌, List, Result, Ok
 use Rattle.std.proofs.lemmas.List.{at_drop_more}
 use Rattle.toml.specs.View.{items_view, view}
 use Rattle.toml.specs.declared.value.Value.{Value}
-use Rattle.tox_script.specs.Chains.{put_toxic}
+use Rattle.tox_script.specs.chains.Chains.{put_toxic}
 use Rattle.tox_time.specs.Steps.{◌>>=◌}
-use Rattle.tox_script.specs.Toxic.{NamedToxic}
-use Rattle.tox_script.specs.Toxics.{behind, chains_of, read_chains, toxic_at, toxics_from}
+use Rattle.tox_script.specs.chains.Toxic.{NamedToxic}
+use Rattle.tox_script.specs.chains.Toxics.{behind, chains_of, read_chains, toxic_at, toxics_from}
 use Rattle.tox_script.specs.declared.chains.Chains.{Chains}
 use Rattle.tox_script.specs.declared.fault.Location.{Location}
 use Rattle.tox_script.specs.declared.fault.ScriptFault.{ScriptFault}

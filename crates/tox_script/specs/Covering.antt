@@ -2,9 +2,9 @@
 use Rattle.std.specs.Prelude.{ℕ, ◌&&◌, Bool, true, List, nat_le, Option, Some, None}
 use Rattle.std.specs.List.{find}
 use Rattle.std.specs.Str.{bytes_eq}
-use Rattle.tox_time.specs.declared.stream.Stream.{Stream}
-use Rattle.tox_script.specs.Chains.{no_chains, on}
-use Rattle.tox_script.specs.NamedChain.{NamedToxics}
+use Rattle.tox_time.specs.declared.streams.stream.Stream.{Stream}
+use Rattle.tox_script.specs.chains.Chains.{no_chains, on}
+use Rattle.tox_script.specs.chains.NamedChain.{NamedToxics}
 use Rattle.tox_script.specs.Rule.{Rule, Rules}
 use Rattle.tox_script.specs.declared.chains.Chains.{Chains}
 use Rattle.tox_words.specs.declared.lanes.Lanes.{Lanes}

@@ -1,14 +1,6 @@
-pub mod Fields
+pub mod fields
 pub mod Settings
-pub mod Document
-pub mod Toxicity
-pub mod ToxicFields
-pub mod Attributes
-pub mod Toxic
-pub mod NamedChain
-pub mod NamedChainInside
-pub mod Toxics
-pub mod Chains
+pub mod chains
 pub mod Rule
 pub mod Script
 pub mod Covering

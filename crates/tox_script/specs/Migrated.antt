@@ -9,7 +9,7 @@ use Rattle.tox_script.specs.declared.fault.ScriptFault.TheVariants.{AlreadyVersi
 use Rattle.tox_script.specs.declared.version.Version.{Version}
 use Rattle.tox_script.specs.declared.version.Version.TheVariants.{One, Two}
 use Rattle.tox_time.specs.Steps.{◌>>=◌}
-use Rattle.tox_time.specs.declared.stream.Stream.{Stream}
+use Rattle.tox_time.specs.declared.streams.stream.Stream.{Stream}
 
 -- a script of a version, which must be 1
 abbrev pub in_version_1 : Version → Rules → Result Rules ScriptFault

@@ -1,9 +1,9 @@
 -- A rule of a script: the fields of its table, and the toxics that some connections of a proxy meet.
 use Rattle.std.specs.Prelude.{ℕ, List, [], ◌∷◌, codes, Option, Result, Ok}
 use Rattle.toml.specs.Data.{Data, Items, get}
-use Rattle.tox_script.specs.Fields.{needed, optional, sized_text, tables_of, unless_unknown, whole_between}
+use Rattle.tox_script.specs.fields.Fields.{needed, optional, sized_text, tables_of, unless_unknown, whole_between}
 use Rattle.tox_time.specs.Steps.{◌>>=◌, map_err}
-use Rattle.tox_script.specs.Toxics.{read_chains}
+use Rattle.tox_script.specs.chains.Toxics.{read_chains}
 use Rattle.tox_script.specs.declared.chains.Chains.{Chains}
 use Rattle.tox_script.specs.declared.fault.Field.{Field}
 use Rattle.tox_script.specs.declared.fault.Field.TheVariants as field
@@ -19,23 +19,23 @@ pub record RuleFields : Type 0 where
   pub toxics : Items
 
 -- the name of a rule's proxy
-abbrev pub proxy_of : Data → Result (List ℕ) Field
-proxy_of d = needed field.Proxy (sized_text 255) (get (codes "proxy") d)
+abbrev pub proxy_field : Data → Result (List ℕ) Field
+proxy_field d = needed field.Proxy (sized_text 255) (get (codes "proxy") d)
 
 -- the first connection of a rule
-abbrev pub first_of : Data → Result ℕ Field
-first_of d = needed field.First (whole_between 1 1_000_000) (get (codes "first") d)
+abbrev pub first_field : Data → Result ℕ Field
+first_field d = needed field.First (whole_between 1 1_000_000) (get (codes "first") d)
 
 -- the last connection of a rule, where it has one
-abbrev pub last_of : ℕ → Data → Result (Option ℕ) Field
-last_of first d = optional field.Last (whole_between first 1_000_000) (get (codes "last") d)
+abbrev pub last_field : ℕ → Data → Result (Option ℕ) Field
+last_field first d = optional field.Last (whole_between first 1_000_000) (get (codes "last") d)
 
 -- the fields of a rule's table, or the first that isn't as it must be
 abbrev pub rule_fields : Data → Result RuleFields Field
 rule_fields d = do
-  proxy ← proxy_of d
-  first ← first_of d
-  last ← last_of first d
+  proxy ← proxy_field d
+  first ← first_field d
+  last ← last_field first d
   toxics ← tables_of field.Toxic (get (codes "toxic") d)
   unless_unknown
       (codes "proxy" ∷ codes "first" ∷ codes "last" ∷ codes "toxic" ∷ []) d

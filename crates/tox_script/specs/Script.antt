@@ -3,7 +3,7 @@ use Rattle.std.specs.Prelude.{ℕ, ◌+◌, List, [], ◌∷◌, ◌++◌, lengt
 use Rattle.std.specs.Str.{is_utf8}
 use Rattle.toml.specs.Data.{Data, table, Items, no_items, item}
 use Rattle.toml.specs.Parse.{parse_document}
-use Rattle.tox_script.specs.Document.{document_fields}
+use Rattle.tox_script.specs.fields.Document.{document_fields}
 use Rattle.tox_time.specs.Steps.{◌>>=◌, map_err}
 use Rattle.tox_script.specs.Rule.{Rule, Rules, rule_of}
 use Rattle.tox_script.specs.declared.fault.ScriptFault.{ScriptFault}

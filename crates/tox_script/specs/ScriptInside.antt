@@ -1,6 +1,6 @@
 -- What a contract sees of a `Script`, and what its fields keep.
 use Rattle.std.specs.Prelude.{◌≡◌, map}
-use Rattle.tox_script.specs.Chains.{no_chains}
+use Rattle.tox_script.specs.chains.Chains.{no_chains}
 use Rattle.tox_script.specs.Rule.{Rules}
 use Rattle.tox_script.specs.Views.{rule_view}
 use Rattle.tox_script.specs.declared.script.Script.TheInside.{Inside}

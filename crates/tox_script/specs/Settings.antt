@@ -1,7 +1,7 @@
 -- What a document says for all of its rules: its version, and the lanes of its chains.
 use Rattle.std.specs.Prelude.{ℕ, ◌==◌, codes, Option, Some, None, option_and_then, unwrap_or, Result, Ok, if◌then◌else◌}
 use Rattle.toml.specs.Data.{Data, get}
-use Rattle.tox_script.specs.Fields.{optional, whole}
+use Rattle.tox_script.specs.fields.Fields.{optional, whole}
 use Rattle.tox_script.specs.declared.fault.Field.{Field}
 use Rattle.tox_script.specs.declared.fault.Field.TheVariants as field
 use Rattle.tox_script.specs.declared.settings.Settings.{Settings}

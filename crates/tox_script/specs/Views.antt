@@ -2,17 +2,17 @@
 use Rattle.std.specs.declared.alloc.Global.{Global}
 use Rattle.std.specs.Prelude.{Box, Option, Some, None, option_map, string_bytes, unwrap_or}
 use Rattle.toml.specs.View.{items_view, view}
-use Rattle.tox_script.specs.Chains.{no_chains}
-use Rattle.tox_script.specs.Document.{DocumentFields}
+use Rattle.tox_script.specs.chains.Chains.{no_chains}
+use Rattle.tox_script.specs.fields.Document.{DocumentFields}
 use Rattle.tox_script.specs.Rule.{Rule, RuleFields}
-use Rattle.tox_script.specs.Toxic.{NamedToxic, default_name}
-use Rattle.tox_script.specs.ToxicFields.{ToxicFields}
+use Rattle.tox_script.specs.chains.Toxic.{NamedToxic, default_name}
+use Rattle.tox_script.specs.fields.ToxicFields.{ToxicFields}
 use Rattle.tox_script.specs.declared.chains.Chains.{Chains}
-use Rattle.tox_script.specs.declared.document.DocumentFields.{DocumentFields as LentDocumentFields}
-use Rattle.tox_script.specs.declared.named_toxic.NamedToxic.{NamedToxic as LentToxic}
+use Rattle.tox_script.specs.declared.fields.document.DocumentFields.{DocumentFields as LentDocumentFields}
+use Rattle.tox_script.specs.declared.chains.named_toxic.NamedToxic.{NamedToxic as LentToxic}
 use Rattle.tox_script.specs.declared.rule.Rule.{Rule as OwnedRule}
-use Rattle.tox_script.specs.declared.rule_fields.RuleFields.{RuleFields as LentRuleFields}
-use Rattle.tox_script.specs.declared.toxic_fields.ToxicFields.{ToxicFields as LentFields}
+use Rattle.tox_script.specs.declared.fields.rule_fields.RuleFields.{RuleFields as LentRuleFields}
+use Rattle.tox_script.specs.declared.fields.toxic_fields.ToxicFields.{ToxicFields as LentFields}
 use Rattle.tox_words.specs.declared.lanes.Lanes.{Lanes}
 
 -- the fields that a document's lent ones stand for
@@ -36,7 +36,7 @@ toxic_view toxic = record {
   stream = toxic.stream;
   entry = toxic.entry;
   name = unwrap_or (option_map (λ name. name.now) toxic.told_name)
-      (default_name toxic.kind toxic.stream);
+      (default_name toxic.entry.toxic toxic.stream);
 }
 
 -- the fields that a rule's lent ones stand for

@@ -1,17 +1,20 @@
 //! The chains of a rule, one for each stream.
 ghost use Rattle.std.specs.Prelude.{◌≡◌, ◌≢◌, false, string_bytes, OnOk, IfOk, IfErr, Ok, Err};
 ghost use Rattle.toml.specs.View.{items_view, view};
-ghost use Rattle.tox_defs.specs.Chain.{IsEntry, is_full};
-ghost use Rattle.tox_script.specs.Chains.{has_name, no_chains, on, pushed, put_toxic};
-ghost use Rattle.tox_script.specs.Toxics.{read_chains, toxic_at};
+ghost use Rattle.tox_defs.specs.chain.Chain.{IsEntry, is_full};
+ghost use Rattle.tox_script.specs.chains.Chains.{has_name, no_chains, on, pushed, put_toxic};
+ghost use Rattle.tox_script.specs.chains.Toxics.{read_chains, toxic_at};
 ghost use Rattle.tox_script.specs.Views.{toxic_view};
 ghost use Rattle.tox_script.specs.declared.fault.ScriptFault.TheVariants.{OutOfMemory};
 
+pub(crate) mod named_chain;
+pub(crate) mod named_toxic;
+
+use crate::chains::named_chain::NamedChain;
+use crate::chains::named_toxic::NamedToxic;
 use crate::fault::{Location, ScriptFault};
-use crate::named_chain::NamedChain;
-use crate::named_toxic::NamedToxic;
+use crate::fields::toxic_fields::ToxicFields;
 use crate::settings::Settings;
-use crate::toxic_fields::ToxicFields;
 use crate::version::Version;
 use std::alloc::{AllocError, Global};
 use toml::Value;

@@ -3,7 +3,13 @@ ghost use Rattle.std.specs.Prelude.{◌≡◌, map, option_map, IfOk, IfErr, Ok,
 ghost use Rattle.std.specs.List.{list_all};
 ghost use Rattle.toml.specs.Data.{get};
 ghost use Rattle.toml.specs.View.{items_view, table_view, view};
-ghost use Rattle.tox_script.specs.Fields.{all_tables, has_only, is_among, member_keys, sized_text, tables, tables_of, whole, whole_between};
+ghost use Rattle.tox_script.specs.fields.Fields.{all_tables, has_only, is_among, member_keys, sized_text, tables, tables_of, whole, whole_between};
+
+pub(crate) mod attributes;
+pub(crate) mod document;
+pub(crate) mod rule_fields;
+pub(crate) mod toxic_fields;
+pub(crate) mod toxicity;
 
 use crate::fault::Field;
 use toml::{Table, Value};

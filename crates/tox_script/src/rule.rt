@@ -1,10 +1,10 @@
 //! A rule of a script.
 ghost use Rattle.std.specs.Prelude.{◌≡◌, ◌≢◌, IfOk, IfErr, Ok, Err, option_map, unwrap_or};
 ghost use Rattle.toml.specs.View.{items_view, view};
-ghost use Rattle.tox_script.specs.Chains.{no_chains};
+ghost use Rattle.tox_script.specs.chains.Chains.{no_chains};
 ghost use Rattle.tox_script.specs.Covering.{covers, is_up_to};
 ghost use Rattle.tox_script.specs.Rule.{rule_of};
-ghost use Rattle.tox_script.specs.Toxics.{read_chains};
+ghost use Rattle.tox_script.specs.chains.Toxics.{read_chains};
 ghost use Rattle.tox_script.specs.Views.{held_chains, rule_view};
 ghost use Rattle.tox_script.specs.declared.fault.ScriptFault.TheVariants.{OutOfMemory};
 ghost use Rattle.tox_words.specs.declared.lanes.Lanes.{Lanes};
@@ -12,7 +12,7 @@ ghost use Rattle.tox_words.specs.declared.lanes.Lanes.TheVariants.{Sixteen};
 
 use crate::chains::Chains;
 use crate::fault::{Location, ScriptFault};
-use crate::rule_fields::RuleFields;
+use crate::fields::rule_fields::RuleFields;
 use crate::settings::Settings;
 use std::alloc::Global;
 use toml::Value;

@@ -7,8 +7,8 @@ ghost use Rattle.tox_script.specs.Script.{rules_from, script_in, script_of, toml
 ghost use Rattle.tox_script.specs.declared.fault.ScriptFault.TheVariants.{NotToml, OutOfMemory};
 
 use crate::chains::Chains;
-use crate::document::DocumentFields;
 use crate::fault::{Location, ScriptFault};
+use crate::fields::document::DocumentFields;
 use crate::rule::Rule;
 use crate::settings::Settings;
 use crate::version::Version;

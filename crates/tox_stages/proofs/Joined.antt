@@ -1,9 +1,9 @@
 -- The two ends of a ring, brought together.
 use Rattle.std.proofs.Common.{◌≡◌, true, List, [], ◌∷◌, ◌++◌, refl, sym, ◌∙◌, ap, subst, arith}
 use Rattle.std.proofs.lemmas.List.{append-nil}
-use Rattle.tox_time.specs.declared.item.Item.{Item}
-use Rattle.tox_time.specs.Stream.{IsStream, has_final}
-use Rattle.tox_defs.specs.Reaction.{Reaction, flow}
+use Rattle.tox_time.specs.declared.streams.item.Item.{Item}
+use Rattle.tox_time.specs.streams.Stream.{IsStream, has_final}
+use Rattle.tox_defs.specs.stage.Reaction.{Reaction, flow}
 use Rattle.tox_defs.specs.Laws.{IsKeptBy}
 use Rattle.tox_stages.specs.Passing.{IsLinkStream, SendsFlow, PassesOn, Delivers}
 use Rattle.tox_stages.proofs.Places.{whole_stream, nothing_more}

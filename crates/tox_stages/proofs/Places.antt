@@ -2,12 +2,12 @@
 use Rattle.std.proofs.Common.{◌≡◌, ◌^◌, ◌<◌, ◌≤◌, true, false, List, [], ◌∷◌, ◌++◌, refl, ◌∙◌, ap, subst, arith, append_assoc}
 use Rattle.std.proofs.lemmas.Bool.Decides.{nat_tests}
 use Rattle.std.proofs.lemmas.List.{append-nil}
-use Rattle.tox_time.specs.declared.item.Item.{Item}
-use Rattle.tox_time.specs.declared.item.Item.TheVariants.{Chunk, Closed, Reset, Quiet}
-use Rattle.tox_time.specs.Stream.{IsStream, is_final, has_final}
+use Rattle.tox_time.specs.declared.streams.item.Item.{Item}
+use Rattle.tox_time.specs.declared.streams.item.Item.TheVariants.{Chunk, Closed, Reset, Quiet}
+use Rattle.tox_time.specs.streams.Stream.{IsStream, is_final, has_final}
 use Rattle.tox_time.proofs.StreamLemmas.{final_of_stream}
-use Rattle.tox_defs.specs.declared.position.StreamPosition.{StreamPosition}
-use Rattle.tox_defs.specs.StreamPosition.{first_position, fits, position_after, AllFit}
+use Rattle.tox_time.specs.declared.streams.position.StreamPosition.{StreamPosition}
+use Rattle.tox_time.specs.streams.StreamPosition.{first_position, fits, position_after, AllFit}
 use Rattle.tox_defs.proofs.Places.{AllFit-stream}
 use Rattle.tox_network.proofs.Streams.{no_final_before}
 use Rattle.tox_stages.specs.Passing.{IsLinkStream, BeginsStream}

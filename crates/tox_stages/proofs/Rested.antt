@@ -1,10 +1,10 @@
 -- Stages that passed the arrivals on are a run at rest, and what they delivered lies within the arrivals.
 use Rattle.std.proofs.Common.{ℕ, ◌≤◌, List, Some, sym, ◌∙◌, subst}
-use Rattle.tox_time.specs.declared.item.Item.{Item}
-use Rattle.tox_time.specs.declared.outcome.Outcome.{Outcome}
-use Rattle.tox_time.specs.Stream.{IsStream}
-use Rattle.tox_time.specs.Neighbours.{AreNeighbours}
-use Rattle.tox_defs.specs.Chain.{Toxics, IsChain}
+use Rattle.tox_time.specs.declared.streams.item.Item.{Item}
+use Rattle.tox_time.specs.declared.streams.outcome.Outcome.{Outcome}
+use Rattle.tox_time.specs.streams.Stream.{IsStream}
+use Rattle.tox_time.specs.streams.Neighbours.{AreNeighbours}
+use Rattle.tox_defs.specs.chain.Chain.{Toxics, IsChain}
 use Rattle.tox_defs.specs.Flow.{reactions_of}
 use Rattle.tox_defs.proofs.ChainStreams.{kept_by_chain}
 use Rattle.tox_network.specs.Rings.{IsRunOf}
@@ -12,7 +12,8 @@ use Rattle.tox_network.specs.Shown.{shown}
 use Rattle.tox_network.proofs.EveryRun.{rings_run, every_rest_delivers}
 use Rattle.tox_stages.specs.AtRest.{IsNetworkAtRest}
 use Rattle.tox_stages.specs.Passing.{PassesOn}
-use Rattle.tox_stages.proofs.Within.{LieWithin, chain_within, neighbours_shown}
+use Rattle.tox_defs.proofs.Within.{LieWithin}
+use Rattle.tox_stages.proofs.Within.{chain_within, neighbours_shown}
 
 pub network_at_rest : (cap : ℕ) (chain : Toxics) (words : List ℕ) (items : List Item) (outcome : Outcome) → 1 ≤ cap
     → PassesOn (reactions_of chain words) items (shown outcome.slices (Some outcome.ending)) → IsNetworkAtRest cap chain words items outcome

@@ -1,15 +1,15 @@
 -- What a worker keeps from item to item.
 use Rattle.std.proofs.Common.{◌≡◌, ℕ, ◌^◌, ◌≤◌, true, false, List, [], ◌∷◌, ◌++◌, refl, sym, ◌∙◌, ap, subst}
 use Rattle.std.proofs.lemmas.List.{append-nil}
-use Rattle.tox_time.specs.declared.item.Item.{Item}
-use Rattle.tox_time.specs.Stream.{is_final, has_final}
-use Rattle.tox_defs.specs.declared.position.StreamPosition.{StreamPosition}
-use Rattle.tox_defs.specs.declared.state.State.{State}
-use Rattle.tox_defs.specs.StreamPosition.{first_position, fits, position_after}
-use Rattle.tox_defs.specs.Reaction.{Answer, Reaction, first_state, react, flow, flow_from, state_from}
+use Rattle.tox_time.specs.declared.streams.item.Item.{Item}
+use Rattle.tox_time.specs.streams.Stream.{is_final, has_final}
+use Rattle.tox_time.specs.declared.streams.position.StreamPosition.{StreamPosition}
+use Rattle.tox_defs.specs.declared.operations.state.State.{State}
+use Rattle.tox_time.specs.streams.StreamPosition.{first_position, fits, position_after}
+use Rattle.tox_defs.specs.stage.Reaction.{Answer, Reaction, first_state, react, flow, flow_from, state_from}
 use Rattle.tox_words.specs.Draw.{DrawingView, draws_of}
-use Rattle.tox_defs.specs.Op.{op_reaction}
-use Rattle.tox_defs.specs.Stage.{Staged, reaction_of, taken}
+use Rattle.tox_defs.specs.operations.Op.{op_reaction}
+use Rattle.tox_defs.specs.stage.Stage.{Staged, reaction_of, taken}
 use Rattle.tox_defs.proofs.FlowLemmas.{flow_from-append, state_from-append}
 use Rattle.tox_stages.specs.Passing.{SendsFlow, BeginsStream}
 use Rattle.tox_stages.proofs.Places.{place_behind, place_behind-last, ended_behind, has_final-last, whole_stream, misfit}

@@ -1,8 +1,8 @@
 -- Running stages that have come to rest, as the network that they are.
 use Rattle.std.specs.Prelude.{◌≡◌, ℕ, List, Some}
-use Rattle.tox_time.specs.declared.item.Item.{Item}
-use Rattle.tox_time.specs.declared.outcome.Outcome.{Outcome}
-use Rattle.tox_defs.specs.Chain.{Toxics}
+use Rattle.tox_time.specs.declared.streams.item.Item.{Item}
+use Rattle.tox_time.specs.declared.streams.outcome.Outcome.{Outcome}
+use Rattle.tox_defs.specs.chain.Chain.{Toxics}
 use Rattle.tox_defs.specs.Flow.{reactions_of}
 use Rattle.tox_network.specs.Rings.{Ring, PassOn, IsRunOf}
 use Rattle.tox_network.specs.Shown.{shown}

@@ -1,7 +1,7 @@
 -- What was collected of the items that came out of the last ring.
 use Rattle.std.specs.Prelude.{◌≡◌, false, List}
-use Rattle.tox_time.specs.declared.item.Item.{Item}
-use Rattle.tox_time.specs.Stream.{has_final}
+use Rattle.tox_time.specs.declared.streams.item.Item.{Item}
+use Rattle.tox_time.specs.streams.Stream.{has_final}
 use Rattle.tox_stages.specs.declared.collected.Collected.{Collected}
 
 -- these items came: they are kept, unless memory was refused, and it is known whether they have a final

@@ -1,8 +1,8 @@
 -- What a worker and a level promise of the items that they received.
 use Rattle.std.specs.Prelude.{◌≡◌, ◌^◌, ◌≤◌, List, ◌++◌}
-use Rattle.tox_time.specs.declared.item.Item.{Item}
-use Rattle.tox_time.specs.Stream.{IsStream, arrived}
-use Rattle.tox_defs.specs.Reaction.{Reaction, flow, flow_through}
+use Rattle.tox_time.specs.declared.streams.item.Item.{Item}
+use Rattle.tox_time.specs.streams.Stream.{IsStream, arrived}
+use Rattle.tox_defs.specs.stage.Reaction.{Reaction, flow, flow_through}
 use Rattle.tox_network.specs.Rings.{Ring, PassOn}
 
 -- a stream of as many bytes as a link may carry

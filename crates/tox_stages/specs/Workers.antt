@@ -1,12 +1,12 @@
 -- Which worker a promise speaks of.
 use Rattle.std.specs.Prelude.{◌≡◌, ℕ, List, []}
 use Rattle.std.specs.declared.alloc.Global.{Global}
-use Rattle.tox_time.specs.declared.item.Item.{Item}
+use Rattle.tox_time.specs.declared.streams.item.Item.{Item}
 use Rattle.rtrb.specs.declared.AnyItems.{AnyItems}
 use Rattle.rtrb.specs.declared.consumer.Consumer.{Consumer}
 use Rattle.rtrb.specs.Ring.{received, IsPair}
 use Rattle.tox_words.specs.declared.lanes.Lanes.{Lanes}
-use Rattle.tox_defs.specs.declared.applied.Placed.{Placed}
+use Rattle.tox_defs.specs.declared.chain.applied.Placed.{Placed}
 use Rattle.tox_stages.specs.declared.worker.SendsFlowOf.{SendsFlowOf}
 
 -- the worker of this toxic, which takes from the first of these consumers, and sends to the ring of the second, out of which nothing came yet

@@ -1,7 +1,7 @@
 //! What comes out of the last ring.
 ghost use Rattle.std.specs.Prelude.{◌≡◌, List, [], ◌∷◌, ◌++◌, Some, true, false, IfOk};
-ghost use Rattle.tox_time.specs.declared.item.Item.{Item as OneItem};
-ghost use Rattle.tox_time.specs.Stream.{has_final, is_final};
+ghost use Rattle.tox_time.specs.declared.streams.item.Item.{Item as OneItem};
+ghost use Rattle.tox_time.specs.streams.Stream.{has_final, is_final};
 ghost use Rattle.tox_network.specs.Shown.{shown};
 
 use std::alloc::{AllocError, Global};

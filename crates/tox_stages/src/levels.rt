@@ -1,10 +1,10 @@
 //! The chain of workers, built level by level.
 ghost use Rattle.std.specs.Prelude.{◌≡◌, ◌≢◌, ◌+◌, ◌≤◌, All, [], length, map, true, Some, IfOk, IfSome, Err};
 ghost use Rattle.rtrb.specs.Ring.{sent, received, SameProducer, SameConsumer};
-ghost use Rattle.tox_time.specs.Arrivals.{arrival_list};
-ghost use Rattle.tox_time.specs.Neighbours.{AreNeighbours};
-ghost use Rattle.tox_time.specs.Stream.{has_final};
-ghost use Rattle.tox_time.specs.Table.{IsOutcomeOf};
+ghost use Rattle.tox_time.specs.streams.Arrivals.{arrival_list};
+ghost use Rattle.tox_time.specs.streams.Neighbours.{AreNeighbours};
+ghost use Rattle.tox_time.specs.streams.Stream.{has_final};
+ghost use Rattle.tox_time.specs.streams.Table.{IsOutcomeOf};
 ghost use Rattle.tox_words.specs.Draw.{draw_in};
 ghost use Rattle.tox_defs.specs.Flow.{IsPlaced, applied, chain_flow, placed_reaction};
 ghost use Rattle.tox_network.specs.Shown.{shown};

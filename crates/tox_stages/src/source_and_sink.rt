@@ -1,7 +1,7 @@
 //! The two ends of the chain, held by one thread: what arrives is sent, and what is delivered is collected.
 ghost use Rattle.std.specs.Prelude.{◌≡◌, ◌<◌, [], ◌++◌, length, Some, false, IsTrue, IfOk, IfErr};
 ghost use Rattle.rtrb.specs.Ring.{sent, received, SameProducer, SameConsumer};
-ghost use Rattle.tox_time.specs.Arrivals.{arrival_list};
+ghost use Rattle.tox_time.specs.streams.Arrivals.{arrival_list};
 ghost use Rattle.tox_network.specs.Shown.{shown};
 ghost use Rattle.tox_stages.specs.Collecting.{Collects};
 ghost use Rattle.tox_stages.specs.Passing.{Delivers, IsLinkStream};

@@ -5,21 +5,21 @@ use Rattle.std.specs.Result.{result_ok}
 use Rattle.hex.specs.Hex.{decode_of}
 use Rattle.hex.specs.declared.error.FromHexError.{FromHexError}
 use Rattle.hex.proofs.HexLemmas.{decode_of-ok}
-use Rattle.tox_time.specs.declared.arrivals.ArrivalFault.{ArrivalFault}
-use Rattle.tox_time.specs.declared.arrivals.ArrivalFault.TheVariants.{TimeBack, EmptyPiece, TooManyBytes, AfterEnd}
-use Rattle.tox_time.specs.declared.item.Item.{Item}
-use Rattle.tox_time.specs.declared.item.Item.TheVariants.{Closed}
+use Rattle.tox_time.specs.declared.streams.arrivals.ArrivalFault.{ArrivalFault}
+use Rattle.tox_time.specs.declared.streams.arrivals.ArrivalFault.TheVariants.{TimeBack, EmptyPiece, TooManyBytes, AfterEnd}
+use Rattle.tox_time.specs.declared.streams.item.Item.{Item}
+use Rattle.tox_time.specs.declared.streams.item.Item.TheVariants.{Closed}
 use Rattle.tox_time.specs.Time.{IsInstant}
-use Rattle.tox_time.specs.Stream.{arrived, latest, has_final}
-use Rattle.tox_time.specs.Arrivals.{end_fault, eof_fault, next_chunk, piece_fault, push_fault}
+use Rattle.tox_time.specs.streams.Stream.{arrived, latest, has_final}
+use Rattle.tox_time.specs.streams.Arrivals.{end_fault, eof_fault, next_chunk, piece_fault, push_fault}
 use Rattle.tox_time.proofs.ArrivalsKept.{IsArrivalList-append}
 use Rattle.tox_time.proofs.StreamLemmas.{arrived-append, has_final-append, latest_from-append}
 use Rattle.tox_text.specs.declared.fault.DryFault.TheVariants.{Arrival}
-use Rattle.tox_text.specs.ArrivalsText.{Arrived, nothing, unless_refused, with_end, with_line, with_piece, with_read}
-use Rattle.tox_text.specs.Checked.{AreArrivals, AreShort}
-use Rattle.tox_text.specs.Counting.{Counts}
-use Rattle.tox_text.specs.Line.{Line, arrival, end, line_of}
-use Rattle.tox_text.specs.declared.arrivals_check.Count.{Count}
+use Rattle.tox_text.specs.arrivals.ArrivalsText.{Arrived, nothing, unless_refused, with_end, with_line, with_piece, with_read}
+use Rattle.tox_text.specs.arrivals.Checked.{AreArrivals, AreShort}
+use Rattle.tox_text.specs.arrivals.Counting.{Counts}
+use Rattle.tox_text.specs.arrivals.Line.{Line, arrival, end, line_of}
+use Rattle.tox_time.specs.declared.streams.position.StreamPosition.{StreamPosition}
 
 -- a line that isn't empty says what is read of it
 pub with_line-read : (n : ℕ) (before : Arrived) (line : List ℕ) (read : Option Line) → (length line == 0) ≡ false → line_of line ≡ read → with_line n before line ≡ with_read n before read
@@ -73,19 +73,19 @@ AreArrivals-end before t arrivals instant none =
       few = omega (arith, arrived-append before.items (Closed t ∷ []), arrivals.few);
     }
 
-counted_fault : (count : Count) (before : Arrived) (len t : ℕ) → Counts count before → piece_fault count.bytes count.latest count.has_ended len t ≡ push_fault before.items len t
+counted_fault : (count : StreamPosition) (before : Arrived) (len t : ℕ) → Counts count before → piece_fault count.position count.latest count.ended len t ≡ push_fault before.items len t
 counted_fault count before len t counts =
-    ap (λ n. piece_fault n count.latest count.has_ended len t) counts.bytes
-    ∙ ap (λ n. piece_fault (arrived before.items) n count.has_ended len t) counts.latest
+    ap (λ n. piece_fault n count.latest count.ended len t) counts.bytes
+    ∙ ap (λ n. piece_fault (arrived before.items) n count.ended len t) counts.latest
     ∙ ap (λ b. piece_fault (arrived before.items) (latest before.items) b len t) counts.ended
 
-counted_end : (count : Count) (before : Arrived) (t : ℕ) → Counts count before → end_fault count.latest count.has_ended t ≡ eof_fault before.items t
+counted_end : (count : StreamPosition) (before : Arrived) (t : ℕ) → Counts count before → end_fault count.latest count.ended t ≡ eof_fault before.items t
 counted_end count before t counts =
-    ap (λ n. end_fault n count.has_ended t) counts.latest ∙ ap (λ b. end_fault (latest before.items) b t) counts.ended
+    ap (λ n. end_fault n count.ended t) counts.latest ∙ ap (λ b. end_fault (latest before.items) b t) counts.ended
 
 -- a data line is counted
-pub data_counted : (n : ℕ) (old new : Count) (before : Arrived) (t : ℕ) (bytes line : List ℕ) → (length line == 0) ≡ false → line_of line ≡ Some (arrival t bytes) → IsInstant t
-    → piece_fault old.bytes old.latest old.has_ended (length bytes) t ≡ None → (new.bytes ≡ old.bytes + length bytes) × (new.latest ≡ t) × (new.has_ended ≡ false) → Counts old before
+pub data_counted : (n : ℕ) (old new : StreamPosition) (before : Arrived) (t : ℕ) (bytes line : List ℕ) → (length line == 0) ≡ false → line_of line ≡ Some (arrival t bytes) → IsInstant t
+    → piece_fault old.position old.latest old.ended (length bytes) t ≡ None → (new.position ≡ old.position + length bytes) × (new.latest ≡ t) × (new.ended ≡ false) → Counts old before
     → (after : Arrived) × (with_line n before line ≡ Ok after) × Counts new after
 data_counted n old new before t bytes line filled is instant none grown counts =
     let accepted : push_fault before.items (length bytes) t ≡ None = sym (counted_fault old before (length bytes) t counts) ∙ none in
@@ -102,8 +102,8 @@ data_counted n old new before t bytes line filled is instant none grown counts =
     )
 
 -- a last line is counted
-pub end_counted : (n : ℕ) (old new : Count) (before : Arrived) (t : ℕ) (line : List ℕ) → (length line == 0) ≡ false → line_of line ≡ Some (end t) → IsInstant t
-    → end_fault old.latest old.has_ended t ≡ None → (new.bytes ≡ old.bytes) × (new.latest ≡ t) × (new.has_ended ≡ true) → Counts old before
+pub end_counted : (n : ℕ) (old new : StreamPosition) (before : Arrived) (t : ℕ) (line : List ℕ) → (length line == 0) ≡ false → line_of line ≡ Some (end t) → IsInstant t
+    → end_fault old.latest old.ended t ≡ None → (new.position ≡ old.position) × (new.latest ≡ t) × (new.ended ≡ true) → Counts old before
     → (after : Arrived) × (with_line n before line ≡ Ok after) × Counts new after
 end_counted n old new before t line filled is instant none grown counts =
     let accepted : eof_fault before.items t ≡ None = sym (counted_end old before t counts) ∙ none in
@@ -119,14 +119,14 @@ end_counted n old new before t line filled is instant none grown counts =
     )
 
 -- and a refused one is told
-pub data_refused : (n : ℕ) (old : Count) (before : Arrived) (t : ℕ) (bytes line : List ℕ) (fault : ArrivalFault) → (length line == 0) ≡ false → line_of line ≡ Some (arrival t bytes)
-    → piece_fault old.bytes old.latest old.has_ended (length bytes) t ≡ Some fault → Counts old before → with_line n before line ≡ Err (Arrival fault n)
+pub data_refused : (n : ℕ) (old : StreamPosition) (before : Arrived) (t : ℕ) (bytes line : List ℕ) (fault : ArrivalFault) → (length line == 0) ≡ false → line_of line ≡ Some (arrival t bytes)
+    → piece_fault old.position old.latest old.ended (length bytes) t ≡ Some fault → Counts old before → with_line n before line ≡ Err (Arrival fault n)
 data_refused n old before t bytes line fault filled is refused counts =
     with_line-read n before line (Some (arrival t bytes)) filled is
     ∙ ap (λ f. unless_refused n f (with_piece before t bytes)) (sym (counted_fault old before (length bytes) t counts) ∙ refused)
 
-pub end_refused : (n : ℕ) (old : Count) (before : Arrived) (t : ℕ) (line : List ℕ) (fault : ArrivalFault) → (length line == 0) ≡ false → line_of line ≡ Some (end t)
-    → end_fault old.latest old.has_ended t ≡ Some fault → Counts old before → with_line n before line ≡ Err (Arrival fault n)
+pub end_refused : (n : ℕ) (old : StreamPosition) (before : Arrived) (t : ℕ) (line : List ℕ) (fault : ArrivalFault) → (length line == 0) ≡ false → line_of line ≡ Some (end t)
+    → end_fault old.latest old.ended t ≡ Some fault → Counts old before → with_line n before line ≡ Err (Arrival fault n)
 end_refused n old before t line fault filled is refused counts =
     with_line-read n before line (Some (end t)) filled is
     ∙ ap (λ f. unless_refused n f (with_end before t)) (sym (counted_end old before t counts) ∙ refused)
@@ -149,7 +149,7 @@ unpaired_read t digits unpaired = by (decode_of digits) refl
     by (Err fault) is = ap (λ r. option_map (arrival t) (result_ok r)) is
 
 -- nothing was counted yet
-pub Counts-first : (count : Count) → count.bytes ≡ 0 → count.latest ≡ 0 → count.has_ended ≡ false → Counts count nothing
+pub Counts-first : (count : StreamPosition) → count.position ≡ 0 → count.latest ≡ 0 → count.ended ≡ false → Counts count nothing
 Counts-first count bytes latest ended = record {
   arrivals = record { list = (refl, λ reset. reset); few = omega arith };
   bytes = bytes;

@@ -4,7 +4,7 @@ use Rattle.std.specs.Prelude.{All}
 use Rattle.std.proofs.lemmas.List.{drop_more, get_or_default, get_or-take, take-append-drop}
 use Rattle.std.proofs.lemmas.List.Splits.{slice_split_at, slice_split_none}
 use Rattle.memchr.specs.Find.{NoneBefore, Nowhere, Passes, is_byte}
-use Rattle.tox_text.specs.ArrivalsText.{lines_of}
+use Rattle.tox_text.specs.arrivals.ArrivalsText.{lines_of}
 
 abbrev is_feed : ℕ → Bool
 is_feed byte = byte == 10

@@ -1,7 +1,7 @@
 -- Lines of the result text, in the parts in which they are printed.
 use Rattle.std.proofs.Common.{◌≡◌, ℕ, ◌+◌, List, ◌++◌, length, codes, decimal, append_assoc}
 use Rattle.hex.specs.Hex.{encode_lower}
-use Rattle.tox_time.specs.declared.ending.Ending.TheVariants.{Closed, Reset}
+use Rattle.tox_time.specs.declared.streams.ending.Ending.TheVariants.{Closed, Reset}
 use Rattle.tox_text.specs.ResultText.{bytes_line, ending_line}
 
 pub bytes_line-parts : (t start : ℕ) (bytes : List ℕ)

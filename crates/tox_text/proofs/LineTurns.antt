@@ -5,10 +5,10 @@ use Rattle.std.specs.Result.{result_ok}
 use Rattle.hex.specs.Hex.{decode_of}
 use Rattle.hex.specs.declared.error.FromHexError.{FromHexError}
 use Rattle.hex.proofs.HexLemmas.{decode_of-ok}
-use Rattle.tox_time.specs.declared.arrivals.ArrivalFault.{ArrivalFault}
-use Rattle.tox_time.specs.Arrivals.{eof_fault, next_chunk, push_fault}
-use Rattle.tox_text.specs.ArrivalsText.{Arrived, unless_refused, with_end, with_line, with_piece, with_read}
-use Rattle.tox_text.specs.Line.{Line, arrival, end, line_of}
+use Rattle.tox_time.specs.declared.streams.arrivals.ArrivalFault.{ArrivalFault}
+use Rattle.tox_time.specs.streams.Arrivals.{eof_fault, next_chunk, push_fault}
+use Rattle.tox_text.specs.arrivals.ArrivalsText.{Arrived, unless_refused, with_end, with_line, with_piece, with_read}
+use Rattle.tox_text.specs.arrivals.Line.{Line, arrival, end, line_of}
 use Rattle.tox_text.proofs.CountLemmas.{with_line-read}
 
 filled : (line : List ℕ) (said : Line) → line_of line ≡ Some said → (length line == 0) ≡ false

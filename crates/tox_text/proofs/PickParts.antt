@@ -2,8 +2,8 @@
 use Rattle.std.proofs.Common.{◌≡◌, ℕ, List, ◌++◌, codes, decimal, append_assoc}
 use Rattle.tox_config.specs.Proxy.{Proxy}
 use Rattle.tox_words.specs.Draw.{Draws}
-use Rattle.tox_defs.specs.Applied.{is_applied}
-use Rattle.tox_defs.specs.Printed.{printed_short}
+use Rattle.tox_defs.specs.chain.Applied.{is_applied}
+use Rattle.tox_defs.specs.short.Printed.{printed_short}
 use Rattle.tox_defs.specs.declared.chain.Entry.{Entry}
 use Rattle.tox_text.specs.Names.{visible_name}
 use Rattle.tox_text.specs.PickText.{applied_word, enabled_word, proxy_line, toxic_line}

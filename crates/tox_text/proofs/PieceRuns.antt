@@ -1,11 +1,11 @@
 -- The runs of one piece.
 use Rattle.std.proofs.Common.{◌≡◌, ◌≢◌, ℕ, ◌+◌, ◌-◌, ◌<◌, ◌==◌, ◌&&◌, Bool, true, false, List, [], ◌∷◌, ◌++◌, length, drop, slice_index, replicate, refl, ap, sym, ◌∙◌, arith, rules, tests, length-take, length-drop}
 use Rattle.std.proofs.lemmas.List.{get_or-drop, get_or-take, length-replicate}
-use Rattle.tox_time.specs.declared.span.Span.{Span}
-use Rattle.tox_time.specs.declared.slice.Slice.{Slice}
-use Rattle.tox_time.specs.Stream.{span_len}
+use Rattle.tox_time.specs.declared.streams.span.Span.{Span}
+use Rattle.tox_time.specs.declared.streams.slice.Slice.{Slice}
+use Rattle.tox_time.specs.streams.Stream.{span_len}
 use Rattle.tox_lend.specs.Run.{LiesIn, Run, bytes_at}
-use Rattle.tox_text.specs.ArrivalsText.{Arrived}
+use Rattle.tox_text.specs.arrivals.ArrivalsText.{Arrived}
 use Rattle.tox_text.specs.ResultText.{arrival_of, bytes_line, lines_text}
 use Rattle.tox_text.proofs.Runs.{StandsAt, StartAnew, delivered_from, delivered_from-append, delivered_from-run, line_from, lines_text-run, run_from}
 

@@ -1,7 +1,7 @@
 -- Longest runs, and their lines, taken apart from the front.
 use Rattle.std.proofs.Common.{◌≡◌, ℕ, ◌+◌, ◌==◌, ◌&&◌, Bool, true, false, List, [], ◌∷◌, ◌++◌, length, map, replicate, slice_index, refl, arith, ap, sym, ◌∙◌, rules, tests, if◌then◌else◌, ◌<◌, suc}
 use Rattle.std.specs.List.{enumerate_from, flat_map}
-use Rattle.tox_text.specs.ArrivalsText.{Arrived}
+use Rattle.tox_text.specs.arrivals.ArrivalsText.{Arrived}
 use Rattle.tox_text.specs.ResultText.{Delivered, arrival_of, are_one_run, bytes_line, delivered_at, lines_text, onto_runs, run_line, runs_of}
 
 -- bytes of one arrival that leave at one instant, from a position on

@@ -1,11 +1,9 @@
 -- Printed short forms, in the parts in which they are printed.
-use Rattle.std.proofs.Common.{◌≡◌, ℕ, zero, suc, Bool, true, false, filter, if◌then◌else◌, List, [], ◌∷◌, ◌++◌, codes, decimal, flat_map, map, append_assoc, append-nil, refl, ap, ◌∙◌}
+use Rattle.std.proofs.Common.{◌≡◌, ℕ, Bool, true, false, filter, if◌then◌else◌, List, [], ◌∷◌, ◌++◌, codes, decimal, flat_map, map, append_assoc, append-nil, refl, ap, ◌∙◌}
 use Rattle.std.specs.List.{join_with_byte, zip}
-use Rattle.std.proofs.Math.Dec.{eqb-suc-zero}
-use Rattle.tox_defs.specs.Kind.{attributes_of, name_of}
-use Rattle.tox_defs.specs.Printed.{is_shown, printed_pair, printed_pairs, printed_short, type_of, values_of}
+use Rattle.tox_defs.specs.Toxic.{attributes_of, name_of, values_of}
+use Rattle.tox_defs.specs.short.Printed.{is_shown, printed_pair, printed_pairs, printed_short}
 use Rattle.tox_defs.specs.declared.toxic.Toxic.{Toxic}
-use Rattle.tox_defs.specs.declared.toxic.Toxic.TheVariants.{Latency, Bandwidth, SlowClose, Timeout, ResetPeer, Slicer, LimitData}
 use Rattle.tox_text.specs.ShortForm.{pair_before_comma, shown_before_comma}
 
 pub pair-parts : (key : List ℕ) (value : ℕ) → (key ++ codes "=") ++ (decimal value ++ codes ",") ≡ pair_before_comma (key, value)
@@ -27,7 +25,7 @@ joined_last (part ∷ next ∷ parts) last =
 
 -- the attributes' pairs of a toxic
 abbrev pairs_of : Toxic → List (List ℕ)
-pairs_of toxic = map printed_pair (filter is_shown (zip (attributes_of (type_of toxic)) (values_of toxic)))
+pairs_of toxic = map printed_pair (filter is_shown (zip (attributes_of toxic) (values_of toxic)))
 
 -- each pair that is printed with a comma behind it
 spelled_by : (shown : Bool) (pair : List ℕ × ℕ) (pairs : List (List ℕ × ℕ)) → flat_map shown_before_comma pairs ≡ flat_map (λ part. part ++ codes ",") (map printed_pair (filter is_shown pairs))
@@ -39,30 +37,16 @@ spelled : (pairs : List (List ℕ × ℕ)) → flat_map shown_before_comma pairs
 spelled [] = refl
 spelled (pair ∷ pairs) = spelled_by (is_shown pair) pair pairs (spelled pairs)
 
--- the toxicity's pair comes last
-ended : (toxic : Toxic) (toxicity : ℕ) → pairs_of toxic ++ printed_pair (codes "toxicity", toxicity) ∷ [] ≡ printed_pairs toxic toxicity
-ended (Latency latency jitter zero) toxicity = refl
-ended (Latency latency jitter (suc until)) toxicity = rw (eqb-suc-zero until) refl
-ended (Bandwidth rate zero) toxicity = refl
-ended (Bandwidth rate (suc until)) toxicity = rw (eqb-suc-zero until) refl
-ended (SlowClose delay) toxicity = refl
-ended (Timeout timeout) toxicity = refl
-ended (ResetPeer timeout) toxicity = refl
-ended (Slicer average_size size_variation delay zero) toxicity = refl
-ended (Slicer average_size size_variation delay (suc until)) toxicity = rw (eqb-suc-zero until) refl
-ended (LimitData bytes) toxicity = refl
-
 parts_of_toxic : (toxic : Toxic) (toxicity : ℕ)
-    → short_parts (name_of (type_of toxic)) (attributes_of (type_of toxic)) (values_of toxic) toxicity ≡ printed_short toxic toxicity
+    → short_parts (name_of toxic) (attributes_of toxic) (values_of toxic) toxicity ≡ printed_short toxic toxicity
 parts_of_toxic toxic toxicity =
-    ap (λ text. (name_of (type_of toxic) ++ codes ":") ++ text) (
-    ap (λ text. text ++ (codes "toxicity=" ++ (decimal toxicity ++ []))) (spelled (zip (attributes_of (type_of toxic)) (values_of toxic)))
+    ap (λ text. (name_of toxic ++ codes ":") ++ text) (
+    ap (λ text. text ++ (codes "toxicity=" ++ (decimal toxicity ++ []))) (spelled (zip (attributes_of toxic) (values_of toxic)))
     ∙ ap (λ digits. flat_map (λ part. part ++ codes ",") (pairs_of toxic) ++ (codes "toxicity=" ++ digits)) (append-nil (decimal toxicity))
-    ∙ joined_last (pairs_of toxic) (printed_pair (codes "toxicity", toxicity))
-    ∙ ap (join_with_byte 44) (ended toxic toxicity))
+    ∙ joined_last (pairs_of toxic) (printed_pair (codes "toxicity", toxicity)))
 
 -- what the calls answered are these parts
 pub printed_short-parts : (name : List ℕ) (keys : List (List ℕ)) (values : List ℕ) (number : ℕ) (toxic : Toxic) (toxicity : ℕ)
-    → name ≡ name_of (type_of toxic) → keys ≡ attributes_of (type_of toxic) → values ≡ values_of toxic → number ≡ toxicity
+    → name ≡ name_of toxic → keys ≡ attributes_of toxic → values ≡ values_of toxic → number ≡ toxicity
     → short_parts name keys values number ≡ printed_short toxic toxicity
 printed_short-parts name keys values number toxic toxicity named keyed valued numbered = rw (named, keyed, valued, numbered) (parts_of_toxic toxic toxicity)

@@ -1,8 +1,4 @@
-pub mod Line
-pub mod ArrivalsText
-pub mod Lines
-pub mod Checked
-pub mod Counting
+pub mod arrivals
 pub mod Writing
 pub mod ResultText
 pub mod PlanText

@@ -1,16 +1,16 @@
 -- The pick text: a line for a proxy, and one for each toxic that a numbered connection of it meets on a stream.
 use Rattle.std.specs.Prelude.{ℕ, Bool, true, false, List, ◌++◌, codes, decimal, flat_map}
 use Rattle.std.specs.List.{enumerate_from, zip}
-use Rattle.tox_time.specs.declared.stream.Stream.{Stream}
+use Rattle.tox_time.specs.declared.streams.stream.Stream.{Stream}
 use Rattle.tox_words.specs.Draw.{Draws}
 use Rattle.tox_words.specs.Seeded.{seeded_words}
 use Rattle.tox_config.specs.Proxy.{Proxy}
-use Rattle.tox_defs.specs.Applied.{is_applied}
+use Rattle.tox_defs.specs.chain.Applied.{is_applied}
 use Rattle.tox_defs.specs.Flow.{chain_draws}
-use Rattle.tox_defs.specs.Printed.{printed_short}
+use Rattle.tox_defs.specs.short.Printed.{printed_short}
 use Rattle.tox_defs.specs.declared.chain.Entry.{Entry}
 use Rattle.tox_script.specs.Covering.{toxics_for}
-use Rattle.tox_script.specs.NamedChain.{NamedToxics}
+use Rattle.tox_script.specs.chains.NamedChain.{NamedToxics}
 use Rattle.tox_script.specs.Rule.{Rules}
 use Rattle.tox_text.specs.Names.{visible_name}
 

@@ -1,6 +1,6 @@
 -- The parts of a printed short form.
 use Rattle.std.specs.Prelude.{ℕ, List, [], ◌++◌, codes, if◌then◌else◌}
-use Rattle.tox_defs.specs.Printed.{is_shown, printed_pair}
+use Rattle.tox_defs.specs.short.Printed.{is_shown, printed_pair}
 
 -- a key with its value, and the comma behind it
 abbrev pub pair_before_comma : List ℕ × ℕ → List ℕ

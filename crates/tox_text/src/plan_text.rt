@@ -1,5 +1,5 @@
 //! The text of a plan.
-ghost use Rattle.std.specs.Prelude.{◌≡◌, ◌+◌, ◌<◌, ◌≤◌, ◌++◌, [], false, length, decimal, flat_map};
+ghost use Rattle.std.specs.Prelude.{◌≡◌, ◌+◌, ◌<◌, ◌≤◌, ◌++◌, [], false, codes, length, decimal, flat_map};
 ghost use Rattle.arrayvec.specs.ArrayString.{array_string_len};
 ghost use Rattle.tox_text.specs.PlanText.{jitter_words, until_words, op_words, op_line, plan_text};
 ghost use Rattle.tox_text.specs.ResultText.{ending_words};
@@ -103,15 +103,20 @@ fn add_op(line: &mut Line, op: &Op)
             add_number(line, " lane ", *lane as u64);
             add_until(line, *until);
         }
-        Op::Mute {
-            ending: Ending::StillOpen,
-        } => line.push_str("mute open"),
-        Op::Mute {
-            ending: Ending::Closed(instant),
-        } => add_number(line, "mute closed ", instant.get()),
-        Op::Mute {
-            ending: Ending::Reset(instant),
-        } => add_number(line, "mute reset ", instant.get()),
+        Op::Mute { ending } => add_mute(line, ending),
+    }
+}
+
+/// Adds how a link ends that lets no data through.
+fn add_mute(line: &mut Line, ending: &Ending)
+    requires { array_string_len line.old ≡ 0 }
+    ensures text { line.new.bytes ≡ line.old.bytes ++ codes "mute " ++ ending_words ending.now }
+    ensures most { array_string_len line.new < MAX_LINE }
+{
+    match ending {
+        Ending::StillOpen => line.push_str("mute open"),
+        Ending::Closed(instant) => add_number(line, "mute closed ", instant.get()),
+        Ending::Reset(instant) => add_number(line, "mute reset ", instant.get()),
     }
 }
 

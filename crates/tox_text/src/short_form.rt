@@ -1,7 +1,7 @@
 //! Toxics as short forms.
 ghost use Rattle.std.specs.Prelude.{◌≡◌, ◌≤◌, false, flat_map, length, map};
 ghost use Rattle.std.specs.List.{zip};
-ghost use Rattle.tox_defs.specs.Printed.{printed_short};
+ghost use Rattle.tox_defs.specs.short.Printed.{printed_short};
 ghost use Rattle.tox_text.specs.ShortForm.{pair_before_comma, shown_before_comma};
 ghost use Rattle.tox_text.specs.Writing.{Prints};
 
@@ -19,9 +19,9 @@ pub(crate) fn print_short<W: Sink>(
     ensures { Prints result (W.written writer.old) buffer.old (W.written writer.new) buffer.new
         (W.failed writer.new) (printed_short entry.now.toxic entry.now.toxicity) }
 {
-    let kind = entry.toxic.kind();
-    buffer.put_all(writer, &[kind.name().as_bytes(), b":"])?;
-    print_attributes(buffer, writer, kind.attributes(), &entry.toxic.values())?;
+    let toxic = &entry.toxic;
+    buffer.put_all(writer, &[toxic.name().as_bytes(), b":"])?;
+    print_attributes(buffer, writer, toxic.attributes(), &toxic.values())?;
     buffer.put(writer, b"toxicity=")?;
     buffer.put_number(writer, u64::from(entry.toxicity), b"")
 }

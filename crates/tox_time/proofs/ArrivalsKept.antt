@@ -1,10 +1,10 @@
 -- An `Arrivals` after one more item is still an arrival list, with what its fields count.
 use Rattle.std.proofs.Common.{◌≡◌, ◌+◌, ◌≤◌, ◌^◌, false, List, [], ◌∷◌, ◌++◌, ap, sym, ◌∙◌, zero-add}
-use Rattle.tox_time.specs.declared.item.Item.{Item}
-use Rattle.tox_time.specs.declared.arrivals.Arrivals.TheInside.{Inside}
-use Rattle.tox_time.specs.ArrivalsInside.{IsKept}
-use Rattle.tox_time.specs.Stream.{IsStreamFrom, HasReset, IsArrivalList, arrived, latest_from, has_final}
-use Rattle.tox_time.specs.Arrivals.{arrival_list}
+use Rattle.tox_time.specs.declared.streams.item.Item.{Item}
+use Rattle.tox_time.specs.declared.streams.arrivals.Arrivals.TheInside.{Inside}
+use Rattle.tox_time.specs.streams.ArrivalsInside.{IsKept}
+use Rattle.tox_time.specs.streams.Stream.{IsStreamFrom, HasReset, IsArrivalList, arrived, latest_from, has_final}
+use Rattle.tox_time.specs.streams.Arrivals.{arrival_list}
 use Rattle.tox_time.proofs.StreamLemmas.{arrived-append, latest_from-append, has_final-append, arrival_list-append, HasReset-append, IsStreamFrom-append}
 
 -- an arrival list goes on as one behind unended items
@@ -15,7 +15,7 @@ IsArrivalList-append items rest unended list goes_on no_reset =
       λ reset. no_reset (HasReset-append items (arrival_list rest) unended reset),
     )
 
-pub IsKept-push : (a b : Inside) (item : Item) → IsKept a → a.has_ended ≡ false → IsStreamFrom a.bytes a.latest (arrival_list (item ∷ [])) → (HasReset (arrival_list (item ∷ [])) → ⊥) → b.items.items ≡ a.items.items ++ item ∷ [] → b.bytes ≡ a.bytes + arrived (item ∷ []) → b.bytes ≤ 2 ^ 40 → b.latest ≡ latest_from a.latest (item ∷ []) → b.has_ended ≡ has_final (item ∷ []) → IsKept b
+pub IsKept-push : (a b : Inside) (item : Item) → IsKept a → a.so_far.ended ≡ false → IsStreamFrom a.so_far.position a.so_far.latest (arrival_list (item ∷ [])) → (HasReset (arrival_list (item ∷ [])) → ⊥) → b.items.items ≡ a.items.items ++ item ∷ [] → b.so_far.position ≡ a.so_far.position + arrived (item ∷ []) → b.so_far.position ≤ 2 ^ 40 → b.so_far.latest ≡ latest_from a.so_far.latest (item ∷ []) → b.so_far.ended ≡ has_final (item ∷ []) → IsKept b
 IsKept-push a b item kept unended goes_on no_reset items bytes most latest ended =
     let before : has_final a.items.items ≡ false = cc kept.end_seen in
     record {

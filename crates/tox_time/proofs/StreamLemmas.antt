@@ -1,10 +1,10 @@
 -- Lists of items that go on: what they count, and when they are streams.
 use Rattle.std.proofs.Common.{◌≡◌, ℕ, ◌+◌, true, false, List, [], ◌∷◌, ◌++◌, refl, arith, ap, subst, sym, ◌∙◌, append_assoc, replicate}
-use Rattle.tox_time.specs.declared.item.Item.{Item}
-use Rattle.tox_time.specs.declared.item.Item.TheVariants.{Chunk, Closed, Reset, Quiet}
-use Rattle.tox_time.specs.Stream.{span_len, IsStreamFrom, HasReset, arrived, latest_from, has_final}
-use Rattle.tox_time.specs.Arrivals.{arrival_list}
-use Rattle.tox_time.specs.Table.{table}
+use Rattle.tox_time.specs.declared.streams.item.Item.{Item}
+use Rattle.tox_time.specs.declared.streams.item.Item.TheVariants.{Chunk, Closed, Reset, Quiet}
+use Rattle.tox_time.specs.streams.Stream.{span_len, IsStreamFrom, HasReset, arrived, latest_from, has_final}
+use Rattle.tox_time.specs.streams.Arrivals.{arrival_list}
+use Rattle.tox_time.specs.streams.Table.{table}
 
 pub arrived-append : (items rest : List Item) → arrived (items ++ rest) ≡ arrived items + arrived rest
 arrived-append [] rest = omega arith

@@ -1,11 +1,6 @@
 pub mod Time
-pub mod Stream
-pub mod Table
-pub mod Neighbours
-pub mod Arrivals
-pub mod ArrivalsInside
+pub mod streams
 pub mod Ends
 pub mod MemoryEnds
 pub mod Steps
 pub mod Text
-pub mod StreamName

@@ -2,7 +2,7 @@
 use Rattle.std.proofs.Common.{◌≡◌, ℕ, zero, suc, ◌+◌, ◌-◌, ◌*◌, ◌<◌, ◌≤◌, List, [], ◌∷◌, ◌++◌, length, arith, refl, ap, sym, ◌∙◌, append_assoc, append-nil}
 use Rattle.rand_pcg.specs.Lcg.{Lcg, started, increment_of}
 use Rattle.rand_pcg.specs.Pcg.{multiplier_64, pcg32}
-use Rattle.tox_time.specs.declared.stream.Stream.{Stream}
+use Rattle.tox_time.specs.declared.streams.stream.Stream.{Stream}
 use Rattle.tox_words.specs.Seeded.{number_of, outputs, seeded_words}
 
 length-outputs : (n : ℕ) (generator : Lcg) → length (outputs n generator) ≡ n

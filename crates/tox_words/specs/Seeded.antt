@@ -2,8 +2,8 @@
 use Rattle.std.specs.Prelude.{ℕ, zero, suc, ◌+◌, ◌*◌, List, [], ◌∷◌}
 use Rattle.rand_pcg.specs.Lcg.{Lcg, started, increment_of}
 use Rattle.rand_pcg.specs.Pcg.{multiplier_64, pcg32}
-use Rattle.tox_time.specs.declared.stream.Stream.{Stream}
-use Rattle.tox_time.specs.declared.stream.Stream.TheVariants.{Upstream, Downstream}
+use Rattle.tox_time.specs.declared.streams.stream.Stream.{Stream}
+use Rattle.tox_time.specs.declared.streams.stream.Stream.TheVariants.{Upstream, Downstream}
 
 -- the first outputs of a generator
 unfoldable pub outputs : ℕ → Lcg → List ℕ

@@ -4,25 +4,39 @@ use Rattle.std.specs.Prelude.{slice_index}
 use Rattle.std.specs.Int.{div_ceil}
 use Rattle.std.proofs.lemmas.Grind.{div_ceil_times}
 use Rattle.std.proofs.Math.Nat.{lt_of_mul-lt-mul_left}
-use Rattle.tox_time.specs.declared.item.Item.{Item}
-use Rattle.tox_time.specs.declared.item.Item.TheVariants.{Chunk, Closed, Reset, Quiet}
+use Rattle.tox_time.specs.declared.streams.item.Item.{Item}
+use Rattle.tox_time.specs.declared.streams.item.Item.TheVariants.{Chunk, Closed, Reset, Quiet}
 use Rattle.tox_time.specs.Time.{horizon, plus}
-use Rattle.tox_time.specs.Stream.{span_len, latest_from, is_final, IsStreamFrom, arrived}
-use Rattle.tox_time.specs.Table.{table}
+use Rattle.tox_time.specs.streams.Stream.{span_len, latest_from, is_final, IsStreamFrom, arrived}
+use Rattle.tox_time.specs.streams.Table.{table, ending, final_of}
 use Rattle.tox_time.proofs.StreamLemmas.{table-append}
-use Rattle.tox_time.specs.declared.slice.Slice.{Slice}
-use Rattle.tox_defs.specs.Reaction.{counted, flow_from, chunk_count}
+use Rattle.tox_time.specs.declared.streams.slice.Slice.{Slice}
+use Rattle.tox_defs.specs.stage.Reaction.{counted, flow_from, chunk_count}
 use Rattle.tox_defs.specs.toxics.Bandwidth.{pace_gives, first_instant}
-use Rattle.tox_defs.specs.Pieces.{cut, leave, first_span}
+use Rattle.tox_defs.specs.toxics.Pieces.{cut, leave, first_span}
 use Rattle.tox_defs.proofs.OpenStates.{open_state, has_final-leave}
 use Rattle.tox_defs.proofs.FlowLemmas.{flow_from-last}
-use Rattle.tox_defs.proofs.KeepingStreams.{counted_follows, CanFollow, KeepsStreams}
-use Rattle.tox_defs.specs.declared.state.State.{State}
-use Rattle.tox_defs.specs.declared.look.Look.TheVariants.{Piece}
-use Rattle.tox_defs.specs.Look.{Finds}
+use Rattle.tox_defs.proofs.KeepingStreams.{counted_follows, CanFollow, KeepsStreams, IsStreamFrom-flow}
+use Rattle.tox_defs.specs.declared.operations.state.State.{State}
+use Rattle.tox_defs.specs.declared.operations.look.Look.TheVariants.{Piece}
+use Rattle.tox_defs.specs.operations.Look.{Finds}
 use Rattle.tox_defs.proofs.Cutting.{Cuts, cut_found, cut-same_size}
 use Rattle.tox_defs.proofs.StreamKeepers.{Whatever, in_order_final, leave_goes_on}
 use Rattle.tox_defs.proofs.PassedBytes.{PassesAtMost, arrived-leave}
+use Rattle.tox_defs.specs.declared.toxic.Toxic.TheVariants.{Bandwidth}
+use Rattle.tox_defs.specs.Laws.{HasLaw}
+use Rattle.tox_defs.specs.toxics.Ranges.{is_in, one_to_million}
+use Rattle.tox_defs.specs.Toxic.{IsInRange, is_within}
+use Rattle.tox_defs.proofs.InRange.{both_tests, in_bounds}
+use Rattle.tox_defs.proofs.Stopping.{until-passes, until_keeps}
+use Rattle.tox_defs.proofs.ToxicFacts.{ToxicFacts}
+use Rattle.tox_defs.proofs.Within.{GivesWithin, leave_within}
+use Rattle.std.proofs.lemmas.Bool.{and_parts}
+use Rattle.std.proofs.lemmas.Grind.{common_steps}
+use Rattle.tox_time.specs.declared.streams.ending.Ending.{Ending}
+use Rattle.tox_time.specs.declared.streams.ending.Ending.TheVariants.{StillOpen, Closed as ClosedAt, Reset as ResetAt}
+use Rattle.tox_defs.proofs.OpFacts.{OpFacts}
+use Rattle.tox_defs.specs.declared.operations.op.Op.TheVariants.{Pace}
 
 paced_final : (rate previous chunks pieces passed : ℕ) (item : Item) (position since : ℕ) → previous ≤ horizon → is_final item ≡ true → CanFollow position since item → IsStreamFrom position previous (pace_gives rate (open_state previous chunks pieces passed) item)
 paced_final rate previous chunks pieces passed (Chunk span t) position since fits final follows = absurd (cc)
@@ -179,3 +193,42 @@ bandwidth_law rate items n positive stream within =
     let zero_due = due-zero rate (first_instant items) positive in
     let same : 0 + n + 1 ≡ n + 1 = omega arith in
     rw same at (AreDue-at rate (first_instant items) 0 _ n (AreDue-flow rate (first_instant items) items 0 0 0 0 0 (first_instant items) 0 positive (omega (arith, zero_due)) (IsStreamFrom-first items 0 stream)) within)
+
+bandwidth_within : (rate : ℕ) → GivesWithin (pace_gives rate)
+bandwidth_within rate state (Chunk span t) items =
+    leave_within (λ _. 100 * rate) (λ len. div_ceil (1000 * len) rate) 0 span.start (span_len span) (span_len span) state.previous t span t items (omega arith) (λ some. omega arith)
+bandwidth_within rate state (Closed t) items = tt
+bandwidth_within rate state (Reset t) items = tt
+bandwidth_within rate state Quiet items = tt
+
+rate-positive : (rate until : ℕ) → IsInRange (Bandwidth rate until) → 0 < rate
+rate-positive rate until fits =
+    let within = both_tests (is_within (Bandwidth rate until)) false fits in
+    (in_bounds one_to_million rate (and_parts (is_in one_to_million rate) _ within.0).0).0
+
+bandwidth_has_law : (rate until : ℕ) → 0 < rate → HasLaw (Bandwidth rate until)
+bandwidth_has_law rate zero positive never words items list = λ n before. bandwidth_law rate items n positive list.0 before
+bandwidth_has_law rate (suc until) positive never words items list = absurd (cc)
+
+pub bandwidth_facts : (rate until : ℕ) → ToxicFacts (Bandwidth rate until)
+bandwidth_facts rate until = record {
+  reacts = λ place draws. refl;
+  is_op = λ place. rate-positive rate until;
+  delays = λ place fits. omega arith;
+  passes = λ words. until-passes until _ (paced-passes rate);
+  within = λ words. bandwidth_within rate;
+  law = λ fits. bandwidth_has_law rate until (rate-positive rate until fits);
+  spelled = record { word = refl; named = refl; words = refl; known = refl; apart = refl; keys = refl; made = refl };
+  short = λ inside. grind (arith, common_steps);
+}
+
+pace_final : (rate : ℕ) (state : State) (end : Ending) → pace_gives rate state (final_of end) ≡ final_of (ending (pace_gives rate state (final_of end))) ∷ []
+pace_final rate state StillOpen = refl
+pace_final rate state (ClosedAt t) = refl
+pace_final rate state (ResetAt t) = refl
+
+pub pace_facts : (rate until : ℕ) → OpFacts (Pace rate until)
+pace_facts rate until = record {
+  streams = λ draws items fits stream. IsStreamFrom-flow Whatever _ (until_keeps until _ (paced_keeps rate fits)) items 0 0 0 0 0 0 (omega arith) tt stream;
+  final = λ draws. pace_final rate;
+}

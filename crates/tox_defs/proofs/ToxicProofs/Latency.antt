@@ -1,18 +1,37 @@
 -- latency: it keeps streams and bytes, and its law.
-use Rattle.std.proofs.Common.{◌≡◌, ℕ, zero, suc, ◌+◌, ◌-◌, ◌*◌, ◌≤◌, max, true, List, [], ◌∷◌, ◌++◌, refl, arith, inl, ◌%◌, map, replicate, ap}
-use Rattle.tox_time.specs.declared.item.Item.{Item}
-use Rattle.tox_time.specs.declared.item.Item.TheVariants.{Chunk, Closed, Reset, Quiet}
+use Rattle.std.proofs.Common.{◌≡◌, ℕ, zero, suc, ◌+◌, ◌-◌, ◌*◌, ◌≤◌, max, true, List, [], ◌∷◌, ◌++◌, refl, arith, inl, ◌%◌, map, replicate, ap, false}
+use Rattle.tox_time.specs.declared.streams.item.Item.{Item}
+use Rattle.tox_time.specs.declared.streams.item.Item.TheVariants.{Chunk, Closed, Reset, Quiet}
 use Rattle.tox_time.specs.Time.{horizon, plus}
-use Rattle.tox_time.specs.Stream.{span_len, is_final, IsStreamFrom}
-use Rattle.tox_time.specs.Table.{table}
-use Rattle.tox_defs.specs.Reaction.{counted, flow_from}
-use Rattle.tox_defs.specs.toxics.Latency.{delay_gives}
+use Rattle.tox_time.specs.streams.Stream.{span_len, is_final, IsStreamFrom}
+use Rattle.tox_time.specs.streams.Table.{table, ending, final_of}
+use Rattle.tox_defs.specs.stage.Reaction.{counted, flow_from}
+use Rattle.tox_defs.specs.toxics.Latency.{delay_gives, latency_gives}
 use Rattle.tox_defs.proofs.OpenStates.{open_state}
-use Rattle.tox_defs.proofs.KeepingStreams.{counted_follows, CanFollow, KeepsStreams}
+use Rattle.tox_defs.proofs.KeepingStreams.{counted_follows, CanFollow, KeepsStreams, IsStreamFrom-flow}
 use Rattle.tox_defs.specs.declared.toxic.Toxic.TheVariants.{Latency}
 use Rattle.tox_defs.specs.Flow.{toxic_reaction}
 use Rattle.tox_defs.proofs.StreamKeepers.{Whatever, in_order_final}
 use Rattle.tox_defs.proofs.PassedBytes.{PassesAtMost}
+use Rattle.tox_defs.specs.toxics.Varied.{varied}
+use Rattle.tox_defs.specs.Laws.{HasLaw}
+use Rattle.tox_defs.specs.operations.Op.{IsOp, millis_of, op_of, op_reaction}
+use Rattle.tox_defs.specs.toxics.Ranges.{is_in, up_to_hour}
+use Rattle.tox_defs.specs.Toxic.{IsInRange, is_within}
+use Rattle.tox_defs.specs.operations.Until.{until as stopping}
+use Rattle.tox_defs.proofs.InRange.{both_tests, in_bounds}
+use Rattle.tox_defs.proofs.Stopping.{until-passes, until_keeps}
+use Rattle.tox_defs.proofs.ToxicFacts.{ToxicFacts}
+use Rattle.tox_defs.proofs.Within.{GivesWithin, chunk_within}
+use Rattle.tox_words.specs.Draw.{Draws}
+use Rattle.std.proofs.lemmas.Bool.{and_parts}
+use Rattle.std.proofs.lemmas.Grind.{common_steps}
+use mathlib.Core.Path.{fun_ext}
+use Rattle.tox_time.specs.declared.streams.ending.Ending.{Ending}
+use Rattle.tox_time.specs.declared.streams.ending.Ending.TheVariants.{StillOpen, Closed as ClosedAt, Reset as ResetAt}
+use Rattle.tox_defs.specs.declared.operations.state.State.{State}
+use Rattle.tox_defs.proofs.OpFacts.{OpFacts}
+use Rattle.tox_defs.specs.declared.operations.op.Op.TheVariants.{Delay}
 
 delayed_final : (wait : ℕ → ℕ) (previous chunks pieces passed : ℕ) (item : Item) (position since : ℕ) → previous ≤ horizon → is_final item ≡ true → CanFollow position since item → IsStreamFrom position previous (delay_gives wait (open_state previous chunks pieces passed) item)
 delayed_final wait previous chunks pieces passed (Chunk span t) position since fits final follows = absurd (cc)
@@ -49,3 +68,59 @@ table-latency latency words (Chunk span t ∷ items) previous chunks pieces pass
 table-latency latency words (Closed t ∷ items) previous chunks pieces passed position since order stream = rw stream.2 refl
 table-latency latency words (Reset t ∷ items) previous chunks pieces passed position since order stream = rw stream.2 refl
 table-latency latency words (Quiet ∷ items) previous chunks pieces passed position since order stream = rw stream refl
+
+-- its operation reacts as it does
+latency_reacts : (latency jitter until place : ℕ) (draws : Draws) → op_reaction (op_of place (Latency latency jitter until)) draws ≡ toxic_reaction (Latency latency jitter until) (draws place)
+latency_reacts latency zero until place draws =
+    let waits : (chunk : ℕ) → 1000 * (latency + varied 0 0 (draws 0 (1 + chunk))) ≡ 1000 * varied latency 0 (draws place (1 + chunk)) = λ chunk. omega arith in
+    ap (λ wait. stopping until (counted (delay_gives wait))) (fun_ext waits)
+latency_reacts latency (suc jitter) until place draws =
+    let waits : (chunk : ℕ) → 1000 * (0 + varied latency (suc jitter) (draws place (1 + chunk))) ≡ 1000 * varied latency (suc jitter) (draws place (1 + chunk)) = λ chunk. omega arith in
+    ap (λ wait. stopping until (counted (delay_gives wait))) (fun_ext waits)
+
+latency_is_op : (latency jitter until place : ℕ) → IsOp (op_of place (Latency latency jitter until))
+latency_is_op latency zero until place = refl
+latency_is_op latency (suc jitter) until place = tt
+
+-- without jitter it delays by the latency
+latency_delays : (latency jitter until place : ℕ) → IsInRange (Latency latency jitter until) → millis_of (op_of place (Latency latency jitter until)) ≤ 3_600_000
+latency_delays latency zero until place fits =
+    let within = both_tests (is_within (Latency latency 0 until)) false fits in
+    (in_bounds up_to_hour latency (and_parts (is_in up_to_hour latency) _ within.0).0).1
+latency_delays latency (suc jitter) until place fits = omega arith
+
+latency_within : (latency jitter : ℕ) (words : ℕ → ℕ) → GivesWithin (latency_gives latency jitter words)
+latency_within latency jitter words state (Chunk span t) items =
+    chunk_within span t (max state.previous (plus t (1000 * varied latency jitter (words (1 + state.chunks))))) items
+latency_within latency jitter words state (Closed t) items = tt
+latency_within latency jitter words state (Reset t) items = tt
+latency_within latency jitter words state Quiet items = tt
+
+latency_law : (latency jitter until : ℕ) → HasLaw (Latency latency jitter until)
+latency_law latency zero zero never words items list = table-latency latency words items 0 0 0 0 0 0 (omega arith) list.0
+latency_law latency zero (suc until) never words items list = absurd (cc)
+latency_law latency (suc jitter) until never words items list = tt
+
+pub latency_facts : (latency jitter until : ℕ) → ToxicFacts (Latency latency jitter until)
+latency_facts latency jitter until = record {
+  reacts = latency_reacts latency jitter until;
+  is_op = λ place fits. latency_is_op latency jitter until place;
+  delays = latency_delays latency jitter until;
+  passes = λ words. until-passes until _ (delayed-passes (λ chunk. 1000 * varied latency jitter (words (1 + chunk))));
+  within = latency_within latency jitter;
+  law = λ fits. latency_law latency jitter until;
+  spelled = record { word = refl; named = refl; words = refl; known = refl; apart = refl; keys = refl; made = refl };
+  short = λ inside. grind (arith, common_steps);
+}
+
+delay_final : (wait other : ℕ → ℕ) (state : State) (end : Ending) → delay_gives wait state (final_of end) ≡ final_of (ending (delay_gives other state (final_of end))) ∷ []
+delay_final wait other state StillOpen = refl
+delay_final wait other state (ClosedAt t) = refl
+delay_final wait other state (ResetAt t) = refl
+
+pub delay_facts : (fixed latency jitter lane until : ℕ) → OpFacts (Delay fixed latency jitter lane until)
+delay_facts fixed latency jitter lane until = record {
+  streams = λ draws items fits stream.
+      IsStreamFrom-flow Whatever _ (until_keeps until _ (delayed_keeps (λ chunk. 1000 * (fixed + varied latency jitter (draws lane (1 + chunk)))))) items 0 0 0 0 0 0 (omega arith) tt stream;
+  final = λ draws. delay_final (λ chunk. 1000 * (fixed + varied latency jitter (draws lane (1 + chunk)))) (λ chunk. 1000 * (fixed + varied latency jitter 0));
+}

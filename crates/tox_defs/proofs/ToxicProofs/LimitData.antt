@@ -1,22 +1,30 @@
 -- limit_data: it keeps streams and bytes, and its law.
-use Rattle.std.proofs.Common.{◌≡◌, ℕ, zero, suc, ◌+◌, ◌-◌, ◌<◌, ◌≤◌, Bool, true, false, List, [], ◌∷◌, ◌++◌, refl, arith, inl, inr, ◌⊎◌, min, if◌then◌else◌, length, length-append}
+use Rattle.std.proofs.Common.{◌≡◌, ℕ, zero, suc, ◌+◌, ◌-◌, ◌<◌, ◌≤◌, Bool, true, false, List, [], ◌∷◌, ◌++◌, refl, arith, inl, inr, ◌⊎◌, min, if◌then◌else◌, length, length-append, ◌∙◌}
 use Rattle.std.specs.Prelude.{nat_lt}
 use Rattle.std.proofs.lemmas.Bool.{ltb-true, ltb-false}
 use Rattle.std.proofs.lemmas.List.{length-replicate, append-nil}
 use Rattle.tox_time.specs.Time.{horizon}
-use Rattle.tox_time.specs.declared.span.Span.{Span}
-use Rattle.tox_time.specs.declared.item.Item.{Item}
-use Rattle.tox_time.specs.declared.item.Item.TheVariants.{Chunk, Closed, Reset, Quiet}
-use Rattle.tox_time.specs.Stream.{span_len, is_final, IsStreamFrom, arrived}
-use Rattle.tox_time.specs.Table.{table}
-use Rattle.tox_defs.specs.Reaction.{counted, flow_from, state_after}
+use Rattle.tox_time.specs.declared.streams.span.Span.{Span}
+use Rattle.tox_time.specs.declared.streams.item.Item.{Item}
+use Rattle.tox_time.specs.declared.streams.item.Item.TheVariants.{Chunk, Closed, Reset, Quiet}
+use Rattle.tox_time.specs.streams.Stream.{span_len, is_final, IsStreamFrom, arrived}
+use Rattle.tox_time.specs.streams.Table.{table, ending, final_of}
+use Rattle.tox_defs.specs.stage.Reaction.{counted, flow_from, state_after}
 use Rattle.tox_defs.specs.toxics.LimitData.{limit_gives, first_bytes}
 use Rattle.tox_defs.proofs.OpenStates.{open_state, has_final-first_bytes}
 use Rattle.tox_defs.proofs.FlowLemmas.{flow_from-done}
-use Rattle.tox_defs.proofs.KeepingStreams.{counted_follows, CanFollow, GoesOn, EndsThere, KeepsStreams}
-use Rattle.tox_defs.specs.declared.state.State.{State}
+use Rattle.tox_defs.proofs.KeepingStreams.{counted_follows, CanFollow, GoesOn, EndsThere, KeepsStreams, IsStreamFrom-flow}
+use Rattle.tox_defs.specs.declared.operations.state.State.{State}
 use Rattle.tox_defs.proofs.StreamKeepers.{NotAfter, unchanged_final}
 use Rattle.tox_defs.proofs.PassedBytes.{PassesAtMost}
+use Rattle.tox_defs.specs.declared.toxic.Toxic.TheVariants.{LimitData}
+use Rattle.tox_defs.proofs.ToxicFacts.{ToxicFacts}
+use Rattle.tox_defs.proofs.Within.{GivesWithin, LieWithin, chunk_within, in_first}
+use Rattle.std.proofs.lemmas.Grind.{common_steps}
+use Rattle.tox_time.specs.declared.streams.ending.Ending.{Ending}
+use Rattle.tox_time.specs.declared.streams.ending.Ending.TheVariants.{StillOpen, Closed as ClosedAt, Reset as ResetAt}
+use Rattle.tox_defs.proofs.OpFacts.{OpFacts}
+use Rattle.tox_defs.specs.declared.operations.op.Op.TheVariants.{Limit}
 
 first_bytes_end : (room : ℕ) (span : Span) (t previous : ℕ) → previous ≤ t → t ≤ horizon → IsStreamFrom span.start previous (first_bytes room span t ++ (Closed t ∷ []))
 first_bytes_end zero span t previous before fits = (before, fits, refl)
@@ -83,3 +91,43 @@ length-limited_table bytes (Chunk span t ∷ items) previous chunks pieces passe
 length-limited_table bytes (Closed t ∷ items) previous chunks pieces passed position since within stream = rw stream.2 (omega arith)
 length-limited_table bytes (Reset t ∷ items) previous chunks pieces passed position since within stream = rw stream.2 (omega arith)
 length-limited_table bytes (Quiet ∷ items) previous chunks pieces passed position since within stream = rw stream (omega arith)
+
+first_bytes_within : (n : ℕ) (span : Span) (t : ℕ) (items : List Item) → n ≤ span_len span → LieWithin (Chunk span t ∷ items) (first_bytes n span t ++ (Closed t ∷ []))
+first_bytes_within zero span t items few = tt
+first_bytes_within (suc n) span t items few = (in_first (record { start = span.start; stop = span.start + suc n }) span t items (omega arith) (omega arith), tt)
+
+limited_within_by : (short : Bool) (bytes : ℕ) (state : State) (span : Span) (t : ℕ) (items : List Item) → nat_lt (span_len span) (bytes - state.passed) ≡ short
+    → LieWithin (Chunk span t ∷ items) (if short then Chunk span t ∷ [] else (first_bytes (bytes - state.passed) span t ++ (Closed t ∷ [])))
+limited_within_by true bytes state span t items is = chunk_within span t t items
+limited_within_by false bytes state span t items is = first_bytes_within (bytes - state.passed) span t items (ltb-false (span_len span) (bytes - state.passed) is)
+
+limited_within : (bytes : ℕ) → GivesWithin (limit_gives bytes)
+limited_within bytes state (Chunk span t) items = limited_within_by (nat_lt (span_len span) (bytes - state.passed)) bytes state span t items refl
+limited_within bytes state (Closed t) items = tt
+limited_within bytes state (Reset t) items = tt
+limited_within bytes state Quiet items = tt
+
+pub limit_data_facts : (bytes : ℕ) → ToxicFacts (LimitData bytes)
+limit_data_facts bytes = record {
+  reacts = λ place draws. refl;
+  is_op = λ place fits. tt;
+  delays = λ place fits. omega arith;
+  passes = λ words. limited-passes bytes;
+  within = λ words. limited_within bytes;
+  law = λ fits never words items list.
+      let room : min (bytes - 0) (arrived items) ≡ min bytes (arrived items) = omega arith in
+      length-limited_table bytes items 0 0 0 0 0 0 (omega arith) list.0 ∙ room;
+  spelled = record { word = refl; named = refl; words = refl; known = refl; apart = refl; keys = refl; made = refl };
+  short = λ inside. grind (arith, common_steps);
+}
+
+limit_final : (bytes : ℕ) (state : State) (end : Ending) → limit_gives bytes state (final_of end) ≡ final_of (ending (limit_gives bytes state (final_of end))) ∷ []
+limit_final bytes state StillOpen = refl
+limit_final bytes state (ClosedAt t) = refl
+limit_final bytes state (ResetAt t) = refl
+
+pub limit_facts : (bytes : ℕ) → OpFacts (Limit bytes)
+limit_facts bytes = record {
+  streams = λ draws items fits stream. IsStreamFrom-flow NotAfter (counted (limit_gives bytes)) (limited_keeps bytes) items 0 0 0 0 0 0 (omega arith) (omega arith) stream;
+  final = λ draws. limit_final bytes;
+}

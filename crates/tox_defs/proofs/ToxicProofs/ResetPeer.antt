@@ -1,22 +1,31 @@
 -- reset_peer: it keeps streams and bytes, and its law.
-use Rattle.std.proofs.Common.{◌≡◌, ℕ, ◌+◌, ◌<◌, ◌≤◌, Bool, true, false, List, [], ◌∷◌, refl, arith, inl, inr, ◌⊎◌, if◌then◌else◌}
+use Rattle.std.proofs.Common.{◌≡◌, ℕ, ◌+◌, ◌<◌, ◌≤◌, Bool, true, false, List, [], ◌∷◌, refl, arith, inl, inr, ◌⊎◌, if◌then◌else◌, ◌*◌, ap, sym}
 use Rattle.std.specs.Prelude.{nat_lt, All}
 use Rattle.std.proofs.lemmas.Bool.{ltb-true}
-use Rattle.std.proofs.lemmas.List.Elements.{All-append, All-replicate, All-nil}
+use Rattle.std.proofs.lemmas.List.Elements.{All-append, All-cons, All-head, All-nil, All-replicate, All-tail}
 use Rattle.tox_time.specs.Time.{horizon}
-use Rattle.tox_time.specs.declared.span.Span.{Span}
-use Rattle.tox_time.specs.declared.item.Item.{Item}
-use Rattle.tox_time.specs.declared.item.Item.TheVariants.{Chunk, Closed, Reset, Quiet}
-use Rattle.tox_time.specs.Stream.{span_len, is_final, IsStreamFrom, arrived}
-use Rattle.tox_time.specs.Table.{table}
-use Rattle.tox_defs.specs.Reaction.{counted, flow_from}
+use Rattle.tox_time.specs.declared.streams.span.Span.{Span}
+use Rattle.tox_time.specs.declared.streams.item.Item.{Item}
+use Rattle.tox_time.specs.declared.streams.item.Item.TheVariants.{Chunk, Closed, Reset, Quiet}
+use Rattle.tox_time.specs.streams.Stream.{span_len, is_final, IsStreamFrom, arrived}
+use Rattle.tox_time.specs.streams.Table.{table, ending, final_of}
+use Rattle.tox_defs.specs.stage.Reaction.{counted, flow_from}
 use Rattle.tox_defs.specs.toxics.ResetPeer.{cutoff_gives, is_before}
 use Rattle.tox_defs.proofs.OpenStates.{open_state}
 use Rattle.tox_defs.proofs.FlowLemmas.{flow_from-done}
-use Rattle.tox_defs.proofs.KeepingStreams.{counted_follows, CanFollow, GoesOn, EndsThere, KeepsStreams}
-use Rattle.tox_defs.specs.declared.state.State.{State}
+use Rattle.tox_defs.proofs.KeepingStreams.{counted_follows, CanFollow, GoesOn, EndsThere, KeepsStreams, IsStreamFrom-flow}
+use Rattle.tox_defs.specs.declared.operations.state.State.{State}
 use Rattle.tox_defs.proofs.StreamKeepers.{unchanged_final}
 use Rattle.tox_defs.proofs.PassedBytes.{PassesAtMost}
+use Rattle.tox_defs.specs.declared.toxic.Toxic.TheVariants.{ResetPeer}
+use Rattle.tox_defs.proofs.ToxicFacts.{ToxicFacts}
+use Rattle.tox_defs.proofs.Within.{LieWithin, item_within}
+use Rattle.tox_time.specs.Time.{micros_of}
+use Rattle.std.proofs.lemmas.Grind.{common_steps}
+use Rattle.tox_time.specs.declared.streams.ending.Ending.{Ending}
+use Rattle.tox_time.specs.declared.streams.ending.Ending.TheVariants.{StillOpen, Closed as ClosedAt, Reset as ResetAt}
+use Rattle.tox_defs.proofs.OpFacts.{OpFacts}
+use Rattle.tox_defs.specs.declared.operations.op.Op.TheVariants.{Cutoff}
 
 -- given instants are not after what was taken, nor after the cutoff
 abbrev pub NotAfterEither : ℕ → ℕ → ℕ → Type 0
@@ -69,3 +78,43 @@ All-cut_table instant (Chunk span t ∷ items) previous chunks pieces passed pos
 All-cut_table instant (Closed t ∷ items) previous chunks pieces passed position since stream = rw stream.2 (cut_table_final instant (Closed t) previous chunks pieces passed (nat_lt t instant) refl refl)
 All-cut_table instant (Reset t ∷ items) previous chunks pieces passed position since stream = rw stream.2 (cut_table_final instant (Reset t) previous chunks pieces passed (nat_lt t instant) refl refl)
 All-cut_table instant (Quiet ∷ items) previous chunks pieces passed position since stream = rw stream (All-nil (λ at. at < instant))
+
+cut_off_within : (before : Bool) (item : Item) (instant : ℕ) (items : List Item) → LieWithin (item ∷ items) ((if before then item else Reset instant) ∷ [])
+cut_off_within true item instant items = item_within item items
+cut_off_within false item instant items = tt
+
+-- what is before one instant is before a later one
+All-sooner : (instant later : ℕ) (ts : List ℕ) → instant ≤ later → All (λ at. at < instant) ts → All (λ at. at < later) ts
+All-sooner instant later [] order sooner = All-nil (λ at. at < later)
+All-sooner instant later (t ∷ ts) order sooner =
+    let first : t < instant = All-head (λ at. at < instant) t ts sooner in
+    All-cons (λ at. at < later) t ts (omega (arith, first, order)) (All-sooner instant later ts order (All-tail (λ at. at < instant) t ts sooner))
+
+pub reset_peer_facts : (timeout : ℕ) → ToxicFacts (ResetPeer timeout)
+reset_peer_facts timeout = record {
+  reacts = λ place draws. refl;
+  is_op = λ place fits. omega arith;
+  delays = λ place fits. omega arith;
+  passes = λ words. cut_off-passes (micros_of timeout);
+  within = λ words state item items. cut_off_within (is_before (micros_of timeout) item) item (micros_of timeout) items;
+  law = λ fits never words items list. All-sooner (micros_of timeout) (1000 * timeout) _ (omega arith) (All-cut_table (micros_of timeout) items 0 0 0 0 0 0 list.0);
+  spelled = record { word = refl; named = refl; words = refl; known = refl; apart = refl; keys = refl; made = refl };
+  short = λ inside. grind (arith, common_steps);
+}
+
+cut_off-final : (instant : ℕ) (state : State) (item : Item) (before : Bool) → is_before instant item ≡ before → final_of (ending (item ∷ [])) ≡ item
+    → cutoff_gives instant state item ≡ final_of (ending (cutoff_gives instant state item)) ∷ []
+cut_off-final instant state item true e same = rw e (ap (λ final. final ∷ []) (sym same))
+cut_off-final instant state item false e same = rw e refl
+
+cutoff_final : (instant : ℕ) (state : State) (end : Ending) → cutoff_gives instant state (final_of end) ≡ final_of (ending (cutoff_gives instant state (final_of end))) ∷ []
+cutoff_final instant state StillOpen = refl
+cutoff_final instant state (ClosedAt t) = cut_off-final instant state (Closed t) (nat_lt t instant) refl refl
+cutoff_final instant state (ResetAt t) = cut_off-final instant state (Reset t) (nat_lt t instant) refl refl
+
+pub cutoff_facts : (instant : ℕ) → OpFacts (Cutoff instant)
+cutoff_facts instant = record {
+  streams = λ draws items fits stream.
+      IsStreamFrom-flow (NotAfterEither instant) (counted (cutoff_gives instant)) (cut_off_keeps instant fits) items 0 0 0 0 0 0 (omega arith) (omega arith, omega arith) stream;
+  final = λ draws. cutoff_final instant;
+}

@@ -1,27 +1,40 @@
 -- slicer: it keeps streams and bytes, what a look finds, and its law.
 use Rattle.std.proofs.Common.{◌≡◌, ℕ, zero, suc, ◌+◌, ◌-◌, ◌<◌, ◌≤◌, max, Bool, true, false, List, [], ◌∷◌, refl, arith, inl, inr, ◌⊎◌, min}
-use Rattle.std.specs.Prelude.{nat_lt, All}
-use Rattle.std.proofs.lemmas.Bool.{ltb-true, ltb-false}
+use Rattle.std.specs.Prelude.{nat_le, nat_lt, All}
+use Rattle.std.proofs.lemmas.Bool.{leb-false, ltb-true, ltb-false}
 use Rattle.std.proofs.lemmas.List.Elements.{All-append, All-nil, All-cons, All-same}
-use Rattle.tox_time.specs.declared.item.Item.{Item}
-use Rattle.tox_time.specs.declared.item.Item.TheVariants.{Chunk, Closed, Reset, Quiet}
+use Rattle.tox_time.specs.declared.streams.item.Item.{Item}
+use Rattle.tox_time.specs.declared.streams.item.Item.TheVariants.{Chunk, Closed, Reset, Quiet}
 use Rattle.tox_time.specs.Time.{horizon, plus}
-use Rattle.tox_time.specs.Stream.{span_len, is_final, IsStreamFrom}
-use Rattle.tox_time.specs.declared.slice.Slice.{Slice}
-use Rattle.tox_defs.specs.Reaction.{counted, flow_from}
+use Rattle.tox_time.specs.streams.Stream.{span_len, is_final, IsStreamFrom}
+use Rattle.tox_time.specs.declared.streams.slice.Slice.{Slice}
+use Rattle.tox_defs.specs.stage.Reaction.{counted, flow_from}
 use Rattle.tox_defs.specs.toxics.Slicer.{slicing_gives, slicer_gives, IsSized, StopsAt}
-use Rattle.tox_defs.specs.Pieces.{cut, leave, first_span}
+use Rattle.tox_defs.specs.toxics.Pieces.{cut, leave, first_span}
 use Rattle.tox_defs.proofs.OpenStates.{open_state, has_final-leave}
 use Rattle.tox_defs.proofs.FlowLemmas.{flow_from-last}
-use Rattle.tox_defs.proofs.KeepingStreams.{counted_follows, CanFollow, KeepsStreams}
-use Rattle.tox_defs.specs.declared.state.State.{State}
-use Rattle.tox_defs.specs.Varied.{varied}
-use Rattle.tox_defs.specs.declared.look.Look.TheVariants.{Piece}
-use Rattle.tox_defs.specs.Look.{Finds}
-use Rattle.tox_defs.proofs.Drawn.{varied-positive}
+use Rattle.tox_defs.proofs.KeepingStreams.{counted_follows, CanFollow, KeepsStreams, IsStreamFrom-flow}
+use Rattle.tox_defs.specs.declared.operations.state.State.{State}
+use Rattle.tox_defs.specs.toxics.Varied.{varied}
+use Rattle.tox_defs.specs.declared.operations.look.Look.TheVariants.{Piece}
+use Rattle.tox_defs.specs.operations.Look.{Finds}
+use Rattle.tox_defs.proofs.Drawn.{varied-positive, varied-within}
 use Rattle.tox_defs.proofs.Cutting.{cut_found}
 use Rattle.tox_defs.proofs.StreamKeepers.{Whatever, in_order_final, leave_goes_on}
 use Rattle.tox_defs.proofs.PassedBytes.{PassesAtMost, arrived-leave}
+use Rattle.tox_defs.specs.declared.toxic.Toxic.TheVariants.{Slicer}
+use Rattle.tox_defs.specs.Laws.{HasLaw}
+use Rattle.tox_defs.specs.Toxic.{IsInRange, is_within}
+use Rattle.tox_defs.proofs.InRange.{both_tests}
+use Rattle.tox_defs.proofs.Stopping.{until-passes, until_keeps}
+use Rattle.tox_defs.proofs.ToxicFacts.{ToxicFacts}
+use Rattle.tox_defs.proofs.Within.{GivesWithin, leave_within}
+use Rattle.std.proofs.lemmas.Grind.{common_steps}
+use Rattle.tox_time.specs.declared.streams.ending.Ending.{Ending}
+use Rattle.tox_time.specs.declared.streams.ending.Ending.TheVariants.{StillOpen, Closed as ClosedAt, Reset as ResetAt}
+use Rattle.tox_time.specs.streams.Table.{ending, final_of}
+use Rattle.tox_defs.proofs.OpFacts.{OpFacts}
+use Rattle.tox_defs.specs.declared.operations.op.Op.TheVariants.{Slicing}
 
 sliced_final : (size : ℕ → ℕ) (micros previous chunks pieces passed : ℕ) (item : Item) (position since : ℕ) → previous ≤ horizon → is_final item ≡ true → CanFollow position since item → IsStreamFrom position previous (slicing_gives size micros (open_state previous chunks pieces passed) item)
 sliced_final size micros previous chunks pieces passed (Chunk span t) position since fits final follows = absurd (cc)
@@ -93,3 +106,44 @@ All-sliced arrivals least most size micros sizes (Reset t ∷ items) previous ch
     All-same (IsSized arrivals least most) _ _ (flow_from-last (counted (slicing_gives size micros)) (open_state previous chunks pieces passed) (Reset t) items stream.2) (All-cons (IsSized arrivals least most) _ [] tt (All-nil (IsSized arrivals least most)))
 All-sliced arrivals least most size micros sizes (Quiet ∷ items) previous chunks pieces passed position since among stream =
     All-same (IsSized arrivals least most) _ _ (flow_from-last (counted (slicing_gives size micros)) (open_state previous chunks pieces passed) Quiet items stream) (All-cons (IsSized arrivals least most) _ [] tt (All-nil (IsSized arrivals least most)))
+
+slicer_within : (size : ℕ → ℕ) (micros : ℕ) → GivesWithin (slicing_gives size micros)
+slicer_within size micros state (Chunk span t) items =
+    leave_within size (λ _. micros) state.pieces span.start (span_len span) (span_len span) state.previous t span t items (omega arith) (λ some. omega arith)
+slicer_within size micros state (Closed t) items = tt
+slicer_within size micros state (Reset t) items = tt
+slicer_within size micros state Quiet items = tt
+
+variation-below : (average variation delay until : ℕ) → IsInRange (Slicer average variation delay until) → variation < average
+variation-below average variation delay until fits =
+    let within = both_tests (is_within (Slicer average variation delay until)) (nat_le average variation) fits in
+    leb-false average variation within.1
+
+slicer_law : (average variation delay until : ℕ) → variation < average → HasLaw (Slicer average variation delay until)
+slicer_law average variation delay (suc until) less never words items list = absurd (cc)
+slicer_law average variation delay zero less never words items list =
+    All-sliced items (average - variation) (average + variation) (λ piece. varied average variation (words (1 + piece))) delay (λ piece. varied-within average variation (words (1 + piece))) items 0 0 0 0 0 0 (λ stop here. here) list.0
+
+pub slicer_facts : (average variation delay until : ℕ) → ToxicFacts (Slicer average variation delay until)
+slicer_facts average variation delay until = record {
+  reacts = λ place draws. refl;
+  is_op = λ place. variation-below average variation delay until;
+  delays = λ place fits. omega arith;
+  passes = λ words. until-passes until _ (sliced-passes (λ piece. varied average variation (words (1 + piece))) delay);
+  within = λ words. slicer_within (λ piece. varied average variation (words (1 + piece))) delay;
+  law = λ fits. slicer_law average variation delay until (variation-below average variation delay until fits);
+  spelled = record { word = refl; named = refl; words = refl; known = refl; apart = refl; keys = refl; made = refl };
+  short = λ inside. grind (arith, common_steps);
+}
+
+slicing_final : (size other : ℕ → ℕ) (micros : ℕ) (state : State) (end : Ending) → slicing_gives size micros state (final_of end) ≡ final_of (ending (slicing_gives other micros state (final_of end))) ∷ []
+slicing_final size other micros state StillOpen = refl
+slicing_final size other micros state (ClosedAt t) = refl
+slicing_final size other micros state (ResetAt t) = refl
+
+pub slicing_facts : (average variation micros lane until : ℕ) → OpFacts (Slicing average variation micros lane until)
+slicing_facts average variation micros lane until = record {
+  streams = λ draws items fits stream.
+      IsStreamFrom-flow Whatever _ (until_keeps until _ (sliced_keeps (λ piece. varied average variation (draws lane (1 + piece))) micros (λ piece. varied-positive average variation (draws lane (1 + piece)) fits))) items 0 0 0 0 0 0 (omega arith) tt stream;
+  final = λ draws. slicing_final (λ piece. varied average variation (draws lane (1 + piece))) (λ piece. varied average variation 0) micros;
+}

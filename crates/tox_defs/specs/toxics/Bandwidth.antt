@@ -1,28 +1,32 @@
 -- bandwidth: no more than so many bytes pass in a millisecond.
-use Rattle.std.specs.Prelude.{ℕ, ◌+◌, ◌*◌, ◌<◌, ◌≤◌, ◌&&◌, Bool, List, [], ◌∷◌, codes, length, slice_index}
+use Rattle.std.specs.Prelude.{ℕ, ◌+◌, ◌*◌, ◌<◌, ◌≤◌, List, [], ◌∷◌, codes, length, slice_index}
 use Rattle.std.specs.Int.{div_ceil}
-use Rattle.tox_time.specs.declared.item.Item.{Item}
-use Rattle.tox_time.specs.declared.item.Item.TheVariants.{Chunk}
+use Rattle.tox_time.specs.declared.streams.item.Item.{Item}
+use Rattle.tox_time.specs.declared.streams.item.Item.TheVariants.{Chunk}
 use Rattle.tox_time.specs.Time.{plus}
-use Rattle.tox_time.specs.Table.{table}
+use Rattle.tox_time.specs.streams.Table.{table}
 use Rattle.tox_defs.specs.declared.toxic.Toxic.{Toxic}
 use Rattle.tox_defs.specs.declared.toxic.Toxic.TheVariants.{Bandwidth}
-use Rattle.tox_defs.specs.Ordered.{in_order}
-use Rattle.tox_defs.specs.Pieces.{leave, pieces_of}
-use Rattle.tox_defs.specs.Ranges.{is_up_to_million, is_within_hour}
-use Rattle.tox_defs.specs.Reaction.{Giving}
+use Rattle.tox_defs.specs.declared.operations.op.Op.TheVariants.{Pace}
+use Rattle.tox_defs.specs.toxics.Ordered.{in_order}
+use Rattle.tox_defs.specs.toxics.Pieces.{leave, pieces_of}
+use Rattle.tox_defs.specs.toxics.Ranges.{one_to_million, up_to_hour}
+use Rattle.tox_defs.specs.Meaning.{Description, Meaning}
+use Rattle.tox_defs.specs.stage.Reaction.{Giving}
 
--- the names of its attributes: in KB/s, which is bytes in a millisecond, and in milliseconds
-abbrev pub bandwidth_attributes : List (List ℕ)
-bandwidth_attributes = codes "rate" ∷ codes "until" ∷ []
+-- its name, and its attributes: one to a million KB/s, which is bytes in a millisecond, and up to an
+-- hour of milliseconds
+abbrev pub bandwidth_description : ℕ → ℕ → Description
+bandwidth_description rate until = record {
+  name = codes "bandwidth";
+  attributes = codes "rate" ∷ codes "until" ∷ [];
+  limits = one_to_million ∷ up_to_hour ∷ [];
+  values = rate ∷ until ∷ [];
+}
 
 -- the bandwidth with these values of its attributes
 abbrev pub bandwidth_of : List ℕ → Toxic
 bandwidth_of values = Bandwidth (slice_index values 0) (slice_index values 1)
-
--- the ranges of its attributes: one to a million, and up to an hour
-abbrev pub is_bandwidth_within : ℕ → ℕ → Bool
-is_bandwidth_within rate until = is_up_to_million rate && is_within_hour until
 
 -- pieces of 100 rate bytes, at `rate` bytes a millisecond
 abbrev pub pace_gives : ℕ → Giving
@@ -40,3 +44,14 @@ abbrev pub BandwidthLaw : ℕ → List Item → List Item → Type 0
 BandwidthLaw rate items given =
     (n : ℕ) → n < length (table given)
     → plus (first_instant items) (div_ceil (1000 * (n + 1)) rate) ≤ slice_index (table given) n
+
+-- what a bandwidth is
+abbrev pub bandwidth_meaning : ℕ → ℕ → Meaning
+bandwidth_meaning rate until = record {
+  description = bandwidth_description rate until;
+  with_values = bandwidth_of;
+  until = until;
+  gives = λ words. pace_gives rate;
+  op = λ place. Pace rate until;
+  law = BandwidthLaw rate;
+}

@@ -1,30 +1,31 @@
 -- latency: every chunk leaves later, by a fixed time plus or minus a drawn one.
-use Rattle.std.specs.Prelude.{◌≡◌, ℕ, zero, suc, ◌+◌, ◌*◌, ◌&&◌, max, Bool, List, [], ◌∷◌, codes, map, slice_index}
-use Rattle.tox_time.specs.declared.item.Item.{Item}
-use Rattle.tox_time.specs.declared.item.Item.TheVariants.{Chunk}
+use Rattle.std.specs.Prelude.{◌≡◌, ℕ, zero, suc, ◌+◌, ◌*◌, max, List, [], ◌∷◌, codes, map, slice_index}
+use Rattle.tox_time.specs.declared.streams.item.Item.{Item}
+use Rattle.tox_time.specs.declared.streams.item.Item.TheVariants.{Chunk}
 use Rattle.tox_time.specs.Time.{plus}
-use Rattle.tox_time.specs.Table.{table}
+use Rattle.tox_time.specs.streams.Table.{table}
 use Rattle.tox_defs.specs.declared.toxic.Toxic.{Toxic}
 use Rattle.tox_defs.specs.declared.toxic.Toxic.TheVariants.{Latency}
-use Rattle.tox_defs.specs.declared.op.Op.{Op}
-use Rattle.tox_defs.specs.declared.op.Op.TheVariants.{Delay}
-use Rattle.tox_defs.specs.Ordered.{in_order}
-use Rattle.tox_defs.specs.Ranges.{is_within_hour}
-use Rattle.tox_defs.specs.Reaction.{Giving}
-use Rattle.tox_defs.specs.Varied.{varied}
+use Rattle.tox_defs.specs.declared.operations.op.Op.{Op}
+use Rattle.tox_defs.specs.declared.operations.op.Op.TheVariants.{Delay}
+use Rattle.tox_defs.specs.toxics.Ordered.{in_order}
+use Rattle.tox_defs.specs.toxics.Ranges.{up_to_hour}
+use Rattle.tox_defs.specs.Meaning.{Description, Meaning}
+use Rattle.tox_defs.specs.stage.Reaction.{Giving}
+use Rattle.tox_defs.specs.toxics.Varied.{varied}
 
--- the names of its attributes, all in milliseconds
-abbrev pub latency_attributes : List (List ℕ)
-latency_attributes = codes "latency" ∷ codes "jitter" ∷ codes "until" ∷ []
+-- its name, and its attributes: each up to an hour of milliseconds
+abbrev pub latency_description : ℕ → ℕ → ℕ → Description
+latency_description latency jitter until = record {
+  name = codes "latency";
+  attributes = codes "latency" ∷ codes "jitter" ∷ codes "until" ∷ [];
+  limits = up_to_hour ∷ up_to_hour ∷ up_to_hour ∷ [];
+  values = latency ∷ jitter ∷ until ∷ [];
+}
 
 -- the latency with these values of its attributes
 abbrev pub latency_of : List ℕ → Toxic
 latency_of values = Latency (slice_index values 0) (slice_index values 1) (slice_index values 2)
-
--- the ranges of its attributes: each up to an hour
-abbrev pub is_latency_within : ℕ → ℕ → ℕ → Bool
-is_latency_within latency jitter until =
-    is_within_hour latency && is_within_hour jitter && is_within_hour until
 
 -- each chunk leaves later by the wait of its number
 abbrev pub delay_gives : (ℕ → ℕ) → Giving
@@ -56,3 +57,14 @@ IsNormal latency (suc jitter) = Unit {0}
 abbrev pub LatencyLaw : ℕ → ℕ → List Item → List Item → Type 0
 LatencyLaw latency zero items given = table given ≡ map (λ t. plus t (1000 * latency)) (table items)
 LatencyLaw latency (suc jitter) items given = Unit {0}
+
+-- what a latency is
+abbrev pub latency_meaning : ℕ → ℕ → ℕ → Meaning
+latency_meaning latency jitter until = record {
+  description = latency_description latency jitter until;
+  with_values = latency_of;
+  until = until;
+  gives = latency_gives latency jitter;
+  op = λ place. delay_of place latency jitter until;
+  law = LatencyLaw latency jitter;
+}

@@ -1,24 +1,28 @@
 -- reset_peer: the link is reset at an instant.
 use Rattle.std.specs.Prelude.{ℕ, ◌*◌, ◌<◌, Bool, false, All, List, [], ◌∷◌, codes, nat_lt, slice_index, if◌then◌else◌}
-use Rattle.tox_time.specs.declared.item.Item.{Item}
-use Rattle.tox_time.specs.declared.item.Item.TheVariants.{Chunk, Closed, Reset, Quiet}
-use Rattle.tox_time.specs.Table.{table}
+use Rattle.tox_time.specs.declared.streams.item.Item.{Item}
+use Rattle.tox_time.specs.declared.streams.item.Item.TheVariants.{Chunk, Closed, Reset, Quiet}
+use Rattle.tox_time.specs.Time.{micros_of}
+use Rattle.tox_time.specs.streams.Table.{table}
 use Rattle.tox_defs.specs.declared.toxic.Toxic.{Toxic}
 use Rattle.tox_defs.specs.declared.toxic.Toxic.TheVariants.{ResetPeer}
-use Rattle.tox_defs.specs.Ranges.{is_within_hour}
-use Rattle.tox_defs.specs.Reaction.{Giving}
+use Rattle.tox_defs.specs.declared.operations.op.Op.TheVariants.{Cutoff}
+use Rattle.tox_defs.specs.toxics.Ranges.{up_to_hour}
+use Rattle.tox_defs.specs.Meaning.{Description, Meaning}
+use Rattle.tox_defs.specs.stage.Reaction.{Giving}
 
--- the name of its attribute, in milliseconds
-abbrev pub reset_peer_attributes : List (List ℕ)
-reset_peer_attributes = codes "timeout" ∷ []
+-- its name, and its attribute: up to an hour of milliseconds
+abbrev pub reset_peer_description : ℕ → Description
+reset_peer_description timeout = record {
+  name = codes "reset_peer";
+  attributes = codes "timeout" ∷ [];
+  limits = up_to_hour ∷ [];
+  values = timeout ∷ [];
+}
 
 -- the reset_peer with this value of its attribute
 abbrev pub reset_peer_of : List ℕ → Toxic
 reset_peer_of values = ResetPeer (slice_index values 0)
-
--- the range of its attribute: up to an hour
-abbrev pub is_reset_peer_within : ℕ → Bool
-is_reset_peer_within timeout = is_within_hour timeout
 
 -- whether an item comes before an instant; `Quiet` never does
 abbrev pub is_before : ℕ → Item → Bool
@@ -34,3 +38,14 @@ cutoff_gives instant state item = (if is_before instant item then item else Rese
 -- the law: every byte leaves before the instant of the reset
 abbrev pub ResetPeerLaw : ℕ → List Item → Type 0
 ResetPeerLaw timeout given = All (λ t. t < 1000 * timeout) (table given)
+
+-- what a reset_peer is
+abbrev pub reset_peer_meaning : ℕ → Meaning
+reset_peer_meaning timeout = record {
+  description = reset_peer_description timeout;
+  with_values = reset_peer_of;
+  until = 0;
+  gives = λ words. cutoff_gives (micros_of timeout);
+  op = λ place. Cutoff (micros_of timeout);
+  law = λ items given. ResetPeerLaw timeout given;
+}

@@ -1,30 +1,32 @@
 -- slicer: chunks are cut into pieces near a size, with a delay before each.
-use Rattle.std.specs.Prelude.{◌≡◌, ℕ, ◌+◌, ◌-◌, ◌≤◌, ◌&&◌, ◌⊎◌, All, Bool, List, [], ◌∷◌, codes, nat_le, slice_index}
-use Rattle.tox_time.specs.declared.item.Item.{Item}
-use Rattle.tox_time.specs.declared.item.Item.TheVariants.{Chunk}
-use Rattle.tox_time.specs.Stream.{span_len}
+use Rattle.std.specs.Prelude.{◌≡◌, ℕ, ◌+◌, ◌-◌, ◌≤◌, ◌⊎◌, All, Bool, List, [], ◌∷◌, codes, nat_le, slice_index}
+use Rattle.tox_time.specs.declared.streams.item.Item.{Item}
+use Rattle.tox_time.specs.declared.streams.item.Item.TheVariants.{Chunk}
+use Rattle.tox_time.specs.streams.Stream.{span_len}
 use Rattle.tox_defs.specs.declared.toxic.Toxic.{Toxic}
 use Rattle.tox_defs.specs.declared.toxic.Toxic.TheVariants.{Slicer}
-use Rattle.tox_defs.specs.Ordered.{in_order}
-use Rattle.tox_defs.specs.Pieces.{leave, pieces_of}
-use Rattle.tox_defs.specs.Ranges.{is_up_to_million, is_within_hour}
-use Rattle.tox_defs.specs.Reaction.{Giving}
-use Rattle.tox_defs.specs.Varied.{varied}
+use Rattle.tox_defs.specs.declared.operations.op.Op.TheVariants.{Slicing}
+use Rattle.tox_defs.specs.toxics.Ordered.{in_order}
+use Rattle.tox_defs.specs.toxics.Pieces.{leave, pieces_of}
+use Rattle.tox_defs.specs.toxics.Ranges.{any_value, one_to_million, up_to_hour}
+use Rattle.tox_defs.specs.Meaning.{Description, Meaning}
+use Rattle.tox_defs.specs.stage.Reaction.{Giving}
+use Rattle.tox_defs.specs.toxics.Varied.{varied}
 
--- the names of its attributes: bytes, bytes, microseconds, milliseconds
-abbrev pub slicer_attributes : List (List ℕ)
-slicer_attributes =
-    codes "average_size" ∷ codes "size_variation" ∷ codes "delay" ∷ codes "until" ∷ []
+-- its name, and its attributes: one to a million bytes, any number of bytes, up to an hour of microseconds,
+-- and up to an hour of milliseconds
+abbrev pub slicer_description : ℕ → ℕ → ℕ → ℕ → Description
+slicer_description average_size size_variation delay until = record {
+  name = codes "slicer";
+  attributes = codes "average_size" ∷ codes "size_variation" ∷ codes "delay" ∷ codes "until" ∷ [];
+  limits = one_to_million ∷ any_value ∷ record { least = 0; most = 3600000000 } ∷ up_to_hour ∷ [];
+  values = average_size ∷ size_variation ∷ delay ∷ until ∷ [];
+}
 
 -- the slicer with these values of its attributes
 abbrev pub slicer_of : List ℕ → Toxic
 slicer_of values =
     Slicer (slice_index values 0) (slice_index values 1) (slice_index values 2) (slice_index values 3)
-
--- the ranges of the size, the delay and the end: one to a million, and up to an hour each
-abbrev pub is_slicer_within : ℕ → ℕ → ℕ → Bool
-is_slicer_within average_size delay until =
-    is_up_to_million average_size && nat_le delay 3600000000 && is_within_hour until
 
 -- whether sizes vary by their average or more
 abbrev pub is_slicer_varied_too_much : ℕ → ℕ → Bool
@@ -57,3 +59,14 @@ IsSized arrivals least most item = Unit {0}
 abbrev pub SlicerLaw : ℕ → ℕ → List Item → List Item → Type 0
 SlicerLaw average_size size_variation items given =
     All (IsSized items (average_size - size_variation) (average_size + size_variation)) given
+
+-- what a slicer is
+abbrev pub slicer_meaning : ℕ → ℕ → ℕ → ℕ → Meaning
+slicer_meaning average_size size_variation delay until = record {
+  description = slicer_description average_size size_variation delay until;
+  with_values = slicer_of;
+  until = until;
+  gives = slicer_gives average_size size_variation delay;
+  op = λ place. Slicing average_size size_variation delay place until;
+  law = SlicerLaw average_size size_variation;
+}

@@ -1,10 +1,10 @@
 //! The pairs of a short form: `key=value`, separated by commas.
 ghost use Rattle.std.specs.Prelude.{◌≡◌, option_map, count_by};
 ghost use Rattle.std.specs.List.{after_first, before_first, find, list_all};
-ghost use Rattle.tox_defs.specs.Pairs.{has_double_key, has_key, is_equals, is_pair, is_word, is_word_byte, key_of, number_of, pairs_of, value_at, value_of};
-ghost use Rattle.tox_defs.specs.Short.{is_known};
+ghost use Rattle.tox_defs.specs.short.Pairs.{has_double_key, has_key, is_equals, is_pair, is_word, is_word_byte, key_of, pair_number, pairs_of, value_at, value_of};
+ghost use Rattle.tox_defs.specs.short.Short.{is_known};
 
-use crate::kind::Kind;
+use crate::toxic::Toxic;
 use tox_time::parse_decimal;
 
 /// The most digits of a value.
@@ -46,7 +46,7 @@ fn key_of(pair: &str) -> &str
 fn value_of(pair: &str) -> Option<u64>
     ensures { result ≡ value_of pair.now }
 {
-    number_of(cut(pair).1)
+    pair_number(cut(pair).1)
 }
 
 /// The text before the first `=` and behind it.
@@ -57,8 +57,8 @@ fn cut(pair: &str) -> (&str, &str)
     pair.split_once('=').unwrap_or((pair, ""))
 }
 
-fn number_of(text: &str) -> Option<u64>
-    ensures { result ≡ number_of text.now }
+fn pair_number(text: &str) -> Option<u64>
+    ensures { result ≡ pair_number text.now }
 {
     parse_decimal(text, MAX_DIGITS, u64::MAX)
 }
@@ -78,17 +78,17 @@ fn count_key(pairs: &str, key: &str) -> usize
     pairs.split(',').filter(|pair| key_of(pair) == key).count()
 }
 
-/// Whether each key is an attribute of the type, or `toxicity`.
-pub(super) fn are_known(kind: Kind, pairs: &str) -> bool
-    ensures { result ≡ list_all (λ pair. is_known kind (key_of pair)) (pairs_of pairs.now) }
+/// Whether each key is an attribute of the toxic, or `toxicity`.
+pub(super) fn are_known(toxic: &Toxic, pairs: &str) -> bool
+    ensures { result ≡ list_all (λ pair. is_known toxic.now (key_of pair)) (pairs_of pairs.now) }
 {
-    pairs.split(',').all(|pair| is_known(kind, key_of(pair)))
+    pairs.split(',').all(|pair| is_known(toxic, key_of(pair)))
 }
 
-fn is_known(kind: Kind, key: &str) -> bool
-    ensures { result ≡ is_known kind key.now }
+fn is_known(toxic: &Toxic, key: &str) -> bool
+    ensures { result ≡ is_known toxic.now key.now }
 {
-    key == "toxicity" || kind.has_attribute(key)
+    key == "toxicity" || toxic.has_attribute(key)
 }
 
 /// The value of a key.

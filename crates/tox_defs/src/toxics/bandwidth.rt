@@ -1,49 +1,43 @@
 //! bandwidth: limits a connection to `rate` KB/s, which is `rate` bytes in a millisecond, before `until`.
-ghost use Rattle.std.specs.Prelude.{◌≡◌, ◌<◌, List, false, map, [], ◌∷◌};
-ghost use Rattle.tox_time.specs.declared.item.Item.{Item as OneItem};
-ghost use Rattle.tox_defs.specs.KindInside.{saturated};
-ghost use Rattle.tox_defs.specs.Look.{Finds, IsFrontOf};
-ghost use Rattle.tox_defs.specs.Reaction.{counted};
-ghost use Rattle.tox_defs.specs.toxics.Bandwidth.{bandwidth_attributes, bandwidth_of, is_bandwidth_within, pace_gives};
+ghost use Rattle.std.specs.Prelude.{◌≡◌, ◌<◌, List, false, [], ◌∷◌, ◌≤◌, length};
+ghost use Rattle.tox_time.specs.declared.streams.item.Item.{Item as OneItem};
+ghost use Rattle.tox_defs.specs.DescriptionInside.{description_view};
+ghost use Rattle.tox_defs.specs.operations.Look.{Finds, IsFrontOf};
+ghost use Rattle.tox_defs.specs.stage.Reaction.{counted};
+ghost use Rattle.tox_defs.specs.Toxic.{checked};
+ghost use Rattle.tox_defs.specs.toxics.Bandwidth.{bandwidth_description, bandwidth_of, pace_gives};
 
-use crate::look::Look;
-use crate::op::Op;
-use crate::pieces::front;
-use crate::ranges::{HOUR, MAX_ATTRIBUTES, MILLION, listed, saturated};
-use crate::state::State;
+use crate::attributes::description::Description;
+use crate::attributes::limits::{ONE_TO_MILLION, UP_TO_HOUR};
+use crate::attributes::values::{listed, saturated};
+use crate::operations::look::Look;
+use crate::operations::op::Op;
+use crate::operations::state::State;
 use crate::toxic::Toxic;
-use arrayvec::ArrayVec;
+use crate::toxics::pieces::front;
 use tox_time::Slice;
 
-/// The names of the attributes.
-pub(crate) fn attributes() -> &'static [&'static str]
-    ensures { map (λ name. name.now) result.now ≡ bandwidth_attributes }
+/// The name, and the attributes.
+pub(crate) fn description(rate: u32, until: u32) -> Description
+    ensures described { description_view result ≡ bandwidth_description rate until }
+    ensures few { length result.attributes.now ≤ 4 }
 {
-    &["rate", "until"]
-}
-
-/// The values of the attributes, in their order.
-pub(crate) fn values(rate: u32, until: u32) -> ArrayVec<u64, MAX_ATTRIBUTES>
-    ensures { result.items ≡ rate ∷ until ∷ [] }
-{
-    listed(&[u64::from(rate), u64::from(until)])
+    Description {
+        name: "bandwidth",
+        attributes: &["rate", "until"],
+        limits: &[ONE_TO_MILLION, UP_TO_HOUR],
+        values: listed(&[u64::from(rate), u64::from(until)]),
+    }
 }
 
 /// The bandwidth with these values of its attributes.
 pub(crate) fn from_values(values: &[u64]) -> Toxic
-    ensures { result ≡ saturated (bandwidth_of values.now) }
+    ensures { checked result ≡ checked (bandwidth_of values.now) }
 {
     Toxic::Bandwidth {
         rate: saturated(values, 0),
         until: saturated(values, 1),
     }
-}
-
-/// Whether the rate is 1 to 1,000,000, and `until` 0 to 3,600,000.
-pub(crate) fn is_within(rate: u32, until: u32) -> bool
-    ensures { result ≡ is_bandwidth_within rate until }
-{
-    1 <= rate && rate <= MILLION && until <= HOUR
 }
 
 /// The operation.

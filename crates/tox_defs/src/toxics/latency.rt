@@ -1,52 +1,46 @@
 //! latency: delays all data by `latency` plus or minus `jitter`, both in milliseconds, before `until`.
-ghost use Rattle.std.specs.Prelude.{◌≡◌, ◌+◌, ◌<◌, ◌^◌, List, false, map, [], ◌∷◌};
-ghost use Rattle.tox_time.specs.declared.item.Item.{Item as OneItem};
+ghost use Rattle.std.specs.Prelude.{◌≡◌, ◌+◌, ◌<◌, ◌^◌, List, false, [], ◌∷◌, ◌≤◌, length};
+ghost use Rattle.tox_time.specs.declared.streams.item.Item.{Item as OneItem};
 ghost use Rattle.tox_words.specs.Draw.{draws_of};
-ghost use Rattle.tox_defs.specs.KindInside.{saturated};
-ghost use Rattle.tox_defs.specs.Look.{Finds, IsFrontOf};
-ghost use Rattle.tox_defs.specs.Reaction.{counted};
-ghost use Rattle.tox_defs.specs.toxics.Latency.{delay_of, delay_op_gives, is_latency_within, latency_attributes, latency_of};
+ghost use Rattle.tox_defs.specs.DescriptionInside.{description_view};
+ghost use Rattle.tox_defs.specs.operations.Look.{Finds, IsFrontOf};
+ghost use Rattle.tox_defs.specs.stage.Reaction.{counted};
+ghost use Rattle.tox_defs.specs.Toxic.{checked};
+ghost use Rattle.tox_defs.specs.toxics.Latency.{delay_of, delay_op_gives, latency_description, latency_of};
 
-use crate::look::Look;
-use crate::op::Op;
-use crate::ranges::{HOUR, MAX_ATTRIBUTES, listed, saturated};
-use crate::state::State;
+use crate::attributes::description::Description;
+use crate::attributes::limits::UP_TO_HOUR;
+use crate::attributes::values::{listed, saturated};
+use crate::operations::look::Look;
+use crate::operations::op::Op;
+use crate::operations::state::State;
 use crate::toxic::Toxic;
-use crate::varied::varied;
-use arrayvec::ArrayVec;
+use crate::toxics::varied::varied;
 use tox_time::Slice;
 use tox_words::Drawing;
 
-/// The names of the attributes.
-pub(crate) fn attributes() -> &'static [&'static str]
-    ensures { map (λ name. name.now) result.now ≡ latency_attributes }
+/// The name, and the attributes.
+pub(crate) fn description(latency: u32, jitter: u32, until: u32) -> Description
+    ensures described { description_view result ≡ latency_description latency jitter until }
+    ensures few { length result.attributes.now ≤ 4 }
 {
-    &["latency", "jitter", "until"]
-}
-
-/// The values of the attributes, in their order.
-pub(crate) fn values(latency: u32, jitter: u32, until: u32) -> ArrayVec<u64, MAX_ATTRIBUTES>
-    ensures { result.items ≡ latency ∷ jitter ∷ until ∷ [] }
-{
-    listed(&[u64::from(latency), u64::from(jitter), u64::from(until)])
+    Description {
+        name: "latency",
+        attributes: &["latency", "jitter", "until"],
+        limits: &[UP_TO_HOUR, UP_TO_HOUR, UP_TO_HOUR],
+        values: listed(&[u64::from(latency), u64::from(jitter), u64::from(until)]),
+    }
 }
 
 /// The latency with these values of its attributes.
 pub(crate) fn from_values(values: &[u64]) -> Toxic
-    ensures { result ≡ saturated (latency_of values.now) }
+    ensures { checked result ≡ checked (latency_of values.now) }
 {
     Toxic::Latency {
         latency: saturated(values, 0),
         jitter: saturated(values, 1),
         until: saturated(values, 2),
     }
-}
-
-/// Whether each attribute is 0 to 3,600,000.
-pub(crate) fn is_within(latency: u32, jitter: u32, until: u32) -> bool
-    ensures { result ≡ is_latency_within latency jitter until }
-{
-    latency <= HOUR && jitter <= HOUR && until <= HOUR
 }
 
 /// The operation at a place. Without jitter all stands in the fixed part, and nothing is drawn.

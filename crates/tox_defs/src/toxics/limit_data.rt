@@ -1,48 +1,47 @@
 //! limit_data: closes the connection once `bytes` have passed.
-ghost use Rattle.std.specs.Prelude.{◌≡◌, ◌<◌, List, false, map, [], ◌∷◌};
-ghost use Rattle.tox_time.specs.declared.item.Item.{Item as OneItem};
-ghost use Rattle.tox_defs.specs.KindInside.{saturated};
-ghost use Rattle.tox_defs.specs.Look.{Finds, IsFrontOf};
-ghost use Rattle.tox_defs.specs.Reaction.{counted};
-ghost use Rattle.tox_defs.specs.toxics.LimitData.{is_limit_data_within, limit_data_attributes, limit_data_of, limit_gives};
+ghost use Rattle.std.specs.Prelude.{◌≡◌, ◌<◌, List, false, [], ◌∷◌, ◌≤◌, length};
+ghost use Rattle.tox_time.specs.declared.streams.item.Item.{Item as OneItem};
+ghost use Rattle.tox_defs.specs.DescriptionInside.{description_view};
+ghost use Rattle.tox_defs.specs.operations.Look.{Finds, IsFrontOf};
+ghost use Rattle.tox_defs.specs.stage.Reaction.{counted};
+ghost use Rattle.tox_defs.specs.Toxic.{checked};
+ghost use Rattle.tox_defs.specs.toxics.LimitData.{limit_data_description, limit_data_of, limit_gives};
 
-use crate::look::Look;
-use crate::op::Op;
-use crate::pieces::front;
-use crate::ranges::{MAX_ATTRIBUTES, listed, value};
-use crate::state::State;
+use crate::attributes::description::Description;
+use crate::attributes::limits::Limits;
+use crate::attributes::values::{listed, value};
+use crate::operations::look::Look;
+use crate::operations::op::Op;
+use crate::operations::state::State;
 use crate::toxic::Toxic;
-use arrayvec::ArrayVec;
+use crate::toxics::pieces::front;
 use tox_time::{Ending, MAX_BYTES, Slice};
 
-/// The name of the attribute.
-pub(crate) fn attributes() -> &'static [&'static str]
-    ensures { map (λ name. name.now) result.now ≡ limit_data_attributes }
-{
-    &["bytes"]
-}
+const UP_TO_MAX_BYTES: Limits = Limits {
+    least: 0,
+    most: MAX_BYTES,
+};
 
-/// The value of the attribute.
-pub(crate) fn values(bytes: u64) -> ArrayVec<u64, MAX_ATTRIBUTES>
-    ensures { result.items ≡ bytes ∷ [] }
+/// The name, and the attribute.
+pub(crate) fn description(bytes: u64) -> Description
+    ensures described { description_view result ≡ limit_data_description bytes }
+    ensures few { length result.attributes.now ≤ 4 }
 {
-    listed(&[bytes])
+    Description {
+        name: "limit_data",
+        attributes: &["bytes"],
+        limits: &[UP_TO_MAX_BYTES],
+        values: listed(&[bytes]),
+    }
 }
 
 /// The limit_data with this value of its attribute.
 pub(crate) fn from_values(values: &[u64]) -> Toxic
-    ensures { result ≡ saturated (limit_data_of values.now) }
+    ensures { checked result ≡ checked (limit_data_of values.now) }
 {
     Toxic::LimitData {
         bytes: value(values, 0),
     }
-}
-
-/// Whether the attribute is 0 to 2^40.
-pub(crate) fn is_within(bytes: u64) -> bool
-    ensures { result ≡ is_limit_data_within bytes }
-{
-    bytes <= MAX_BYTES
 }
 
 /// The operation.

@@ -1,49 +1,43 @@
 //! reset_peer: resets the connection `timeout` milliseconds after its start.
-ghost use Rattle.std.specs.Prelude.{◌≡◌, ◌<◌, List, [], ◌∷◌, false, map};
-ghost use Rattle.tox_time.specs.declared.item.Item.{Item as OneItem};
-ghost use Rattle.tox_time.specs.Table.{final_of};
+ghost use Rattle.std.specs.Prelude.{◌≡◌, ◌<◌, List, [], ◌∷◌, false, ◌≤◌, length};
+ghost use Rattle.tox_time.specs.declared.streams.item.Item.{Item as OneItem};
+ghost use Rattle.tox_time.specs.streams.Table.{final_of};
 ghost use Rattle.tox_time.specs.Time.{micros_of};
-ghost use Rattle.tox_defs.specs.KindInside.{saturated};
-ghost use Rattle.tox_defs.specs.Look.{Finds, IsFrontOf};
-ghost use Rattle.tox_defs.specs.Reaction.{counted};
-ghost use Rattle.tox_defs.specs.declared.state.State.{State as OneState};
-ghost use Rattle.tox_defs.specs.toxics.ResetPeer.{cutoff_gives, is_reset_peer_within, reset_peer_attributes, reset_peer_of};
+ghost use Rattle.tox_defs.specs.DescriptionInside.{description_view};
+ghost use Rattle.tox_defs.specs.operations.Look.{Finds, IsFrontOf};
+ghost use Rattle.tox_defs.specs.stage.Reaction.{counted};
+ghost use Rattle.tox_defs.specs.declared.operations.state.State.{State as OneState};
+ghost use Rattle.tox_defs.specs.Toxic.{checked};
+ghost use Rattle.tox_defs.specs.toxics.ResetPeer.{cutoff_gives, reset_peer_description, reset_peer_of};
 
-use crate::look::Look;
-use crate::op::Op;
-use crate::ranges::{HOUR, MAX_ATTRIBUTES, listed, saturated};
+use crate::attributes::description::Description;
+use crate::attributes::limits::UP_TO_HOUR;
+use crate::attributes::values::{listed, saturated};
+use crate::operations::look::Look;
+use crate::operations::op::Op;
 use crate::toxic::Toxic;
-use arrayvec::ArrayVec;
 use tox_time::{Ending, Micros, Slice};
 
-/// The name of the attribute.
-pub(crate) fn attributes() -> &'static [&'static str]
-    ensures { map (λ name. name.now) result.now ≡ reset_peer_attributes }
+/// The name, and the attribute.
+pub(crate) fn description(timeout: u32) -> Description
+    ensures described { description_view result ≡ reset_peer_description timeout }
+    ensures few { length result.attributes.now ≤ 4 }
 {
-    &["timeout"]
-}
-
-/// The value of the attribute.
-pub(crate) fn values(timeout: u32) -> ArrayVec<u64, MAX_ATTRIBUTES>
-    ensures { result.items ≡ timeout ∷ [] }
-{
-    listed(&[u64::from(timeout)])
+    Description {
+        name: "reset_peer",
+        attributes: &["timeout"],
+        limits: &[UP_TO_HOUR],
+        values: listed(&[u64::from(timeout)]),
+    }
 }
 
 /// The reset_peer with this value of its attribute.
 pub(crate) fn from_values(values: &[u64]) -> Toxic
-    ensures { result ≡ saturated (reset_peer_of values.now) }
+    ensures { checked result ≡ checked (reset_peer_of values.now) }
 {
     Toxic::ResetPeer {
         timeout: saturated(values, 0),
     }
-}
-
-/// Whether the attribute is 0 to 3,600,000.
-pub(crate) fn is_within(timeout: u32) -> bool
-    ensures { result ≡ is_reset_peer_within timeout }
-{
-    timeout <= HOUR
 }
 
 /// The operation.

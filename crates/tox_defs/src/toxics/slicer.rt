@@ -1,53 +1,58 @@
 //! slicer: cuts data into pieces near `average_size` bytes, varied by `size_variation`, with `delay` microseconds before each.
-ghost use Rattle.std.specs.Prelude.{◌≡◌, ◌+◌, ◌<◌, ◌^◌, List, false, map, [], ◌∷◌};
-ghost use Rattle.tox_time.specs.declared.item.Item.{Item as OneItem};
+ghost use Rattle.std.specs.Prelude.{◌≡◌, ◌+◌, ◌<◌, ◌^◌, List, false, [], ◌∷◌, ◌≤◌, length};
+ghost use Rattle.tox_time.specs.declared.streams.item.Item.{Item as OneItem};
 ghost use Rattle.tox_words.specs.Draw.{draws_of};
-ghost use Rattle.tox_defs.specs.KindInside.{saturated};
-ghost use Rattle.tox_defs.specs.Look.{Finds, IsFrontOf};
-ghost use Rattle.tox_defs.specs.Reaction.{counted};
-ghost use Rattle.tox_defs.specs.toxics.Slicer.{is_slicer_varied_too_much, is_slicer_within, slicer_attributes, slicer_gives, slicer_of};
+ghost use Rattle.tox_defs.specs.DescriptionInside.{description_view};
+ghost use Rattle.tox_defs.specs.operations.Look.{Finds, IsFrontOf};
+ghost use Rattle.tox_defs.specs.stage.Reaction.{counted};
+ghost use Rattle.tox_defs.specs.Toxic.{checked};
+ghost use Rattle.tox_defs.specs.toxics.Slicer.{is_slicer_varied_too_much, slicer_description, slicer_gives, slicer_of};
 
-use crate::look::Look;
-use crate::op::Op;
-use crate::pieces::front;
-use crate::ranges::{HOUR, MAX_ATTRIBUTES, MILLION, listed, saturated, value};
-use crate::state::State;
+use crate::attributes::description::Description;
+use crate::attributes::limits::{ANY_VALUE, Limits, ONE_TO_MILLION, UP_TO_HOUR};
+use crate::attributes::values::{listed, saturated, value};
+use crate::operations::look::Look;
+use crate::operations::op::Op;
+use crate::operations::state::State;
 use crate::toxic::Toxic;
-use crate::varied::varied;
-use arrayvec::ArrayVec;
+use crate::toxics::pieces::front;
+use crate::toxics::varied::varied;
 use tox_time::Slice;
 use tox_words::Drawing;
 
-/// The longest delay before a piece, in microseconds: an hour.
-const HOUR_IN_MICROS: u64 = 3_600_000_000;
+/// The delay before a piece: up to an hour, in microseconds.
+const UP_TO_HOUR_IN_MICROS: Limits = Limits {
+    least: 0,
+    most: 3_600_000_000,
+};
 
-/// The names of the attributes.
-pub(crate) fn attributes() -> &'static [&'static str]
-    ensures { map (λ name. name.now) result.now ≡ slicer_attributes }
-{
-    &["average_size", "size_variation", "delay", "until"]
-}
-
-/// The values of the attributes, in their order.
-pub(crate) fn values(
+/// The name, and the attributes.
+pub(crate) fn description(
     average_size: u32,
     size_variation: u32,
     delay: u64,
     until: u32,
-) -> ArrayVec<u64, MAX_ATTRIBUTES>
-    ensures { result.items ≡ average_size ∷ size_variation ∷ delay ∷ until ∷ [] }
+) -> Description
+    ensures described { description_view result
+        ≡ slicer_description average_size size_variation delay until }
+    ensures few { length result.attributes.now ≤ 4 }
 {
-    listed(&[
-        u64::from(average_size),
-        u64::from(size_variation),
-        delay,
-        u64::from(until),
-    ])
+    Description {
+        name: "slicer",
+        attributes: &["average_size", "size_variation", "delay", "until"],
+        limits: &[ONE_TO_MILLION, ANY_VALUE, UP_TO_HOUR_IN_MICROS, UP_TO_HOUR],
+        values: listed(&[
+            u64::from(average_size),
+            u64::from(size_variation),
+            delay,
+            u64::from(until),
+        ]),
+    }
 }
 
 /// The slicer with these values of its attributes.
 pub(crate) fn from_values(values: &[u64]) -> Toxic
-    ensures { result ≡ saturated (slicer_of values.now) }
+    ensures { checked result ≡ checked (slicer_of values.now) }
 {
     Toxic::Slicer {
         average_size: saturated(values, 0),
@@ -55,13 +60,6 @@ pub(crate) fn from_values(values: &[u64]) -> Toxic
         delay: value(values, 2),
         until: saturated(values, 3),
     }
-}
-
-/// Whether the size is 1 to 1,000,000, the delay 0 to 3,600,000,000, and `until` 0 to 3,600,000.
-pub(crate) fn is_within(average_size: u32, delay: u64, until: u32) -> bool
-    ensures { result ≡ is_slicer_within average_size delay until }
-{
-    1 <= average_size && average_size <= MILLION && delay <= HOUR_IN_MICROS && until <= HOUR
 }
 
 /// Whether sizes vary by their average or more.

@@ -1,48 +1,42 @@
 //! slow_close: delays the closing by `delay` milliseconds.
-ghost use Rattle.std.specs.Prelude.{◌≡◌, ◌*◌, ◌<◌, ℕ, List, [], ◌∷◌, false, map};
-ghost use Rattle.tox_time.specs.declared.item.Item.{Item as OneItem};
-ghost use Rattle.tox_time.specs.Table.{final_of};
-ghost use Rattle.tox_defs.specs.KindInside.{saturated};
-ghost use Rattle.tox_defs.specs.Look.{Finds, IsFrontOf};
-ghost use Rattle.tox_defs.specs.Reaction.{counted};
-ghost use Rattle.tox_defs.specs.declared.state.State.{State as OneState};
-ghost use Rattle.tox_defs.specs.toxics.SlowClose.{is_slow_close_within, slow_close_attributes, slow_close_of, slow_gives};
+ghost use Rattle.std.specs.Prelude.{◌≡◌, ◌*◌, ◌<◌, ℕ, List, [], ◌∷◌, false, ◌≤◌, length};
+ghost use Rattle.tox_time.specs.declared.streams.item.Item.{Item as OneItem};
+ghost use Rattle.tox_time.specs.streams.Table.{final_of};
+ghost use Rattle.tox_defs.specs.DescriptionInside.{description_view};
+ghost use Rattle.tox_defs.specs.operations.Look.{Finds, IsFrontOf};
+ghost use Rattle.tox_defs.specs.stage.Reaction.{counted};
+ghost use Rattle.tox_defs.specs.declared.operations.state.State.{State as OneState};
+ghost use Rattle.tox_defs.specs.Toxic.{checked};
+ghost use Rattle.tox_defs.specs.toxics.SlowClose.{slow_close_description, slow_close_of, slow_gives};
 
-use crate::look::Look;
-use crate::op::Op;
-use crate::ranges::{HOUR, MAX_ATTRIBUTES, listed, saturated};
+use crate::attributes::description::Description;
+use crate::attributes::limits::UP_TO_HOUR;
+use crate::attributes::values::{listed, saturated};
+use crate::operations::look::Look;
+use crate::operations::op::Op;
 use crate::toxic::Toxic;
-use arrayvec::ArrayVec;
 use tox_time::{Ending, Slice};
 
-/// The name of the attribute.
-pub(crate) fn attributes() -> &'static [&'static str]
-    ensures { map (λ name. name.now) result.now ≡ slow_close_attributes }
+/// The name, and the attribute.
+pub(crate) fn description(delay: u32) -> Description
+    ensures described { description_view result ≡ slow_close_description delay }
+    ensures few { length result.attributes.now ≤ 4 }
 {
-    &["delay"]
-}
-
-/// The value of the attribute.
-pub(crate) fn values(delay: u32) -> ArrayVec<u64, MAX_ATTRIBUTES>
-    ensures { result.items ≡ delay ∷ [] }
-{
-    listed(&[u64::from(delay)])
+    Description {
+        name: "slow_close",
+        attributes: &["delay"],
+        limits: &[UP_TO_HOUR],
+        values: listed(&[u64::from(delay)]),
+    }
 }
 
 /// The slow_close with this value of its attribute.
 pub(crate) fn from_values(values: &[u64]) -> Toxic
-    ensures { result ≡ saturated (slow_close_of values.now) }
+    ensures { checked result ≡ checked (slow_close_of values.now) }
 {
     Toxic::SlowClose {
         delay: saturated(values, 0),
     }
-}
-
-/// Whether the attribute is 0 to 3,600,000.
-pub(crate) fn is_within(delay: u32) -> bool
-    ensures { result ≡ is_slow_close_within delay }
-{
-    delay <= HOUR
 }
 
 /// The operation.

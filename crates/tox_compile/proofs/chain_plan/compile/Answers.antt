@@ -2,7 +2,7 @@
 use Rattle.std.proofs.Common.{[], ◌+◌, ◌∙◌, ap, map, sym, subst, arith, refl}
 use Rattle.std.specs.Prelude.{All, fold}
 use Rattle.tox_defs.specs.Flow.{IsPlaced}
-use Rattle.tox_defs.specs.Op.{IsOp}
+use Rattle.tox_defs.specs.operations.Op.{IsOp}
 use Rattle.tox_compile.specs.Compiled.{op_of_placed}
 use Rattle.tox_compile.specs.Normal.{with_op, normal_form}
 use Rattle.tox_compile.specs.Meaning.{means}

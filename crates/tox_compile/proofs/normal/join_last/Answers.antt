@@ -1,7 +1,7 @@
 -- The last operation is joined with the new one, or both stay.
 use Rattle.std.proofs.Common.{◌≡◌, List, [], ◌∷◌, ◌++◌, ap, sym, ◌∙◌, append_assoc, Option, None, Some}
 use Rattle.std.specs.Option.{option_to_list}
-use Rattle.tox_defs.specs.declared.op.Op.{Op}
+use Rattle.tox_defs.specs.declared.operations.op.Op.{Op}
 use Rattle.tox_compile.specs.Normal.{joined, one_or_two, with_last}
 use Rattle.tox_compile.proofs.Sums.{with_last-append}
 use Rattle.tox_compile.proofs.normal.join_last.Goals as goal

@@ -1,9 +1,9 @@
 -- An operation gives the ending of a mute as it would give that item.
 use Rattle.std.proofs.Common.{rules, ◌≡◌, [], ◌∷◌, ap, subst, Some}
-use Rattle.tox_time.specs.Table.{final_of}
-use Rattle.tox_defs.specs.declared.op.Op.TheVariants.{Mute}
-use Rattle.tox_defs.specs.Op.{op_giving}
-use Rattle.tox_defs.specs.Reaction.{first_state}
+use Rattle.tox_time.specs.streams.Table.{final_of}
+use Rattle.tox_defs.specs.declared.operations.op.Op.TheVariants.{Mute}
+use Rattle.tox_defs.specs.operations.Op.{op_giving}
+use Rattle.tox_defs.specs.stage.Reaction.{first_state}
 use Rattle.tox_compile.proofs.Mutes.{is-after_mute}
 use Rattle.tox_compile.proofs.normal.joined.Goals as goal
 

@@ -1,7 +1,7 @@
 -- A printed short form has the value that reads back.
 use Rattle.std.proofs.Common.{◌≡◌, ap, arith, ◌∙◌}
 use Rattle.std.proofs.lemmas.Grind.{common_steps}
-use Rattle.tox_defs.specs.Short.{short_of}
+use Rattle.tox_defs.specs.short.Short.{short_of}
 use Rattle.tox_defs.proofs.ReadsBack.{reads_back}
 use Rattle.tox_defs.proofs.short.read_short.Goals as goal
 

@@ -1,8 +1,8 @@
 -- Every run at rest delivered the chain's flow.
 use Rattle.std.proofs.Common.{rules, IfOk}
 use Rattle.std.proofs.lemmas.Result.{IfOk-weaker}
-use Rattle.tox_time.specs.Arrivals.{arrival_list}
-use Rattle.tox_time.specs.Table.{IsOutcomeOf}
+use Rattle.tox_time.specs.streams.Arrivals.{arrival_list}
+use Rattle.tox_time.specs.streams.Table.{IsOutcomeOf}
 use Rattle.tox_defs.specs.Flow.{chain_flow}
 use Rattle.tox_plan.proofs.EveryRun.{outcome_of_every_rest}
 use Rattle.tox_plan.proofs.delivery.deliver.Goals as goal

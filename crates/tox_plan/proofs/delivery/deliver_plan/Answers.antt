@@ -1,9 +1,9 @@
 -- One more arrival: what it makes was given, and the others are still to come.
 use Rattle.std.proofs.Common.{◌≡◌, ◌∷◌, ◌+◌, List, [], drop, sym, ap, subst, ◌∙◌, refl}
 use Rattle.std.specs.Prelude.{Any}
-use Rattle.tox_time.specs.declared.item.Item.{Item}
-use Rattle.tox_time.specs.Arrivals.{arrival_list}
-use Rattle.tox_time.specs.Neighbours.{AreNeighbours}
+use Rattle.tox_time.specs.declared.streams.item.Item.{Item}
+use Rattle.tox_time.specs.streams.Arrivals.{arrival_list}
+use Rattle.tox_time.specs.streams.Neighbours.{AreNeighbours}
 use Rattle.tox_plan.specs.Delivering.{PreservesOutput}
 use Rattle.tox_plan.proofs.Deliveries.{IsAhead, ahead_next, ends_at, drop-item, goes-on, neighbours-stored}
 use Rattle.tox_plan.proofs.delivery.deliver_plan.Goals as goal

@@ -1,7 +1,7 @@
 -- What was given, and what is still to come for the other arrivals, is what the plan means for all of them.
 use Rattle.std.proofs.Common.{◌≡◌, true, [], drop}
-use Rattle.tox_time.specs.Arrivals.{arrival_list}
-use Rattle.tox_time.specs.Neighbours.{AreNeighbours}
+use Rattle.tox_time.specs.streams.Arrivals.{arrival_list}
+use Rattle.tox_time.specs.streams.Neighbours.{AreNeighbours}
 use Rattle.tox_plan.specs.Delivering.{PreservesOutput, stop_from}
 use Rattle.tox_plan.proofs.Deliveries.{IsAhead}
 use Rattle.tox_plan.proofs.delivery.deliver_plan.Given as goal

@@ -1,7 +1,7 @@
 -- One more cut.
 use Rattle.std.proofs.Common.{◌≡◌, ◌∷◌, ◌++◌, [], sym, subst, ◌∙◌}
 use Rattle.std.specs.Prelude.{Any}
-use Rattle.tox_time.specs.Neighbours.{LiesInChunk}
+use Rattle.tox_time.specs.streams.Neighbours.{LiesInChunk}
 use Rattle.tox_plan.specs.Cuts.{IsCut}
 use Rattle.tox_plan.proofs.Deliveries.{goes-on, goes-cut, stop_from-append, neighbours-append, any-within}
 use Rattle.tox_plan.proofs.delivery.take_cuts.Goals as goal

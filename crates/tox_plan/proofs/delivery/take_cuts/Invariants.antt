@@ -1,8 +1,8 @@
 -- What was given and what is to come stay the same together; the slices go on; and each cut shortens the rest of the piece.
 use Rattle.std.proofs.Common.{◌≡◌, ◌-◌, List}
 use Rattle.std.specs.Prelude.{Any}
-use Rattle.tox_time.specs.declared.item.Item.{Item}
-use Rattle.tox_time.specs.Neighbours.{AreNeighbours, LiesInChunk}
+use Rattle.tox_time.specs.declared.streams.item.Item.{Item}
+use Rattle.tox_time.specs.streams.Neighbours.{AreNeighbours, LiesInChunk}
 use Rattle.tox_plan.specs.Delivering.{PreservesOutput, stop_from}
 use Rattle.tox_plan.proofs.delivery.take_cuts.Given as goal
 

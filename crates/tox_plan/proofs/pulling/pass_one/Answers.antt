@@ -1,7 +1,7 @@
 -- A cursor that has nothing left gives what its operation makes of what comes.
 use Rattle.std.proofs.Common.{rules, ◌≡◌, Some, subst}
 use Rattle.tox_words.specs.Draw.{draws_of}
-use Rattle.tox_defs.specs.declared.op_cursor.Emission.TheVariants.{Piece}
+use Rattle.tox_defs.specs.declared.operations.op_cursor.Emission.TheVariants.{Piece}
 use Rattle.tox_plan.specs.OpCursors.{MatchPulled}
 use Rattle.tox_plan.proofs.Pulls.{passed-piece}
 use Rattle.tox_plan.proofs.pulling.pass_one.Goals as goal

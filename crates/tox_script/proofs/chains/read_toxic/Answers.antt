@@ -2,8 +2,8 @@
 use Rattle.std.proofs.Common.{◌≡◌, Ok, Err, rules}
 use Rattle.std.proofs.lemmas.Result.{IfOk-at_ok, IfErr-at_err, err_from_is_err_and}
 use Rattle.toml.specs.View.{view}
-use Rattle.tox_script.specs.Toxic.{named_toxic}
-use Rattle.tox_script.specs.ToxicFields.{toxic_fields}
+use Rattle.tox_script.specs.chains.Toxic.{named_toxic}
+use Rattle.tox_script.specs.fields.ToxicFields.{toxic_fields}
 use Rattle.tox_script.specs.Views.{fields_view, toxic_view}
 use Rattle.tox_script.specs.declared.fault.ScriptFault.TheVariants.{Toxic}
 use Rattle.tox_script.proofs.Renamed.{ok_before, err_before}

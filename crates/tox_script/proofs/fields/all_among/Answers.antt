@@ -5,7 +5,7 @@ use Rattle.std.specs.BTreeMap.{keys}
 use Rattle.std.proofs.lemmas.Iterator.Consumers.{YieldsList-from_rest}
 use Rattle.std.proofs.lemmas.Iterator.Search.{all_from_yields_List}
 use Rattle.std.proofs.lemmas.List.Folds.{list_all-map}
-use Rattle.tox_script.specs.Fields.{is_among}
+use Rattle.tox_script.specs.fields.Fields.{is_among}
 use Rattle.tox_script.proofs.Tables.{member_keys-view}
 use Rattle.tox_script.proofs.fields.all_among.Goals as goal
 

@@ -3,7 +3,7 @@ use Rattle.std.proofs.Common.{rules, tests, sym, ◌∙◌}
 use Rattle.std.proofs.lemmas.Iterator.{YieldsList-from_slice}
 use Rattle.std.proofs.lemmas.Iterator.Search.{all_from_yields_List}
 use Rattle.toml.specs.View.{view}
-use Rattle.tox_script.specs.Fields.{is_table}
+use Rattle.tox_script.specs.fields.Fields.{is_table}
 use Rattle.tox_script.proofs.Tables.{all_tables-view}
 use Rattle.tox_script.proofs.fields.all_tables.Goals as goal
 

@@ -3,7 +3,7 @@ use Rattle.std.proofs.Common.{◌≡◌, ◌∷◌, ◌++◌, Some, map, ap, sym
 use Rattle.std.specs.Prelude.{All}
 use Rattle.std.proofs.lemmas.List.Elements.{All-head, All-tail}
 use Rattle.rtrb.specs.Ring.{sent, received, known_items}
-use Rattle.tox_time.specs.Stream.{has_final}
+use Rattle.tox_time.specs.streams.Stream.{has_final}
 use Rattle.tox_time.proofs.StreamLemmas.{final_of_stream}
 use Rattle.tox_words.specs.Draw.{draw_in}
 use Rattle.tox_defs.specs.Flow.{IsPlaced, placed_reaction}

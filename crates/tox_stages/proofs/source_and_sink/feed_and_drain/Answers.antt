@@ -1,7 +1,7 @@
 -- Both ends are done.
 use Rattle.std.proofs.Common.{◌≡◌, true, sym, ◌∙◌}
 use Rattle.rtrb.specs.Ring.{received}
-use Rattle.tox_time.specs.Stream.{has_final}
+use Rattle.tox_time.specs.streams.Stream.{has_final}
 use Rattle.tox_stages.proofs.Joined.{last_ring}
 use Rattle.tox_stages.proofs.source_and_sink.feed_and_drain.Goals as goal
 

@@ -1,9 +1,9 @@
 -- The items that a worker takes one after another.
 use Rattle.std.proofs.Common.{◌≡◌, [], ◌++◌, true, false, ap, sym, ◌∙◌, rules, arith}
 use Rattle.rtrb.specs.Ring.{sent}
-use Rattle.tox_time.specs.Stream.{is_final}
-use Rattle.tox_defs.specs.StreamPosition.{fits, position_after}
-use Rattle.tox_defs.specs.Stage.{Staged, reaction_of, taken}
+use Rattle.tox_time.specs.streams.Stream.{is_final}
+use Rattle.tox_time.specs.streams.StreamPosition.{fits, position_after}
+use Rattle.tox_defs.specs.stage.Stage.{Staged, reaction_of, taken}
 use Rattle.tox_stages.proofs.Places.{grows}
 use Rattle.tox_stages.proofs.Working.{worked_on, worked_all, misfits}
 use Rattle.tox_stages.proofs.worker.work.Goals as goal

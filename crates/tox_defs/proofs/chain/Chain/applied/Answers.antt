@@ -1,6 +1,6 @@
 -- An entry that is met joins the others, and one that isn't changes nothing.
 use Rattle.std.proofs.Common.{List, ◌+◌, ◌∙◌, refl, ap, sym, subst}
-use Rattle.tox_defs.specs.declared.applied.Placed.{Placed}
+use Rattle.tox_defs.specs.declared.chain.applied.Placed.{Placed}
 use Rattle.tox_defs.proofs.Gathered.{Gathers, gathers-met, gathers-skipped}
 use Rattle.tox_defs.proofs.chain.Chain.applied.Goals.{then-is_applied, else-is_applied}
 use Rattle.tox_defs.proofs.chain.Chain.applied.Goals as goal

@@ -4,7 +4,7 @@ use Rattle.std.specs.Prelude.{All}
 use Rattle.std.proofs.lemmas.Grind.{common_steps}
 use Rattle.std.proofs.lemmas.List.Elements.{All-push}
 use Rattle.tox_defs.specs.declared.chain.Entry.{Entry}
-use Rattle.tox_defs.specs.Chain.{IsEntry}
+use Rattle.tox_defs.specs.chain.Chain.{IsEntry}
 use Rattle.tox_defs.proofs.chain.Chain.push.Goals as goal
 
 pub invariant_of-self : goal.invariant_of-self

@@ -2,7 +2,7 @@
 use Rattle.std.proofs.Common.{lit<, rules, tests}
 use Rattle.std.proofs.lemmas.Iterator.Search.{all_from_yields_List}
 use Rattle.std.proofs.lemmas.Iterator.Splits.{YieldsList-from_str_split}
-use Rattle.tox_defs.specs.Pairs.{is_pair}
+use Rattle.tox_defs.specs.short.Pairs.{is_pair}
 use Rattle.tox_defs.proofs.short.pairs.are_pairs.Goals as goal
 
 pub returns : goal.returns

@@ -3,7 +3,7 @@ use Rattle.std.proofs.Common.{lit<, rules, tests, ◌∙◌}
 use Rattle.std.proofs.lemmas.Iterator.Consumers.{YieldsList-at, YieldsList-from_filter, count_from_yields_List}
 use Rattle.std.proofs.lemmas.Iterator.Splits.{YieldsList-from_str_split}
 use Rattle.std.proofs.lemmas.List.Sums.{length-filter}
-use Rattle.tox_defs.specs.Pairs.{has_key, pairs_of}
+use Rattle.tox_defs.specs.short.Pairs.{has_key, pairs_of}
 use Rattle.tox_defs.proofs.short.pairs.count_key.Goals as goal
 
 pub returns : goal.returns

@@ -2,7 +2,7 @@
 use Rattle.std.proofs.Common.{count_by, lit<, nat_lt, rules, tests}
 use Rattle.std.proofs.lemmas.Iterator.Search.{any_from_yields_List}
 use Rattle.std.proofs.lemmas.Iterator.Splits.{YieldsList-from_str_split}
-use Rattle.tox_defs.specs.Pairs.{has_key, key_of, pairs_of}
+use Rattle.tox_defs.specs.short.Pairs.{has_key, key_of, pairs_of}
 use Rattle.tox_defs.proofs.short.pairs.has_double_key.Goals as goal
 
 pub returns : goal.returns

@@ -2,7 +2,7 @@
 use Rattle.std.proofs.Common.{lit<, rules, tests}
 use Rattle.std.proofs.lemmas.Iterator.Search.{find_from_yields_List}
 use Rattle.std.proofs.lemmas.Iterator.Splits.{YieldsList-from_str_split}
-use Rattle.tox_defs.specs.Pairs.{has_key}
+use Rattle.tox_defs.specs.short.Pairs.{has_key}
 use Rattle.tox_defs.proofs.short.pairs.pair_at.Goals as goal
 
 pub returns : goal.returns

@@ -1,17 +1,16 @@
 -- The operation of a toxic reacts as the toxic does, and the toxic keeps its laws.
 use Rattle.std.proofs.Common.{arith}
 use Rattle.tox_words.specs.Draw.{draw_in}
-use Rattle.tox_defs.proofs.OpOf.{op_reaction-op_of}
-use Rattle.tox_defs.proofs.ToxicLaws.{toxic_law}
+use Rattle.tox_defs.proofs.ToxicProofs.{toxic_facts}
 use Rattle.tox_defs.proofs.ChainStreams.{toxic_keeps}
 use Rattle.tox_defs.proofs.Places.{AllFit-stream}
 use Rattle.tox_defs.proofs.stage.Stage.new.Goals as goal
 
 pub returns-clause-reacts : goal.returns-clause-reacts
-returns-clause-reacts c = op_reaction-op_of c.args.lane c.args.toxic (draw_in c.args.lanes c.args.words.now)
+returns-clause-reacts c = (toxic_facts c.args.toxic).reacts c.args.lane (draw_in c.args.lanes c.args.words.now)
 
 pub returns-clause-law : goal.returns-clause-law
-returns-clause-law c = toxic_law c.args.toxic c.requires.in_range
+returns-clause-law c = (toxic_facts c.args.toxic).law c.requires.in_range
 
 pub returns-clause-streams : goal.returns-clause-streams
 returns-clause-streams c = toxic_keeps c.args.toxic c.requires.in_range

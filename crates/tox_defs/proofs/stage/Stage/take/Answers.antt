@@ -1,8 +1,8 @@
 -- What a running stage takes is its operation's reaction to it.
 use Rattle.std.proofs.Common.{rules, ◌≡◌, ◌∙◌, ap, sym, None, true}
-use Rattle.tox_time.specs.declared.item.Item.TheVariants.{Chunk}
-use Rattle.tox_time.specs.Table.{final_of}
-use Rattle.tox_defs.specs.StreamPosition.{fits}
+use Rattle.tox_time.specs.declared.streams.item.Item.TheVariants.{Chunk}
+use Rattle.tox_time.specs.streams.Table.{final_of}
+use Rattle.tox_time.specs.streams.StreamPosition.{fits}
 use Rattle.tox_defs.proofs.Places.{chunk_fits}
 use Rattle.tox_defs.proofs.Stages.{took_chunk, took_final}
 use Rattle.tox_defs.proofs.stage.Stage.take.Goals as goal

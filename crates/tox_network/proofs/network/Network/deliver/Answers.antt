@@ -1,6 +1,6 @@
 -- The first item of the last queue was delivered.
 use Rattle.std.proofs.Common.{◌≡◌, ◌∷◌, drop, false, length, refl, subst, rules}
-use Rattle.tox_time.specs.Stream.{is_final}
+use Rattle.tox_time.specs.streams.Stream.{is_final}
 use Rattle.tox_network.specs.NetworkState.{queue}
 use Rattle.tox_network.specs.NetworkInside.{network_view}
 use Rattle.tox_network.specs.NetworkView.{state_of, HasChunkFirst}

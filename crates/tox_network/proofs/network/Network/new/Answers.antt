@@ -1,6 +1,6 @@
 -- A network as it is made, and the laws of its runs.
 use Rattle.std.proofs.Common.{◌≡◌, ◌+◌, ◌∙◌, [], replicate, length, refl, ap, rules}
-use Rattle.tox_time.specs.Arrivals.{arrival_list}
+use Rattle.tox_time.specs.streams.Arrivals.{arrival_list}
 use Rattle.tox_network.proofs.EveryRun.{run_laws}
 use Rattle.tox_network.proofs.Sound.{first_made}
 use Rattle.tox_network.proofs.network.Network.new.Goals as goal

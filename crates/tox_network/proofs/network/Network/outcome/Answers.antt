@@ -1,7 +1,7 @@
 -- The final was delivered.
 use Rattle.std.proofs.Common.{◌∙◌, sym, ap, subst}
 use Rattle.tox_network.specs.NetworkInside.{network_view}
-use Rattle.tox_network.specs.Runs.{IsAtRest}
+use Rattle.tox_network.specs.runs.Runs.{IsAtRest}
 use Rattle.tox_network.specs.NetworkView.{state_of}
 use Rattle.tox_network.proofs.ShownItems.{outcome_shown}
 use Rattle.tox_network.proofs.Sound.{final_at_rest}

@@ -5,7 +5,7 @@ use Rattle.std.specs.Slice.Iter.{iter_rest}
 use Rattle.std.proofs.lemmas.Result.{err_from_is_err_and}
 use Rattle.tox_network.specs.declared.moves.Move.TheVariants.{Deliver}
 use Rattle.tox_network.specs.NetworkView.{state_of, IsStep}
-use Rattle.tox_network.specs.Settling.{turn}
+use Rattle.tox_network.specs.runs.Settling.{turn}
 use Rattle.tox_network.proofs.TurnByTurn.{settles_more, refused_at, next_listed, some_and}
 use Rattle.tox_network.proofs.network.Network.settle.Goals as goal
 

@@ -2,8 +2,8 @@
 use Rattle.std.proofs.Common.{◌≡◌, drop, length}
 use Rattle.std.specs.Slice.Iter.{iter_rest}
 use Rattle.tox_network.specs.NetworkView.{state_of}
-use Rattle.tox_network.specs.EventualDelivery.{moves_left}
-use Rattle.tox_network.specs.Settling.{Settles}
+use Rattle.tox_network.specs.runs.EventualDelivery.{moves_left}
+use Rattle.tox_network.specs.runs.Settling.{Settles}
 use Rattle.tox_network.proofs.network.Network.settle.Given as goal
 
 abbrev pub invariant-loop-other : goal.invariant-loop-other

@@ -1,6 +1,6 @@
 -- Where a look finds no cut, none leaves at the instant.
 use Rattle.std.proofs.Common.{◌≡◌, None, [], ◌∷◌, ap, sym, subst, ◌∙◌}
-use Rattle.tox_time.specs.declared.item.Item.TheVariants.{Quiet}
+use Rattle.tox_time.specs.declared.streams.item.Item.TheVariants.{Quiet}
 use Rattle.tox_plan.specs.RunnerView.{IsRunning, to_come, HasNoChunk}
 use Rattle.tox_plan.proofs.Looking.{look-ends, look-none, no_chunk-apart}
 use Rattle.tox_plan.proofs.runner.Runner.cut_at.Goals as goal

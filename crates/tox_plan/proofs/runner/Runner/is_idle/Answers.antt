@@ -1,6 +1,6 @@
 -- An idle runner brings no chunk by itself.
 use Rattle.std.proofs.Common.{◌≡◌, true, subst, [], ◌∷◌}
-use Rattle.tox_time.specs.declared.item.Item.TheVariants.{Quiet}
+use Rattle.tox_time.specs.declared.streams.item.Item.TheVariants.{Quiet}
 use Rattle.tox_plan.specs.RunnerInside.{runner_view}
 use Rattle.tox_plan.specs.RunnerView.{RunnerView, HasNoChunk, to_come}
 use Rattle.tox_plan.proofs.RunnerOutput.{read-no_chunk, idle-unfound}

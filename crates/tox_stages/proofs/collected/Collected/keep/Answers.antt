@@ -2,7 +2,7 @@
 use Rattle.std.proofs.Common.{◌≡◌, ◌++◌, [], ◌∷◌, false, Result, Ok, Err, sym, ◌∙◌, ap}
 use Rattle.std.specs.Prelude.{OnOk}
 use Rattle.std.specs.Result.{is_err}
-use Rattle.tox_time.specs.Stream.{has_final}
+use Rattle.tox_time.specs.streams.Stream.{has_final}
 use Rattle.tox_stages.proofs.Places.{has_final-last}
 use Rattle.tox_stages.proofs.collected.Collected.keep.Goals as goal
 

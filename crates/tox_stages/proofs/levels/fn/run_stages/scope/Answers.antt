@@ -1,7 +1,7 @@
 -- The first ring was sent the arrivals.
 use Rattle.std.proofs.Common.{◌≡◌, ◌++◌, Some, map, ◌∙◌, subst}
 use Rattle.rtrb.specs.Ring.{received, known_items}
-use Rattle.tox_time.specs.Arrivals.{arrival_list}
+use Rattle.tox_time.specs.streams.Arrivals.{arrival_list}
 use Rattle.tox_defs.specs.Flow.{chain_draws, placed_reaction, reactions_of}
 use Rattle.tox_network.specs.Shown.{shown}
 use Rattle.tox_network.proofs.ShownItems.{outcome_shown}

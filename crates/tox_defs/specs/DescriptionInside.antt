@@ -1,0 +1,12 @@
+-- What the code's description of a toxic stands for.
+use Rattle.std.specs.Prelude.{map}
+use Rattle.tox_defs.specs.Meaning.{Description}
+use Rattle.tox_defs.specs.declared.attributes.description.Description.{Description as LentDescription}
+
+abbrev pub description_view : LentDescription → Description
+description_view lent = record {
+  name = lent.name.now;
+  attributes = map (λ name. name.now) lent.attributes.now;
+  limits = lent.limits.now;
+  values = lent.values.items;
+}

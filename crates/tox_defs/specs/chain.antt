@@ -1,0 +1,4 @@
+-- Chains of toxics.
+pub mod Chain
+pub mod ChainInside
+pub mod Applied

@@ -1,0 +1,4 @@
+-- Short forms.
+pub mod Pairs
+pub mod Short
+pub mod Printed

@@ -1,0 +1,4 @@
+-- One toxic at work.
+pub mod Reaction
+pub mod Stage
+pub mod StageInside
