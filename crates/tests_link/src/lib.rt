@@ -1,4 +1,4 @@
-//! Tests of live links: the core, `carry` and the book.
+//! Tests of live links: the core, `carry`, `drive` and the book.
 #![tactic(auto)]
 
 #[cfg(test)]
@@ -8,7 +8,13 @@ mod carries;
 #[cfg(test)]
 mod cores;
 #[cfg(test)]
+mod drives;
+#[cfg(test)]
+mod drives_one_by_one;
+#[cfg(test)]
 mod link_ends;
+#[cfg(test)]
+mod polled_ends;
 #[cfg(test)]
 mod scarce_links;
 #[cfg(test)]

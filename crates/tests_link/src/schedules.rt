@@ -27,7 +27,8 @@ const TOXICS: [&str; 10] = [
     "limit_data:bytes=0",
 ];
 
-fn drawn_chain(rt: &impl Abort, generator: &mut Lcg64Xsh32) -> Chain {
+/// A chain of at most three toxics.
+pub fn drawn_chain(rt: &impl Abort, generator: &mut Lcg64Xsh32) -> Chain {
     let mut chain = Chain::new();
     for _ in 0..below(generator, 4) {
         let drawn = below(generator, 10) as usize;

@@ -1,17 +1,17 @@
 -- What a link core answers, by what is left.
 use Rattle.std.proofs.Common.{◌≡◌, ℕ, ◌<◌, ◌≤◌, true, List, [], ◌∷◌, ◌++◌, length, append_assoc, Some, None, refl, ap, ◌∙◌, sym, subst, arith, if◌then◌else◌}
 use Rattle.std.specs.Prelude.{IsSome, slice_get}
-use Rattle.tox_time.specs.declared.item.Item.{Item}
-use Rattle.tox_time.specs.declared.item.Item.TheVariants.{Quiet}
-use Rattle.tox_time.specs.declared.ending.Ending.{Ending}
-use Rattle.tox_time.specs.Stream.{IsStreamFrom}
-use Rattle.tox_time.specs.Table.{final_of}
+use Rattle.tox_time.specs.declared.streams.item.Item.{Item}
+use Rattle.tox_time.specs.declared.streams.item.Item.TheVariants.{Quiet}
+use Rattle.tox_time.specs.declared.streams.ending.Ending.{Ending}
+use Rattle.tox_time.specs.streams.Stream.{IsStreamFrom}
+use Rattle.tox_time.specs.streams.Table.{final_of}
 use Rattle.tox_compile.specs.Meaning.{deadline_of}
 use Rattle.tox_plan.specs.OpCursors.{ops_of}
 use Rattle.tox_plan.specs.RunnerView.{to_come, found_chunk, known_ending}
 use Rattle.tox_plan.proofs.RunnerOutput.{final-no_chunk, no_chunk-table}
-use Rattle.tox_link.specs.declared.waiting.WaitingPiece.{WaitingPiece}
-use Rattle.tox_link.specs.Core.{CoreView, KeepsCore, Looked, IsEmptied, Settled, remaining_output, arrivals_from, end_or, next_instant, core_ending, ending_behind, core_deadline}
+use Rattle.tox_link.specs.declared.link_core.waiting.WaitingPiece.{WaitingPiece}
+use Rattle.tox_link.specs.link_core.Core.{CoreView, KeepsCore, Looked, IsEmptied, Settled, remaining_output, arrivals_from, end_or, next_instant, core_ending, ending_behind, core_deadline}
 use Rattle.tox_link.proofs.Looks.{same-of}
 
 -- the remaining output of a core that keeps nothing

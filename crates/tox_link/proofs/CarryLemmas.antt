@@ -1,30 +1,30 @@
 -- A link that ended, or broke off, and what its reader had to give.
-use Rattle.std.proofs.Common.{◌≡◌, ℕ, ◌+◌, inl, Bool, true, false, List, [], ◌∷◌, ◌++◌, length, length-take-le, take, drop, Option, Some, None, refl, ap, ◌∙◌, sym, subst, append-nil, append_assoc, arith}
+use Rattle.std.proofs.Common.{◌≡◌, ℕ, ◌+◌, ◌≤◌, inl, Bool, true, false, List, [], ◌∷◌, ◌++◌, length, length-take-le, take, drop, Option, Some, None, refl, ap, ◌∙◌, sym, subst, append-nil, append_assoc, arith}
 use Rattle.std.specs.Prelude.{is_some, IfSome}
 use Rattle.std.specs.Io.KnownBytes.{append_known, prepend_known}
 use Rattle.std.proofs.Math.Seq.{take-nil}
 use Rattle.std.proofs.lemmas.List.{take-append-drop, take-take, take_all}
-use Rattle.tox_time.specs.declared.item.Item.{Item}
-use Rattle.tox_time.specs.declared.item.Item.TheVariants.{Quiet}
-use Rattle.tox_time.specs.declared.ending.Ending.{Ending}
-use Rattle.tox_time.specs.declared.ending.Ending.TheVariants.{StillOpen, Closed as ClosedAt, Reset as ResetAt}
-use Rattle.tox_time.specs.Stream.{IsStreamFrom}
-use Rattle.tox_time.specs.Table.{table, slices_table, ending, final_of}
-use Rattle.tox_link.specs.declared.message.Message.{Message}
-use Rattle.tox_link.specs.declared.message.Message.TheVariants.{Piece, End}
-use Rattle.tox_link.specs.declared.message.ReadEnd.{ReadEnd}
+use Rattle.tox_time.specs.declared.streams.item.Item.{Item}
+use Rattle.tox_time.specs.declared.streams.item.Item.TheVariants.{Quiet}
+use Rattle.tox_time.specs.declared.streams.ending.Ending.{Ending}
+use Rattle.tox_time.specs.declared.streams.ending.Ending.TheVariants.{StillOpen, Closed as ClosedAt, Reset as ResetAt}
+use Rattle.tox_time.specs.streams.Stream.{IsStreamFrom}
+use Rattle.tox_time.specs.streams.Table.{table, slices_table, ending, final_of}
+use Rattle.tox_link.specs.declared.ring.message.Message.{Message}
+use Rattle.tox_link.specs.declared.ring.message.Message.TheVariants.{Piece, End}
+use Rattle.tox_link.specs.declared.ring.message.ReadEnd.{ReadEnd}
 use Rattle.tox_link.specs.declared.notes.LinkEvent.{LinkEvent}
 use Rattle.tox_link.specs.declared.notes.LinkEvent.TheVariants.{Piece as PieceAt, SourceEnd, Wrote}
-use Rattle.tox_link.specs.declared.writer_side.WriterSide.{WriterSide}
-use Rattle.tox_link.specs.Carried.{Carried}
-use Rattle.tox_link.specs.Core.{core_position}
-use Rattle.tox_link.specs.Log.{heard_from, heard, said, has_source_end}
-use Rattle.tox_link.specs.Logged.{Logged, HasEnded, IsCutOff}
-use Rattle.tox_link.specs.Messages.{bytes_of, ArePieces, ReadsFrom, AreFirstOf, HandsOn, EndsFor}
+use Rattle.tox_link.specs.declared.carrying.writer_side.WriterSide.{WriterSide}
+use Rattle.tox_link.specs.log.Carried.{Carried}
+use Rattle.tox_link.specs.link_core.Core.{CoreView, core_position}
+use Rattle.tox_link.specs.log.Log.{heard_from, heard, said, has_source_end}
+use Rattle.tox_link.specs.log.Logged.{HasEnded, IsCutOff}
+use Rattle.tox_link.specs.ring.Messages.{bytes_of, ArePieces, ReadsFrom, AreFirstOf, HandsOn, EndsFor}
 use Rattle.tox_link.specs.declared.link_fault.LinkFault.{LinkFault}
 use Rattle.tox_link.specs.Hangups.{Call, with_call, HangsUp, BreaksOff}
-use Rattle.tox_link.specs.Reports.{Reports, HeardSo, WritesFirst, is_write_fault, written_before}
-use Rattle.tox_link.specs.Side.{IsSound, TookAll}
+use Rattle.tox_link.specs.Reports.{ReportsAt, HeardSo, WritesFirst, is_write_fault, written_before}
+use Rattle.tox_link.specs.carrying.Side.{IsSound, TookAll}
 use Rattle.tox_link.specs.Sources.{read_end_of}
 use Rattle.tox_link.proofs.Logs.{gapless-bytes}
 use Rattle.tox_link.proofs.Sent.{bytes_of-append, prepend-append}
@@ -59,34 +59,30 @@ heard-so log (Some end) has = heard-closed 0 log (Quiet ∷ []) has
 heard-so log None has = heard-going 0 log (Quiet ∷ []) has
 
 -- a link that ended
-pub link-reports : (means : List Item → List Item) (told : ℕ → Type 0) (side : WriterSide) (messages : List Message) (log : List LinkEvent) (last : Ending) (taken : ℕ) → Logged means told side log → HasEnded told side last
-    → IsSound side messages → taken ≡ side.core.bytes → Reports means told log taken side.written last (read_end_of side.source)
-link-reports means told side messages log last taken logged over sound took = record {
+pub link-reports : (means : List Item → List Item) (told : ℕ → Type 0) (core : CoreView) (ended : Bool) (log : List LinkEvent) (last : Ending) (source : Option ReadEnd) (taken written : ℕ) → Carried means told core log
+    → has_source_end log ≡ is_some source → HasEnded told core ended last → written ≡ core_position core → taken ≡ core.bytes → ReportsAt means told log taken written last source core.latest
+link-reports means told core ended log last source taken written carried closed over wrote took = record {
   faithful = carried.faithful;
   whole = sym (carried.tables (Quiet ∷ []) refl ∙ ap (λ items. slices_table (said log) ++ table items) (over.only (Quiet ∷ [])) ∙ ap (λ ts. slices_table (said log) ++ ts) (final-table last) ∙ append-nil (slices_table (said log)));
   ends = carried.endings (Quiet ∷ []) refl ∙ ap ending (over.only (Quiet ∷ [])) ∙ final-ending last;
   took = carried.bytes ∙ sym took;
-  wrote = let long = gapless-bytes 0 (said log) (core_position side.core) carried.gapless in omega (arith, long, sound.written);
-  now = side.core.latest;
+  wrote = let long = gapless-bytes 0 (said log) (core_position core) carried.gapless in omega (arith, long, wrote);
   says = over.says;
   reached = over.reached;
   settled = λ rest stream.
-      let goes_on : IsStreamFrom side.core.bytes side.core.latest rest = subst (λ at. IsStreamFrom at side.core.latest rest) carried.bytes stream in
+      let goes_on : IsStreamFrom core.bytes core.latest rest = subst (λ at. IsStreamFrom at core.latest rest) carried.bytes stream in
       record {
         tables = carried.tables rest goes_on ∙ ap (λ items. slices_table (said log) ++ table items) (over.only rest ∙ sym (over.only (Quiet ∷ []))) ∙ sym (carried.tables (Quiet ∷ []) refl);
         endings = carried.endings rest goes_on ∙ ap ending (over.only rest ∙ sym (over.only (Quiet ∷ []))) ∙ sym (carried.endings (Quiet ∷ []) refl);
       };
-  hears = heard-so log (read_end_of side.source) logged.closed;
+  hears = heard-so log source closed;
 }
-  where
-    carried : Carried means told side.core log
-    carried = logged.carried
 
-prepend-nil : (known : Option (List ℕ)) → known ≡ prepend_known [] known
+pub prepend-nil : (known : Option (List ℕ)) → known ≡ prepend_known [] known
 prepend-nil None = refl
 prepend-nil (Some bytes) = refl
 
-append-nothing : (known : Option (List ℕ)) → known ≡ append_known known []
+pub append-nothing : (known : Option (List ℕ)) → known ≡ append_known known []
 append-nothing None = refl
 append-nothing (Some bytes) = ap Some (sym (append-nil bytes))
 
@@ -111,16 +107,15 @@ first-bytes messages later more left before after reads end failed grown sent =
     )
 
 -- a link wrote the first bytes of those that it took
-pub writes-first : (given old new rest : Option (List ℕ)) (side : WriterSide) (messages : List Message) → IsSound side messages → given ≡ prepend_known (bytes_of messages) rest
-    → new ≡ append_known old (take side.written (bytes_of messages)) → WritesFirst given old new (take side.core.bytes (bytes_of messages)) side.written
-writes-first given old new rest side messages sound gave wrote =
-    let bytes : List ℕ = bytes_of messages in
-    let long = length-take-le side.core.bytes (bytes_of messages) sound.few in
+pub writes-first : (given old new rest : Option (List ℕ)) (came : List ℕ) (taken written : ℕ) → written ≤ taken → taken ≤ length came → given ≡ prepend_known came rest
+    → new ≡ append_known old (take written came) → WritesFirst given old new (take taken came) written
+writes-first given old new rest came taken written within few gave wrote =
+    let long = length-take-le taken came few in
     record {
-      left = prepend_known (drop side.core.bytes bytes) rest;
-      gave = gave ∙ ap (λ bytes. prepend_known bytes rest) (sym (take-append-drop side.core.bytes bytes)) ∙ prepend-append (take side.core.bytes bytes) (drop side.core.bytes bytes) rest;
-      few = omega (arith, long, sound.written, sound.within);
-      wrote = wrote ∙ ap (append_known old) (sym (take-take side.written side.core.bytes bytes (omega (arith, sound.written, sound.within))));
+      left = prepend_known (drop taken came) rest;
+      gave = gave ∙ ap (λ bytes. prepend_known bytes rest) (sym (take-append-drop taken came)) ∙ prepend-append (take taken came) (drop taken came) rest;
+      few = omega (arith, long, within);
+      wrote = wrote ∙ ap (append_known old) (sym (take-take written taken came within));
     }
 
 not-nil : (before rest : List Message) (end : ReadEnd) → (before ++ End end ∷ []) ++ rest ≡ [] → ⊥

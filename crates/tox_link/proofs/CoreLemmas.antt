@@ -1,12 +1,12 @@
 -- A link core before and after a piece or the source's end.
 use Rattle.std.proofs.Common.{◌≡◌, ℕ, ◌+◌, ◌<◌, ◌≤◌, ◌^◌, true, false, List, [], ◌∷◌, ◌++◌, length-append, Option, Some, None, refl, ap, ◌∙◌, sym, subst, arith, ◌⊎◌, inl, inr}
 use Rattle.std.specs.Prelude.{IsSome, IfSome}
-use Rattle.tox_time.specs.declared.slice.Slice.{Slice}
-use Rattle.tox_time.specs.declared.item.Item.{Item}
+use Rattle.tox_time.specs.declared.streams.slice.Slice.{Slice}
+use Rattle.tox_time.specs.declared.streams.item.Item.{Item}
 use Rattle.tox_plan.specs.RunnerView.{RunnerView, to_come, found_chunk}
-use Rattle.tox_link.specs.declared.waiting.WaitingPiece.{WaitingPiece}
-use Rattle.tox_link.specs.Core.{CoreView, kept_count, remaining_output, arrivals_from, end_or}
-use Rattle.tox_link.specs.CoreKept.{IsCore, IsOver, IsFoundSlice, AreTimely, arrived_by, total_len}
+use Rattle.tox_link.specs.declared.link_core.waiting.WaitingPiece.{WaitingPiece}
+use Rattle.tox_link.specs.link_core.Core.{CoreView, kept_count, remaining_output, arrivals_from, end_or}
+use Rattle.tox_link.specs.link_core.CoreKept.{IsCore, IsOver, IsFoundSlice, AreTimely, arrived_by, total_len}
 use Rattle.tox_link.proofs.WaitingLemmas.{chunk_from, arrivals_from-append, total_len-append, timely-append, timely-later}
 
 -- a source that has not ended keeps no end

@@ -1,21 +1,25 @@
 -- A direction that is driven by events, step by step.
 use Rattle.std.proofs.Common.{◌≡◌, ℕ, ◌+◌, ◌<◌, ◌≤◌, ◌^◌, Bool, false, true, List, [], ◌∷◌, ◌++◌, length, length-append, take, drop, Option, Some, None, refl, ap, ◌∙◌, sym, subst, append-nil, arith}
 use Rattle.std.specs.Io.KnownBytes.{append_known}
-use Rattle.std.specs.Prelude.{is_some}
-use Rattle.std.proofs.lemmas.List.{take-take, take-append-le}
-use Rattle.tox_time.specs.declared.item.Item.{Item}
+use Rattle.std.specs.Prelude.{is_some, IfSome}
+use Rattle.std.proofs.Math.Seq.{drop-append_seam}
+use Rattle.std.proofs.lemmas.List.{take-take, take-append-le, take_all}
+use Rattle.tox_time.specs.declared.streams.item.Item.{Item}
 use Rattle.tox_lend.specs.Run.{Run, stop_of}
 use Rattle.tox_lend.specs.Window.{Pieces, JoinUpTo, start_of}
 use Rattle.tox_link.specs.declared.direction.polled_link.PolledLink.{PolledLink}
 use Rattle.tox_link.specs.declared.direction.unwritten.Unwritten.{Unwritten}
+use Rattle.tox_time.specs.declared.streams.ending.Ending.{Ending}
+use Rattle.tox_link.specs.declared.source_ending.SourceEnding.{SourceEnding}
 use Rattle.tox_link.specs.declared.notes.LinkEvent.{LinkEvent}
 use Rattle.tox_link.specs.declared.notes.LinkEvent.TheVariants.{Wrote}
 use Rattle.tox_lend.proofs.WindowLemmas.{JoinUpTo-push, start_of-push}
-use Rattle.tox_link.specs.Carried.{Carried, KeepsCarried}
-use Rattle.tox_link.specs.Core.{CoreView, core_ending, core_position}
-use Rattle.tox_link.specs.Held.{AreOf, HoldsSpan}
-use Rattle.tox_link.specs.direction.Follows.{unsaid, IsUpTo, IsHeld, Drives, WritesOn}
-use Rattle.tox_link.specs.Log.{has_source_end, IsFaithful}
+use Rattle.tox_link.specs.log.Carried.{Carried, KeepsCarried}
+use Rattle.tox_link.specs.link_core.Core.{CoreView, core_ending, core_position}
+use Rattle.tox_link.specs.carrying.Held.{AreOf, HoldsSpan}
+use Rattle.tox_link.specs.direction.Follows.{unsaid, IsUpTo, IsHeld, Follows, Drives, WritesOn, AreLeftOver}
+use Rattle.tox_link.specs.ring.Messages.{IsUnsent}
+use Rattle.tox_link.specs.log.Log.{has_source_end, IsFaithful}
 use Rattle.tox_link.specs.Sources.{read_end_of}
 use Rattle.tox_link.proofs.LoggedLemmas.{or-false_left}
 use Rattle.tox_link.proofs.Logs.{end-same, has_source_end-append}
@@ -100,6 +104,21 @@ written-within link held idle =
     let at : link.written ≡ core_position link.core = subst (λ slice. IsUpTo slice link.written (core_position link.core)) idle held.up_to in
     omega (arith, at, held.within)
 
+-- how a source ended that told nothing
+pub unsent-none : (link : PolledLink) (came : List ℕ) → read_end_of link.source ≡ None
+    → IfSome (read_end_of link.source) (λ end. IsUnsent end (take link.core.bytes came) (drop link.core.bytes came))
+unsent-none link came none = subst (λ source. IfSome source (λ end. IsUnsent end (take link.core.bytes came) (drop link.core.bytes came))) (sym none) tt
+
+-- what was read last is not kept
+unsent-left : (source : SourceEnding) (count new : ℕ) (came bytes : List ℕ) → new ≡ count → count ≡ length came → IfSome (read_end_of source) (λ end. IsUnsent end came bytes)
+    → IfSome (read_end_of source) (λ end. IsUnsent end (take new (came ++ bytes)) (drop new (came ++ bytes)))
+unsent-left source count new came bytes same full left =
+    let at : new ≡ length came = same ∙ full in
+    let front : take new (came ++ bytes) ≡ came = take-append-le new came bytes (omega (arith, at)) ∙ take_all new came (omega (arith, at)) in
+    let rest : drop new (came ++ bytes) ≡ bytes = ap (λ n. drop n (came ++ bytes)) at ∙ drop-append_seam came bytes in
+    subst (λ front. IfSome (read_end_of source) (λ end. IsUnsent end front (drop new (came ++ bytes)))) (sym front)
+    (subst (λ rest. IfSome (read_end_of source) (λ end. IsUnsent end came rest)) (sym rest) left)
+
 -- bytes came and are kept
 module _ (link new : PolledLink) (run : Run) (held : IsHeld link) (idle : link.unwritten ≡ None) (some : 0 < length run.bytes) (starts : run.start ≡ link.window.stop)
     (counts : new.core.bytes ≡ link.core.bytes + length run.bytes) (position : core_position new.core ≡ core_position link.core)
@@ -142,13 +161,15 @@ module _ (link new : PolledLink) (run : Run) (held : IsHeld link) (idle : link.u
             (last-part came run.bytes run.start (omega (arith, starts, held.stop, full))));
         few = omega (arith, all, full, counts);
         live = λ unended unknown. omega (arith, all, full, counts);
+        unsent = unsent-none new (came ++ run.bytes) (ap read_end_of source ∙ held.unheard going);
         wrote = let few = written-within link held idle in
             follows.wrote ∙ ap (append_known before) (sym (take-append-le link.written came run.bytes (omega (arith, few, full))) ∙ ap (λ n. take n (came ++ run.bytes)) (sym written));
       }
 
--- bytes came and are dropped
-pub drives-dropped : (told : ℕ → Type 0) (link : PolledLink) (bytes : List ℕ) (known : Option (List ℕ)) → IsHeld link → link.unwritten ≡ None → (core_ending link.core ≡ None → ⊥) → Drives told link known bytes [] link known
-drives-dropped told link bytes known held idle over means log came before follows =
+-- bytes came and are dropped, as the ending is known or nothing more is read
+pub drives-dropped : (told : ℕ → Type 0) (link : PolledLink) (bytes : List ℕ) (ended : Bool) (known : Option (List ℕ)) → IsHeld link → link.unwritten ≡ None → link.ended ≡ false
+    → (ended ≡ false → core_ending link.core ≡ None → ⊥) → Drives told link known bytes [] (record link { ended = ended }) known
+drives-dropped told link bytes ended known held idle going over means log came before follows =
     let all = length-append came bytes in
     let same : log ++ [] ≡ log = append-nil log in
     record {
@@ -157,7 +178,8 @@ drives-dropped told link bytes known held idle over means log came before follow
       closed = ap has_source_end same ∙ follows.closed;
       parts = parts-grow link.window.stop came bytes link.window.held held.joined (omega (arith, held.stop, follows.few)) follows.parts;
       few = omega (arith, all, follows.few);
-      live = λ unended unknown. absurd (over unknown);
+      live = λ unended unknown. absurd (over unended unknown);
+      unsent = unsent-none (record link { ended = ended }) (came ++ bytes) (held.unheard going);
       wrote = let few = written-within link held idle in
           follows.wrote ∙ ap (append_known before) (sym (take-append-le link.written came bytes (omega (arith, few, follows.few))));
     }
@@ -165,7 +187,7 @@ drives-dropped told link bytes known held idle over means log came before follow
 shut : (ended : Bool) → ended ≡ true → ended ≡ false → ⊥
 shut ended was goes = cc
 
--- the source ended
+-- the source ended, or nothing more is read
 module _ (link new : PolledLink) (held : IsHeld link) (idle : link.unwritten ≡ None) (counts : new.core.bytes ≡ link.core.bytes) (position : core_position new.core ≡ core_position link.core)
     (window : new.window ≡ link.window) (unwritten : new.unwritten ≡ link.unwritten) (ended : new.ended ≡ true) (written : new.written ≡ link.written) where
   pub held-ended : IsHeld new
@@ -181,17 +203,29 @@ module _ (link new : PolledLink) (held : IsHeld link) (idle : link.unwritten ≡
     unheard = λ unended. absurd (shut new.ended ended unended);
   }
 
-  pub drives-ended : (told : ℕ → Type 0) (more : List LinkEvent) (known : Option (List ℕ)) → link.ended ≡ false → KeepsCarried told link.core more new.core → has_source_end more ≡ is_some (read_end_of new.source)
-      → Drives told link known [] more new known
-  drives-ended told more known going keeps says means log came before follows =
+  -- what was read last is left over
+  pub drives-ended : (told : ℕ → Type 0) (more : List LinkEvent) (bytes : List ℕ) (known : Option (List ℕ)) → link.ended ≡ false → KeepsCarried told link.core more new.core → has_source_end more ≡ is_some (read_end_of new.source)
+      → (core_ending link.core ≡ None → AreLeftOver link new.source bytes) → ((core_ending link.core ≡ None → ⊥) → read_end_of new.source ≡ None)
+      → Drives told link known bytes more new known
+  drives-ended told more bytes known going keeps says left late means log came before follows =
       let carried : Carried means told new.core (log ++ more) = keeps means log (bare means told link.core link.unwritten log idle follows.carried) in
-      let same : came ++ [] ≡ came = append-nil came in
+      let all = length-append came bytes in
       record {
         carried = clad means told new.core new.unwritten (log ++ more) (unwritten ∙ idle) carried;
         faithful = carried.faithful;
         closed = has_source_end-append log more ∙ or-false_left (has_source_end log) (has_source_end more) (follows.closed ∙ ap is_some (held.unheard going)) ∙ says;
-        parts = subst (λ came. AreOf came new.window.held) (sym same) (subst (λ (window : Pieces). AreOf came window.held) (sym window) follows.parts);
-        few = let long = ap length same in omega (arith, long, counts, follows.few);
+        parts = subst (λ (window : Pieces). AreOf (came ++ bytes) window.held) (sym window)
+            (parts-grow link.window.stop came bytes link.window.held held.joined (omega (arith, held.stop, follows.few)) follows.parts);
+        few = omega (arith, all, counts, follows.few);
         live = λ unended unknown. absurd (shut new.ended ended unended);
-        wrote = follows.wrote ∙ ap (λ n. append_known before (take n came)) (sym written) ∙ ap (λ came. append_known before (take new.written came)) (sym same);
+        unsent = left_over means log came before follows (core_ending link.core) refl;
+        wrote = let few = written-within link held idle in
+            follows.wrote ∙ ap (append_known before) (sym (take-append-le link.written came bytes (omega (arith, few, follows.few)))) ∙ ap (λ n. append_known before (take n (came ++ bytes))) (sym written);
       }
+    where
+      left_over : (means : List Item → List Item) (log : List LinkEvent) (came : List ℕ) (before : Option (List ℕ)) → Follows means told link log came before known → (ending : Option Ending) → core_ending link.core ≡ ending
+          → IfSome (read_end_of new.source) (λ end. IsUnsent end (take new.core.bytes (came ++ bytes)) (drop new.core.bytes (came ++ bytes)))
+      left_over means log came before follows (Some ending) knows = unsent-none new (came ++ bytes) (late (λ none. let both : Some ending ≡ None = sym knows ∙ none in cc))
+      left_over means log came before follows None unknown =
+          let full : link.core.bytes ≡ length came = follows.live going unknown in
+          unsent-left new.source link.core.bytes new.core.bytes came bytes counts full (left unknown came full)

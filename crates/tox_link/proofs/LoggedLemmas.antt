@@ -2,22 +2,22 @@
 use Rattle.std.proofs.Common.{◌≡◌, ℕ, ◌+◌, ◌≤◌, ◌⊎◌, Bool, true, false, List, [], ◌∷◌, ◌++◌, length, length-append, replicate, None, refl, ap, ◌∙◌, sym, subst, append-nil, arith}
 use Rattle.std.specs.Prelude.{is_some, ◌||◌}
 use Rattle.std.proofs.lemmas.List.{length-replicate}
-use Rattle.tox_time.specs.declared.item.Item.{Item}
-use Rattle.tox_time.specs.declared.item.Item.TheVariants.{Quiet}
-use Rattle.tox_time.specs.declared.slice.Slice.{Slice}
-use Rattle.tox_time.specs.Stream.{IsStream, span_len}
-use Rattle.tox_time.specs.Table.{table, slices_table}
-use Rattle.tox_link.specs.declared.inbox.Inbox.{Inbox}
+use Rattle.tox_time.specs.declared.streams.item.Item.{Item}
+use Rattle.tox_time.specs.declared.streams.item.Item.TheVariants.{Quiet}
+use Rattle.tox_time.specs.declared.streams.slice.Slice.{Slice}
+use Rattle.tox_time.specs.streams.Stream.{IsStream, span_len}
+use Rattle.tox_time.specs.streams.Table.{table, slices_table}
+use Rattle.tox_link.specs.declared.ring.inbox.Inbox.{Inbox}
 use Rattle.tox_link.specs.declared.notes.LinkEvent.{LinkEvent}
-use Rattle.tox_link.specs.declared.writer_side.WriterSide.{WriterSide}
-use Rattle.tox_link.specs.declared.act.Act.{Act}
-use Rattle.tox_link.specs.declared.act.Act.TheVariants.{Write, WaitUntil, WaitForInput, End}
-use Rattle.tox_link.specs.Carried.{Carried, KeepsCarried, ReadsOn, noted_of}
-use Rattle.tox_link.specs.Core.{CoreView, TakesSlice, remaining_output, core_position}
+use Rattle.tox_link.specs.declared.carrying.writer_side.WriterSide.{WriterSide}
+use Rattle.tox_link.specs.declared.link_core.act.Act.{Act}
+use Rattle.tox_link.specs.declared.link_core.act.Act.TheVariants.{Write, WaitUntil, WaitForInput, End}
+use Rattle.tox_link.specs.log.Carried.{Carried, KeepsCarried, ReadsOn, noted_of}
+use Rattle.tox_link.specs.link_core.Core.{CoreView, TakesSlice, remaining_output, core_position}
 use Rattle.tox_link.specs.Hangups.{IsResetAt}
-use Rattle.tox_link.specs.Log.{heard, said, has_source_end}
-use Rattle.tox_link.specs.Logged.{Logged, KeepsLogged, LogsFrom, CutsOff, CutsOffFrom}
-use Rattle.tox_link.specs.Side.{IsFresh}
+use Rattle.tox_link.specs.log.Log.{heard, said, has_source_end}
+use Rattle.tox_link.specs.log.Logged.{Logged, KeepsLogged, LogsFrom, CutsOff, CutsOffFrom}
+use Rattle.tox_link.specs.carrying.Side.{IsFresh}
 use Rattle.tox_link.specs.Sources.{read_end_of}
 use Rattle.tox_link.proofs.Logs.{gapless-bytes, has_source_end-append, end-same, by-later}
 use Rattle.tox_link.proofs.StepLemmas.{start-carried}
@@ -65,7 +65,7 @@ logged-act told old new core act shape now keeps is same source =
     logged-on told old new (noted_of shape now) (subst (λ core. KeepsCarried told old.core (noted_of shape now) core) (sym same) (subst (λ act. KeepsCarried told old.core (noted_of act now) core) is keeps)) (none-noted shape now) source
 
 -- what is said is in what the plan means
-said-within : (means : List Item → List Item) (told : ℕ → Type 0) (core : CoreView) (log : List LinkEvent) → Carried means told core log
+pub said-within : (means : List Item → List Item) (told : ℕ → Type 0) (core : CoreView) (log : List LinkEvent) → Carried means told core log
     → length (table (means (heard log))) ≡ core_position core + length (table (remaining_output core (Quiet ∷ [])))
 said-within means told core log carried =
     let whole = ap length (carried.tables (Quiet ∷ []) refl) in

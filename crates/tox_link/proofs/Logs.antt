@@ -3,16 +3,16 @@ use Rattle.std.proofs.Common.{◌≡◌, ℕ, ◌+◌, ◌<◌, ◌≤◌, ◌�
 use Rattle.std.specs.Prelude.{◌||◌}
 use Rattle.std.proofs.lemmas.List.{take-append-le, take_all, length-replicate}
 use Rattle.std.proofs.lemmas.Bool.{cases_lt}
-use Rattle.tox_time.specs.declared.slice.Slice.{Slice}
-use Rattle.tox_time.specs.declared.item.Item.{Item}
-use Rattle.tox_time.specs.declared.item.Item.TheVariants.{Chunk, Closed, Reset, Quiet}
-use Rattle.tox_time.specs.Stream.{IsStreamFrom, span_len}
-use Rattle.tox_time.specs.Table.{slices_table}
+use Rattle.tox_time.specs.declared.streams.slice.Slice.{Slice}
+use Rattle.tox_time.specs.declared.streams.item.Item.{Item}
+use Rattle.tox_time.specs.declared.streams.item.Item.TheVariants.{Chunk, Closed, Reset, Quiet}
+use Rattle.tox_time.specs.streams.Stream.{IsStreamFrom, span_len}
+use Rattle.tox_time.specs.streams.Table.{slices_table}
 use Rattle.tox_link.specs.declared.notes.LinkEvent.{LinkEvent}
 use Rattle.tox_link.specs.declared.notes.LinkEvent.TheVariants.{Piece, SourceEnd, Wrote}
-use Rattle.tox_link.specs.Events.{with_events}
-use Rattle.tox_link.specs.Log.{heard_from, said, heard_bytes, has_source_end, reading_of, IsDue, IsTimely, IsGapless, IsFaithful, HearsNothing, IsHeardInOrder, Agrees}
-use Rattle.tox_link.specs.Carried.{IsBy}
+use Rattle.tox_link.specs.log.Events.{with_events}
+use Rattle.tox_link.specs.log.Log.{heard_from, said, heard_bytes, has_source_end, reading_of, IsDue, IsTimely, IsGapless, IsFaithful, HearsNothing, IsHeardInOrder, Agrees}
+use Rattle.tox_link.specs.log.Carried.{IsBy}
 
 -- a stream from an instant is one from an earlier instant
 pub stream-earlier : (position earlier since : ℕ) (items : List Item) → earlier ≤ since → IsStreamFrom position since items → IsStreamFrom position earlier items

@@ -2,24 +2,24 @@
 use Rattle.std.proofs.Common.{◌≡◌, ℕ, ◌+◌, ◌<◌, ◌≤◌, ◌^◌, Bool, true, false, List, [], ◌∷◌, ◌++◌, length, append_assoc, replicate, Option, Some, None, refl, ap, ◌∙◌, sym, subst, arith, ◌⊎◌, inl, inr, if◌then◌else◌}
 use Rattle.std.specs.Prelude.{IsNone, IfSome, IfNone, Ok, Err, nat_lt, ◌==◌, ◌↔◌}
 use Rattle.std.proofs.lemmas.Bool.{le-ltb}
-use Rattle.tox_time.specs.declared.slice.Slice.{Slice}
-use Rattle.tox_time.specs.declared.item.Item.{Item}
-use Rattle.tox_time.specs.declared.item.Item.TheVariants.{Quiet}
-use Rattle.tox_time.specs.declared.ending.Ending.{Ending}
-use Rattle.tox_time.specs.declared.arrivals.ArrivalFault.{ArrivalFault}
-use Rattle.tox_time.specs.Stream.{span_len}
-use Rattle.tox_time.specs.Table.{SameResult, table, ending}
+use Rattle.tox_time.specs.declared.streams.slice.Slice.{Slice}
+use Rattle.tox_time.specs.declared.streams.item.Item.{Item}
+use Rattle.tox_time.specs.declared.streams.item.Item.TheVariants.{Quiet}
+use Rattle.tox_time.specs.declared.streams.ending.Ending.{Ending}
+use Rattle.tox_time.specs.declared.streams.arrivals.ArrivalFault.{ArrivalFault}
+use Rattle.tox_time.specs.streams.Stream.{span_len}
+use Rattle.tox_time.specs.streams.Table.{SameResult, table, ending}
 use Rattle.std.proofs.lemmas.List.{append-nil}
-use Rattle.tox_defs.specs.Look.{as_chunk}
+use Rattle.tox_defs.specs.operations.Look.{as_chunk}
 use Rattle.tox_plan.specs.OpCursors.{ops_of}
 use Rattle.tox_plan.specs.Cuts.{IsCut, IsWithin, BeginsApart}
 use Rattle.tox_plan.specs.RunnerView.{RunnerView, HasNoChunk, to_come, found_chunk, next_piece, offer_answer}
 use Rattle.tox_plan.specs.Delivering.{PreservesOutput}
 use Rattle.tox_plan.proofs.Deliveries.{goes-cut}
 use Rattle.tox_plan.proofs.RunnerOutput.{to_come-ended, final-no_chunk}
-use Rattle.tox_link.specs.declared.waiting.WaitingPiece.{WaitingPiece}
-use Rattle.tox_link.specs.Core.{CoreView, remaining_output, arrivals_from, end_or, Looked, core_position, start_of, IsDrained}
-use Rattle.tox_link.specs.CoreKept.{IsCore, IsOver, IsFoundSlice, AreTimely, arrived_by, total_len}
+use Rattle.tox_link.specs.declared.link_core.waiting.WaitingPiece.{WaitingPiece}
+use Rattle.tox_link.specs.link_core.Core.{CoreView, remaining_output, arrivals_from, end_or, Looked, core_position, start_of, IsDrained}
+use Rattle.tox_link.specs.link_core.CoreKept.{IsCore, IsOver, IsFoundSlice, AreTimely, arrived_by, total_len}
 use Rattle.tox_link.proofs.WaitingLemmas.{timely-earlier}
 use Rattle.tox_link.proofs.CoreLemmas.{over-same}
 

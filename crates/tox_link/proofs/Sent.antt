@@ -1,10 +1,10 @@
 -- Messages sent one after the other.
 use Rattle.std.proofs.Common.{◌≡◌, ℕ, List, [], ◌∷◌, ◌++◌, Option, Some, None, refl, ap, sym, ◌∙◌, append_assoc, append-nil}
 use Rattle.std.specs.Io.KnownBytes.{prepend_known}
-use Rattle.tox_link.specs.declared.message.Message.{Message}
-use Rattle.tox_link.specs.declared.message.Message.TheVariants.{Piece, End}
-use Rattle.tox_link.specs.declared.message.ReadEnd.{ReadEnd}
-use Rattle.tox_link.specs.Messages.{bytes_of, ArePieces}
+use Rattle.tox_link.specs.declared.ring.message.Message.{Message}
+use Rattle.tox_link.specs.declared.ring.message.Message.TheVariants.{Piece, End}
+use Rattle.tox_link.specs.declared.ring.message.ReadEnd.{ReadEnd}
+use Rattle.tox_link.specs.ring.Messages.{bytes_of, ArePieces}
 
 pub bytes_of-append : (xs ys : List Message) → bytes_of (xs ++ ys) ≡ bytes_of xs ++ bytes_of ys
 bytes_of-append [] ys = refl

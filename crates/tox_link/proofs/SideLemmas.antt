@@ -4,22 +4,22 @@ use Rattle.std.specs.Prelude.{IsSome, is_none, filter, nat_lt}
 use Rattle.std.proofs.Math.Seq.{drop-append_seam}
 use Rattle.std.proofs.lemmas.Bool.{cases_lt, lt-ltb, le-ltb}
 use Rattle.std.proofs.lemmas.List.{take-append-le, take_all, drop-append-le}
-use Rattle.tox_time.specs.declared.slice.Slice.{Slice}
+use Rattle.tox_time.specs.declared.streams.slice.Slice.{Slice}
 use Rattle.tox_lend.specs.Run.{Run, stop_of}
 use Rattle.tox_lend.specs.Window.{Pieces, JoinUpTo, start_of}
 use Rattle.rtrb.specs.Ring.{received}
-use Rattle.tox_time.specs.declared.ending.Ending.{Ending}
+use Rattle.tox_time.specs.declared.streams.ending.Ending.{Ending}
 use Rattle.tox_lend.proofs.WindowLemmas.{JoinUpTo-push, kept_all, start_of-push}
-use Rattle.tox_link.specs.declared.inbox.Inbox.{Inbox}
-use Rattle.tox_link.specs.declared.message.Message.{Message}
-use Rattle.tox_link.specs.declared.message.Message.TheVariants.{Piece, End}
-use Rattle.tox_link.specs.declared.message.ReadEnd.{ReadEnd}
+use Rattle.tox_link.specs.declared.ring.inbox.Inbox.{Inbox}
+use Rattle.tox_link.specs.declared.ring.message.Message.{Message}
+use Rattle.tox_link.specs.declared.ring.message.Message.TheVariants.{Piece, End}
+use Rattle.tox_link.specs.declared.ring.message.ReadEnd.{ReadEnd}
 use Rattle.tox_link.specs.declared.source_ending.SourceEnding.TheVariants.{NotReached}
-use Rattle.tox_link.specs.declared.writer_side.WriterSide.{WriterSide}
-use Rattle.tox_link.specs.Core.{CoreView, KeepsCore, core_ending, core_position}
-use Rattle.tox_link.specs.Held.{AreOf}
-use Rattle.tox_link.specs.Messages.{bytes_of, has_end}
-use Rattle.tox_link.specs.Side.{IsFresh, IsSound, GivesSlice, came}
+use Rattle.tox_link.specs.declared.carrying.writer_side.WriterSide.{WriterSide}
+use Rattle.tox_link.specs.link_core.Core.{CoreView, KeepsCore, core_ending, core_position}
+use Rattle.tox_link.specs.carrying.Held.{AreOf}
+use Rattle.tox_link.specs.ring.Messages.{bytes_of, has_end}
+use Rattle.tox_link.specs.carrying.Side.{IsFresh, IsSound, GivesSlice, came}
 use Rattle.tox_link.specs.Sources.{read_end_of}
 use Rattle.tox_link.proofs.Sent.{sent_more, sent_end}
 
@@ -256,7 +256,7 @@ sound-ended old new before messages end sound going came ended counts position w
     all = ap length same
 
 -- an ending stays known
-unknown-before : (old new : CoreView) → KeepsCore old new → core_ending new ≡ None → core_ending old ≡ None
+pub unknown-before : (old new : CoreView) → KeepsCore old new → core_ending new ≡ None → core_ending old ≡ None
 unknown-before old new kept none = unknown-of (core_ending old) (core_ending new) kept.ending none
 
 -- the core took a step

@@ -1,21 +1,21 @@
 -- The steps of a link that is carried.
 use Rattle.std.proofs.Common.{◌≡◌, ℕ, ◌+◌, ◌<◌, ◌≤◌, inl, inr, true, false, List, [], ◌∷◌, ◌++◌, replicate, refl, ap, sym, ◌∙◌, subst, append_assoc, append-nil, zero-add, arith}
 use Rattle.std.proofs.Math.Seq.{take-nil}
-use Rattle.tox_time.specs.declared.slice.Slice.{Slice}
-use Rattle.tox_time.specs.declared.item.Item.{Item}
-use Rattle.tox_time.specs.declared.item.Item.TheVariants.{Chunk, Closed, Quiet}
-use Rattle.tox_time.specs.Stream.{IsStream, IsStreamFrom, span_len}
+use Rattle.tox_time.specs.declared.streams.slice.Slice.{Slice}
+use Rattle.tox_time.specs.declared.streams.item.Item.{Item}
+use Rattle.tox_time.specs.declared.streams.item.Item.TheVariants.{Chunk, Closed, Quiet}
+use Rattle.tox_time.specs.streams.Stream.{IsStream, IsStreamFrom, span_len}
 use Rattle.tox_time.specs.Time.{IsInstant}
-use Rattle.tox_time.specs.Table.{table, slices_table, ending}
+use Rattle.tox_time.specs.streams.Table.{table, slices_table, ending}
 use Rattle.tox_plan.proofs.Deliveries.{slices_table-append}
-use Rattle.tox_link.specs.declared.act.Act.{Act}
-use Rattle.tox_link.specs.declared.act.Act.TheVariants.{Write, WaitUntil, WaitForInput, End}
+use Rattle.tox_link.specs.declared.link_core.act.Act.{Act}
+use Rattle.tox_link.specs.declared.link_core.act.Act.TheVariants.{Write, WaitUntil, WaitForInput, End}
 use Rattle.tox_link.specs.declared.notes.LinkEvent.{LinkEvent}
 use Rattle.tox_link.specs.declared.notes.LinkEvent.TheVariants.{Piece, SourceEnd, Wrote}
-use Rattle.tox_link.specs.Core.{CoreView, TakesSlice, LeavesOutput, remaining_output, core_position}
-use Rattle.tox_link.specs.Acts.{After}
-use Rattle.tox_link.specs.Log.{heard_from, said, heard_bytes, has_source_end, Agrees, IsGapless, IsFaithful}
-use Rattle.tox_link.specs.Carried.{Carried, KeepsCarried, noted_of}
+use Rattle.tox_link.specs.link_core.Core.{CoreView, TakesSlice, LeavesOutput, remaining_output, core_position}
+use Rattle.tox_link.specs.link_core.Acts.{After}
+use Rattle.tox_link.specs.log.Log.{heard_from, said, heard_bytes, has_source_end, Agrees, IsGapless, IsFaithful}
+use Rattle.tox_link.specs.log.Carried.{Carried, KeepsCarried, noted_of}
 use Rattle.tox_link.proofs.Logs.{stream-earlier, heard-piece, heard-end, heard-wrote, said-append, heard_bytes-append, gapless-append, by-later, by-append, faithful-append, end-same, open-log, ordered-piece, ordered-end, ordered-wrote}
 
 -- what stands now agrees with the plan

@@ -1,10 +1,10 @@
 -- Pieces that wait, as chunks.
 use Rattle.std.proofs.Common.{◌≡◌, ℕ, ◌+◌, ◌<◌, ◌≤◌, List, [], ◌∷◌, ◌++◌, refl, ap, ◌∙◌, arith}
-use Rattle.tox_time.specs.declared.item.Item.{Item}
-use Rattle.tox_time.specs.declared.item.Item.TheVariants.{Chunk}
-use Rattle.tox_link.specs.declared.waiting.WaitingPiece.{WaitingPiece}
-use Rattle.tox_link.specs.Core.{arrivals_from}
-use Rattle.tox_link.specs.CoreKept.{total_len, AreTimely}
+use Rattle.tox_time.specs.declared.streams.item.Item.{Item}
+use Rattle.tox_time.specs.declared.streams.item.Item.TheVariants.{Chunk}
+use Rattle.tox_link.specs.declared.link_core.waiting.WaitingPiece.{WaitingPiece}
+use Rattle.tox_link.specs.link_core.Core.{arrivals_from}
+use Rattle.tox_link.specs.link_core.CoreKept.{total_len, AreTimely}
 
 -- the piece as a chunk from a position on
 abbrev pub chunk_from : ℕ → WaitingPiece → Item

@@ -1,13 +1,13 @@
 -- How a link is hung up.
 use Rattle.std.specs.Prelude.{◌≡◌, ℕ, ◌⊎◌, Bool, true, false, List, [], ◌∷◌, ◌++◌, Option, Some, None, IfSome}
-use Rattle.tox_time.specs.declared.ending.Ending.{Ending}
-use Rattle.tox_time.specs.declared.ending.Ending.TheVariants.{StillOpen, Reset}
+use Rattle.tox_time.specs.declared.streams.ending.Ending.{Ending}
+use Rattle.tox_time.specs.declared.streams.ending.Ending.TheVariants.{StillOpen, Reset}
 use Rattle.tox_link.specs.declared.link_fault.LinkFault.{LinkFault}
-use Rattle.tox_link.specs.declared.message.Message.{Message}
-use Rattle.tox_link.specs.declared.message.ReadEnd.{ReadEnd}
+use Rattle.tox_link.specs.declared.ring.message.Message.{Message}
+use Rattle.tox_link.specs.declared.ring.message.ReadEnd.{ReadEnd}
 use Rattle.tox_link.specs.declared.notes.LinkEvent.{LinkEvent}
-use Rattle.tox_link.specs.Carried.{IsBy}
-use Rattle.tox_link.specs.Messages.{has_end}
+use Rattle.tox_link.specs.log.Carried.{IsBy}
+use Rattle.tox_link.specs.ring.Messages.{has_end}
 use Rattle.tox_link.specs.Reports.{is_write_fault, written_before}
 
 -- a call: how the link ended, and whether the source's end was taken

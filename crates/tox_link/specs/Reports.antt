@@ -1,17 +1,17 @@
 -- What a link reports.
 use Rattle.std.specs.Prelude.{◌≡◌, ℕ, ◌≤◌, Bool, true, false, List, length, take, Option, Some, None}
 use Rattle.std.specs.Io.KnownBytes.{append_known, prepend_known}
-use Rattle.tox_time.specs.declared.item.Item.{Item}
-use Rattle.tox_time.specs.declared.ending.Ending.{Ending}
-use Rattle.tox_time.specs.declared.ending.Ending.TheVariants.{StillOpen, Closed as ClosedAt}
-use Rattle.tox_time.specs.Stream.{IsStreamFrom}
-use Rattle.tox_time.specs.Table.{SameResult, table, slices_table, ending}
+use Rattle.tox_time.specs.declared.streams.item.Item.{Item}
+use Rattle.tox_time.specs.declared.streams.ending.Ending.{Ending}
+use Rattle.tox_time.specs.declared.streams.ending.Ending.TheVariants.{StillOpen, Closed as ClosedAt}
+use Rattle.tox_time.specs.streams.Stream.{IsStreamFrom}
+use Rattle.tox_time.specs.streams.Table.{SameResult, table, slices_table, ending}
 use Rattle.tox_link.specs.declared.link_fault.LinkFault.{LinkFault}
 use Rattle.tox_link.specs.declared.link_fault.LinkFault.TheVariants.{OutOfMemory, SpawnRefused, WriteFault}
-use Rattle.tox_link.specs.declared.message.ReadEnd.{ReadEnd}
+use Rattle.tox_link.specs.declared.ring.message.ReadEnd.{ReadEnd}
 use Rattle.tox_link.specs.declared.notes.LinkEvent.{LinkEvent}
-use Rattle.tox_link.specs.Log.{heard_from, heard, heard_bytes, said, IsFaithful}
-use Rattle.tox_link.specs.Logged.{IsReached}
+use Rattle.tox_link.specs.log.Log.{heard_from, heard, heard_bytes, said, IsFaithful}
+use Rattle.tox_link.specs.log.Logged.{IsReached}
 
 -- how many bytes were written before the fault
 abbrev pub written_before : LinkFault → ℕ
@@ -34,19 +34,22 @@ HeardSo None heard_end = heard_end ≡ StillOpen
 abbrev pub IsSettledFrom : (List Item → List Item) → ℕ → List LinkEvent → Type 0
 IsSettledFrom means now log = (rest : List Item) → IsStreamFrom (heard_bytes log) now rest → SameResult (means (heard_from 0 log rest)) (means (heard log))
 
--- a link with this log took and wrote so many bytes, and ended so and with its source so:
--- it said all that the plan means for what was heard, and the clock told an instant at or past its ending, from which on nothing changes it
-pub record Reports (means : List Item → List Item) (told : ℕ → Type 0) (log : List LinkEvent) (taken written : ℕ) (last : Ending) (source : Option ReadEnd) : Type 0 where
+-- a link with this log took and wrote so many bytes, and ended so and with its source so: it said all that the plan means for
+-- what was heard, and the clock told this instant, at or past its ending, from which on nothing changes it
+pub record ReportsAt (means : List Item → List Item) (told : ℕ → Type 0) (log : List LinkEvent) (taken written : ℕ) (last : Ending) (source : Option ReadEnd) (now : ℕ) : Type 0 where
   pub faithful : IsFaithful means told log
   pub whole : slices_table (said log) ≡ table (means (heard log))
   pub ends : ending (means (heard log)) ≡ last
   pub took : heard_bytes log ≡ taken
   pub wrote : length (slices_table (said log)) ≡ written
-  pub now : ℕ
   pub says : told now
   pub reached : IsReached now last
   pub settled : IsSettledFrom means now log
   pub hears : HeardSo source (ending (heard log))
+
+-- the same at some instant
+abbrev pub Reports : (List Item → List Item) → (ℕ → Type 0) → List LinkEvent → ℕ → ℕ → Ending → Option ReadEnd → Type 0
+Reports means told log taken written last source = (now : ℕ) × ReportsAt means told log taken written last source now
 
 -- so many of these bytes were written, which are the first that there were to give
 pub record WritesFirst (given before after : Option (List ℕ)) (bytes : List ℕ) (written : ℕ) : Type 0 where

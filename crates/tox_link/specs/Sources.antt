@@ -1,7 +1,7 @@
 -- How a link's source ended, as its reader's thread says it.
 use Rattle.std.specs.Prelude.{Option, Some, None}
-use Rattle.tox_link.specs.declared.message.ReadEnd.{ReadEnd}
-use Rattle.tox_link.specs.declared.message.ReadEnd.TheVariants.{Eof, ReadFault, ReadsUsedUp, TooManyBytes}
+use Rattle.tox_link.specs.declared.ring.message.ReadEnd.{ReadEnd}
+use Rattle.tox_link.specs.declared.ring.message.ReadEnd.TheVariants.{Eof, ReadFault, ReadsUsedUp, TooManyBytes}
 use Rattle.tox_link.specs.declared.source_ending.SourceEnding.{SourceEnding}
 use Rattle.tox_link.specs.declared.source_ending.SourceEnding.TheVariants.{Eof as AtEof, ReadFault as AtFault, ReadsUsedUp as AtLastRead, TooManyBytes as AtLimit, NotReached}
 

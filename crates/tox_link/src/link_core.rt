@@ -1,24 +1,27 @@
 //! The core of a live link: told what arrives and what time it is, it says what to do.
 ghost use Rattle.std.specs.Prelude.{◌≡◌, ℕ, ◌+◌, ◌<◌, ◌≤◌, ◌↔◌, ◌||◌, List, [], ◌∷◌, ◌++◌, length, true, false, None, Some, IsTrue, IsSome, IfSome, MatchOption, IfOk, OnOk, OnErr, is_some};
-ghost use Rattle.tox_time.specs.declared.item.Item.{Item as OneItem};
-ghost use Rattle.tox_time.specs.declared.item.Item.TheVariants.{Chunk, Closed, Quiet};
-ghost use Rattle.tox_time.specs.Arrivals.{piece_fault};
-ghost use Rattle.tox_time.specs.Stream.{IsStream};
-ghost use Rattle.tox_time.specs.Table.{final_of};
+ghost use Rattle.tox_time.specs.declared.streams.item.Item.{Item as OneItem};
+ghost use Rattle.tox_time.specs.declared.streams.item.Item.TheVariants.{Chunk, Closed, Quiet};
+ghost use Rattle.tox_time.specs.streams.Arrivals.{piece_fault};
+ghost use Rattle.tox_time.specs.streams.Stream.{IsStream};
+ghost use Rattle.tox_time.specs.streams.Table.{final_of};
 ghost use Rattle.tox_compile.specs.Meaning.{means};
 ghost use Rattle.tox_plan.specs.OpCursors.{ops_of};
 ghost use Rattle.tox_plan.specs.RunnerView.{answer_of, no_piece};
-ghost use Rattle.tox_link.specs.Core.{remaining_output, core_ending, core_position, core_deadline, kept_count, next_instant, KeepsCore, Looked, IsDrained, IsEmptied, Settled, HandsOnEnd};
-ghost use Rattle.tox_link.specs.Acts.{idle_act, IsSliceAct, After, Answered};
+ghost use Rattle.tox_link.specs.link_core.Core.{remaining_output, core_ending, core_position, core_deadline, kept_count, next_instant, KeepsCore, Looked, IsDrained, IsEmptied, Settled, HandsOnEnd};
+ghost use Rattle.tox_link.specs.link_core.Acts.{idle_act, IsSliceAct, After, Answered};
 
-use crate::act::Act;
-use crate::waiting::WaitingPiece;
+pub(crate) mod act;
+pub(crate) mod waiting;
+
+use crate::link_core::act::Act;
+use crate::link_core::waiting::WaitingPiece;
 use std::alloc::{AllocError, Global};
 use std::collections::VecDeque;
 use std::marker::Model;
 use tox_compile::Plan;
 use tox_plan::Runner;
-use tox_time::{ArrivalFault, Ending, Micros, Slice, piece_fault};
+use tox_time::{ArrivalFault, Ending, Micros, Slice, StreamPosition};
 use tox_words::Words;
 
 /// The most pieces that a core keeps.
@@ -34,18 +37,16 @@ pub struct LinkCore<'w> {
     waiting: VecDeque<WaitingPiece>,
     found: Option<Slice>,
     end: Option<Micros>,
-    ended: bool,
-    bytes: u64,
-    latest: Micros,
+    so_far: StreamPosition,
     deadline: Option<Micros>,
 }
 
 impl<'w> Model for LinkCore<'w> {
-    ghost use Rattle.tox_link.specs.Core.{CoreView};
+    ghost use Rattle.tox_link.specs.link_core.Core.{CoreView};
 
     ghost Value = { CoreView };
 
-    ghost use Rattle.tox_link.specs.CoreInside.{core_view, IsKept};
+    ghost use Rattle.tox_link.specs.link_core.CoreInside.{core_view, IsKept};
 
     ghost view = { core_view };
 
@@ -70,9 +71,7 @@ impl<'w> LinkCore<'w> {
             waiting,
             found: None,
             end: None,
-            ended: false,
-            bytes: 0,
-            latest: Micros::ZERO,
+            so_far: StreamPosition::start(),
             deadline,
         })
     }
@@ -88,7 +87,7 @@ impl<'w> LinkCore<'w> {
     pub fn latest(&self) -> Micros
         ensures { result ≡ self.now.latest }
     {
-        self.latest
+        self.so_far.latest
     }
 
     /// The link's ending, once it is known and no piece is kept. Nothing else is then to come.
@@ -108,7 +107,7 @@ impl<'w> LinkCore<'w> {
     fn is_over(&self) -> bool
         ensures { result ≡ (self.now.ended || is_some (core_ending self.now)) }
     {
-        self.ended || self.ending().is_some()
+        self.so_far.ended || self.ending().is_some()
     }
 
     /// A piece of `len` bytes arrived at `instant`.
@@ -127,13 +126,15 @@ impl<'w> LinkCore<'w> {
             ≡ remaining_output self.old (Chunk (record { start = self.old.bytes; stop = self.old.bytes + len }) instant ∷ items)) }
         ensures err { OnErr result (self.new ≡ self.old) }
     {
-        if let Some(fault) = piece_fault(self.bytes, self.latest, self.is_over(), len, instant) {
-            return Err(fault);
-        }
+        let so_far = StreamPosition {
+            ended: self.is_over(),
+            ..self.so_far
+        };
+        so_far.with_piece(len, instant)?;
         self.waiting
             .push_back_reserved(WaitingPiece { len, instant });
-        self.bytes += len;
-        self.latest = instant;
+        self.so_far.position += len;
+        self.so_far.latest = instant;
         Ok(())
     }
 
@@ -149,8 +150,8 @@ impl<'w> LinkCore<'w> {
             × (core_position self.new ≡ core_position self.old) }
         ensures at_once { kept_count self.old ≡ 0 → IsSome (core_ending self.new) }
     {
-        self.ended = true;
-        self.latest = end;
+        self.so_far.ended = true;
+        self.so_far.latest = end;
         if self.waiting.is_empty() && self.runner.is_idle() {
             self.runner.finish(end);
         } else {
@@ -176,7 +177,7 @@ impl<'w> LinkCore<'w> {
         ensures kept { KeepsCore self.old self.new }
         ensures latest { self.new.latest ≡ now }
     {
-        self.latest = now;
+        self.so_far.latest = now;
         self.look();
         self.answer(now)
     }
@@ -259,7 +260,7 @@ impl<'w> LinkCore<'w> {
     {
         self.hand_on_end();
         match self.ending_at(now) {
-            Some(ending) => Act::ending(&ending, now, self.ended),
+            Some(ending) => Act::ending(&ending, now, self.so_far.ended),
             None => Act::until(self.deadline),
         }
     }

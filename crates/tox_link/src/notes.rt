@@ -1,6 +1,6 @@
 //! What happens on a link, and who is told.
 ghost use Rattle.std.specs.Prelude.{◌≡◌, List, [], ◌∷◌, Option, None, OnOk, OnErr};
-ghost use Rattle.tox_link.specs.Events.{with_events};
+ghost use Rattle.tox_link.specs.log.Events.{with_events};
 ghost use Rattle.tox_link.specs.declared.notes.LinkEvent.{LinkEvent as OneEvent};
 
 use std::alloc::AllocError;

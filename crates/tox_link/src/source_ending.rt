@@ -1,9 +1,9 @@
 //! How far a link's source came.
 ghost use Rattle.std.specs.Prelude.{◌≡◌, Some, MatchResult};
-ghost use Rattle.tox_link.specs.declared.message.ReadEnd.TheVariants.{OutOfMemory as NoMemory};
+ghost use Rattle.tox_link.specs.declared.ring.message.ReadEnd.TheVariants.{OutOfMemory as NoMemory};
 ghost use Rattle.tox_link.specs.Sources.{read_end_of};
 
-use crate::message::ReadEnd;
+use crate::ring::message::ReadEnd;
 use std::alloc::AllocError;
 
 /// How a link's source ended before the link's ending was known.

@@ -1,17 +1,19 @@
 -- A direction that is driven by events: what it holds, and what came, was noted and was written so far.
-use Rattle.std.specs.Prelude.{◌≡◌, ℕ, ◌≤◌, ◌^◌, false, List, [], ◌∷◌, ◌++◌, length, take, Option, Some, None, is_some}
+use Rattle.std.specs.Prelude.{◌≡◌, ℕ, ◌≤◌, ◌^◌, false, List, [], ◌∷◌, ◌++◌, length, take, drop, Option, Some, None, IfSome, is_some}
 use Rattle.std.specs.Io.KnownBytes.{append_known}
-use Rattle.tox_time.specs.declared.item.Item.{Item}
+use Rattle.tox_time.specs.declared.streams.item.Item.{Item}
 use Rattle.tox_lend.specs.Window.{JoinUpTo, start_of}
 use Rattle.tox_link.specs.declared.direction.polled_link.PolledLink.{PolledLink}
 use Rattle.tox_link.specs.declared.direction.unwritten.Unwritten.{Unwritten}
 use Rattle.tox_link.specs.declared.notes.LinkEvent.{LinkEvent}
 use Rattle.tox_link.specs.declared.notes.LinkEvent.TheVariants.{Wrote}
+use Rattle.tox_link.specs.declared.source_ending.SourceEnding.{SourceEnding}
 use Rattle.tox_link.specs.declared.source_ending.SourceEnding.TheVariants.{NotReached}
-use Rattle.tox_link.specs.Carried.{Carried}
-use Rattle.tox_link.specs.Core.{core_ending, core_position}
-use Rattle.tox_link.specs.Held.{AreOf}
-use Rattle.tox_link.specs.Log.{has_source_end, IsFaithful}
+use Rattle.tox_link.specs.log.Carried.{Carried}
+use Rattle.tox_link.specs.link_core.Core.{core_ending, core_position}
+use Rattle.tox_link.specs.carrying.Held.{AreOf}
+use Rattle.tox_link.specs.log.Log.{has_source_end, IsFaithful}
+use Rattle.tox_link.specs.ring.Messages.{IsUnsent}
 use Rattle.tox_link.specs.Sources.{read_end_of}
 
 -- what is noted once the slice that is being written has reached its end
@@ -58,6 +60,7 @@ pub record Follows (means : List Item → List Item) (told : ℕ → Type 0) (li
   pub parts : AreOf came link.window.held
   pub few : link.core.bytes ≤ length came
   pub live : link.ended ≡ false → core_ending link.core ≡ None → link.core.bytes ≡ length came
+  pub unsent : IfSome (read_end_of link.source) (λ end. IsUnsent end (take link.core.bytes came) (drop link.core.bytes came))
   pub wrote : written ≡ append_known before (take link.written came)
 
 -- a step in which these bytes came and these events were noted
@@ -76,3 +79,8 @@ pub record WritesOn (old : PolledLink) (written : Option (List ℕ)) (more : Lis
   pub parts : (came : List ℕ) → AreOf came old.window.held → AreOf came new.window.held
   pub wrote : (came : List ℕ) (before : Option (List ℕ)) → AreOf came old.window.held → written ≡ append_known before (take old.written came)
       → written_after ≡ append_known before (take new.written came)
+
+-- these bytes were read last and are not kept, where the source ended so
+abbrev pub AreLeftOver : PolledLink → SourceEnding → List ℕ → Type 0
+AreLeftOver link source bytes =
+    (came : List ℕ) → link.core.bytes ≡ length came → IfSome (read_end_of source) (λ end. IsUnsent end came bytes)

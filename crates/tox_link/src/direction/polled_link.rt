@@ -1,15 +1,15 @@
 //! What a direction holds between two events.
 ghost use Rattle.std.specs.Prelude.{◌≡◌, List, IfOk};
-ghost use Rattle.tox_time.specs.declared.item.Item.{Item as OneItem};
-ghost use Rattle.tox_time.specs.Stream.{IsStream};
+ghost use Rattle.tox_time.specs.declared.streams.item.Item.{Item as OneItem};
+ghost use Rattle.tox_time.specs.streams.Stream.{IsStream};
 ghost use Rattle.tox_compile.specs.Meaning.{means};
-ghost use Rattle.tox_link.specs.Core.{remaining_output};
-ghost use Rattle.tox_link.specs.direction.Follows.{IsNew};
+ghost use Rattle.tox_link.specs.link_core.Core.{remaining_output};
+ghost use Rattle.tox_link.specs.direction.Follows.{IsHeld, IsNew};
 
+use crate::carrying::writer_side::WINDOW_SIZE;
 use crate::direction::unwritten::Unwritten;
 use crate::link_core::LinkCore;
 use crate::source_ending::SourceEnding;
-use crate::writer_side::WINDOW_SIZE;
 use std::alloc::{AllocError, Global};
 use tox_compile::Plan;
 use tox_lend::Window;
@@ -37,6 +37,7 @@ impl<'w> PolledLink<'w> {
         ensures meaning { IfOk result (λ link. (items : List OneItem) → IsStream items
             → remaining_output link.core items ≡ means plan words.now items) }
         ensures fresh { IfOk result IsNew }
+        ensures held { IfOk result IsHeld }
     {
         Ok(PolledLink {
             core: LinkCore::new(alloc, plan, words)?,

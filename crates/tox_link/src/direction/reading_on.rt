@@ -1,22 +1,26 @@
-//! Reading once, where the core waits for input.
-ghost use Rattle.std.specs.Prelude.{◌≡◌, ℕ, ◌+◌, ◌<◌, ◌≤◌, ◌^◌, ◌⊎◌, List, [], length, false, true, None, Option, is_some, OnOk, OnErr};
-ghost use Rattle.tox_link.specs.Core.{core_ending, kept_count};
-ghost use Rattle.tox_link.specs.Events.{with_events};
+//! What a read gave reaches the core.
+ghost use Rattle.std.specs.Prelude.{◌≡◌, ℕ, ◌+◌, ◌<◌, ◌≤◌, ◌^◌, ◌⊎◌, List, length, false, true, None, Option, OnOk, is_some};
+ghost use Rattle.std.specs.Io.KnownBytes.{prepend_known};
+ghost use Rattle.tox_link.specs.declared.source_ending.SourceEnding.TheVariants.{TooManyBytes as AtLimit};
+ghost use Rattle.tox_link.specs.carrying.Held.{MayTake};
+ghost use Rattle.tox_link.specs.direction.Driven.{Drove};
+ghost use Rattle.tox_link.specs.direction.Follows.{IsHeld, AreLeftOver};
+ghost use Rattle.tox_link.specs.link_core.Core.{core_ending};
+ghost use Rattle.tox_link.specs.log.Carried.{ReadsOn};
 ghost use Rattle.tox_link.specs.Sources.{read_end_of};
-ghost use Rattle.tox_link.specs.declared.notes.LinkEvent.{LinkEvent as OneEvent};
-ghost use Rattle.tox_link.specs.direction.Follows.{IsHeld, Drives};
 
+use crate::carrying::steps::{take_end, take_piece};
 use crate::clock::Clock;
 use crate::direction::polled_link::PolledLink;
 use crate::notes::Notes;
 use crate::source_ending::SourceEnding;
-use crate::steps::{take_end, take_piece};
-use std::alloc::AllocError;
+use std::alloc::{AllocError, Global};
 use tox_lend::Piece;
+use tox_time::MAX_BYTES;
 
-/// Bytes came. They are stamped with a reading that the clock tells now, noted and kept, unless the ending is known.
-/// A refused note changes nothing.
-pub fn keep_bytes<C: Clock, N: Notes>(
+/// Bytes came. They are stamped with a reading that the clock tells now, noted and kept. After a refused note nothing more
+/// is read.
+fn keep_bytes<C: Clock, N: Notes>(
     link: &mut PolledLink<'_>,
     clock: &C,
     notes: &mut N,
@@ -25,25 +29,27 @@ pub fn keep_bytes<C: Clock, N: Notes>(
     requires held { IsHeld link.old }
     requires read { (link.old.core.latest ≡ 0) ⊎ C.told clock.now link.old.core.latest }
     requires idle { link.old.unwritten ≡ None }
-    requires going { link.old.ended ≡ false }
-    requires room { kept_count link.old.core < 1024 }
-    requires window { core_ending link.old.core ≡ None
-        → length link.old.window.held < link.old.window.room }
-    requires some { 0 < length bytes.items }
-    requires few { core_ending link.old.core ≡ None
-        → link.old.core.bytes + length bytes.items ≤ 2 ^ 40 }
+    requires room { MayTake link.old.core link.old.window link.old.ended }
+    requires unknown { core_ending link.old.core ≡ None }
+    requires fits { (0 < length bytes.items)
+        × (link.old.core.bytes + length bytes.items ≤ 2 ^ 40) }
     ensures held { IsHeld link.new }
-    ensures ok { OnOk result ((more : List OneEvent)
-        × (N.events notes.new ≡ with_events (N.events notes.old) more)
-        × ((known : Option (List ℕ))
-        → Drives (C.told clock.now) link.old known bytes.items more link.new known)) }
-    ensures err { OnErr result
-        ((N.events notes.new ≡ N.events notes.old) × (link.new ≡ link.old)) }
+    ensures reads { ReadsOn (C.told clock.now) link.old.core.latest link.new.core.latest }
+    ensures same { (link.new.source ≡ link.old.source) × (link.new.unwritten ≡ None)
+        × (link.new.written ≡ link.old.written) }
+    ensures ok { OnOk result (link.new.ended ≡ false) }
+    ensures drove { (left written : Option (List ℕ)) → Drove 1 (C.told clock.now)
+        link.old (record {
+          remaining = prepend_known bytes.items left;
+          written = written;
+          events = N.events notes.old;
+        })
+        link.new (record { remaining = left; written = written; events = N.events notes.new }) }
 {
-    let None = link.core.ending() else {
-        return Ok(());
+    let Ok(()) = take_piece(&mut link.core, clock, notes, bytes.len() as u64) else {
+        link.ended = true;
+        return Err(AllocError);
     };
-    take_piece(&mut link.core, clock, notes, bytes.len() as u64)?;
     let start = link.window.stop();
     let instant = link.core.latest();
     link.window.add(Piece {
@@ -55,8 +61,8 @@ pub fn keep_bytes<C: Clock, N: Notes>(
 }
 
 /// The source ended so. Its end is stamped with a reading that the clock tells now and noted, unless the ending is known.
-/// A refused note changes nothing.
-pub fn end_source<C: Clock, N: Notes>(
+/// Nothing more is read.
+pub(crate) fn end_source<C: Clock, N: Notes>(
     link: &mut PolledLink<'_>,
     clock: &C,
     notes: &mut N,
@@ -68,21 +74,65 @@ pub fn end_source<C: Clock, N: Notes>(
     requires going { link.old.ended ≡ false }
     requires why { is_some (read_end_of source) ≡ true }
     ensures held { IsHeld link.new }
-    ensures ended { OnOk result (link.new.ended ≡ true) }
-    ensures ok { OnOk result ((more : List OneEvent)
-        × (N.events notes.new ≡ with_events (N.events notes.old) more)
-        × ((known : Option (List ℕ))
-        → Drives (C.told clock.now) link.old known [] more link.new known)) }
-    ensures err { OnErr result
-        ((N.events notes.new ≡ N.events notes.old) × (link.new ≡ link.old)) }
+    ensures reads { ReadsOn (C.told clock.now) link.old.core.latest link.new.core.latest }
+    ensures same { (link.new.ended ≡ true) × (link.new.unwritten ≡ None)
+        × (link.new.written ≡ link.old.written) }
+    ensures source { (link.new.source ≡ source) ⊎ (link.new.source ≡ link.old.source) }
+    ensures drove { (bytes : List ℕ) (left written : Option (List ℕ))
+        → AreLeftOver link.old source bytes → Drove 1 (C.told clock.now)
+        link.old (record {
+          remaining = prepend_known bytes left;
+          written = written;
+          events = N.events notes.old;
+        })
+        link.new (record { remaining = left; written = written; events = N.events notes.new }) }
 {
+    link.ended = true;
     let None = link.core.ending() else {
         take_end(&mut link.core, clock, notes)?;
-        link.ended = true;
         return Ok(());
     };
     take_end(&mut link.core, clock, notes)?;
     link.source = source;
-    link.ended = true;
     Ok(())
+}
+
+/// Some bytes were read. They are kept, dropped where the ending is known, or end the source where they are too many.
+/// Without memory for them, or for a note, nothing more is read.
+pub(crate) fn keep_read<C: Clock, N: Notes>(
+    link: &mut PolledLink<'_>,
+    alloc: Global,
+    clock: &C,
+    notes: &mut N,
+    bytes: &[u8],
+) -> Result<(), AllocError>
+    requires held { IsHeld link.old }
+    requires read { (link.old.core.latest ≡ 0) ⊎ C.told clock.now link.old.core.latest }
+    requires idle { link.old.unwritten ≡ None }
+    requires room { MayTake link.old.core link.old.window link.old.ended }
+    requires some { 0 < length bytes.now }
+    ensures held { IsHeld link.new }
+    ensures reads { ReadsOn (C.told clock.now) link.old.core.latest link.new.core.latest }
+    ensures same { (link.new.unwritten ≡ None) × (link.new.written ≡ link.old.written) }
+    ensures source { (link.new.source ≡ link.old.source)
+        ⊎ ((link.new.source ≡ AtLimit) × (link.new.ended ≡ true)) }
+    ensures drove { (left written : Option (List ℕ)) → Drove 1 (C.told clock.now)
+        link.old (record {
+          remaining = prepend_known bytes.now left;
+          written = written;
+          events = N.events notes.old;
+        })
+        link.new (record { remaining = left; written = written; events = N.events notes.new }) }
+{
+    if link.core.ending().is_some() {
+        return Ok(());
+    }
+    if bytes.len() as u64 > MAX_BYTES - link.window.stop() {
+        return end_source(link, clock, notes, SourceEnding::TooManyBytes);
+    }
+    let Ok(kept) = Vec::from_slice(alloc, bytes) else {
+        link.ended = true;
+        return Err(AllocError);
+    };
+    keep_bytes(link, clock, notes, kept)
 }

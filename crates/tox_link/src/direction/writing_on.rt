@@ -1,18 +1,19 @@
 //! Writing on at a slice, as far as the sink takes it.
-ghost use Rattle.std.specs.Prelude.{◌≡◌, ◌<◌, ◌≤◌, List, [], ◌∷◌, ◌⊎◌, false, true, None, Some, IfErr, IfOk, OnOk, OnErr, filter, nat_lt, MatchBool};
+ghost use Rattle.std.specs.Prelude.{◌≡◌, ◌+◌, ◌<◌, ◌≤◌, length, List, [], ◌∷◌, ◌⊎◌, false, true, None, Some, IfErr, IfOk, OnOk, OnErr, filter, nat_lt};
 ghost use Rattle.tox_lend.specs.Run.{stop_of};
-ghost use Rattle.tox_link.specs.Events.{with_events};
+ghost use Rattle.tox_link.specs.log.Events.{with_events};
 ghost use Rattle.tox_link.specs.Reports.{is_write_fault, written_before};
 ghost use Rattle.tox_link.specs.declared.link_fault.LinkFault.TheVariants as FaultOf;
 ghost use Rattle.tox_link.specs.declared.notes.LinkEvent.{LinkEvent as OneEvent};
+ghost use Rattle.tox_link.specs.direction.Driven.{steps_of_move};
 ghost use Rattle.tox_link.specs.direction.Follows.{IsHeld, WritesOn};
 
+use crate::carrying::writing::front_of;
 use crate::direction::poll_ends::PollSink;
 use crate::direction::polled_link::PolledLink;
 use crate::direction::unwritten::Unwritten;
 use crate::link_fault::LinkFault;
 use crate::notes::{LinkEvent, Notes};
-use crate::writing::front_of;
 use tox_time::Span;
 
 /// Writes the next part of the slice, as far as one piece holds it. False where the sink would wait.
@@ -28,8 +29,9 @@ fn write_part<W: PollSink>(
     ensures core { link.new.core ≡ link.old.core }
     ensures held { IsHeld link.new }
     ensures wrote { WritesOn link.old (W.written sink.old) [] link.new (W.written sink.new) }
-    ensures on { IfOk result (λ moved. MatchBool moved
-        (link.old.written < link.new.written) (link.new ≡ link.old)) }
+    ensures on { link.old.written + steps_of_move result ≤ link.new.written }
+    ensures waits { IfOk result (λ moved. moved ≡ false
+        → (link.new ≡ link.old) × (W.waits sink.new ≡ true)) }
     ensures err { IfErr result (λ fault. fault ≡ FaultOf.WriteFault link.new.written) }
     ensures working { OnOk result (W.failed sink.new ≡ false) }
     ensures failed { OnErr result (W.failed sink.new ≡ true) }
@@ -77,7 +79,7 @@ fn note_written<N: Notes>(
 
 /// One step of the slice that is being written: its next part is written, or it is noted once it is written to its end.
 /// False where the sink would wait.
-pub fn write_on<N: Notes, W: PollSink>(
+pub(crate) fn write_on<N: Notes, W: PollSink>(
     link: &mut PolledLink<'_>,
     notes: &mut N,
     sink: &mut W,
@@ -86,18 +88,22 @@ pub fn write_on<N: Notes, W: PollSink>(
     requires held { IsHeld link.old }
     requires writing { link.old.unwritten ≡ Some unwritten.now }
     requires working { W.failed sink.old ≡ false }
-    ensures core { link.new.core ≡ link.old.core }
     ensures held { IsHeld link.new }
     ensures wrote { (more : List OneEvent)
         × (N.events notes.new ≡ with_events (N.events notes.old) more)
-        × WritesOn link.old (W.written sink.old) more link.new (W.written sink.new) }
-    ensures err { IfErr result (λ fault. written_before fault ≡ link.new.written) }
-    ensures cause { IfErr result (λ fault. W.failed sink.new ≡ is_write_fault fault) }
+        × WritesOn link.old (W.written sink.old) more link.new (W.written sink.new)
+        × (link.old.written + steps_of_move result ≤ link.new.written + length more) }
+    ensures waits { IfOk result (λ moved. moved ≡ false
+        → (link.new ≡ link.old) × (W.waits sink.new ≡ true)) }
+    ensures err { IfErr result (λ fault. (written_before fault ≡ link.new.written)
+        × (W.failed sink.new ≡ is_write_fault fault)) }
     ensures working { OnOk result (W.failed sink.new ≡ false) }
 {
     if link.written < unwritten.slice.span.stop {
         return write_part(link, sink, unwritten);
     }
-    note_written(link, notes, unwritten)?;
-    Ok(true)
+    match note_written(link, notes, unwritten) {
+        Ok(()) => Ok(true),
+        Err(fault) => Err(fault),
+    }
 }

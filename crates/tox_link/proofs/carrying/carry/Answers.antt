@@ -1,12 +1,13 @@
 -- What was written is the first of what the reader had to give, and the log says so.
-use Rattle.std.proofs.Common.{inr, [], ◌++◌, length-take-le, take, refl, ap, subst, sym, ◌∙◌}
+use Rattle.std.proofs.Common.{inr, [], ◌++◌, length-take-le, take, refl, ap, subst, sym, ◌∙◌, arith}
 use Rattle.std.proofs.lemmas.Result.{err_from_is_err_and}
 use Rattle.rtrb.specs.Ring.{received}
 use Rattle.tox_compile.specs.Meaning.{means}
-use Rattle.tox_link.specs.Logged.{IsCutOff}
-use Rattle.tox_link.specs.Messages.{ReadsFrom}
+use Rattle.tox_link.specs.log.Logged.{IsCutOff}
+use Rattle.tox_link.specs.ring.Messages.{ReadsFrom}
 use Rattle.tox_link.specs.Reports.{WritesFirst}
-use Rattle.tox_link.specs.Side.{came}
+use Rattle.tox_link.specs.carrying.Side.{came}
+use Rattle.tox_link.specs.Sources.{read_end_of}
 use Rattle.tox_link.proofs.CarryLemmas.{broke-unstarted, first-of, hung-up, link-reports, cut-nothing, writes-nothing, first-bytes, writes-first, source-told, reads-same}
 use Rattle.tox_link.proofs.Logs.{events-none}
 use Rattle.tox_link.proofs.LoggedLemmas.{logged-fresh}
@@ -52,13 +53,17 @@ pub returns-in-Ok-clause-log : goal.returns-in-Ok-clause-log
 returns-in-Ok-clause-log g c =
     let told = g.C.Clock.told c.args.clock.now in
     let plan = means c.args.plan c.args.words.now in
+    let side = c.drive-driven.new.side in
     let logs = rw c.in-Ok.is at c.drive-driven.ensures.log in
     let over = rw c.in-Ok.is at c.drive-driven.ensures.ended in
-    let sound = rw c.in-Ok.is at c.drive-driven.ensures.ok in (
+    let sound = rw c.in-Ok.is at c.drive-driven.ensures.ok in
+    let logged = logs.2 plan (logged-fresh plan told c.in_ok-side.side c.in_ok-side.ensures.fresh c.in_ok-side.ensures.meaning) in (
       logs.0,
       logs.1,
-      link-reports plan told c.drive-driven.new.side (received c.drive-driven.new.side.inbox.receiver) logs.0 c.in-Ok.ending c.stop.result
-          (logs.2 plan (logged-fresh plan told c.in_ok-side.side c.in_ok-side.ensures.fresh c.in_ok-side.ensures.meaning)) over sound (c.stop.ensures.value ∙ sound.stop),
+      (
+        side.core.latest,
+        link-reports plan told side.core side.ended logs.0 c.in-Ok.ending (read_end_of side.source) c.stop.result side.written logged.carried logged.closed over sound.written (c.stop.ensures.value ∙ sound.stop),
+      ),
     )
 
 pub returns-in-Ok-clause-bytes : goal.returns-in-Ok-clause-bytes
@@ -77,7 +82,7 @@ returns-in-Ok-clause-bytes g c =
     = reads-same _ _ _ _ _ _ _ _ (ap g.S.Source.remaining c.in_ok-side.ensures.reads.0) c.in_ok-side.ensures.reads.1 left.1 in
     let first = first-bytes messages later more.0 left.0 (g.S.Source.remaining c.args.reader) after c.args.reads joined.result.1 failed grown sent in (
       take side.core.bytes (came side),
-      writes-first (g.S.Source.remaining c.args.reader) (g.W.Sink.written c.args.ends.now.writer) (g.W.Sink.written c.drive-driven.new.writer) first.0 side messages sound first.1 c.drive-driven.ensures.written,
+      writes-first (g.S.Source.remaining c.args.reader) (g.W.Sink.written c.args.ends.now.writer) (g.W.Sink.written c.drive-driven.new.writer) first.0 (came side) side.core.bytes side.written (omega (arith, sound.written, sound.within)) sound.few first.1 c.drive-driven.ensures.written,
       length-take-le side.core.bytes (came side) sound.few ∙ sym (c.stop.ensures.value ∙ sound.stop),
       source-told side messages later more.0 left.0 (g.S.Source.remaining c.args.reader) after c.args.reads joined.result.1 failed sound grown sent,
     )

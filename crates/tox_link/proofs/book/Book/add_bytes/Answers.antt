@@ -1,6 +1,6 @@
 -- A total has room for the bytes of one more side.
 use Rattle.std.proofs.Common.{arith}
-use Rattle.tox_time.specs.declared.stream.Stream.TheVariants.{Upstream, Downstream}
+use Rattle.tox_time.specs.declared.streams.stream.Stream.TheVariants.{Upstream, Downstream}
 use Rattle.tox_link.proofs.BookTotals.{total_bound}
 use Rattle.tox_link.proofs.book.Book.add_bytes.Goals as goal
 

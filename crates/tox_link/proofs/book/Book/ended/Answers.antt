@@ -1,9 +1,9 @@
 -- How a side ended changes no total.
 use Rattle.std.proofs.Common.{◌≡◌, ◌<◌, slice_index_or, length, ap, sym, ◌∙◌, rules}
 use Rattle.std.proofs.Math.ListN.{length-set}
-use Rattle.tox_time.specs.declared.stream.Stream.TheVariants.{Upstream, Downstream}
-use Rattle.tox_link.specs.declared.sides.Side.{Side}
-use Rattle.tox_link.specs.Links.{side_of}
+use Rattle.tox_time.specs.declared.streams.stream.Stream.TheVariants.{Upstream, Downstream}
+use Rattle.tox_link.specs.declared.book.sides.Side.{Side}
+use Rattle.tox_link.specs.book.Links.{side_of}
 use Rattle.tox_link.proofs.BookTotals.{total_kept, bounds_kept}
 use Rattle.tox_link.proofs.book.Book.ended.Goals as goal
 

@@ -1,40 +1,38 @@
 -- The source's end is one more event, or none where the ending is known.
-use Rattle.std.proofs.Common.{◌≡◌, false, refl, ap, sym, ◌∙◌}
+use Rattle.std.proofs.Common.{◌≡◌, None, refl, ap, sym, ◌∙◌}
 use Rattle.std.specs.Prelude.{is_none, is_some}
-use Rattle.tox_link.specs.Core.{core_ending}
-use Rattle.tox_link.proofs.FollowLemmas.{held-ended, drives-ended}
+use Rattle.tox_link.specs.link_core.Core.{core_ending}
+use Rattle.tox_link.proofs.DriveLemmas.{drove-ended, drove-shut}
 use Rattle.tox_link.proofs.SideLemmas.{known-some}
 use Rattle.tox_link.proofs.direction.reading_on.end_source.Goals as goal
 
-pub returns-in_default-clause-held : goal.returns-in_default-clause-held
-returns-in_default-clause-held g c =
-    let counts = c.in_ok-take_end.ensures.counts in
-    held-ended c.args.link.now _ c.requires.held c.requires.idle counts.0 counts.2 refl refl refl refl
+pub returns-in_err-take_end-clause-drove : goal.returns-in_err-take_end-clause-drove
+returns-in_err-take_end-clause-drove g c =
+    let refused = c.in_err-take_end.ensures.err in
+    λ bytes left written over.
+    drove-shut (g.C.Clock.told c.args.clock.now) c.args.link.now _ bytes left written (g.N.Notes.events c.args.notes.now) _ c.requires.held c.requires.idle c.requires.going refl refl refl refl refused.1 refl refused.0
 
-pub returns-in_default-clause-ok : goal.returns-in_default-clause-ok
-returns-in_default-clause-ok g c =
+pub returns-in_default-clause-drove : goal.returns-in_default-clause-drove
+returns-in_default-clause-drove g c =
     let counts = c.in_ok-take_end.ensures.counts in
     let noted = c.in_ok-take_end.ensures.carried in
-    let none : is_none (core_ending c.args.link.now.core) ≡ false = known-some _ (λ none. c.in_default.not-None (c.ending.ensures.value ∙ none)) in (
-      noted.0,
-      noted.1,
-      λ known.
-          drives-ended c.args.link.now _ c.requires.held c.requires.idle counts.0 counts.2 refl refl refl refl (g.C.Clock.told c.args.clock.now) noted.0 known c.requires.going noted.2
-          (noted.3 ∙ none ∙ sym (ap is_some (c.requires.held.unheard c.requires.going))),
-    )
+    let never = λ (none : core_ending c.args.link.now.core ≡ None). c.in_default.not-None (c.ending.ensures.value ∙ none) in
+    let open_source = c.requires.held.unheard c.requires.going in
+    λ bytes left written over.
+    drove-ended (g.C.Clock.told c.args.clock.now) c.args.link.now _ bytes left written (g.N.Notes.events c.args.notes.now) _ c.requires.held c.requires.idle c.requires.going refl refl refl refl noted.0 counts.0 counts.2 noted.1 noted.2
+    (noted.3 ∙ known-some _ never ∙ sym (ap is_some open_source)) (λ none. absurd (never none)) (λ known. open_source)
 
-pub returns-clause-held : goal.returns-clause-held
-returns-clause-held g c =
-    let counts = c.in_ok-take_end-2.ensures.counts in
-    held-ended c.args.link.now _ c.requires.held c.requires.idle counts.0 counts.2 refl refl refl refl
+pub returns-in_err-take_end-2-clause-drove : goal.returns-in_err-take_end-2-clause-drove
+returns-in_err-take_end-2-clause-drove g c =
+    let refused = c.in_err-take_end-2.ensures.err in
+    λ bytes left written over.
+    drove-shut (g.C.Clock.told c.args.clock.now) c.args.link.now _ bytes left written (g.N.Notes.events c.args.notes.now) _ c.requires.held c.requires.idle c.requires.going refl refl refl refl refused.1 refl refused.0
 
-pub returns-clause-ok : goal.returns-clause-ok
-returns-clause-ok g c =
+pub returns-clause-drove : goal.returns-clause-drove
+returns-clause-drove g c =
     let counts = c.in_ok-take_end-2.ensures.counts in
-    let noted = c.in_ok-take_end-2.ensures.carried in (
-      noted.0,
-      noted.1,
-      λ known.
-          drives-ended c.args.link.now _ c.requires.held c.requires.idle counts.0 counts.2 refl refl refl refl (g.C.Clock.told c.args.clock.now) noted.0 known c.requires.going noted.2
-          (noted.3 ∙ ap is_none (sym c.ending.ensures.value ∙ c.in-None.is) ∙ sym c.requires.why),
-    )
+    let noted = c.in_ok-take_end-2.ensures.carried in
+    let unknown = sym c.ending.ensures.value ∙ c.in-None.is in
+    λ bytes left written over.
+    drove-ended (g.C.Clock.told c.args.clock.now) c.args.link.now _ bytes left written (g.N.Notes.events c.args.notes.now) _ c.requires.held c.requires.idle c.requires.going refl refl refl refl noted.0 counts.0 counts.2 noted.1 noted.2
+    (noted.3 ∙ ap is_none unknown ∙ sym c.requires.why) (λ none. over) (λ never. absurd (never unknown))

@@ -1,5 +1,5 @@
 -- What is written to its end is noted.
-use Rattle.std.proofs.Common.{◌∷◌, [], subst, sym, ◌∙◌}
+use Rattle.std.proofs.Common.{◌∷◌, [], ap, subst, sym, ◌∙◌, arith}
 use Rattle.tox_link.specs.declared.notes.LinkEvent.TheVariants.{Wrote}
 use Rattle.tox_link.specs.declared.direction.polled_link.PolledLink.{PolledLink}
 use Rattle.tox_link.specs.direction.Follows.{IsHeld, WritesOn}
@@ -7,21 +7,31 @@ use Rattle.tox_link.proofs.FollowLemmas.{held-noted, writes-noted, writes-same}
 use Rattle.tox_link.proofs.Logs.{events-none}
 use Rattle.tox_link.proofs.direction.writing_on.write_on.Goals as goal
 
-pub returns-in_err-note_written-clause-wrote : goal.returns-in_err-note_written-clause-wrote
-returns-in_err-note_written-clause-wrote g c =
-    let refused = c.in_err-note_written.ensures.refused in
-    ([], refused.0 ∙ events-none (g.N.Notes.events c.args.notes.now), writes-same c.args.link.now c.note_written.new.link (g.W.PollSink.written c.args.sink.now) refused.1)
+pub returns-then-link-unwritten-clause-wrote : goal.returns-then-link-unwritten-clause-wrote
+returns-then-link-unwritten-clause-wrote g c = ([], events-none (g.N.Notes.events c.args.notes.now), c.write_part.ensures.wrote, omega (arith, c.write_part.ensures.on))
 
-pub returns-clause-held : goal.returns-clause-held
-returns-clause-held g c =
-    subst IsHeld (sym c.in_ok-note_written.ensures.done) (held-noted c.args.link.now c.args.unwritten.now c.requires.held c.requires.writing c.if-link-unwritten.false)
+pub returns-in-Ok-clause-held : goal.returns-in-Ok-clause-held
+returns-in-Ok-clause-held g c =
+    subst IsHeld (sym c.in-Ok.ensures.done) (held-noted c.args.link.now c.args.unwritten.now c.requires.held c.requires.writing c.if-link-unwritten.false)
 
-pub returns-clause-wrote : goal.returns-clause-wrote
-returns-clause-wrote g c =
+pub returns-in-Ok-clause-wrote : goal.returns-in-Ok-clause-wrote
+returns-in-Ok-clause-wrote g c =
     let unwritten = c.args.unwritten.now in
     let known = g.W.PollSink.written c.args.sink.now in
-    let more = Wrote unwritten.slice unwritten.reading ∷ [] in (
+    let more = Wrote unwritten.slice unwritten.reading ∷ [] in
+    let same = ap (λ (link : PolledLink). link.written) c.in-Ok.ensures.done in (
       more,
-      c.in_ok-note_written.ensures.noted,
-      subst (λ (link : PolledLink). WritesOn c.args.link.now known more link known) (sym c.in_ok-note_written.ensures.done) (writes-noted c.args.link.now unwritten known c.requires.writing),
+      c.in-Ok.ensures.noted,
+      subst (λ (link : PolledLink). WritesOn c.args.link.now known more link known) (sym c.in-Ok.ensures.done) (writes-noted c.args.link.now unwritten known c.requires.writing),
+      omega (arith, same),
+    )
+
+pub returns-in-Err-clause-wrote : goal.returns-in-Err-clause-wrote
+returns-in-Err-clause-wrote g c =
+    let refused = c.in-Err.ensures.refused in
+    let same = ap (λ (link : PolledLink). link.written) refused.1 in (
+      [],
+      refused.0 ∙ events-none (g.N.Notes.events c.args.notes.now),
+      writes-same c.args.link.now c.note_written.new.link (g.W.PollSink.written c.args.sink.now) refused.1,
+      omega (arith, same),
     )

@@ -1,7 +1,7 @@
 -- Nothing is left once the source's end was handed on.
 use Rattle.std.proofs.Common.{[], ◌∷◌, ap, sym, ◌∙◌}
-use Rattle.tox_time.specs.declared.item.Item.TheVariants.{Quiet}
-use Rattle.tox_link.specs.Core.{next_instant}
+use Rattle.tox_time.specs.declared.streams.item.Item.TheVariants.{Quiet}
+use Rattle.tox_link.specs.link_core.Core.{next_instant}
 use Rattle.tox_link.proofs.ActLemmas.{emptied-instant}
 use Rattle.tox_link.proofs.link_core.LinkCore.act_without_slice.Goals as goal
 

@@ -1,7 +1,7 @@
 -- Past the deadline nothing changes.
 use Rattle.std.proofs.Common.{ap, sym, subst, ◌∙◌, rules}
-use Rattle.tox_link.specs.Core.{CoreView, IsEmptied, Settled}
-use Rattle.tox_link.specs.CoreInside.{core_view}
+use Rattle.tox_link.specs.link_core.Core.{CoreView, IsEmptied, Settled}
+use Rattle.tox_link.specs.link_core.CoreInside.{core_view}
 use Rattle.tox_link.proofs.ActLemmas.{after_quiet, settled-quiet, unknown-runner}
 use Rattle.tox_link.proofs.link_core.LinkCore.ending_at.Goals as goal
 

@@ -1,7 +1,7 @@
 -- The look so far, and whether the runner has a slice left.
 use Rattle.std.proofs.Common.{◌≡◌, length, None, Some}
-use Rattle.tox_time.specs.declared.ending.Ending.{Ending}
-use Rattle.tox_link.specs.Core.{Looked, IsDrained, core_ending}
+use Rattle.tox_time.specs.declared.streams.ending.Ending.{Ending}
+use Rattle.tox_link.specs.link_core.Core.{Looked, IsDrained, core_ending}
 use Rattle.tox_link.proofs.link_core.LinkCore.look.Given as goal
 
 abbrev pub invariant-loop-self : goal.invariant-loop-self

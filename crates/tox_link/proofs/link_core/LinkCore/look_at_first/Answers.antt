@@ -1,7 +1,7 @@
 -- The runner was asked for its next cut.
 use Rattle.std.proofs.Common.{ap, sym, subst, ◌∙◌}
-use Rattle.tox_link.specs.Core.{Looked}
-use Rattle.tox_link.specs.CoreInside.{core_view}
+use Rattle.tox_link.specs.link_core.Core.{Looked}
+use Rattle.tox_link.specs.link_core.CoreInside.{core_view}
 use Rattle.tox_link.proofs.Looks.{Cuts, cuts_of, after_cut, looked-cut}
 use Rattle.tox_link.proofs.link_core.LinkCore.look_at_first.Goals as goal
 

@@ -1,8 +1,8 @@
 -- The first waiting piece is with the runner, or was refused since the runner is over.
 use Rattle.std.proofs.Common.{◌≡◌, Err, ap, sym, subst, ◌∙◌, arith}
 use Rattle.tox_plan.specs.RunnerView.{offer_answer}
-use Rattle.tox_link.specs.Core.{CoreView, Looked}
-use Rattle.tox_link.specs.CoreInside.{core_view}
+use Rattle.tox_link.specs.link_core.Core.{CoreView, Looked}
+use Rattle.tox_link.specs.link_core.CoreInside.{core_view}
 use Rattle.tox_link.proofs.Looks.{Cuts, Offers, cuts_of, after_cut, after_offer, after_refusal, looked-both, looked-offer, looked-cut, looked-refusal, IsCore-after_refusal}
 use Rattle.tox_link.proofs.link_core.LinkCore.look_at_next.Goals as goal
 

@@ -1,7 +1,7 @@
 -- A look at a later instant, and then an answer.
 use Rattle.std.proofs.Common.{◌≤◌, sym, subst}
-use Rattle.tox_link.specs.Core.{CoreView, KeepsCore}
-use Rattle.tox_link.specs.CoreInside.{core_view}
+use Rattle.tox_link.specs.link_core.Core.{CoreView, KeepsCore}
+use Rattle.tox_link.specs.link_core.CoreInside.{core_view}
 use Rattle.tox_link.proofs.CoreLemmas.{IsCore-later}
 use Rattle.tox_link.proofs.ActLemmas.{keeps-after}
 use Rattle.tox_link.proofs.link_core.LinkCore.on_clock.Goals as goal

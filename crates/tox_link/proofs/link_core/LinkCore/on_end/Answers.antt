@@ -1,6 +1,6 @@
 -- The source's end is kept behind the pieces.
 use Rattle.std.proofs.Common.{◌≡◌, ◌≤◌, false, sym, subst}
-use Rattle.tox_link.specs.CoreInside.{core_view}
+use Rattle.tox_link.specs.link_core.CoreInside.{core_view}
 use Rattle.tox_link.proofs.CoreLemmas.{IsCore-after_end}
 use Rattle.tox_link.proofs.link_core.LinkCore.on_end.Goals as goal
 

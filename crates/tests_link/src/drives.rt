@@ -1,0 +1,159 @@
+//! Driven directions beside `deliver`, under schedules drawn at random.
+ghost use Rattle.std.specs.Prelude.{◌≡◌, ◌<◌, false, Some, IfOk, MatchResult};
+ghost use Rattle.tox_link.specs.direction.Driven.{IsAtEnd, IsReady};
+ghost use Rattle.tox_link.specs.direction.Follows.{IsHeld};
+ghost use Rattle.tox_link.specs.Reports.{written_before};
+
+use crate::link_ends::{Noted, RestingClock};
+use crate::polled_ends::BusyEnd;
+use crate::schedules::drawn_chain;
+use rand_pcg::Lcg64Xsh32;
+use std::alloc::{AllocError, Global};
+use std::process::Abort;
+use std::sync::Arc;
+use std::sync::atomic::{AtomicU64, Ordering};
+use std::test::Fail;
+use tests_support::{below, drawn_words, table_of};
+use tox_compile::compile;
+use tox_link::{LinkEvent, LinkFault, PolledLink, Progress, drive, finish};
+use tox_plan::deliver;
+use tox_time::{Arrivals, Ending, MemorySink, MemorySource, Micros, SliceList};
+
+/// More drives than a drawn direction takes.
+const MAX_DRIVES: usize = 1_000_000;
+
+/// Drives a direction until it has ended or broken off. The clock goes on while it waits.
+pub fn drive_on(
+    rt: &(impl Abort + AllocGlobal),
+    generator: &mut Lcg64Xsh32,
+    link: &mut PolledLink<'_>,
+    clock: &RestingClock,
+    notes: &mut Noted,
+    source: &mut BusyEnd<MemorySource>,
+    sink: &mut BusyEnd<MemorySink>,
+) -> Result<Ending, LinkFault>
+    requires ready { IsReady (λ _. Unit {0}) link.old
+        (Some source.old.end.bytes) source.old.end.failed }
+    requires working { sink.old.end.failed ≡ false }
+    ensures held { IsHeld link.new }
+    ensures driven { MatchResult result (IsAtEnd (λ _. Unit {0}) link.new)
+        (λ fault. written_before fault ≡ link.new.written) }
+{
+    let mut scratch = [0; 16_384];
+    for _ in 0..MAX_DRIVES {
+        match drive(link, rt.alloc(), clock, notes, source, sink, &mut scratch) {
+            Ok(Progress::Again) => {}
+            Ok(Progress::Waits(until)) => go_on(generator, clock, until),
+            Ok(Progress::Ended(ending)) => return Ok(ending),
+            Err(fault) => return Err(fault),
+        }
+    }
+    panic!(rt; "no end")
+}
+
+/// Moves the clock on: to the instant that is waited for, or by a drawn time.
+fn go_on(generator: &mut Lcg64Xsh32, clock: &RestingClock, until: Option<Micros>) {
+    let now = clock.micros.load(Ordering::SeqCst);
+    let drawn = now.saturating_add(u64::from(below(generator, 1500)));
+    let next = match until {
+        Some(until) if below(generator, 2) == 0 => until.get().max(now),
+        _ => drawn,
+    };
+    clock.micros.store(next, Ordering::SeqCst);
+}
+
+/// Bytes that tell their position, up to 600 of them.
+fn drawn_bytes(alloc: Global, generator: &mut Lcg64Xsh32) -> Result<Vec<u8>, AllocError> {
+    let mut bytes = Vec::new(alloc);
+    for nth in 0..below(generator, 600) {
+        bytes.push((nth % 251) as u8)?;
+    }
+    Ok(bytes)
+}
+
+/// At one call in eight of those that fail, which one.
+fn drawn_fault(generator: &mut Lcg64Xsh32) -> Option<u64> {
+    if below(generator, 8) == 0 {
+        Some(u64::from(1 + below(generator, 20)))
+    } else {
+        None
+    }
+}
+
+/// What a log heard, and what it said.
+fn read_log(alloc: Global, notes: &Noted) -> Result<(Arrivals, SliceList), Fail> {
+    let mut arrivals = Arrivals::new(alloc);
+    let mut slices = SliceList::new(alloc);
+    for event in notes.events.as_slice() {
+        match event {
+            LinkEvent::Piece(len, instant) => arrivals.push(*len, *instant)?,
+            LinkEvent::SourceEnd(instant) => arrivals.eof(*instant)?,
+            LinkEvent::Wrote(slice, _) => slices.push(*slice)?,
+        }
+    }
+    Ok((arrivals, slices))
+}
+
+/// Drives a direction that a seed draws, and compares it with what is delivered. Returns whether it broke off.
+fn compare(rt: &(impl Abort + AllocGlobal), seed: u64) -> Result<bool, Fail> {
+    let alloc = rt.alloc();
+    let generator = &mut Lcg64Xsh32::new(seed, 3);
+    let chain = drawn_chain(rt, generator);
+    let words = drawn_words(alloc, generator)?;
+    let bytes = drawn_bytes(alloc, generator)?;
+    let mut link = PolledLink::new(alloc, compile(&chain, &words), &words)?;
+    let clock = RestingClock {
+        micros: Arc::new(alloc, AtomicU64::new(0))?,
+    };
+    let mut notes = Noted {
+        events: Vec::new(alloc),
+    };
+    let most = 1 + below(generator, 60) as usize;
+    let reader = MemorySource::new(bytes.clone()?, most, drawn_fault(generator));
+    let mut source = BusyEnd::new(reader, seed);
+    let most = 1 + below(generator, 60) as usize;
+    let writer = MemorySink::new(alloc, 600, most, drawn_fault(generator))?;
+    let mut sink = BusyEnd::new(writer, seed);
+    let driven = drive_on(
+        rt,
+        generator,
+        &mut link,
+        &clock,
+        &mut notes,
+        &mut source,
+        &mut sink,
+    );
+    let answer = finish(link, &clock, driven, source);
+    let written = sink.end.bytes();
+    assert_eq!(rt; Some(written), bytes.get(..written.len()), "seed {seed}");
+    let (arrivals, slices) = read_log(alloc, &notes)?;
+    let outcome = deliver(alloc, &chain, &words, &arrivals)?;
+    let said = table_of(alloc, &slices)?;
+    let due = table_of(alloc, &outcome.slices)?;
+    match answer {
+        Ok(timed) => {
+            assert_eq!(rt; said, due, "seed {seed}");
+            assert_eq!(rt; timed.report.ending, outcome.ending, "seed {seed}");
+            assert_eq!(rt; timed.report.written, written.len() as u64, "seed {seed}");
+            Ok(false)
+        }
+        Err(fault) => {
+            assert_eq!(rt; fault.written(), written.len() as u64, "seed {seed}");
+            assert_eq!(rt; Some(said.as_slice()), due.get(..said.len()), "seed {seed}");
+            assert!(rt; written.len() <= due.len(), "seed {seed}");
+            Ok(true)
+        }
+    }
+}
+
+#[test]
+fn drives_write_what_is_delivered(rt: HostRuntime) -> Result<(), Fail> {
+    let mut broken = 0u64;
+    for seed in 0..1000 {
+        if compare(&rt, seed)? {
+            broken = broken.saturating_add(1);
+        }
+    }
+    assert!(rt; 10 < broken && broken < 500);
+    Ok(())
+}

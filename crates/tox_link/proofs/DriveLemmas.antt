@@ -1,0 +1,387 @@
+-- A direction that is driven: steps one after the other.
+use Rattle.std.proofs.Common.{◌≡◌, ℕ, ◌+◌, ◌≤◌, inl, Bool, false, true, List, [], ◌∷◌, ◌++◌, length, length-append, take, drop, Option, Some, None, refl, ap, ◌∙◌, sym, subst, append_assoc, append-nil, arith}
+use Rattle.std.specs.Io.KnownBytes.{append_known, prepend_known}
+use Rattle.std.proofs.lemmas.List.{take-append-drop}
+use Rattle.std.specs.Prelude.{is_some, IfSome, slice_get, ◌||◌, Result, Ok, Err, nat_le, if◌then◌else◌}
+use Rattle.std.proofs.lemmas.Bool.{leb-true}
+use Rattle.tox_time.specs.declared.streams.ending.Ending.{Ending}
+use Rattle.tox_time.specs.declared.streams.ending.Ending.TheVariants.{StillOpen, Closed as ClosedAt, Reset as ResetAt}
+use Rattle.tox_time.specs.declared.streams.item.Item.{Item}
+use Rattle.tox_time.specs.declared.streams.slice.Slice.{Slice}
+use Rattle.tox_time.specs.declared.streams.item.Item.TheVariants.{Quiet}
+use Rattle.tox_compile.specs.Meaning.{deadline_of}
+use Rattle.tox_link.specs.declared.direction.polled_link.PolledLink.{PolledLink}
+use Rattle.tox_link.specs.declared.direction.unwritten.Unwritten.{Unwritten}
+use Rattle.tox_link.specs.declared.link_core.act.Act.{Act}
+use Rattle.tox_link.specs.declared.link_core.act.Act.TheVariants.{Write, WaitUntil, WaitForInput, End}
+use Rattle.tox_link.specs.declared.notes.LinkEvent.{LinkEvent}
+use Rattle.tox_link.specs.declared.notes.LinkEvent.TheVariants.{Wrote}
+use Rattle.tox_link.specs.carrying.Held.{AreOf}
+use Rattle.tox_link.specs.direction.Driven.{EndsView, Drove, IsReady, done_of, begun_by, steps_of_act, steps_of_move}
+use Rattle.tox_link.specs.direction.Follows.{unsaid, IsUpTo, IsHeld, IsNew, Follows, Drives, WritesOn, AreLeftOver}
+use Rattle.tox_link.specs.link_core.Acts.{Answered, After, Says, end_act, idle_act, wait_act}
+use Rattle.tox_link.specs.link_core.Core.{CoreView, KeepsCore, LeavesOutput, remaining_output, next_instant, core_ending, core_deadline, core_position}
+use Rattle.tox_link.specs.log.Carried.{Carried, KeepsCarried, noted_of}
+use Rattle.tox_link.specs.log.Events.{with_events}
+use Rattle.tox_link.specs.log.Log.{has_source_end, heard, IsFaithful}
+use Rattle.tox_link.specs.log.Logged.{IsCutOff, IsReached}
+use Rattle.tox_link.specs.Reports.{WritesFirst}
+use Rattle.tox_time.specs.streams.Stream.{IsStream}
+use Rattle.tox_time.specs.streams.Table.{table}
+use Rattle.std.proofs.Math.Seq.{take-nil}
+use Rattle.tox_link.specs.ring.Messages.{IsUnsent, EndsFor, HandsOn}
+use Rattle.tox_link.specs.declared.ring.message.ReadEnd.{ReadEnd}
+use Rattle.tox_link.specs.Sources.{read_end_of}
+use Rattle.tox_link.proofs.CarryLemmas.{append-nothing, prepend-nil}
+use Rattle.tox_link.proofs.FollowLemmas.{bare, clad, drives-ended, unsent-none}
+use Rattle.tox_link.proofs.StepLemmas.{start-carried}
+use Rattle.tox_link.proofs.LoggedLemmas.{said-within}
+use Rattle.tox_link.proofs.Logs.{heard-wrote, end-same, events-append, events-none, has_source_end-append}
+use Rattle.tox_link.proofs.Sent.{prepend_more}
+use Rattle.tox_link.proofs.SideLemmas.{unknown-before}
+
+-- an event behind others is all that is still to be noted of a slice: there are no others
+alone : (more : List LinkEvent) (event : LinkEvent) (slice : Option Unwritten) → more ++ event ∷ [] ≡ unsaid slice → more ≡ []
+alone [] event slice same = refl
+alone (first ∷ more) event None same = absurd (cc)
+alone (first ∷ []) event (Some unwritten) same = absurd (cc)
+alone (first ∷ second ∷ more) event (Some unwritten) same = absurd (cc)
+
+-- no source's end is noted of a slice
+unsaid-open : (slice : Option Unwritten) → has_source_end (unsaid slice) ≡ false
+unsaid-open None = refl
+unsaid-open (Some unwritten) = refl
+
+left-false : (b c : Bool) → (b || c) ≡ false → b ≡ false
+left-false true c none = cc
+left-false false c none = refl
+
+-- what was noted is faithful, where what was still to be noted of the slice is so
+noted-faithful : (means : List Item → List Item) (told : ℕ → Type 0) (log more : List LinkEvent) (old new : Option Unwritten) → more ++ unsaid new ≡ unsaid old → IsFaithful means told log → IsFaithful means told (log ++ unsaid old)
+    → IsFaithful means told (log ++ more)
+noted-faithful means told log more old None same before after = subst (λ said. IsFaithful means told (log ++ said)) (sym same ∙ append-nil more) after
+noted-faithful means told log more old (Some unwritten) same before after =
+    subst (IsFaithful means told) (sym (append-nil log) ∙ ap (λ more. log ++ more) (sym (alone more (Wrote unwritten.slice unwritten.reading) old same))) before
+
+-- a slice is written on
+pub writes-follow : (told : ℕ → Type 0) (old new : PolledLink) (written written_after : Option (List ℕ)) (more : List LinkEvent) → WritesOn old written more new written_after → Drives told old written [] more new written_after
+writes-follow told old new written written_after more on means log came before follows =
+    let same : came ++ [] ≡ came = append-nil came in
+    let none : has_source_end more ≡ false = left-false (has_source_end more) (has_source_end (unsaid new.unwritten)) (sym (has_source_end-append more (unsaid new.unwritten)) ∙ ap has_source_end on.noted ∙ unsaid-open old.unwritten) in
+    let bytes : new.core.bytes ≡ old.core.bytes = ap (λ (core : CoreView). core.bytes) on.core in
+    record {
+      carried = subst (Carried means told new.core) (ap (λ said. log ++ said) (sym on.noted) ∙ sym (append_assoc log more (unsaid new.unwritten))) (subst (λ core. Carried means told core (log ++ unsaid old.unwritten)) (sym on.core) follows.carried);
+      faithful = noted-faithful means told log more old.unwritten new.unwritten on.noted follows.faithful follows.carried.faithful;
+      closed = end-same log more none ∙ follows.closed ∙ ap (λ source. is_some (read_end_of source)) (sym on.source);
+      parts = subst (λ came. AreOf came new.window.held) (sym same) (on.parts came follows.parts);
+      few = let long = ap length same in omega (arith, long, bytes, follows.few);
+      live = λ unended none. bytes ∙ follows.live (sym on.ended ∙ unended) (ap core_ending (sym on.core) ∙ none) ∙ sym (ap length same);
+      unsent = subst (λ source. IfSome (read_end_of source) (λ end. IsUnsent end (take new.core.bytes (came ++ [])) (drop new.core.bytes (came ++ [])))) (sym on.source)
+          (subst (λ count. IfSome (read_end_of old.source) (λ end. IsUnsent end (take count (came ++ [])) (drop count (came ++ [])))) (sym bytes)
+          (subst (λ came. IfSome (read_end_of old.source) (λ end. IsUnsent end (take old.core.bytes came) (drop old.core.bytes came))) (sym same) follows.unsent));
+      wrote = on.wrote came before follows.parts follows.wrote ∙ ap (λ came. append_known before (take new.written came)) (sym same);
+    }
+
+-- the slice that is given is noted later
+unsaid-noted : (act : Act) (now : ℕ) → unsaid (begun_by act now) ≡ noted_of act now
+unsaid-noted (Write slice) now = refl
+unsaid-noted (WaitUntil t) now = refl
+unsaid-noted WaitForInput now = refl
+unsaid-noted (End last) now = refl
+
+-- how much a direction that reads no more counts for
+abbrev shut_of : Bool → ℕ
+shut_of ended = if ended then 1 else 0
+
+-- the core answered so
+module _ (link : PolledLink) (core : CoreView) (now : ℕ) (held : IsHeld link) (idle : link.unwritten ≡ None) (kept : KeepsCore link.core core) where
+  abbrev pub asked : Act → PolledLink
+  asked act = record link { core = core; unwritten = begun_by act now }
+
+  at : link.written ≡ core_position link.core
+  at = subst (λ slice. IsUpTo slice link.written (core_position link.core)) idle held.up_to
+
+  held-with : (unwritten : Option Unwritten) → core_position core ≤ core.bytes → IsUpTo unwritten link.written (core_position core) → IsHeld (record link { core = core; unwritten = unwritten })
+  held-with unwritten within up_to = record {
+    stop = held.stop ∙ sym kept.bytes;
+    joined = held.joined;
+    start = held.start;
+    within = within;
+    few = omega (arith, kept.bytes, held.few);
+    up_to = up_to;
+    going = λ unended. kept.ended ∙ held.going unended;
+    unheard = held.unheard;
+  }
+
+  held-waited : LeavesOutput link.core core now → IsHeld (record link { core = core; unwritten = None })
+  held-waited leaves = held-with None (omega (arith, leaves.position, held.within, kept.bytes)) (at ∙ sym leaves.position)
+
+  pub held-asked : (act : Act) → After link.core now act core → IsHeld (asked act)
+  held-asked (Write slice) (due, takes) = held-with (Some (record { slice = slice; reading = now })) (omega (arith, takes.stops, takes.arrived)) (
+    sym takes.stops,
+    omega (arith, takes.starts, at),
+    omega (arith, takes.starts, takes.stops, takes.within.some, at),
+  )
+  held-asked (WaitUntil t) (before, leaves) = held-waited leaves
+  held-asked WaitForInput leaves = held-waited leaves
+  held-asked (End last) leaves = held-waited leaves
+
+  pub work-asked : (act : Act) → After link.core now act core → core_position link.core + steps_of_act act ≤ core_position core
+  work-asked (Write slice) (due, takes) = omega (arith, takes.starts, takes.stops, takes.within.some)
+  work-asked (WaitUntil t) (before, leaves) = omega (arith, leaves.position)
+  work-asked WaitForInput leaves = omega (arith, leaves.position)
+  work-asked (End last) leaves = omega (arith, leaves.position)
+
+  pub drives-asked : (told : ℕ → Type 0) (act : Act) (known : Option (List ℕ)) → KeepsCarried told link.core (noted_of act now) core → Drives told link known [] [] (asked act) known
+  drives-asked told act known keeps means log came before follows =
+      let same : came ++ [] ≡ came = append-nil came in
+      let none : log ++ [] ≡ log = append-nil log in
+      record {
+        carried = subst (λ logged. Carried means told core (logged ++ unsaid (begun_by act now))) (sym none)
+            (subst (λ said. Carried means told core (log ++ said)) (sym (unsaid-noted act now)) (keeps means log (bare means told link.core link.unwritten log idle follows.carried)));
+        faithful = subst (IsFaithful means told) (sym none) follows.faithful;
+        closed = ap has_source_end none ∙ follows.closed;
+        parts = subst (λ came. AreOf came link.window.held) (sym same) follows.parts;
+        few = let long = ap length same in omega (arith, long, kept.bytes, follows.few);
+        live = λ unended none. kept.bytes ∙ follows.live unended (unknown-before link.core core kept none) ∙ sym (ap length same);
+        unsent = subst (λ count. IfSome (read_end_of link.source) (λ end. IsUnsent end (take count (came ++ [])) (drop count (came ++ [])))) (sym kept.bytes)
+            (subst (λ came. IfSome (read_end_of link.source) (λ end. IsUnsent end (take link.core.bytes came) (drop link.core.bytes came))) (sym same) follows.unsent);
+        wrote = follows.wrote ∙ ap (λ came. append_known before (take link.written came)) (sym same);
+      }
+
+-- a core that leaves its output says so still
+pub says-still : (old core : CoreView) (now : ℕ) (act : Act) → Answered old core now act → LeavesOutput old core now → Says core now act
+says-still old core now act answered leaves = record {
+  slice = λ t is. answered.slice t (sym next ∙ is);
+  idle = λ none.
+      answered.idle (sym next ∙ none) ∙ ap (λ ended. idle_act ended now (core_deadline old) (core_ending core)) (sym answered.kept.ended)
+      ∙ ap (λ ops. idle_act core.ended now (deadline_of ops) (core_ending core)) (sym answered.kept.ops);
+}
+  where
+    next : next_instant (remaining_output core (Quiet ∷ [])) ≡ next_instant (remaining_output old (Quiet ∷ []))
+    next = ap (λ ts. slice_get ts 0) (leaves.output 0 now (Quiet ∷ []) (omega arith) refl).tables
+
+-- no step was taken
+pub drove-none : (told : ℕ → Type 0) (link : PolledLink) (view : EndsView) → Drove 0 told link view link view
+drove-none told link view = record {
+  bytes = [];
+  more = [];
+  read = prepend-nil view.remaining;
+  noted = events-none view.events;
+  follows = λ means log came before follows.
+      subst (λ log. Follows means told link log (came ++ []) before view.written) (sym (append-nil log)) (subst (λ came. Follows means told link log came before view.written) (sym (append-nil came)) follows);
+  work = omega arith;
+}
+
+-- one drive after another
+pub drove-then : (told : ℕ → Type 0) (first second : ℕ) (a b c : PolledLink) (before between after : EndsView) → Drove first told a before b between → Drove second told b between c after → Drove (first + second) told a before c after
+drove-then told first second a b c before between after one two = record {
+  bytes = one.bytes ++ two.bytes;
+  more = one.more ++ two.more;
+  read = prepend_more one.bytes two.bytes before.remaining between.remaining after.remaining one.read two.read;
+  noted = events-append before.events between.events after.events one.more two.more one.noted two.noted;
+  follows = λ means log came start follows.
+      subst (λ log. Follows means told c log (came ++ (one.bytes ++ two.bytes)) start after.written) (append_assoc log one.more two.more)
+      (subst (λ came. Follows means told c ((log ++ one.more) ++ two.more) came start after.written) (append_assoc came one.bytes two.bytes)
+      (two.follows means (log ++ one.more) (came ++ one.bytes) start (one.follows means log came start follows)));
+  work =
+      let bytes = length-append one.bytes two.bytes in
+      let more = length-append one.more two.more in
+      omega (arith, one.work, two.work, bytes, more);
+}
+
+-- what is still to be noted of a slice is not heard
+heard-unsaid : (log : List LinkEvent) (slice : Option Unwritten) → heard (log ++ unsaid slice) ≡ heard log
+heard-unsaid log None = ap heard (append-nil log)
+heard-unsaid log (Some unwritten) = heard-wrote 0 log unwritten.slice unwritten.reading (Quiet ∷ [])
+
+written-up_to : (slice : Option Unwritten) (written position : ℕ) → IsUpTo slice written position → written ≤ position
+written-up_to None written position up_to = omega (arith, up_to)
+written-up_to (Some unwritten) written position up_to = up_to.2
+
+-- a direction that broke off
+pub cut-follows : (means : List Item → List Item) (told : ℕ → Type 0) (link : PolledLink) (log : List LinkEvent) (came : List ℕ) (before after : Option (List ℕ)) → IsHeld link → Follows means told link log came before after
+    → IsCutOff means told link.written log
+cut-follows means told link log came before after held follows =
+    let within = said-within means told link.core (log ++ unsaid link.unwritten) follows.carried in
+    let same = ap (λ items. length (table (means items))) (heard-unsaid log link.unwritten) in
+    record { faithful = follows.faithful; few = omega (arith, within, same, written-up_to link.unwritten link.written (core_position link.core) held.up_to) }
+
+-- it wrote the first bytes of those that came
+pub writes-came : (link : PolledLink) (given before after left : Option (List ℕ)) (came : List ℕ) → IsHeld link → link.core.bytes ≤ length came → given ≡ prepend_known came left → after ≡ append_known before (take link.written came)
+    → WritesFirst given before after came link.written
+writes-came link given before after left came held few gave wrote =
+    let within = written-up_to link.unwritten link.written (core_position link.core) held.up_to in
+    record { left = left; gave = gave; few = omega (arith, within, held.within, few); wrote = wrote }
+
+-- how the source ended, where the direction learnt of it in time
+pub hands-on : (source : Option ReadEnd) (given left : Option (List ℕ)) (taken : ℕ) (came : List ℕ) → given ≡ prepend_known came left → IfSome source (λ end. IsUnsent end (take taken came) (drop taken came))
+    → IfSome source (λ end. HandsOn given (take taken came) end left)
+hands-on None given left taken came gave unsent = tt
+hands-on (Some end) given left taken came gave unsent = (drop taken came, gave ∙ ap (λ bytes. prepend_known bytes left) (sym (take-append-drop taken came)), unsent)
+
+-- the same drive from equal bytes, at as many steps or fewer
+pub drove-read : (least fewer : ℕ) (told : ℕ → Type 0) (old new : PolledLink) (given again left before after : Option (List ℕ)) (events noted : Option (List LinkEvent)) → fewer ≤ least → given ≡ again
+    → Drove least told old (record { remaining = again; written = before; events = events }) new (record { remaining = left; written = after; events = noted })
+    → Drove fewer told old (record { remaining = given; written = before; events = events }) new (record { remaining = left; written = after; events = noted })
+drove-read least fewer told old new given again left before after events noted few same drove =
+    record { bytes = drove.bytes; more = drove.more; read = same ∙ drove.read; noted = drove.noted; follows = drove.follows; work = omega (arith, few, drove.work) }
+
+pub drove-less : (least fewer : ℕ) (told : ℕ → Type 0) (old new : PolledLink) (before after : EndsView) → fewer ≤ least → Drove least told old before new after → Drove fewer told old before new after
+drove-less least fewer told old new before after few drove = record { bytes = drove.bytes; more = drove.more; read = drove.read; noted = drove.noted; follows = drove.follows; work = omega (arith, few, drove.work) }
+
+-- a move is at most one step
+pub move-few : {E : Type 0} (moved : Result Bool E) → steps_of_move moved ≤ 1
+move-few (Ok true) = omega arith
+move-few (Ok false) = omega arith
+move-few (Err fault) = omega arith
+
+pub move-one : {E : Type 0} (moved : Bool) (result : Result Bool E) → result ≡ Ok moved → moved ≡ true → 1 ≤ steps_of_move result
+move-one true (Ok true) same is = omega arith
+move-one true (Ok false) same is = absurd (cc)
+move-one true (Err fault) same is = absurd (cc)
+move-one false result same is = absurd (cc)
+
+-- a slice is written on
+pub drove-writes : (least : ℕ) (told : ℕ → Type 0) (old new : PolledLink) (left before after : Option (List ℕ)) (events noted : Option (List LinkEvent)) (more : List LinkEvent) → noted ≡ with_events events more → WritesOn old before more new after
+    → old.written + least ≤ new.written + length more
+    → Drove least told old (record { remaining = left; written = before; events = events }) new (record { remaining = left; written = after; events = noted })
+drove-writes least told old new left before after events noted more said on work = record {
+  bytes = [];
+  more = more;
+  read = prepend-nil left;
+  noted = said;
+  follows = writes-follow told old new before after more on;
+  work =
+      let position = ap core_position on.core in
+      let ended = ap shut_of on.ended in
+      omega (arith, work, position, ended);
+}
+
+-- the answer to a wait
+pub says-asked : (old core : CoreView) (now : ℕ) (act : Act) (until : Option ℕ) → Answered old core now act → act ≡ wait_act until → Says core now (wait_act until)
+says-asked old core now act None answered is = let same : Answered old core now WaitForInput = subst (Answered old core now) is answered in says-still old core now WaitForInput same same.output
+says-asked old core now act (Some t) answered is = let same : Answered old core now (WaitUntil t) = subst (Answered old core now) is answered in says-still old core now (WaitUntil t) same same.output.1
+
+-- the answer of an end
+module _ (old core : CoreView) (now : ℕ) (last : Ending) (answered : Answered old core now (End last)) where
+  no-slice : (next : Option ℕ) → next_instant (remaining_output old (Quiet ∷ [])) ≡ next → next ≡ None
+  no-slice None is = refl
+  no-slice (Some t) is = absurd (answered.slice t is)
+
+  said-end : End last ≡ idle_act old.ended now (core_deadline old) (core_ending core)
+  said-end = answered.idle (no-slice (next_instant (remaining_output old (Quiet ∷ []))) refl)
+
+  no-wait : (deadline : Option ℕ) → End last ≡ wait_act deadline → ⊥
+  no-wait None same = cc
+  no-wait (Some t) same = cc
+
+  pub end-known : core_ending core ≡ None → ⊥
+  end-known none = no-wait (core_deadline old) (said-end ∙ ap (idle_act old.ended now (core_deadline old)) none)
+
+  reached-closed : (t : ℕ) (test : Bool) → nat_le t now ≡ test → End last ≡ (if test then End (ClosedAt t) else WaitUntil t) → t ≤ now
+  reached-closed t true is same = leb-true t now is
+  reached-closed t false is same = absurd (cc)
+
+  reached-reset : (t : ℕ) (test : Bool) → nat_le t now ≡ test → End last ≡ (if test then End (ResetAt t) else WaitUntil t) → t ≤ now
+  reached-reset t true is same = leb-true t now is
+  reached-reset t false is same = absurd (cc)
+
+  reached-by : (ending : Ending) → End last ≡ end_act old.ended now ending → IsReached now ending
+  reached-by StillOpen same = tt
+  reached-by (ClosedAt t) same = reached-closed t (nat_le t now) refl same
+  reached-by (ResetAt t) same = reached-reset t (nat_le t now) refl same
+
+  open-ended : (ended : Bool) → End last ≡ end_act ended now StillOpen → ended ≡ true
+  open-ended true same = refl
+  open-ended false same = absurd (cc)
+
+  pub end-reached : (ending : Ending) → core_ending core ≡ Some ending → IsReached now ending
+  end-reached ending known = reached-by ending (said-end ∙ ap (idle_act old.ended now (core_deadline old)) known)
+
+  pub end-closed : (ending : Ending) → core_ending core ≡ Some ending → ending ≡ StillOpen → old.ended ≡ true
+  end-closed ending known open_still = open-ended old.ended (said-end ∙ ap (idle_act old.ended now (core_deadline old)) known ∙ ap (end_act old.ended now) open_still)
+
+-- a source that goes on has not told its core an end
+pub core-closed : (link : PolledLink) → IsHeld link → link.core.ended ≡ true → link.ended ≡ true
+core-closed link held closed = by link.ended held.going
+  where
+    by : (ended : Bool) → (ended ≡ false → link.core.ended ≡ false) → ended ≡ true
+    by true going = refl
+    by false going = let same = going refl in absurd (cc)
+
+-- the core was asked
+pub drove-asked : (told : ℕ → Type 0) (link new : PolledLink) (core : CoreView) (now : ℕ) (act : Act) (left known : Option (List ℕ)) (events : Option (List LinkEvent)) → IsHeld link → link.unwritten ≡ None → Answered link.core core now act
+    → KeepsCarried told link.core (noted_of act now) core → new ≡ record link { core = core; unwritten = begun_by act now }
+    → Drove (steps_of_act act) told link (record { remaining = left; written = known; events = events }) new (record { remaining = left; written = known; events = events })
+drove-asked told link new core now act left known events held idle answered keeps same = record {
+  bytes = [];
+  more = [];
+  read = prepend-nil left;
+  noted = events-none events;
+  follows = subst (λ (new : PolledLink). Drives told link known [] [] new known) (sym same) (drives-asked link core now held idle answered.kept told act known keeps);
+  work =
+      let found = work-asked link core now held idle answered.kept act answered.output in
+      let position = ap (λ (link : PolledLink). core_position link.core) same in
+      let written = ap (λ (link : PolledLink). link.written) same in
+      let ended = ap (λ (link : PolledLink). shut_of link.ended) same in
+      omega (arith, found, position, written, ended);
+}
+
+-- an answer that gives no slice
+pub none-begun : (act : Act) (now : ℕ) → ((slice : Slice) → act ≡ Write slice → ⊥) → begun_by act now ≡ None
+none-begun (Write slice) now never = absurd (never slice refl)
+none-begun (WaitUntil t) now never = refl
+none-begun WaitForInput now never = refl
+none-begun (End last) now never = refl
+
+-- nothing happened to the core
+keeps-same : (told : ℕ → Type 0) (old new : CoreView) → new ≡ old → KeepsCarried told old [] new
+keeps-same told old new same means log carried = subst (Carried means told new) (sym (append-nil log)) (subst (λ core. Carried means told core log) (sym same) carried)
+
+-- input came, and nothing was written
+pub drove-took : (told : ℕ → Type 0) (link new : PolledLink) (bytes : List ℕ) (left known : Option (List ℕ)) (events noted : Option (List LinkEvent)) (more : List LinkEvent) → noted ≡ with_events events more → Drives told link known bytes more new known
+    → done_of link + 1 ≤ done_of new + length bytes + length more
+    → Drove 1 told link (record { remaining = prepend_known bytes left; written = known; events = events }) new (record { remaining = left; written = known; events = noted })
+drove-took told link new bytes left known events noted more said follows work = record { bytes = bytes; more = more; read = refl; noted = said; follows = follows; work = work }
+
+-- the source ended, or nothing more is read
+module _ (told : ℕ → Type 0) (link new : PolledLink) (bytes : List ℕ) (left known : Option (List ℕ)) (events noted : Option (List LinkEvent)) (held : IsHeld link) (idle : link.unwritten ≡ None) (going : link.ended ≡ false)
+    (window : new.window ≡ link.window) (unwritten : new.unwritten ≡ link.unwritten) (ended : new.ended ≡ true) (written : new.written ≡ link.written) where
+  pub drove-ended : (more : List LinkEvent) → new.core.bytes ≡ link.core.bytes → core_position new.core ≡ core_position link.core → noted ≡ with_events events more → KeepsCarried told link.core more new.core
+      → has_source_end more ≡ is_some (read_end_of new.source) → (core_ending link.core ≡ None → AreLeftOver link new.source bytes) → ((core_ending link.core ≡ None → ⊥) → read_end_of new.source ≡ None)
+      → Drove 1 told link (record { remaining = prepend_known bytes left; written = known; events = events }) new (record { remaining = left; written = known; events = noted })
+  drove-ended more counts position said keeps says over late =
+      drove-took told link new bytes left known events noted more said (drives-ended link new held idle counts position window unwritten ended written told more bytes known going keeps says over late)
+      (let before = ap shut_of going in let after = ap shut_of ended in omega (arith, position, written, before, after))
+
+  pub drove-shut : new.core ≡ link.core → new.source ≡ link.source → noted ≡ events
+      → Drove 1 told link (record { remaining = prepend_known bytes left; written = known; events = events }) new (record { remaining = left; written = known; events = noted })
+  drove-shut core source said =
+      let none : read_end_of new.source ≡ None = ap read_end_of source ∙ held.unheard going in
+      drove-ended [] (ap (λ (core : CoreView). core.bytes) core) (ap core_position core) (said ∙ events-none events) (keeps-same told link.core new.core core) (sym (ap is_some none))
+      (λ unknown came long. subst (λ source. IfSome source (λ end. IsUnsent end came bytes)) (sym none) tt) (λ known. none)
+
+-- a direction that is new may be driven
+pub ready-new : (told : ℕ → Type 0) (link : PolledLink) (left : Option (List ℕ)) (failed : Bool) → IsNew link → IsHeld link → failed ≡ false → IsReady told link left failed
+ready-new told link left failed new held works = record {
+  held = held;
+  read = inl new.latest;
+  working = λ going. works;
+  cause = subst (λ source. IfSome source (λ end. (reads count : ℕ) → EndsFor end reads count left failed)) (sym (ap read_end_of new.source)) tt;
+}
+
+-- and follows its plan
+pub follows-new : (means : List Item → List Item) (told : ℕ → Type 0) (link : PolledLink) (known : Option (List ℕ)) → IsNew link → ((items : List Item) → IsStream items → remaining_output link.core items ≡ means items) → Follows means told link [] [] known known
+follows-new means told link known new output =
+    let carried : Carried means told link.core [] = start-carried means told link.core new.bytes new.latest new.position output in
+    record {
+      carried = clad means told link.core link.unwritten [] new.unwritten carried;
+      faithful = carried.faithful;
+      closed = sym (ap (λ source. is_some (read_end_of source)) new.source);
+      parts = subst (AreOf []) (sym new.held) tt;
+      few = omega (arith, new.bytes);
+      live = λ unended unknown. new.bytes;
+      unsent = unsent-none link [] (ap read_end_of new.source);
+      wrote = append-nothing known ∙ ap (append_known known) (sym (take-nil link.written));
+    }

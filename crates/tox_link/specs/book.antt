@@ -1,0 +1,3 @@
+-- The book of links.
+pub mod Links
+pub mod BookInside

@@ -1,0 +1,3 @@
+-- Carrying one direction.
+pub mod Held
+pub mod Side

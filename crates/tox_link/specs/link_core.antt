@@ -1,0 +1,5 @@
+-- The core of a live link.
+pub mod Acts
+pub mod Core
+pub mod CoreKept
+pub mod CoreInside

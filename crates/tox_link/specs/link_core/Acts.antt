@@ -1,0 +1,55 @@
+-- What a link core answers, and what an answer changes.
+use Rattle.std.specs.Prelude.{◌≡◌, ℕ, ◌<◌, ◌≤◌, Bool, true, false, [], ◌∷◌, Option, Some, None, IsSome, nat_le, if◌then◌else◌}
+use Rattle.tox_time.specs.declared.streams.ending.Ending.{Ending}
+use Rattle.tox_time.specs.declared.streams.ending.Ending.TheVariants.{StillOpen, Closed as ClosedAt, Reset as ResetAt}
+use Rattle.tox_time.specs.declared.streams.item.Item.TheVariants.{Quiet}
+use Rattle.tox_link.specs.declared.link_core.act.Act.{Act}
+use Rattle.tox_link.specs.declared.link_core.act.Act.TheVariants.{Write, WaitUntil, WaitForInput, End}
+use Rattle.tox_link.specs.link_core.Core.{CoreView, TakesSlice, LeavesOutput, KeepsCore, remaining_output, next_instant, core_ending, core_deadline, kept_count}
+
+-- until the deadline, or without one for input
+abbrev pub wait_act : Option ℕ → Act
+wait_act None = WaitForInput
+wait_act (Some deadline) = WaitUntil deadline
+
+-- the ending once it is reached; a link that stays open ends where its source has ended
+abbrev pub end_act : Bool → ℕ → Ending → Act
+end_act true now StillOpen = End StillOpen
+end_act false now StillOpen = WaitForInput
+end_act ended now (ClosedAt t) = if nat_le t now then End (ClosedAt t) else WaitUntil t
+end_act ended now (ResetAt t) = if nat_le t now then End (ResetAt t) else WaitUntil t
+
+-- what is done at `now` where no slice is left
+abbrev pub idle_act : Bool → ℕ → Option ℕ → Option Ending → Act
+idle_act ended now deadline None = wait_act deadline
+idle_act ended now deadline (Some ending) = end_act ended now ending
+
+-- what is done at `now` where the next slice leaves at t
+abbrev pub IsSliceAct : ℕ → ℕ → Act → Type 0
+IsSliceAct t now (Write slice) = (slice.instant ≡ t) × (t ≤ now)
+IsSliceAct t now (WaitUntil instant) = (instant ≡ t) × (now < t)
+IsSliceAct t now WaitForInput = ⊥
+IsSliceAct t now (End ending) = ⊥
+
+-- a written slice is taken off the remaining output at or past its instant; every other answer leaves the output
+abbrev pub After : CoreView → ℕ → Act → CoreView → Type 0
+After old now (Write slice) new = (slice.instant ≤ now) × TakesSlice old new slice
+After old now (WaitUntil instant) new = (now < instant) × LeavesOutput old new now
+After old now WaitForInput new = LeavesOutput old new now
+After old now (End ending) new = LeavesOutput old new now
+
+-- an answer at `now`, by what is next: a slice, the deadline or the ending
+pub record Answered (old new : CoreView) (now : ℕ) (act : Act) : Type 0 where
+  pub slice : (t : ℕ) → next_instant (remaining_output old (Quiet ∷ [])) ≡ Some t → IsSliceAct t now act
+  pub idle : next_instant (remaining_output old (Quiet ∷ [])) ≡ None → act ≡ idle_act old.ended now (core_deadline old) (core_ending new)
+  pub ended : next_instant (remaining_output old (Quiet ∷ [])) ≡ None → old.ended ≡ true → IsSome (core_ending new)
+  pub dropped : next_instant (remaining_output old (Quiet ∷ [])) ≡ None → kept_count new ≡ 0
+  pub overdue : (d : ℕ) → next_instant (remaining_output old (Quiet ∷ [])) ≡ None → core_deadline old ≡ Some d → d ≤ now → IsSome (core_ending new)
+  pub output : After old now act new
+  pub kept : KeepsCore old new
+  pub latest : new.latest ≡ now
+
+-- what a core at rest says at `now`, by what is next: a slice, the deadline or the ending
+pub record Says (core : CoreView) (now : ℕ) (act : Act) : Type 0 where
+  pub slice : (t : ℕ) → next_instant (remaining_output core (Quiet ∷ [])) ≡ Some t → IsSliceAct t now act
+  pub idle : next_instant (remaining_output core (Quiet ∷ [])) ≡ None → act ≡ idle_act core.ended now (core_deadline core) (core_ending core)

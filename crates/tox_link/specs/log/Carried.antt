@@ -1,0 +1,45 @@
+-- A link that is carried: its log beside its core.
+use Rattle.std.specs.Prelude.{◌≡◌, ℕ, ◌≤◌, ◌⊎◌, true, List, [], ◌∷◌, ◌++◌}
+use Rattle.tox_time.specs.declared.streams.item.Item.{Item}
+use Rattle.tox_time.specs.streams.Stream.{IsStream, IsStreamFrom}
+use Rattle.tox_time.specs.streams.Table.{table, slices_table, ending}
+use Rattle.tox_link.specs.declared.link_core.act.Act.{Act}
+use Rattle.tox_link.specs.declared.link_core.act.Act.TheVariants.{Write, WaitUntil, WaitForInput, End}
+use Rattle.tox_link.specs.declared.notes.LinkEvent.{LinkEvent}
+use Rattle.tox_link.specs.declared.notes.LinkEvent.TheVariants.{Wrote}
+use Rattle.tox_link.specs.link_core.Core.{CoreView, remaining_output, core_position}
+use Rattle.tox_link.specs.log.Log.{heard_from, heard_bytes, has_source_end, said, reading_of, IsFaithful, IsGapless}
+
+-- no reading is above this one
+abbrev pub IsBy : ℕ → List LinkEvent → Type 0
+IsBy latest [] = Unit {0}
+IsBy latest (event ∷ log) = (reading_of event ≤ latest) × IsBy latest log
+
+-- what was said and what is to come are together what the plan means for what was heard and goes on from there;
+-- the log is faithful, and its numbers are the core's
+pub record Carried (means : List Item → List Item) (told : ℕ → Type 0) (core : CoreView) (log : List LinkEvent) : Type 0 where
+  pub tables : (rest : List Item) → IsStreamFrom core.bytes core.latest rest → table (means (heard_from 0 log rest)) ≡ slices_table (said log) ++ table (remaining_output core rest)
+  pub endings : (rest : List Item) → IsStreamFrom core.bytes core.latest rest → ending (means (heard_from 0 log rest)) ≡ ending (remaining_output core rest)
+  pub stream : (rest : List Item) → IsStreamFrom core.bytes core.latest rest → IsStream (heard_from 0 log rest)
+  pub faithful : IsFaithful means told log
+  pub by : IsBy core.latest log
+  pub gapless : IsGapless 0 (said log) (core_position core)
+  pub bytes : heard_bytes log ≡ core.bytes
+  pub closed : has_source_end log ≡ true → core.ended ≡ true
+  pub read : (core.latest ≡ 0) ⊎ told core.latest
+
+-- a core's last instant after another: it is 0 or a reading that the clock told
+pub record ReadsOn (told : ℕ → Type 0) (earlier latest : ℕ) : Type 0 where
+  pub read : (latest ≡ 0) ⊎ told latest
+  pub later : earlier ≤ latest
+
+-- a step of the core with these events keeps the link carried
+abbrev pub KeepsCarried : (ℕ → Type 0) → CoreView → List LinkEvent → CoreView → Type 0
+KeepsCarried told old more new = (means : List Item → List Item) (log : List LinkEvent) → Carried means told old log → Carried means told new (log ++ more)
+
+-- what is noted of an answer once it is done
+abbrev pub noted_of : Act → ℕ → List LinkEvent
+noted_of (Write slice) now = Wrote slice now ∷ []
+noted_of (WaitUntil instant) now = []
+noted_of WaitForInput now = []
+noted_of (End last) now = []

@@ -1,0 +1,51 @@
+-- The log of a link that is carried, up to its end or to a fault.
+use Rattle.std.specs.Prelude.{◌≡◌, ℕ, ◌≤◌, Bool, true, List, [], ◌∷◌, ◌++◌, length, is_some}
+use Rattle.tox_time.specs.declared.streams.item.Item.{Item}
+use Rattle.tox_time.specs.declared.streams.ending.Ending.{Ending}
+use Rattle.tox_time.specs.declared.streams.ending.Ending.TheVariants.{StillOpen, Closed as ClosedAt, Reset as ResetAt}
+use Rattle.tox_time.specs.streams.Table.{table, final_of}
+use Rattle.tox_link.specs.declared.notes.LinkEvent.{LinkEvent}
+use Rattle.tox_link.specs.declared.carrying.writer_side.WriterSide.{WriterSide}
+use Rattle.tox_link.specs.log.Carried.{Carried}
+use Rattle.tox_link.specs.link_core.Core.{CoreView, remaining_output}
+use Rattle.tox_link.specs.log.Log.{heard, has_source_end, IsFaithful}
+use Rattle.tox_link.specs.Sources.{read_end_of}
+
+-- the log is carried, and has the source's end where that came in time
+pub record Logged (means : List Item → List Item) (told : ℕ → Type 0) (side : WriterSide) (log : List LinkEvent) : Type 0 where
+  pub carried : Carried means told side.core log
+  pub closed : has_source_end log ≡ is_some (read_end_of side.source)
+
+-- a step with these events keeps the log
+abbrev pub KeepsLogged : (ℕ → Type 0) → WriterSide → List LinkEvent → WriterSide → Type 0
+KeepsLogged told old more new = (means : List Item → List Item) (log : List LinkEvent) → Logged means told old log → Logged means told new (log ++ more)
+
+-- the log of a link that broke off after so many bytes: they are no more than the plan means for what was heard
+pub record IsCutOff (means : List Item → List Item) (told : ℕ → Type 0) (written : ℕ) (log : List LinkEvent) : Type 0 where
+  pub faithful : IsFaithful means told log
+  pub few : written ≤ length (table (means (heard log)))
+
+-- a step that broke off leaves the log as it was
+abbrev pub CutsOff : (ℕ → Type 0) → WriterSide → ℕ → Type 0
+CutsOff told old written = (means : List Item → List Item) (log : List LinkEvent) → Logged means told old log → IsCutOff means told written log
+
+-- from an empty log on, this one is kept
+abbrev pub LogsFrom : (ℕ → Type 0) → WriterSide → List LinkEvent → WriterSide → Type 0
+LogsFrom told old log new = (means : List Item → List Item) → Logged means told old [] → Logged means told new log
+
+abbrev pub CutsOffFrom : (ℕ → Type 0) → WriterSide → List LinkEvent → ℕ → Type 0
+CutsOffFrom told old log written = (means : List Item → List Item) → Logged means told old [] → IsCutOff means told written log
+
+-- the ending's instant, if it has one, is reached
+abbrev pub IsReached : ℕ → Ending → Type 0
+IsReached now StillOpen = Unit {0}
+IsReached now (ClosedAt t) = t ≤ now
+IsReached now (ResetAt t) = t ≤ now
+
+-- the link has ended so: nothing else is to come, and the clock told an instant at or past the ending's;
+-- it stays open only once the source's end came
+pub record HasEnded (told : ℕ → Type 0) (core : CoreView) (source_ended : Bool) (ending : Ending) : Type 0 where
+  pub only : (items : List Item) → remaining_output core items ≡ final_of ending ∷ []
+  pub says : told core.latest
+  pub reached : IsReached core.latest ending
+  pub stays_open : ending ≡ StillOpen → source_ended ≡ true

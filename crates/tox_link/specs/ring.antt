@@ -1,0 +1,2 @@
+-- The ring of the reader's thread.
+pub mod Messages

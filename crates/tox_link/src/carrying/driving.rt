@@ -1,0 +1,159 @@
+//! The writer's side at work: takes from the ring and does what the core says, until the link ends.
+ghost use Rattle.std.specs.Prelude.{◌≡◌, ◌≢◌, ℕ, ◌<◌, ◌≤◌, ◌⊎◌, List, [], ◌∷◌, Option, All, length, take, false, IfOk, IfErr, IfSome, OnOk, OnErr};
+ghost use Rattle.std.specs.Io.KnownBytes.{append_known};
+ghost use Rattle.rtrb.specs.Ring.{received, SameConsumer};
+ghost use Rattle.tox_lend.specs.Run.{stop_of};
+ghost use Rattle.tox_link.specs.declared.link_fault.LinkFault.TheVariants.{SpawnRefused};
+ghost use Rattle.tox_link.specs.declared.notes.LinkEvent.{LinkEvent as OneEvent};
+ghost use Rattle.tox_link.specs.log.Carried.{ReadsOn};
+ghost use Rattle.tox_link.specs.log.Events.{with_events};
+ghost use Rattle.tox_link.specs.Hangups.{IsResetAt};
+ghost use Rattle.tox_link.specs.log.Logged.{KeepsLogged, LogsFrom, CutsOff, CutsOffFrom, HasEnded};
+ghost use Rattle.tox_link.specs.Reports.{is_write_fault, written_before};
+ghost use Rattle.tox_link.specs.carrying.Side.{IsFresh, IsSound, GivesSlice, came};
+
+use crate::carrying::steps::decide;
+use crate::carrying::taking::take_message;
+use crate::carrying::writer_side::WriterSide;
+use crate::carrying::writing::write_slice;
+use crate::clock::Clock;
+use crate::link_core::act::Act;
+use crate::link_fault::LinkFault;
+use crate::notes::{LinkEvent, Notes};
+use std::sync::Wait;
+use tox_time::{Ending, Gate, Micros, Sink, Slice};
+
+/// Writes the next slice and notes it. Gives up the pieces before its end.
+fn write_next<N: Notes, W: Sink>(
+    side: &mut WriterSide<'_>,
+    notes: &mut N,
+    writer: &mut W,
+    slice: &Slice,
+    now: &Micros,
+) -> Result<(), LinkFault>
+    requires due { GivesSlice side.old slice.now }
+    requires working { W.failed writer.old ≡ false }
+    ensures same { (side.new.core ≡ side.old.core) × (side.new.inbox ≡ side.old.inbox)
+        × (side.new.source ≡ side.old.source) × (side.new.ended ≡ side.old.ended) }
+    ensures written { (base : Option (List _))
+        → W.written writer.old ≡ append_known base (take side.old.written (came side.old))
+        → W.written writer.new ≡ append_known base (take side.new.written (came side.new)) }
+    ensures few { side.new.written ≤ slice.now.span.stop }
+    ensures dropped { OnOk result
+        (All (λ piece. side.new.written < stop_of piece) side.new.window.held) }
+    ensures ok { OnOk result (IsSound side.new (received side.new.inbox.receiver)) }
+    ensures working { OnOk result (W.failed writer.new ≡ false) }
+    ensures noted { OnOk result (N.events notes.new
+        ≡ with_events (N.events notes.old) (OneEvent.Wrote slice.now now.now ∷ [])) }
+    ensures err { IfErr result (λ fault. written_before fault ≡ side.new.written) }
+    ensures cause { IfErr result (λ fault. W.failed writer.new ≡ is_write_fault fault) }
+    ensures started { IfErr result (λ fault. (n : ℕ) → fault ≢ SpawnRefused n) }
+    ensures unnoted { OnErr result (N.events notes.new ≡ N.events notes.old) }
+{
+    let stop = slice.span.stop;
+    if let Err(count) = write_slice(writer, &side.window, slice) {
+        side.written += count;
+        return Err(LinkFault::WriteFault(side.written));
+    }
+    side.written = stop;
+    side.window.drop_before(stop);
+    let Ok(()) = notes.note(LinkEvent::Wrote(*slice, *now)) else {
+        return Err(LinkFault::OutOfMemory(side.written));
+    };
+    Ok(())
+}
+
+/// Does what the core says at the present reading. Waits only if `idle`.
+/// Returns the ending, once the link has ended.
+fn act<R: Wait, C: Clock, N: Notes, W: Sink>(
+    rt: &R,
+    side: &mut WriterSide<'_>,
+    clock: &C,
+    notes: &mut N,
+    writer: &mut W,
+    idle: bool,
+) -> Result<Option<Ending>, LinkFault>
+    requires sound { IsSound side.old (received side.old.inbox.receiver) }
+    requires read { (side.old.core.latest ≡ 0) ⊎ C.told clock.now side.old.core.latest }
+    requires working { W.failed writer.old ≡ false }
+    ensures inbox { side.new.inbox.receiver ≡ side.old.inbox.receiver }
+    ensures written { (base : Option (List _))
+        → W.written writer.old ≡ append_known base (take side.old.written (came side.old))
+        → W.written writer.new ≡ append_known base (take side.new.written (came side.new)) }
+    ensures few { side.new.written ≤ length (came side.new) }
+    ensures ok { OnOk result (IsSound side.new (received side.new.inbox.receiver)) }
+    ensures working { OnOk result (W.failed writer.new ≡ false) }
+    ensures ended { IfOk result (λ ending.
+        IfSome ending (HasEnded (C.told clock.now) side.new.core side.new.ended)) }
+    ensures log { OnOk result ((more : List OneEvent)
+        × (N.events notes.new ≡ with_events (N.events notes.old) more)
+        × KeepsLogged (C.told clock.now) side.old more side.new) }
+    ensures err { IfErr result (λ fault. (written_before fault ≡ side.new.written)
+        × CutsOff (C.told clock.now) side.old side.new.written) }
+    ensures reads { OnErr result
+        (ReadsOn (C.told clock.now) side.old.core.latest side.new.core.latest) }
+    ensures cause { IfErr result (λ fault. W.failed writer.new ≡ is_write_fault fault) }
+    ensures started { IfErr result (λ fault. (n : ℕ) → fault ≢ SpawnRefused n) }
+    ensures unnoted { OnErr result (N.events notes.new ≡ N.events notes.old) }
+{
+    let (act, now) = decide(&mut side.core, clock);
+    match act {
+        Act::Write(slice) => {
+            write_next(side, notes, writer, &slice, &now)?;
+            Ok(None)
+        }
+        Act::WaitUntil(instant) => {
+            if idle {
+                clock.rest(instant);
+            }
+            Ok(None)
+        }
+        Act::WaitForInput => {
+            if idle {
+                side.inbox.wait(rt);
+            }
+            Ok(None)
+        }
+        Act::End(_) => Ok(side.core.ending()),
+    }
+}
+
+/// Takes from the ring and does what the core says, until the link ends.
+pub(crate) fn drive<R: Wait, C: Clock, N: Notes, W: Sink, G: Gate>(
+    rt: &R,
+    side: &mut WriterSide<'_>,
+    clock: &C,
+    notes: &mut N,
+    writer: &mut W,
+    gate: &G,
+) -> Result<Ending, LinkFault>
+    requires fresh { IsFresh side.old }
+    requires working { W.failed writer.old ≡ false }
+    ensures ring { SameConsumer side.old.inbox.receiver side.new.inbox.receiver }
+    ensures written { W.written writer.new
+        ≡ append_known (W.written writer.old) (take side.new.written (came side.new)) }
+    ensures few { side.new.written ≤ length (came side.new) }
+    ensures ok { OnOk result (IsSound side.new (received side.new.inbox.receiver)) }
+    ensures working { OnOk result (W.failed writer.new ≡ false) }
+    ensures ended { IfOk result (HasEnded (C.told clock.now) side.new.core side.new.ended) }
+    ensures log { OnOk result ((log : List OneEvent)
+        × (N.events notes.new ≡ with_events (N.events notes.old) log)
+        × LogsFrom (C.told clock.now) side.old log side.new) }
+    ensures err { IfErr result (λ fault. (written_before fault ≡ side.new.written)
+        × (log : List OneEvent)
+        × (N.events notes.new ≡ with_events (N.events notes.old) log)
+        × CutsOffFrom (C.told clock.now) side.old log side.new.written
+        × IsResetAt (C.told clock.now) log side.new.core.latest) }
+    ensures cause { IfErr result (λ fault. W.failed writer.new ≡ is_write_fault fault) }
+    ensures started { IfErr result (λ fault. (n : ℕ) → fault ≢ SpawnRefused n) }
+{
+    for _ in rt.forever() {
+        let Ok(took) = take_message(side, clock, notes, gate) else {
+            return Err(LinkFault::OutOfMemory(side.written));
+        };
+        if let Some(ending) = act(rt, side, clock, notes, writer, !took)? {
+            return Ok(ending);
+        }
+    }
+    unreachable!()
+}

@@ -1,0 +1,83 @@
+//! Writes of a link: the bytes of a slice, from the pieces that hold them.
+ghost use Rattle.std.specs.Prelude.{◌≡◌, ℕ, ◌+◌, ◌<◌, ◌≤◌, List, length, take, drop, false, true, IfErr, OnOk, OnErr, Option};
+ghost use Rattle.std.specs.Io.KnownBytes.{append_known};
+ghost use Rattle.tox_time.specs.streams.Stream.{span_len};
+ghost use Rattle.tox_link.specs.carrying.Held.{AreOf, HoldsSpan};
+
+use tox_lend::Window;
+use tox_time::{Micros, Sink, Slice, Span};
+
+/// Writes all bytes, or returns how many were written before a fault.
+/// A write that takes nothing is a fault.
+fn write_all<W: Sink>(writer: &mut W, bytes: &[u8]) -> Result<(), usize>
+    requires { W.failed writer.old ≡ false }
+    ensures ok { OnOk result ((W.written writer.new
+        ≡ append_known (W.written writer.old) bytes.now) × (W.failed writer.new ≡ false)) }
+    ensures err { IfErr result (λ n. (n ≤ length bytes.now)
+        × (W.written writer.new ≡ append_known (W.written writer.old) (take n bytes.now))) }
+    ensures failed { OnErr result (W.failed writer.new ≡ true) }
+{
+    let mut done = 0;
+    while done < bytes.len() {
+        match writer.write(&bytes[done..]) {
+            Ok(0) | Err(_) => return Err(done),
+            Ok(count) => done += count,
+        }
+    }
+    Ok(())
+}
+
+/// The first bytes of a span, as far as one piece holds them: at least one.
+pub(crate) fn front_of<'a>(window: &'a Window, span: &Span, instant: Micros) -> &'a [u8]
+    requires held { HoldsSpan window.now span.now }
+    requires some { span.now.start < span.now.stop }
+    ensures some { 0 < length result.now }
+    ensures few { span.now.start + length result.now ≤ span.now.stop }
+    ensures bytes { (heard : List ℕ) → AreOf heard window.now.held
+        → result.now ≡ take (length result.now) (drop span.now.start heard) }
+{
+    let Some(piece) = window.piece(span.start) else {
+        unreachable!()
+    };
+    let bytes = piece.bytes.as_slice();
+    let left = bytes.len() as u64 - (span.start - piece.start);
+    let stop = span.start + left.min(span.stop - span.start);
+    let front = Span {
+        start: span.start,
+        stop,
+    };
+    piece.lend(front, instant).bytes
+}
+
+/// Writes the bytes of a slice, or returns how many of them were written before a fault.
+pub(crate) fn write_slice<W: Sink>(
+    writer: &mut W,
+    window: &Window,
+    slice: &Slice,
+) -> Result<(), u64>
+    requires working { W.failed writer.old ≡ false }
+    requires held { HoldsSpan window.now slice.now.span }
+    ensures ok { OnOk result ((base : Option (List ℕ)) (heard : List ℕ)
+        → AreOf heard window.now.held → W.written writer.old
+        ≡ append_known base (take slice.now.span.start heard)
+        → W.written writer.new ≡ append_known base (take slice.now.span.stop heard)) }
+    ensures working { OnOk result (W.failed writer.new ≡ false) }
+    ensures err { IfErr result (λ n. (base : Option (List ℕ)) (heard : List ℕ)
+        → AreOf heard window.now.held → W.written writer.old
+        ≡ append_known base (take slice.now.span.start heard)
+        → W.written writer.new ≡ append_known base (take (slice.now.span.start + n) heard)) }
+    ensures few { IfErr result (λ n. n ≤ span_len slice.now.span) }
+    ensures failed { OnErr result (W.failed writer.new ≡ true) }
+{
+    let stop = slice.span.stop;
+    let mut start = slice.span.start;
+    while start < stop {
+        let left = Span { start, stop };
+        let front = front_of(window, &left, slice.instant);
+        match write_all(writer, front) {
+            Ok(()) => start += front.len() as u64,
+            Err(done) => return Err(start - slice.span.start + done as u64),
+        }
+    }
+    Ok(())
+}

@@ -1,0 +1,59 @@
+//! Reading once, where the core waits.
+ghost use Rattle.std.specs.Prelude.{◌≡◌, ℕ, List, false, true, None, Option, IfOk};
+ghost use Rattle.tox_link.specs.carrying.Held.{MayTake};
+ghost use Rattle.tox_link.specs.direction.Driven.{Drove, IsReady, steps_of_move};
+
+use crate::clock::Clock;
+use crate::direction::poll_ends::PollSource;
+use crate::direction::polled_link::PolledLink;
+use crate::direction::reading_on::{end_source, keep_read};
+use crate::notes::Notes;
+use crate::ring::reading::READ_SIZE;
+use crate::source_ending::SourceEnding;
+use std::alloc::{AllocError, Global};
+
+/// Reads once. What came is stamped with a reading that the clock tells after the read. False where the source would wait.
+/// Without memory for the bytes, or for a note, nothing more is read.
+pub(crate) fn read_once<C: Clock, N: Notes, S: PollSource>(
+    link: &mut PolledLink<'_>,
+    alloc: Global,
+    clock: &C,
+    notes: &mut N,
+    source: &mut S,
+    scratch: &mut [u8; READ_SIZE],
+) -> Result<bool, AllocError>
+    requires ready { IsReady (C.told clock.now) link.old
+        (S.remaining source.old) (S.failed source.old) }
+    requires idle { link.old.unwritten ≡ None }
+    requires room { MayTake link.old.core link.old.window link.old.ended }
+    ensures ready { IsReady (C.told clock.now) link.new
+        (S.remaining source.new) (S.failed source.new) }
+    ensures same { (link.new.unwritten ≡ None) × (link.new.written ≡ link.old.written) }
+    ensures waits { IfOk result (λ moved. moved ≡ false
+        → (link.new ≡ link.old) × (S.waits source.new ≡ true)) }
+    ensures drove { (written : Option (List ℕ)) → Drove (steps_of_move result) (C.told clock.now)
+        link.old (record {
+          remaining = S.remaining source.old;
+          written = written;
+          events = N.events notes.old;
+        })
+        link.new (record {
+          remaining = S.remaining source.new;
+          written = written;
+          events = N.events notes.new;
+        }) }
+{
+    let Ok(got) = source.poll_read(scratch) else {
+        end_source(link, clock, notes, SourceEnding::ReadFault)?;
+        return Ok(true);
+    };
+    let Some(count) = got else {
+        return Ok(false);
+    };
+    if count == 0 {
+        end_source(link, clock, notes, SourceEnding::Eof)?;
+        return Ok(true);
+    }
+    keep_read(link, alloc, clock, notes, &scratch[..count])?;
+    Ok(true)
+}

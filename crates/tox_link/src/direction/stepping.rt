@@ -1,0 +1,208 @@
+//! Driving a direction: as many steps as its ends allow.
+ghost use Rattle.std.specs.Prelude.{◌≡◌, ℕ, Bool, List, false, None, Option, IfOk, IfErr, OnOk};
+ghost use Rattle.tox_link.specs.direction.Driven.{Drove, IsReady, IsProgress, steps_of};
+ghost use Rattle.tox_link.specs.link_core.Acts.{Says, wait_act};
+ghost use Rattle.tox_link.specs.Reports.{is_write_fault, written_before};
+
+use crate::carrying::steps::may_take;
+use crate::clock::Clock;
+use crate::direction::asking::ask;
+use crate::direction::poll_ends::{PollSink, PollSource};
+use crate::direction::polled_link::PolledLink;
+use crate::direction::progress::Progress;
+use crate::direction::reading_once::read_once;
+use crate::direction::writing_on::write_on;
+use crate::link_core::act::Act;
+use crate::link_fault::LinkFault;
+use crate::notes::Notes;
+use crate::ring::reading::READ_SIZE;
+use std::alloc::Global;
+use tox_time::Micros;
+
+/// The most steps of one drive.
+const STEPS: usize = 32;
+
+/// Drives a direction: takes as many steps as its ends allow, but no more than 32, so that others have their turn.
+///
+/// A slice that is being written is written on, and nothing else happens while it waits. Else the core is asked at the clock's
+/// reading. Where the core waits, a piece of at most 16,384 bytes is read if there is room for it.
+///
+/// # Errors
+///
+/// Out of memory, also for a note; a write fails or takes nothing. The direction may then be driven no more.
+pub fn drive<C: Clock, N: Notes, S: PollSource, W: PollSink>(
+    link: &mut PolledLink<'_>,
+    alloc: Global,
+    clock: &C,
+    notes: &mut N,
+    source: &mut S,
+    sink: &mut W,
+    scratch: &mut [u8; READ_SIZE],
+) -> Result<Progress, LinkFault>
+    requires ready { IsReady (C.told clock.now) link.old
+        (S.remaining source.old) (S.failed source.old) }
+    requires working { W.failed sink.old ≡ false }
+    ensures ready { IsReady (C.told clock.now) link.new
+        (S.remaining source.new) (S.failed source.new) }
+    ensures drove { Drove (steps_of 32 result) (C.told clock.now)
+        link.old (record {
+          remaining = S.remaining source.old;
+          written = W.written sink.old;
+          events = N.events notes.old;
+        })
+        link.new (record {
+          remaining = S.remaining source.new;
+          written = W.written sink.new;
+          events = N.events notes.new;
+        }) }
+    ensures progress { IfOk result (IsProgress (C.told clock.now) link.new
+        (S.waits source.new) (W.waits sink.new) (W.due sink.new)) }
+    ensures err { IfErr result (λ fault. (written_before fault ≡ link.new.written)
+        × (W.failed sink.new ≡ is_write_fault fault)) }
+    ensures working { OnOk result (W.failed sink.new ≡ false) }
+{
+    for _nth in 0..STEPS {
+        match step(link, alloc, clock, notes, source, sink, scratch) {
+            Ok(Progress::Again) => {}
+            Ok(Progress::Waits(until)) => return Ok(Progress::Waits(until)),
+            Ok(Progress::Ended(ending)) => return Ok(Progress::Ended(ending)),
+            Err(fault) => return Err(fault),
+        }
+    }
+    Ok(Progress::Again)
+}
+
+/// One step: writes on, or does what the core says.
+fn step<C: Clock, N: Notes, S: PollSource, W: PollSink>(
+    link: &mut PolledLink<'_>,
+    alloc: Global,
+    clock: &C,
+    notes: &mut N,
+    source: &mut S,
+    sink: &mut W,
+    scratch: &mut [u8; READ_SIZE],
+) -> Result<Progress, LinkFault>
+    requires ready { IsReady (C.told clock.now) link.old
+        (S.remaining source.old) (S.failed source.old) }
+    requires working { W.failed sink.old ≡ false }
+    ensures ready { IsReady (C.told clock.now) link.new
+        (S.remaining source.new) (S.failed source.new) }
+    ensures drove { Drove (steps_of 1 result) (C.told clock.now)
+        link.old (record {
+          remaining = S.remaining source.old;
+          written = W.written sink.old;
+          events = N.events notes.old;
+        })
+        link.new (record {
+          remaining = S.remaining source.new;
+          written = W.written sink.new;
+          events = N.events notes.new;
+        }) }
+    ensures progress { IfOk result (IsProgress (C.told clock.now) link.new
+        (S.waits source.new) (W.waits sink.new) (W.due sink.new)) }
+    ensures err { IfErr result (λ fault. (written_before fault ≡ link.new.written)
+        × (W.failed sink.new ≡ is_write_fault fault)) }
+    ensures working { OnOk result (W.failed sink.new ≡ false) }
+{
+    let unwritten = link.unwritten;
+    let Some(unwritten) = &unwritten else {
+        return act(link, alloc, clock, notes, source, scratch);
+    };
+    match write_on(link, notes, sink, unwritten) {
+        Ok(moved) if moved => Ok(Progress::Again),
+        Ok(_) => Ok(Progress::Waits(sink.due())),
+        Err(fault) => Err(fault),
+    }
+}
+
+/// Does what the core says, where no slice is being written.
+fn act<C: Clock, N: Notes, S: PollSource>(
+    link: &mut PolledLink<'_>,
+    alloc: Global,
+    clock: &C,
+    notes: &mut N,
+    source: &mut S,
+    scratch: &mut [u8; READ_SIZE],
+) -> Result<Progress, LinkFault>
+    requires ready { IsReady (C.told clock.now) link.old
+        (S.remaining source.old) (S.failed source.old) }
+    requires idle { link.old.unwritten ≡ None }
+    ensures ready { IsReady (C.told clock.now) link.new
+        (S.remaining source.new) (S.failed source.new) }
+    ensures drove { (written : Option (List ℕ)) → Drove (steps_of 1 result) (C.told clock.now)
+        link.old (record {
+          remaining = S.remaining source.old;
+          written = written;
+          events = N.events notes.old;
+        })
+        link.new (record {
+          remaining = S.remaining source.new;
+          written = written;
+          events = N.events notes.new;
+        }) }
+    ensures progress { (sink_waits : Bool) (due : Option ℕ) → IfOk result
+        (IsProgress (C.told clock.now) link.new (S.waits source.new) sink_waits due) }
+    ensures err { IfErr result (λ fault. (written_before fault ≡ link.new.written)
+        × (is_write_fault fault ≡ false)) }
+{
+    let act = ask(link, clock);
+    match &act {
+        Act::Write(_) => Ok(Progress::Again),
+        Act::WaitUntil(instant) => {
+            read_or_wait(link, alloc, clock, notes, source, scratch, Some(*instant))
+        }
+        Act::WaitForInput => read_or_wait(link, alloc, clock, notes, source, scratch, None),
+        Act::End(_) => {
+            let Some(ending) = link.core.ending() else {
+                unreachable!()
+            };
+            Ok(Progress::Ended(ending))
+        }
+    }
+}
+
+/// Reads once, where input may be taken. Else it waits.
+fn read_or_wait<C: Clock, N: Notes, S: PollSource>(
+    link: &mut PolledLink<'_>,
+    alloc: Global,
+    clock: &C,
+    notes: &mut N,
+    source: &mut S,
+    scratch: &mut [u8; READ_SIZE],
+    until: Option<Micros>,
+) -> Result<Progress, LinkFault>
+    requires ready { IsReady (C.told clock.now) link.old
+        (S.remaining source.old) (S.failed source.old) }
+    requires idle { link.old.unwritten ≡ None }
+    requires says { C.told clock.now link.old.core.latest
+        × Says link.old.core link.old.core.latest (wait_act until) }
+    ensures ready { IsReady (C.told clock.now) link.new
+        (S.remaining source.new) (S.failed source.new) }
+    ensures drove { (written : Option (List ℕ)) → Drove (steps_of 1 result) (C.told clock.now)
+        link.old (record {
+          remaining = S.remaining source.old;
+          written = written;
+          events = N.events notes.old;
+        })
+        link.new (record {
+          remaining = S.remaining source.new;
+          written = written;
+          events = N.events notes.new;
+        }) }
+    ensures progress { (sink_waits : Bool) (due : Option ℕ) → IfOk result
+        (IsProgress (C.told clock.now) link.new (S.waits source.new) sink_waits due) }
+    ensures err { IfErr result (λ fault. (written_before fault ≡ link.new.written)
+        × (is_write_fault fault ≡ false)) }
+{
+    if !may_take(&link.core, &link.window, link.ended) {
+        return Ok(Progress::Waits(until));
+    }
+    let Ok(moved) = read_once(link, alloc, clock, notes, source, scratch) else {
+        return Err(LinkFault::OutOfMemory(link.written));
+    };
+    if moved {
+        Ok(Progress::Again)
+    } else {
+        Ok(Progress::Waits(until))
+    }
+}

@@ -1,0 +1,6 @@
+//! The reader's thread, and the ring through which it sends.
+pub(crate) mod inbox;
+pub(crate) mod message;
+pub(crate) mod parking;
+pub(crate) mod reader_thread;
+pub(crate) mod reading;
