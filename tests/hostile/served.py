@@ -14,6 +14,8 @@ LINK = r"link {name} (\d+) up (\d+) (\w+) down (\d+) (\w+)"
 TOTAL = r"total {name} (\d+) up (\d+) down (\d+)"
 PIDFD_GETFD = 438
 SEED = 1
+# The threads of a process without links.
+AT_REST = 4
 
 
 def address(host, port):
@@ -56,10 +58,10 @@ class Served:
         self.output.close()
 
     def start(self):
-        """Waits until it listens. It has three threads then: the first one, the proxy's, and the one that writes the lines."""
+        """Waits until it listens. It has four threads then: the first one, the one that serves, the proxy's, and the lines' one."""
         wait_until(lambda: self.lines() or self.process.poll() is not None, "the line `listening`")
         check(self.lines(), f"it ended with status {self.process.returncode} before it listened")
-        wait_until(lambda: self.threads() == 3, "three threads")
+        wait_until(lambda: self.threads() == AT_REST, "the threads of a process without links")
         self.port = int(self.lines()[0].rpartition(":")[2])
         self.at_rest = self.descriptors()
         check(self.at_rest == list(range(len(self.at_rest))), f"there are gaps in its descriptors {self.at_rest}")
@@ -134,7 +136,7 @@ class Served:
     def rests(self):
         """Waits until no thread and no descriptor is left of the links that ended."""
         wait_until(
-            lambda: self.threads() == (2 if self.output.closed else 3) and self.descriptors() == self.at_rest,
+            lambda: self.threads() == AT_REST and self.descriptors() == self.at_rest,
             "every thread and descriptor of the ended links is given back",
         )
 

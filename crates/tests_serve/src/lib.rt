@@ -6,4 +6,6 @@ mod peers;
 #[cfg(test)]
 mod scarce_serving;
 #[cfg(test)]
+mod scarce_starts;
+#[cfg(test)]
 mod serving;

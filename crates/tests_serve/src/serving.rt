@@ -1,6 +1,7 @@
 //! Served links, over sockets of this machine.
 use crate::peers::{ask, echo_once};
 use std::alloc::Global;
+use std::io::{Read, Write};
 use std::net::{Net, TcpListener, TcpStream};
 use std::sync::{Mutex, Wait};
 use std::test::Fail;
@@ -8,7 +9,7 @@ use std::thread::Threads;
 use std::time::{Clock, Duration};
 use std::{io, thread};
 use tox_config::{ProxyDef, read_populate};
-use tox_proxy::{ServeFault, serve};
+use tox_proxy::{NoGaps, ServeFault, ServeOptions, Stop, serve, serve_with};
 use tox_script::{Script, read_script};
 
 /// Three bytes pass downstream.
@@ -145,5 +146,78 @@ fn a_taken_port_is_refused(rt: HostRuntime) -> Result<(), Fail> {
     let answer = serve(&rt, alloc, &proxies, &script, 1, Some(1), &out);
     assert_eq!(rt; answer, Err(ServeFault::ListenRefused("a")));
     assert_eq!(rt; out.into_inner().len(), 0);
+    Ok(())
+}
+
+/// Sends five bytes through a link, and tells its run to stop while it lives.
+fn tell_a_living_link<R: Net<Stream = TcpStream> + Wait>(
+    rt: &R,
+    address: &str,
+    upstream: &TcpListener,
+    stop: &Stop,
+) -> io::Result<()> {
+    let client = TcpStream::connect(rt, address)?;
+    let (server, _) = upstream.accept()?;
+    let mut sender = &client;
+    sender.write_all(b"abcde")?;
+    let mut bytes = [0; 5];
+    let mut receiver = &server;
+    receiver.read_exact(&mut bytes)?;
+    stop.tell(rt);
+    Ok(())
+}
+
+/// What is printed behind the first line of a run that is told to stop while a link lives, on which a client has sent five bytes.
+fn stopped<
+    R: Net<Listener = TcpListener, Stream = TcpStream>
+        + Threads
+        + Wait
+        + Clock
+        + Copy
+        + Send
+        + Sync
+        + 'static
+        + AllocGlobal,
+>(rt: &R, upstream: &TcpListener) -> Result<String, Fail> {
+    let alloc = rt.alloc();
+    let address = format!(in alloc; "{}", upstream.local_addr()?)?;
+    let proxies = proxy(alloc, "127.0.0.1:0", &address)?;
+    let script = read_script(alloc, b"")?;
+    let (proxies, script) = (proxies.as_slice(), &script);
+    let out = Mutex::new(Vec::new(alloc));
+    let lines = &out;
+    let stop = Stop::new();
+    let told = &stop;
+    let options = ServeOptions::default();
+    thread::scope(thread::scope_env(), rt, |scope| -> io::Result<()> {
+        let server = scope.spawn(move || {
+            serve_with(
+                rt, alloc, proxies, script, 1, lines, &NoGaps, told, &options,
+            )
+            .is_ok()
+        });
+        let address = listening(rt, alloc, lines)?;
+        tell_a_living_link(rt, &address, upstream, told)?;
+        if let Ok(server) = server {
+            server.join(rt);
+        }
+        Ok(())
+    })?;
+    let bytes = out.into_inner();
+    let text = str::from_utf8(&bytes)?;
+    let Some((_, rest)) = text.split_once('\n') else {
+        return Ok(String::new(alloc));
+    };
+    Ok(rest.to_string(alloc)?)
+}
+
+#[test]
+fn a_told_run_ends_with_its_totals(rt: HostRuntime) -> Result<(), Fail> {
+    let upstream = TcpListener::bind(&rt, "127.0.0.1:0")?;
+    let printed = stopped(&rt, &upstream)?;
+    assert_eq!(rt;
+        printed.as_str(),
+        "link a 1 up 5 broken down 0 broken\ntotal a 1 up 5 down 0\n"
+    );
     Ok(())
 }

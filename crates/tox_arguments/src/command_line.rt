@@ -1,12 +1,15 @@
 //! The command line, as `clap` reads it.
 use crate::arguments::{LinkArguments, PickArguments, ServeArguments};
-use crate::cap::{Cap, DEFAULT_CAP};
 use crate::commands::toxi;
 use clap::error::ErrorKind;
 use clap::{ArgMatches, Error};
 use std::alloc::{AllocError, Global};
 use std::convert::AsStr;
+use tox_time::Cap;
 use tox_words::{Lanes, MAX_CONNECTIONS};
+
+/// The room of each ring without `--cap`, in items.
+const DEFAULT_CAP: usize = 4;
 
 /// What the command line asks for.
 #[derive(Debug, Drop)]

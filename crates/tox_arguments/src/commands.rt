@@ -1,9 +1,9 @@
 //! The commands and their options, as `clap` is told of them.
-use crate::cap::MAX_CAP;
 use crate::help;
 use clap::builder::ValueParser;
 use clap::{Arg, ArgAction, Command, value_parser};
 use std::alloc::{AllocError, Global};
+use tox_time::MAX_CAP;
 use tox_words::MAX_CONNECTIONS;
 
 /// The longest time that a connect may be given, in milliseconds.

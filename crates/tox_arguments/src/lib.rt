@@ -2,11 +2,9 @@
 #![tactic(auto)]
 
 mod arguments;
-mod cap;
 mod command_line;
 mod commands;
 mod help;
 
 pub use arguments::{LinkArguments, PickArguments, ServeArguments};
-pub use cap::Cap;
 pub use command_line::{Task, read};

@@ -5,10 +5,13 @@ mod dry;
 mod fault;
 mod link;
 mod migrate;
+mod output;
 mod pick;
 mod plan;
 mod serve;
+mod signals;
 mod stages;
+mod watch;
 
 use clap::Error;
 use clap::error::ErrorKind;
@@ -20,8 +23,7 @@ use std::sync::Wait;
 use std::thread::Threads;
 use std::time::Clock;
 use std::{env, io};
-use tox_arguments::{ServeArguments, Task};
-use tox_proxy::ServeRuntime;
+use tox_arguments::Task;
 
 /// The status of a command line that is refused.
 const WRONG_ARGUMENTS: u8 = 2;
@@ -61,28 +63,18 @@ fn perform<
         + Send
         + Sync
         + 'static,
->(rt: &R, task: &Task<'_>) -> ExitCode {
+>(rt: &R, task: &Task<'_>) -> ExitCode
+where
+    R::File: Send + 'static,
+    R::Dir: Send + 'static,
+{
     match task {
         Task::Dry(link) => tell(rt, dry::dry(rt, link)),
         Task::Plan(link) => tell(rt, plan::plan(rt, link)),
         Task::Stages(cap, link) => tell(rt, stages::stages(rt, cap, link)),
         Task::Pick(arguments) => tell(rt, pick::pick(rt, arguments)),
         Task::Migrate(script) => tell(rt, migrate::migrate(rt, script)),
-        Task::Serve(arguments) => serve_files(rt, arguments),
-    }
-}
-
-/// Reads the files, and serves what they set up.
-fn serve_files<R: Print + Eprint + Files + AllocGlobal + ServeRuntime>(
-    rt: &R,
-    arguments: &ServeArguments<'_>,
-) -> ExitCode {
-    let _input = serve::hold_descriptor(rt);
-    let _output = serve::hold_descriptor(rt);
-    let _errors = serve::hold_descriptor(rt);
-    match serve::set_up(rt, arguments) {
-        Ok(setup) => tell(rt, serve::serve_proxies(rt, &setup, arguments)),
-        Err(fault) => fail(rt, &fault),
+        Task::Serve(arguments) => watch::serve(rt, arguments),
     }
 }
 

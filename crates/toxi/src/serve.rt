@@ -1,15 +1,22 @@
 //! `toxi serve`: proxies that listen. Each line is on standard output as it comes.
+use crate::fail;
+use crate::output::PatientOutput;
+use std::alloc::{AllocError, Global};
+use std::fmt::Display;
+use std::fs;
 use std::rt::Files;
-use std::sync::Mutex;
-use std::{fs, io};
+use std::sync::{Mutex, Wait};
 use tox_arguments::ServeArguments;
 use tox_proxy::{
-    Gaps, RealFiles, ServeFault, ServeOptions, ServeRuntime, Setup, SetupFault, read_setup,
-    serve_with,
+    Gaps, RealFiles, Room, ServeFault, ServeOptions, ServeRuntime, Setup, SetupFault, Stop,
+    read_setup, serve_with,
 };
 
 /// A file that gives and takes nothing.
 const NOTHING: &str = "/dev/null";
+
+/// The descriptor of standard error.
+const ERRORS: i32 = 2;
 
 /// A file that takes the number of a standard descriptor that was closed at the start. Else a socket takes it, and the
 /// lines go to its peer.
@@ -17,27 +24,79 @@ pub fn hold_descriptor<R: Files>(rt: &R) -> Option<R::File> {
     fs::open(rt, NOTHING).ok()
 }
 
-/// Reads the populate file, and then the script.
-pub fn set_up<'a, R: Files + AllocGlobal>(
+/// What `serve` is asked for, kept by the thread that serves.
+#[derive(Drop)]
+pub struct ServeJob {
+    /// The name of the populate file.
+    config: String,
+    /// The name of the script file.
+    script: String,
+    seed: u64,
+    options: ServeOptions,
+}
+
+impl ServeJob {
+    /// What a command line asks for.
+    pub fn of(alloc: Global, arguments: &ServeArguments<'_>) -> Result<ServeJob, AllocError> {
+        let config = arguments.config.to_string(alloc)?;
+        let script = arguments.script.to_string(alloc)?;
+        let options = ServeOptions {
+            links: arguments.links,
+            connect_timeout: arguments.connect_timeout,
+        };
+        Ok(ServeJob {
+            config,
+            script,
+            seed: arguments.seed,
+            options,
+        })
+    }
+}
+
+/// Reads the files, and serves what they set up. Returns the status of the program.
+pub fn serve_job<R: Print + Eprint + Files + AllocGlobal + ServeRuntime>(
     rt: &R,
-    arguments: &ServeArguments<'a>,
-) -> Result<Setup, SetupFault<'a>> {
+    job: &ServeJob,
+    stop: &Stop,
+) -> u8 {
+    match set_up(rt, job) {
+        Ok(setup) => status_of(rt, serve_proxies(rt, &setup, job, stop)),
+        Err(fault) => status_of(rt, Err(fault)),
+    }
+}
+
+fn status_of<F: Display + Drop>(rt: &impl Eprint, done: Result<(), F>) -> u8 {
+    match done {
+        Ok(()) => 0,
+        Err(fault) => {
+            fail(rt, &fault);
+            1
+        }
+    }
+}
+
+/// Reads the populate file, and then the script.
+fn set_up<'a, R: Files + AllocGlobal>(rt: &R, job: &'a ServeJob) -> Result<Setup, SetupFault<'a>> {
     read_setup(
         &RealFiles::new(rt),
         rt.alloc(),
-        arguments.config,
-        arguments.script,
+        job.config.as_str(),
+        job.script.as_str(),
     )
 }
 
 /// Tells on standard error how many lines were dropped.
-#[derive(Clone, Copy)]
-struct ToldGaps<'r, R> {
-    rt: &'r R,
+#[derive(Drop)]
+struct ToldGaps<'a, R> {
+    rt: &'a R,
+    room: Room<'a, R>,
 }
 
-impl<'r, R: Eprint> Gaps for ToldGaps<'r, R> {
+impl<'a, R: Eprint + Wait> Gaps for ToldGaps<'a, R> {
     fn dropped(&self, lines: u64) {
+        if !self.room.wait() {
+            return;
+        }
         let ending = if lines == 1 { "" } else { "s" };
         let rt = self.rt;
         let _ = eprintln!(rt; "toxi: {lines} line{ending} dropped: the output wasn't read");
@@ -45,24 +104,26 @@ impl<'r, R: Eprint> Gaps for ToldGaps<'r, R> {
 }
 
 /// Serves the proxies of the files.
-pub fn serve_proxies<'a, R: Print + Eprint + AllocGlobal + ServeRuntime>(
+fn serve_proxies<'a, R: Print + Eprint + AllocGlobal + ServeRuntime>(
     rt: &R,
     setup: &'a Setup,
-    arguments: &ServeArguments<'_>,
+    job: &ServeJob,
+    stop: &Stop,
 ) -> Result<(), ServeFault<'a>> {
-    let out = Mutex::new(io::writer(rt));
-    let options = ServeOptions {
-        links: arguments.links,
-        connect_timeout: arguments.connect_timeout,
+    let out = Mutex::new(PatientOutput::new(rt, stop));
+    let gaps = ToldGaps {
+        rt,
+        room: Room::new(rt, stop, ERRORS),
     };
     serve_with(
         rt,
         rt.alloc(),
         &setup.proxies,
         &setup.script,
-        arguments.seed,
+        job.seed,
         &out,
-        &ToldGaps { rt },
-        &options,
+        &gaps,
+        stop,
+        &job.options,
     )
 }

@@ -4,9 +4,9 @@ use crate::link::read_link;
 use std::io;
 use std::sync::Wait;
 use std::thread::Threads;
-use tox_arguments::{Cap, LinkArguments};
+use tox_arguments::LinkArguments;
 use tox_proxy::stages_run;
-use tox_time::{OpenGate, Real};
+use tox_time::{Cap, OpenGate, Real};
 
 /// Reads the link, and then the input.
 pub fn stages<R: Input + Print + AllocGlobal + Threads + Wait + Sync>(

@@ -1,6 +1,0 @@
--- Each call has one file fewer to look at.
-use Rattle.std.proofs.Common.{length}
-use Rattle.tox_proxy.proofs.named_files.+file_named.Given as goal
-
-abbrev pub decreases-file_named : goal.decreases-file_named
-decreases-file_named l = length l.files.now

@@ -1,0 +1,10 @@
+mod ReadLemmas
+mod Causes
+mod CheckedText
+mod EveryRest
+mod Passing
+mod PieceLines
+mod CutLemmas
+mod OutcomeLemmas
+mod TextTurns
+mod LineSteps

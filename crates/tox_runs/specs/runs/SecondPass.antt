@@ -1,0 +1,69 @@
+-- What the second pass over an arrivals text still prints.
+use Rattle.std.specs.Prelude.{◌≡◌, ◌≢◌, ℕ, ◌+◌, ◌<◌, ◌≤◌, Bool, true, false, List, [], ◌∷◌, ◌++◌, length, slice_index, Any, Option, Result, Ok, Err}
+use Rattle.tox_time.specs.declared.ends.EndFault.{EndFault}
+use Rattle.tox_time.specs.declared.streams.item.Item.{Item}
+use Rattle.tox_time.specs.declared.streams.item.Item.TheVariants.{Chunk, Closed}
+use Rattle.tox_time.specs.declared.streams.span.Span.{Span}
+use Rattle.tox_time.specs.streams.Arrivals.{arrival_list}
+use Rattle.tox_time.specs.streams.Neighbours.{LiesInChunk}
+use Rattle.tox_lend.specs.Run.{Run, stop_of}
+use Rattle.tox_text.specs.arrivals.ArrivalsText.{Arrived}
+use Rattle.tox_text.specs.ResultText.{arrival_of}
+use Rattle.tox_text.specs.Writing.{AppendsFront, Passes}
+
+-- no span within an item goes over this position
+abbrev pub IsEdge : List Item → ℕ → Type 0
+IsEdge items stop =
+    (span : Span) → Any (LiesInChunk span) items → span.start < stop → span.stop ≤ stop
+
+-- the piece is one of the arrivals, with its bytes
+pub record IsPieceOf (arrived : Arrived) (piece : Run) : Type 0 where
+  pub of_arrival : (k : ℕ) → k < length piece.bytes
+      → arrival_of arrived.items (piece.start + k) ≡ piece.start
+  pub at_place : (k : ℕ) → k < length piece.bytes
+      → slice_index arrived.bytes (piece.start + k) ≡ slice_index piece.bytes k
+  pub behind : arrival_of arrived.items (stop_of piece) ≢ piece.start
+  pub edge : IsEdge (arrival_list arrived.items) (stop_of piece)
+
+-- so many bytes from a position on, which came at an instant
+abbrev pub chunk_at : ℕ → ℕ → ℕ → Item
+chunk_at start len t = Chunk (record { start = start; stop = start + len }) t
+
+-- the chunk that a piece arrived as
+abbrev pub chunk_of : Run → Item
+chunk_of piece = chunk_at piece.start (length piece.bytes) piece.instant
+
+-- this piece comes next where a source stands so
+pub record IsAtPiece (stands : Arrived → ℕ → List Item → Type 0) (piece : Run) : Type 0 where
+  pub arrived : Arrived
+  pub later : List Item
+  pub of : IsPieceOf arrived piece
+  pub before : stands arrived piece.start (chunk_of piece ∷ later)
+
+-- the source's end comes next
+pub record IsAtSourceEnd (stands : Arrived → ℕ → List Item → Type 0) (t : ℕ) : Type 0 where
+  pub arrived : Arrived
+  pub position : ℕ
+  pub later : List Item
+  pub before : stands arrived position (Closed t ∷ later)
+
+-- nothing comes next
+pub record IsBehindAll (stands : Arrived → ℕ → List Item → Type 0) : Type 0 where
+  pub arrived : Arrived
+  pub position : ℕ
+  pub behind : stands arrived position []
+
+-- a first part of a text passed, and this is left of it
+pub record PassesDownTo (old : Option (List ℕ)) (waited : List ℕ) (new : Option (List ℕ))
+    (waiting text left : List ℕ) : Type 0 where
+  pub printed : List ℕ
+  pub passed : Passes old waited new waiting printed
+  pub whole : printed ++ left ≡ text
+
+-- a text was printed but for what is left, or the writer has failed and a prefix of the text is written
+abbrev pub PrintsDownTo : {A : Type 0} → Result A EndFault → Option (List ℕ) → List ℕ
+    → Option (List ℕ) → List ℕ → Bool → List ℕ → List ℕ → Type 0
+PrintsDownTo (Ok done) old waited new waiting failed text left =
+    PassesDownTo old waited new waiting text left × (failed ≡ false)
+PrintsDownTo (Err fault) old waited new waiting failed text left =
+    AppendsFront old new (waited ++ text) × (failed ≡ true)

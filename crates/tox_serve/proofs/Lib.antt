@@ -1,0 +1,2 @@
+pub mod ServeParts
+pub mod ServeLemmas

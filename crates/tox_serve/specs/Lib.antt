@@ -1,0 +1,8 @@
+pub mod Bound
+pub mod Addresses
+pub mod Serving
+pub mod Signals
+pub mod proxy
+pub mod link
+pub mod sockets
+pub mod lines

@@ -1,0 +1,4 @@
+-- One served link.
+pub mod LinkEnds
+pub mod ResetDue
+pub mod Courses

@@ -1,0 +1,3 @@
+-- One proxy at work.
+pub mod Accepting
+pub mod LinkBook

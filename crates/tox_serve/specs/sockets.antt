@@ -1,0 +1,3 @@
+-- The sockets of a link.
+pub mod Streams
+pub mod Shutting

@@ -1,0 +1,160 @@
+//! One served link: both its directions, what the book keeps of it, and its line.
+ghost use Rattle.std.specs.Prelude.{◌≡◌, ◌≤◌, IfSome};
+ghost use Rattle.tox_time.specs.declared.streams.stream.Stream.TheVariants as StreamOf;
+ghost use Rattle.tox_serve.specs.link.Courses.{IsCourse};
+
+use crate::link::clock::LinkStart;
+use crate::link::connecting::connect;
+use crate::link::course::{Course, course_of};
+use crate::link::direction::{Direction, carry_stream};
+use crate::link::end::{Carried, LinkEnd};
+use crate::proxy::links::ProxyLinks;
+use crate::run::ServeRun;
+use crate::runtime::ServeRuntime;
+use crate::sockets::link_sockets::LinkSockets;
+use crate::sockets::live_sockets::LiveSocket;
+use std::alloc::Global;
+use std::net::TcpStream;
+use std::sync::Arc;
+use std::thread;
+use std::thread::Promise;
+use tox_config::ProxyDef;
+use tox_time::Stream;
+
+/// A connection that was taken, and the number of its link.
+#[derive(Drop)]
+pub(crate) struct Taken {
+    pub(crate) client: TcpStream,
+    pub(crate) number: u64,
+    pub(crate) ghost first: { 1 ≤ number },
+    pub(crate) ghost last: { number ≤ 1_000_000 },
+}
+
+/// The courses of both streams of a link.
+#[derive(Drop)]
+struct Courses {
+    up: Course,
+    down: Course,
+}
+
+/// What a direction's thread promises: that it carries this stream.
+#[derive(Clone, Copy)]
+struct Carries(Stream);
+
+impl Promise<Carried> for Carries {
+    ghost kept_by = { λ promise carried. carried.stream ≡ promise.0 };
+}
+
+/// Serves a link to its end.
+pub(crate) fn serve_link<R: ServeRuntime>(
+    rt: &R,
+    run: &ServeRun<'_>,
+    links: &ProxyLinks<'_>,
+    taken: Taken,
+) {
+    let end = carry_link(rt, run, links.proxy, taken);
+    links.end_link(rt, run, &end);
+}
+
+/// Connects a link's upstream, and carries both directions to their ends. Both sockets are dropped then.
+fn carry_link<R: ServeRuntime>(
+    rt: &R,
+    run: &ServeRun<'_>,
+    proxy: &ProxyDef,
+    taken: Taken,
+) -> LinkEnd
+    ensures { result.number ≡ taken.number }
+{
+    let start = LinkStart::now(rt);
+    let Some(server) = connect(rt, run, &proxy.upstream) else {
+        return LinkEnd::broken(taken.number);
+    };
+    let Some(courses) = courses_of(run, proxy, &taken) else {
+        return LinkEnd::broken(taken.number);
+    };
+    let Taken { client, number } = taken;
+    let Some(link) = LinkSockets::new(run.alloc, client, server) else {
+        return LinkEnd::broken(number);
+    };
+    carry_live(rt, run, number, &link, start, courses)
+}
+
+/// Carries both directions, among the live sockets of the run.
+fn carry_live<R: ServeRuntime>(
+    rt: &R,
+    run: &ServeRun<'_>,
+    number: u64,
+    link: &Arc<LinkSockets, Global>,
+    start: LinkStart,
+    courses: Courses,
+) -> LinkEnd
+    requires up { courses.up.stream ≡ StreamOf.Upstream }
+    requires down { courses.down.stream ≡ StreamOf.Downstream }
+    ensures { result.number ≡ number }
+{
+    let Ok(shared) = link.clone() else {
+        return LinkEnd::broken(number);
+    };
+    let Ok(key) = run.live.add(rt, LiveSocket::Link(shared)) else {
+        return LinkEnd::broken(number);
+    };
+    let end = carry_both(rt, run, number, link, start, courses);
+    run.live.remove(rt, key);
+    end
+}
+
+/// The courses of both streams of a link. None if out of memory.
+fn courses_of(run: &ServeRun<'_>, proxy: &ProxyDef, taken: &Taken) -> Option<Courses>
+    ensures up { IfSome result (λ courses. IsCourse run.now.script.now run.now.seed proxy.now.name
+        taken.now.number StreamOf.Upstream courses.up) }
+    ensures down { IfSome result (λ courses. IsCourse run.now.script.now run.now.seed proxy.now.name
+        taken.now.number StreamOf.Downstream courses.down) }
+{
+    let (alloc, script, seed) = (run.alloc, run.script, run.seed);
+    let (name, number) = (proxy.name.as_str(), taken.number);
+    let up = course_of(alloc, script, seed, name, number, Stream::Upstream).ok()?;
+    let down = course_of(alloc, script, seed, name, number, Stream::Downstream).ok()?;
+    Some(Courses { up, down })
+}
+
+/// Carries both directions, one of them in a thread of its own.
+fn carry_both<R: ServeRuntime>(
+    rt: &R,
+    run: &ServeRun<'_>,
+    number: u64,
+    link: &Arc<LinkSockets, Global>,
+    start: LinkStart,
+    courses: Courses,
+) -> LinkEnd
+    requires up { courses.up.stream ≡ StreamOf.Upstream }
+    requires down { courses.down.stream ≡ StreamOf.Downstream }
+    ensures { result.number ≡ number }
+{
+    let Courses { up, down } = courses;
+    let (Some(up), Some(down)) = (Direction::new(link, up), Direction::new(link, down)) else {
+        return LinkEnd::broken(number);
+    };
+    let (alloc, gate) = (run.alloc, &run.gate);
+    thread::scope(
+        thread::scope_env(),
+        rt,
+        |scope| -> LinkEnd
+            requires up { up.course.stream ≡ StreamOf.Upstream }
+            requires down { down.course.stream ≡ StreamOf.Downstream }
+            ensures { result.number ≡ number }
+        {
+            let answers = scope.spawn_with(
+                Carries(Stream::Downstream),
+                move || -> Carried
+                    requires { down.course.stream ≡ StreamOf.Downstream }
+                    ensures { result.stream ≡ StreamOf.Downstream }
+                { carry_stream(rt, alloc, link, down, start, gate) },
+            );
+            let Ok(answers) = answers else {
+                return LinkEnd::broken(number);
+            };
+            let upstream = carry_stream(rt, alloc, link, up, start, gate);
+            LinkEnd::of(number, &upstream, &answers.join(rt))
+        },
+    )
+}

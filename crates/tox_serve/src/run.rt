@@ -1,0 +1,27 @@
+//! What all links of a run of `serve` share.
+use crate::lines::LineChannel;
+use crate::options::ServeOptions;
+use crate::sockets::live_sockets::LiveSockets;
+use crate::stop::Stop;
+use std::alloc::Global;
+use std::sync::Arc;
+use std::sync::atomic::AtomicU64;
+use tox_script::Script;
+use tox_time::OpenGate;
+
+/// What all links of a run share.
+#[derive(Drop)]
+pub(crate) struct ServeRun<'a> {
+    pub(crate) alloc: Global,
+    pub(crate) script: &'a Script,
+    pub(crate) seed: u64,
+    pub(crate) options: ServeOptions,
+    /// Where lines go.
+    pub(crate) lines: &'a LineChannel,
+    pub(crate) gate: Arc<OpenGate, Global>,
+    pub(crate) stop: &'a Stop,
+    /// What is stopped once the run is told to end.
+    pub(crate) live: &'a LiveSockets,
+    /// How many proxies are served.
+    pub(crate) proxies: AtomicU64,
+}

@@ -1,0 +1,226 @@
+//! Serving proxies: sockets under the plans of a script.
+ghost use Rattle.std.specs.Prelude.{◌≡◌, All, false, IfErr, Ok};
+ghost use Rattle.tox_serve.specs.lines.LineQueue.{no_lines};
+ghost use Rattle.tox_serve.specs.Serving.{HasServeCause};
+
+use crate::fault::ServeFault;
+use crate::lines::printing::print_listening;
+use crate::lines::{Gaps, LineChannel, LineQueue, NoGaps, write_lines};
+use crate::options::ServeOptions;
+use crate::proxy::listening::{Listening, listen_all};
+use crate::proxy::thread::serve_proxy;
+use crate::run::ServeRun;
+use crate::runtime::ServeRuntime;
+use crate::sockets::live_sockets::LiveSockets;
+use crate::stop::Stop;
+use std::alloc::Global;
+use std::io::Write;
+use std::net::{Net, TcpListener, TcpStream};
+use std::sync::atomic::AtomicU64;
+use std::sync::{Arc, Mutex, Wait};
+use std::thread;
+use std::thread::{Scope, Threads};
+use std::time::Clock;
+use tox_config::ProxyDef;
+use tox_script::Script;
+use tox_time::OpenGate;
+
+/// [`serve_with`], with this limit of links and no other option. Dropped lines are told to nobody.
+pub fn serve<
+    'a,
+    R: Net<Listener = TcpListener, Stream = TcpStream>
+        + Threads
+        + Wait
+        + Clock
+        + Copy
+        + Send
+        + Sync
+        + 'static,
+    W: Write + Send,
+>(
+    rt: &R,
+    alloc: Global,
+    proxies: &'a [ProxyDef],
+    script: &Script,
+    seed: u64,
+    links: Option<u64>,
+    out: &Mutex<W>,
+) -> Result<(), ServeFault<'a>>
+    ensures nothing { All (λ proxy. proxy.enabled ≡ false) proxies.now → result ≡ Ok tt }
+    ensures fault { IfErr result (HasServeCause proxies.now) }
+{
+    let options = ServeOptions {
+        links,
+        connect_timeout: None,
+    };
+    serve_with(
+        rt,
+        alloc,
+        proxies,
+        script,
+        seed,
+        out,
+        &NoGaps,
+        &Stop::new(),
+        &options,
+    )
+}
+
+/// Serves the enabled proxies. Binds all their addresses first, and prints where each listens. Each connection that is
+/// taken meets the toxics of the script under the words of the seed and its number. A line tells how each link ended,
+/// and one for each proxy its totals.
+///
+/// One thread writes the lines, so a writer that waits holds up no link. At most 65,536 bytes of lines wait for it. A link's
+/// line that finds no room is dropped, and the gap is told once the lines before it are written. The other lines wait for room.
+/// Lines that the writer fails to take are dropped without a word, and later ones are tried again.
+///
+/// Returns once no proxy listens any more, all links have ended, and each line was written or dropped. A fault comes before any
+/// connection is taken.
+///
+/// Told to stop, it listens no more and resets each link. A stream that hadn't ended is broken. Once no link has ended for 750
+/// milliseconds the totals don't wait for those left, which then have no line. It still returns only once these have ended,
+/// and waits for a writer that doesn't return: [`Room`](crate::Room) is for writers that give up.
+pub fn serve_with<
+    'a,
+    R: Net<Listener = TcpListener, Stream = TcpStream>
+        + Threads
+        + Wait
+        + Clock
+        + Copy
+        + Send
+        + Sync
+        + 'static,
+    W: Write + Send,
+    G: Gaps + Sync,
+>(
+    rt: &R,
+    alloc: Global,
+    proxies: &'a [ProxyDef],
+    script: &Script,
+    seed: u64,
+    out: &Mutex<W>,
+    gaps: &G,
+    stop: &Stop,
+    options: &ServeOptions,
+) -> Result<(), ServeFault<'a>>
+    ensures nothing { All (λ proxy. proxy.enabled ≡ false) proxies.now → result ≡ Ok tt }
+    ensures fault { IfErr result (HasServeCause proxies.now) }
+{
+    if !proxies.iter().any(|proxy| proxy.enabled) {
+        return Ok(());
+    }
+    let live = LiveSockets::new(alloc);
+    let listening = listen_all(rt, alloc, &live, proxies)?;
+    let Ok(gate) = Arc::new(alloc, OpenGate) else {
+        return Err(ServeFault::OutOfMemory);
+    };
+    let Ok(lines) = LineChannel::new(alloc) else {
+        return Err(ServeFault::OutOfMemory);
+    };
+    let Ok(empty) = LineQueue::new(alloc) else {
+        return Err(ServeFault::OutOfMemory);
+    };
+    let run = ServeRun {
+        alloc,
+        script,
+        seed,
+        options: *options,
+        lines: &lines,
+        gate,
+        stop,
+        live: &live,
+        proxies: AtomicU64::new(listening.len() as u64),
+    };
+    if serve_and_write(rt, &run, listening, empty, out, gaps) {
+        Ok(())
+    } else {
+        Err(ServeFault::SpawnRefused)
+    }
+}
+
+/// Serves the proxies beside a thread that writes the lines. False if a thread is refused: then no connection is taken.
+fn serve_and_write<R: ServeRuntime, W: Write + Send, G: Gaps + Sync>(
+    rt: &R,
+    run: &ServeRun<'_>,
+    listening: Vec<Listening<'_>>,
+    empty: LineQueue,
+    out: &Mutex<W>,
+    gaps: &G,
+) -> bool
+    requires { empty ≡ no_lines }
+{
+    let lines = run.lines;
+    thread::scope(
+        thread::scope_env(),
+        rt,
+        |scope| -> bool
+            requires { empty ≡ no_lines }
+        {
+            let writer = scope.spawn(
+                move ||
+                    requires { empty ≡ no_lines }
+                { write_lines(rt, lines, empty, out, gaps) },
+            );
+            if writer.is_err() {
+                return false;
+            }
+            let served = serve_all(rt, run, listening);
+            lines.close(rt);
+            served
+        },
+    )
+}
+
+/// Serves each proxy in a thread of its own. False if one is refused: then no connection is taken.
+fn serve_all<R: ServeRuntime>(rt: &R, run: &ServeRun<'_>, listening: Vec<Listening<'_>>) -> bool {
+    let go = Mutex::new(false);
+    let may_go = &go;
+    thread::scope(thread::scope_env(), rt, |scope| {
+        // The threads wait for the lock until all of them are there.
+        let mut all_started = may_go.lock(rt);
+        print_listening(rt, run.lines, &listening);
+        *all_started = start_all(rt, run, may_go, scope, listening);
+        if !*all_started {
+            return false;
+        }
+        drop(all_started);
+        if run.stop.wait(rt, &run.proxies) {
+            run.live.stop(rt);
+        }
+        true
+    })
+}
+
+/// Starts the threads of proxies. False if one is refused.
+fn start_all<'s, E: 's, R: ServeRuntime>(
+    rt: &'s R,
+    run: &'s ServeRun<'s>,
+    may_go: &'s Mutex<bool>,
+    scope: &'s Scope<'s, E>,
+    listening: Vec<Listening<'s>>,
+) -> bool {
+    for bound in listening {
+        if !start_proxy(rt, run, may_go, scope, bound) {
+            return false;
+        }
+    }
+    true
+}
+
+/// Starts the thread of a proxy, which serves it once it may go. False if the thread is refused.
+fn start_proxy<'s, E: 's, R: ServeRuntime>(
+    rt: &'s R,
+    run: &'s ServeRun<'s>,
+    may_go: &'s Mutex<bool>,
+    scope: &'s Scope<'s, E>,
+    bound: Listening<'s>,
+) -> bool {
+    let started = scope.spawn(move || {
+        let goes = *may_go.lock(rt);
+        if goes {
+            serve_proxy(rt, run, bound);
+        }
+        run.stop.ended(rt, &run.proxies);
+    });
+    started.is_ok()
+}

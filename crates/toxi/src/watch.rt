@@ -1,0 +1,118 @@
+//! `toxi serve` in a thread of its own, beside the first one, which waits for its end or a signal. A program ends once its first
+//! thread does, so nothing that hangs in serving can hold up the end.
+use crate::fail;
+use crate::serve::{ServeJob, hold_descriptor, serve_job};
+use crate::signals::Signals;
+use std::io::{Read, Seek};
+use std::net::{Net, TcpListener, TcpStream};
+use std::process::ExitCode;
+use std::rt::Files;
+use std::sync::{Arc, Condvar, Mutex, Wait};
+use std::thread;
+use std::thread::Threads;
+use std::time::{Clock, Duration};
+use tox_arguments::ServeArguments;
+use tox_proxy::{ServeFault, Stop};
+
+/// How long the end of serving is waited for before signals are looked at, in milliseconds.
+const LOOK: u64 = 50;
+
+/// How long a program that is told to end waits for the end of serving, in milliseconds.
+const STOP_LIMIT: u64 = 1_500;
+
+/// What the two threads share.
+#[derive(Drop)]
+struct Serving {
+    stop: Stop,
+    /// The status of the program, once serving has ended.
+    status: Mutex<Option<u8>>,
+    ended: Condvar,
+}
+
+impl Serving {
+    fn new() -> Serving {
+        Serving {
+            stop: Stop::new(),
+            status: Mutex::new(None),
+            ended: Condvar::new(),
+        }
+    }
+
+    /// Serving has ended.
+    fn end<R: Wait>(&self, rt: &R, status: u8) {
+        *self.status.lock(rt) = Some(status);
+        self.ended.notify_all();
+    }
+
+    /// The status, if serving ends within so many milliseconds.
+    fn wait<R: Wait + Clock>(&self, rt: &R, millis: u64) -> Option<u8> {
+        let limit = Duration::from_millis(millis);
+        let status = self.status.lock(rt);
+        let (status, _) = self
+            .ended
+            .wait_timeout_while(rt, status, limit, |status| status.is_none());
+        *status
+    }
+}
+
+/// Serves what the files set up, until no proxy is served any more or a signal tells the program to end.
+pub fn serve<
+    R: Print
+        + Eprint
+        + Files
+        + AllocGlobal
+        + Net<Listener = TcpListener, Stream = TcpStream>
+        + Threads
+        + Wait
+        + Clock
+        + Copy
+        + Send
+        + Sync
+        + 'static,
+>(rt: &R, arguments: &ServeArguments<'_>) -> ExitCode
+where
+    R::File: Send + 'static,
+    R::Dir: Send + 'static,
+{
+    let _input = hold_descriptor(rt);
+    let _output = hold_descriptor(rt);
+    let _errors = hold_descriptor(rt);
+    let mut signals = Signals::of_process(rt);
+    let alloc = rt.alloc();
+    let Ok(job) = ServeJob::of(alloc, arguments) else {
+        return fail(rt, &ServeFault::OutOfMemory);
+    };
+    let Ok(serving) = Arc::new(alloc, Serving::new()) else {
+        return fail(rt, &ServeFault::OutOfMemory);
+    };
+    let Ok(shared) = serving.clone() else {
+        return fail(rt, &ServeFault::OutOfMemory);
+    };
+    let there = *rt;
+    let started = thread::spawn(rt, move || {
+        let status = serve_job(&there, &job, &shared.stop);
+        shared.end(&there, status);
+    });
+    if started.is_err() {
+        return fail(rt, &ServeFault::SpawnRefused);
+    }
+    ExitCode::from(watch(rt, &serving, &mut signals))
+}
+
+/// Waits for the end of serving. Told to end by a signal, it waits no longer than the limit, and the status is 0 then.
+fn watch<R: Wait + Clock, F: Read + Seek + Drop>(
+    rt: &R,
+    serving: &Serving,
+    signals: &mut Signals<F>,
+) -> u8 {
+    for _ in rt.forever() {
+        if let Some(status) = serving.wait(rt, LOOK) {
+            return status;
+        }
+        if signals.tell_to_end() {
+            break;
+        }
+    }
+    serving.stop.tell(rt);
+    serving.wait(rt, STOP_LIMIT).unwrap_or(0)
+}
