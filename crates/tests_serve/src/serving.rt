@@ -149,13 +149,13 @@ fn a_taken_port_is_refused(rt: HostRuntime) -> Result<(), Fail> {
     Ok(())
 }
 
-/// Sends five bytes through a link, and tells its run to stop while it lives.
+/// Sends five bytes through a link, and tells its run to stop while it lives. Gives both peers, so that they close nothing before the link is reset.
 fn tell_a_living_link<R: Net<Stream = TcpStream> + Wait>(
     rt: &R,
     address: &str,
     upstream: &TcpListener,
     stop: &Stop,
-) -> io::Result<()> {
+) -> io::Result<(TcpStream, TcpStream)> {
     let client = TcpStream::connect(rt, address)?;
     let (server, _) = upstream.accept()?;
     let mut sender = &client;
@@ -164,7 +164,7 @@ fn tell_a_living_link<R: Net<Stream = TcpStream> + Wait>(
     let mut receiver = &server;
     receiver.read_exact(&mut bytes)?;
     stop.tell(rt);
-    Ok(())
+    Ok((client, server))
 }
 
 /// What is printed behind the first line of a run that is told to stop while a link lives, on which a client has sent five bytes.
@@ -197,10 +197,11 @@ fn stopped<
             .is_ok()
         });
         let address = listening(rt, alloc, lines)?;
-        tell_a_living_link(rt, &address, upstream, told)?;
+        let peers = tell_a_living_link(rt, &address, upstream, told)?;
         if let Ok(server) = server {
             server.join(rt);
         }
+        drop(peers);
         Ok(())
     })?;
     let bytes = out.into_inner();
