@@ -29,7 +29,7 @@ from ends import (
 from manual import is_applied, words_of_seed
 from registry import case
 from served import SEED
-from waiting import check
+from waiting import check, check_in_time
 
 
 @case(1)
@@ -299,7 +299,7 @@ def limit_is_told_to_a_target_that_sends(toxi):
         client.send(b"abc")
         begun = time.monotonic()
         send_until_refused(server)
-        check(time.monotonic() - begun < 1, "the upstream learnt late that the link has ended")
+        check_in_time(time.monotonic() - begun < 1, "the upstream learnt late that the link has ended")
         client.close()
         server.close()
 
@@ -335,7 +335,7 @@ def reset_of_one_that_hardly_reads(toxi):
         sent = send_until_told(server, client if reads else None)
         told = time.monotonic()
         check(told - begun >= 0.3, "the link was reset too early")
-        check(told - due < 0.2, f"the reset came {1000 * (told - due):.0f} ms late")
+        check_in_time(told - due < 0.2, f"the reset came {1000 * (told - due):.0f} ms late")
         if not reads:
             toxi.ended(number, 0, "closed", range(1, sent), "broken")
         send_until_refused(client)

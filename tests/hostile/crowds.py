@@ -5,7 +5,7 @@ import time
 
 from ends import read_all, read_count
 from registry import case
-from waiting import LIMIT, check
+from waiting import LIMIT, check, check_in_time
 
 # What each socket of a link is told to do about a silent peer: whether it asks, and when.
 KEEP_ALIVE = {
@@ -35,7 +35,7 @@ def clients_come_at_once(toxi):
         client.send(b"a")
     servers = [toxi.upstream.accept() for _ in clients]
     took = time.monotonic() - begun
-    check(took < 5, f"the upstream had the last of 1000 clients after {took:.1f} s")
+    check_in_time(took < 5, f"the upstream had the last of 1000 clients after {took:.1f} s")
     for client in clients:
         client.close()
     heard = [read_all(server) for server in servers]

@@ -11,7 +11,7 @@ from collections import Counter, namedtuple
 
 from ends import BLOCK, has_ended, is_reset, read_count, reset, send_until_full, shut_writing
 from registry import case
-from waiting import LIMIT, Failed, check, wait_until
+from waiting import LIMIT, Failed, check, check_in_time, wait_until
 
 # What a peer does as its link begins, what it does in a thread of its own until it is told, and how it finds out later.
 Peer = namedtuple("Peer", "first meanwhile later", defaults=(None, None, None))
@@ -88,17 +88,19 @@ class Watch:
         self.waiting.register(end, select.EPOLLONESHOT)
 
     def run(self, count):
-        """Waits for so many, and returns what was early or late."""
-        wrong = []
+        """Waits for so many, and returns those that were told too early, and those told too late."""
+        early, late = [], []
         for _ in range(count):
             told = self.waiting.poll(LIMIT, 1)
             check(told, f"not within {LIMIT} s: the reset of a peer")
             now = time.monotonic()
             earliest, latest = self.due[told[0][0]]
-            if not earliest <= now <= latest:
-                wrong.append(f"{now - earliest:.3f} s after it was due")
+            if now < earliest:
+                early.append(f"{earliest - now:.3f} s early")
+            if now > latest:
+                late.append(f"{now - latest:.3f} s later than it may be")
         self.waiting.close()
-        return wrong
+        return early, late
 
 
 def reset_a_round(toxi, links, seconds):
@@ -117,8 +119,9 @@ def reset_a_round(toxi, links, seconds):
                     peer.first(end)
                 if peer.meanwhile:
                     meanwhile.append(threads.submit(peer.meanwhile, end))
-        wrong = meanwhile[0].result()
-        check(not wrong, f"{len(wrong)} peers were told at the wrong time, the first {wrong[:1]}")
+        early, late = meanwhile[0].result()
+        check(not early, f"{len(early)} peers were told too early, the first {early[:1]}")
+        check_in_time(not late, f"{len(late)} peers were told too late, the first {late[:1]}")
         for future in meanwhile:
             future.result()
     for pair, kind in pairs:

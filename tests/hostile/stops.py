@@ -15,7 +15,7 @@ import time
 from ends import is_reset, read_all, read_count, send_until_full, shut_writing
 from registry import start
 from served import serve_command
-from waiting import LIMIT, Failed, check, wait_until
+from waiting import LIMIT, Failed, check, check_in_time, wait_until
 
 LAUNCHER = os.path.join(os.path.dirname(os.path.abspath(__file__)), "..", "..", "toxi")
 # Within so many seconds it has ended: if everything ends at its signal, and whatever hangs.
@@ -123,7 +123,7 @@ class Stopped:
             raise Failed(f"it didn't end within {LIMIT} s") from None
         took = time.monotonic() - since
         check(self.process.returncode == 0, f"it ended with status {self.process.returncode}")
-        check(took < limit, f"it took {took:.3f} s to end")
+        check_in_time(took < limit, f"it took {took:.3f} s to end")
         self.errors = errors.decode()
         return output.decode().splitlines()
 
@@ -311,7 +311,7 @@ def reading_its_files_hangs(program, folder):
         process.terminate()
         check(status_of(process) == 0, f"it ended with status {process.returncode}")
         took = time.monotonic() - since
-        check(took < ALWAYS, f"it took {took:.3f} s to end")
+        check_in_time(took < ALWAYS, f"it took {took:.3f} s to end")
         check(process.stdout.read() == b"" and process.stderr.read() == b"", "it printed something")
 
 
@@ -335,7 +335,7 @@ def nobody_reads_the_totals(program, folder):
         toxi.process.terminate()
         check(status_of(toxi.process) == 0, f"it ended with status {toxi.process.returncode}")
         took = time.monotonic() - since
-        check(took < ALWAYS, f"it took {took:.3f} s to end")
+        check_in_time(took < ALWAYS, f"it took {took:.3f} s to end")
         is_reset(client)
         is_reset(server)
 
@@ -426,7 +426,7 @@ def under_timeout_it_prints_its_totals(program, folder):
         output = toxi.process.stdout.read()
         took = time.monotonic() - since
     check(toxi.process.returncode == 124, f"`timeout` ended with status {toxi.process.returncode}")
-    check(took < 1 + ALWAYS, f"it took {took:.3f} s")
+    check_in_time(took < 1 + ALWAYS, f"it took {took:.3f} s")
     told_of_all(output.decode().splitlines(), 1)
 
 

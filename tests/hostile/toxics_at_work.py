@@ -4,7 +4,7 @@ import time
 
 from ends import BLOCK, are_quiet, has_ended, read_all, read_count, send_until_full, shut_writing
 from registry import case
-from waiting import LIMIT, check, wait_until
+from waiting import LIMIT, check, check_in_time, wait_until
 
 # How late a byte or an end may come in a test, in seconds. A busy machine is slow.
 LATE = 0.5
@@ -13,7 +13,7 @@ LATE = 0.5
 def came_in_time(since, seconds, what):
     took = time.monotonic() - since
     check(took >= seconds, f"{what} came {1000 * (seconds - took):.1f} ms early")
-    check(took < seconds + LATE, f"{what} came {1000 * (took - seconds):.0f} ms late")
+    check_in_time(took < seconds + LATE, f"{what} came {1000 * (took - seconds):.0f} ms late")
 
 
 def leave(toxi, client, server, said):

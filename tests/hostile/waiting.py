@@ -9,9 +9,19 @@ class Failed(Exception):
     """What a case found wrong."""
 
 
+class Late(Failed):
+    """What came later than it may."""
+
+
 def check(holds, what):
     if not holds:
         raise Failed(what)
+
+
+def check_in_time(holds, what):
+    """For what only its time makes wrong: a busy machine is late now and then, a wrong program each time."""
+    if not holds:
+        raise Late(what)
 
 
 def wait_until(holds, what):
