@@ -6,7 +6,6 @@ pub mod Sent
 pub mod Logs
 pub mod StepLemmas
 pub mod HeldLemmas
-pub mod BookTotals
 pub mod SideLemmas
 pub mod LoggedLemmas
 pub mod CarryLemmas

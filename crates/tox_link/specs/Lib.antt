@@ -2,7 +2,6 @@ pub mod link_core
 pub mod ring
 pub mod log
 pub mod carrying
-pub mod book
 pub mod Sources
 pub mod Reports
 pub mod Hangups

@@ -1,7 +1,6 @@
-//! One direction of a live link, and the book of a proxy's links.
+//! One direction of a live link, and the book of a proxy's links (tox_book), whose calls it hands on.
 #![tactic(auto)]
 
-mod book;
 mod carrying;
 mod clock;
 mod direction;
@@ -13,7 +12,6 @@ mod notes;
 mod ring;
 mod source_ending;
 
-pub use book::{Book, BookFault, OpenFault};
 pub use carrying::carry;
 pub use clock::Clock;
 pub use direction::{PollSink, PollSource, PolledLink, Progress, TimedReport, drive, finish};
@@ -25,3 +23,4 @@ pub use link_report::LinkReport;
 pub use notes::{LinkEvent, NoNotes, Notes};
 pub use ring::message::ReadEnd;
 pub use source_ending::SourceEnding;
+pub use tox_book::{Book, BookFault, OpenFault};

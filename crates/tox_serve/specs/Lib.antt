@@ -1,8 +1,6 @@
-pub mod Bound
 pub mod Addresses
 pub mod Serving
 pub mod Signals
 pub mod proxy
 pub mod link
-pub mod sockets
 pub mod lines

@@ -2,7 +2,7 @@
 use Rattle.std.specs.Prelude.{◌≡◌, ℕ, Bool, true, ◌||◌, nat_le, List, Option}
 use Rattle.std.specs.List.{Contains}
 use Rattle.tox_config.specs.Proxy.{Proxy}
-use Rattle.tox_serve.specs.Bound.{is_reached}
+use Rattle.tox_sockets.specs.Bound.{is_reached}
 use Rattle.tox_serve.specs.declared.fault.ServeFault.{ServeFault}
 use Rattle.tox_serve.specs.declared.fault.ServeFault.TheVariants.{ListenRefused, SpawnRefused, OutOfMemory}
 

@@ -1,4 +1,3 @@
 -- One served link.
 pub mod LinkEnds
-pub mod ResetDue
 pub mod Courses

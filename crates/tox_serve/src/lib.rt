@@ -12,7 +12,6 @@ mod run;
 mod runtime;
 mod serving;
 mod signals;
-mod sockets;
 mod stop;
 
 pub use fault::ServeFault;

@@ -1,8 +1,6 @@
 //! One link: its thread, its two directions, and how it ended.
-pub(crate) mod clock;
 pub(crate) mod connecting;
 pub(crate) mod course;
 pub(crate) mod direction;
 pub(crate) mod end;
-pub(crate) mod reset_due;
 pub(crate) mod thread;

@@ -1,9 +1,9 @@
 //! Waiting for room to write, unless told to stop.
-use crate::sockets::socket_calls::can_write;
 use crate::stop::Stop;
 use std::os::fd::RawFd;
 use std::sync::Wait;
 use std::sync::atomic::{AtomicU32, Ordering};
+use tox_sockets::can_write;
 
 /// How long room is waited for at a time, in milliseconds.
 const TURN: i32 = 50;

@@ -1,12 +1,12 @@
 //! What all links of a run of `serve` share.
 use crate::lines::LineChannel;
 use crate::options::ServeOptions;
-use crate::sockets::live_sockets::LiveSockets;
 use crate::stop::Stop;
 use std::alloc::Global;
 use std::sync::Arc;
 use std::sync::atomic::AtomicU64;
 use tox_script::Script;
+use tox_sockets::LiveSockets;
 use tox_time::OpenGate;
 
 /// What all links of a run share.

@@ -11,7 +11,6 @@ use crate::proxy::listening::{Listening, listen_all};
 use crate::proxy::thread::serve_proxy;
 use crate::run::ServeRun;
 use crate::runtime::ServeRuntime;
-use crate::sockets::live_sockets::LiveSockets;
 use crate::stop::Stop;
 use std::alloc::Global;
 use std::io::Write;
@@ -23,6 +22,7 @@ use std::thread::{Scope, Threads};
 use std::time::Clock;
 use tox_config::ProxyDef;
 use tox_script::Script;
+use tox_sockets::LiveSockets;
 use tox_time::OpenGate;
 
 /// [`serve_with`], with this limit of links and no other option. Dropped lines are told to nobody.

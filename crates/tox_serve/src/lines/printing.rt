@@ -1,7 +1,7 @@
 //! Sends the lines of serving to the thread that writes them. Each is made whole before it is sent.
 ghost use Rattle.std.specs.Prelude.{◌≡◌, length, IfSome};
 ghost use Rattle.tox_time.specs.declared.streams.stream.Stream.TheVariants.{Upstream, Downstream};
-ghost use Rattle.tox_link.specs.book.Links.{total_of};
+ghost use Rattle.tox_book.specs.Links.{total_of};
 ghost use Rattle.tox_serve.specs.lines.ServeLines.{link_line, listening_line, total_line};
 
 use crate::lines::serve_lines::{write_link, write_listening, write_total};
@@ -9,7 +9,7 @@ use crate::lines::{LineChannel, LineText};
 use crate::link::end::LinkEnd;
 use crate::proxy::listening::Listening;
 use std::sync::Wait;
-use tox_link::Book;
+use tox_book::Book;
 
 /// Prints where each proxy listens, in order. Waits until there is room.
 pub(crate) fn print_listening<R: Wait>(rt: &R, lines: &LineChannel, listening: &[Listening<'_>]) {

@@ -2,11 +2,11 @@
 ghost use Rattle.std.specs.Prelude.{◌≡◌, ◌++◌, [], false, length, codes, decimal};
 ghost use Rattle.tox_text.specs.Writing.{Prints, Writes};
 ghost use Rattle.tox_time.specs.declared.streams.stream.Stream.TheVariants.{Upstream, Downstream};
-ghost use Rattle.tox_link.specs.book.Links.{total_of};
+ghost use Rattle.tox_book.specs.Links.{total_of};
 ghost use Rattle.tox_serve.specs.lines.ServeLines.{end_word, link_line, listening_line, side_text, total_line};
 
 use crate::link::end::{LinkEnd, SideEnd};
-use tox_link::Book;
+use tox_book::Book;
 use tox_text::{Buffer, print_name};
 use tox_time::{EndFault, Ending, Sink, Stream};
 

@@ -2,11 +2,11 @@
 use crate::addresses::connect_address;
 use crate::run::ServeRun;
 use crate::runtime::ServeRuntime;
-use crate::sockets::socket_calls::can_write;
 use mio::net::TcpStream as BegunStream;
 use std::net::{Net, SocketAddr, TcpStream, ToSocketAddrs};
 use std::os::fd::AsRawFd;
 use std::sync::Wait;
+use tox_sockets::can_write;
 
 /// How long an answer is waited for at a time, in milliseconds.
 const TURN: u32 = 50;

@@ -2,19 +2,16 @@
 ghost use Rattle.std.specs.Prelude.{◌≡◌, None, fold, IfSome};
 ghost use Rattle.std.specs.Arc.{arc_value};
 ghost use Rattle.tox_serve.specs.link.LinkEnds.{carried_before, end_before_stop};
-ghost use Rattle.tox_serve.specs.link.ResetDue.{after_op};
-ghost use Rattle.tox_serve.specs.sockets.Streams.{target_of};
+ghost use Rattle.tox_sockets.specs.ResetDue.{after_op};
+ghost use Rattle.tox_sockets.specs.Streams.{target_of};
 
-use crate::link::clock::{LinkStart, SinceStart};
 use crate::link::course::Course;
 use crate::link::end::{Carried, StreamEnd};
 use crate::runtime::ServeRuntime;
-use crate::sockets::link_sockets::LinkSockets;
-use crate::sockets::until_cut::UntilCut;
-use crate::sockets::until_due::UntilDue;
 use std::alloc::Global;
 use std::sync::Arc;
 use tox_link::{Ends, LinkFault, LinkReport, NoNotes, carry};
+use tox_sockets::{LinkSockets, LinkStart, SinceStart, UntilCut, UntilDue};
 use tox_time::{MAX_BYTES, OpenGate, Real, Stream};
 
 /// One direction of a link, before it is carried.

@@ -3,7 +3,7 @@ ghost use Rattle.std.specs.Prelude.{◌≡◌};
 ghost use Rattle.tox_time.specs.declared.streams.stream.Stream.TheVariants as StreamOf;
 ghost use Rattle.tox_serve.specs.link.LinkEnds.{broken_link, broken_side, ending_of, is_refused, link_end, nothing_carried, settled, side_end};
 
-use tox_link::Book;
+use tox_book::Book;
 use tox_time::{Ending, Stream};
 
 /// How one direction ended.

@@ -3,7 +3,6 @@ ghost use Rattle.std.specs.Prelude.{◌≡◌, ◌≤◌, IfSome};
 ghost use Rattle.tox_time.specs.declared.streams.stream.Stream.TheVariants as StreamOf;
 ghost use Rattle.tox_serve.specs.link.Courses.{IsCourse};
 
-use crate::link::clock::LinkStart;
 use crate::link::connecting::connect;
 use crate::link::course::{Course, course_of};
 use crate::link::direction::{Direction, carry_stream};
@@ -11,14 +10,13 @@ use crate::link::end::{Carried, LinkEnd};
 use crate::proxy::links::ProxyLinks;
 use crate::run::ServeRun;
 use crate::runtime::ServeRuntime;
-use crate::sockets::link_sockets::LinkSockets;
-use crate::sockets::live_sockets::LiveSocket;
 use std::alloc::Global;
 use std::net::TcpStream;
 use std::sync::Arc;
 use std::thread;
 use std::thread::Promise;
 use tox_config::ProxyDef;
+use tox_sockets::{LinkSockets, LinkStart, LiveSocket};
 use tox_time::Stream;
 
 /// A connection that was taken, and the number of its link.

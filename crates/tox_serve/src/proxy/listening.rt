@@ -4,12 +4,11 @@ ghost use Rattle.tox_serve.specs.Serving.{HasServeCause, IsListenFault};
 
 use crate::addresses::listen_address;
 use crate::fault::ServeFault;
-use crate::sockets::live_sockets::{LiveSocket, LiveSockets};
-use crate::sockets::socket_calls::lengthen_queue;
 use std::alloc::Global;
 use std::net::{Net, TcpListener, TcpStream};
 use std::sync::{Arc, Wait};
 use tox_config::ProxyDef;
+use tox_sockets::{LiveSocket, LiveSockets, lengthen_queue};
 
 /// An enabled proxy whose address is bound.
 #[derive(Drop)]

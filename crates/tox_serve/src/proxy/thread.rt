@@ -1,6 +1,6 @@
 //! One served proxy: takes connections, starts a thread for each, and prints the totals at the end.
 ghost use Rattle.std.specs.Prelude.{◌≡◌, [], ◌∷◌, ◌++◌, length, IfSome, IfNone};
-ghost use Rattle.tox_link.specs.book.Links.{new_link};
+ghost use Rattle.tox_book.specs.Links.{new_link};
 ghost use Rattle.tox_serve.specs.Serving.{is_enough};
 
 use crate::link::end::LinkEnd;
@@ -15,7 +15,7 @@ use std::net::{TcpListener, TcpStream};
 use std::sync::Wait;
 use std::thread;
 use std::thread::Scope;
-use tox_link::Book;
+use tox_book::Book;
 use tox_words::MAX_CONNECTIONS;
 
 /// Serves a proxy until it stops listening and all its links have ended.

@@ -1,3 +1,0 @@
--- The book of links.
-pub mod Links
-pub mod BookInside

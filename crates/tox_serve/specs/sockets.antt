@@ -1,3 +1,0 @@
--- The sockets of a link.
-pub mod Streams
-pub mod Shutting

@@ -1,0 +1,4 @@
+pub mod Bound
+pub mod Streams
+pub mod Shutting
+pub mod ResetDue

@@ -1,0 +1,18 @@
+//! The sockets of served links: their options, how they are cut and shut, the ends of a direction over them, and a link's clock.
+#![tactic(auto)]
+
+mod clock;
+mod link_sockets;
+mod live_sockets;
+mod reset_due;
+mod socket_calls;
+mod sockets;
+mod until_cut;
+mod until_due;
+
+pub use clock::{LinkStart, SinceStart};
+pub use link_sockets::LinkSockets;
+pub use live_sockets::{LiveSocket, LiveSockets};
+pub use socket_calls::{can_write, lengthen_queue};
+pub use until_cut::UntilCut;
+pub use until_due::UntilDue;

@@ -1,0 +1,117 @@
+//! The two sockets of a served link.
+ghost use Rattle.std.specs.Prelude.{◌≡◌, IfSome};
+ghost use Rattle.std.specs.Arc.{arc_value};
+ghost use Rattle.tox_sockets.specs.Streams.{source_of, target_of};
+
+use crate::socket_calls::keep_alive;
+use crate::sockets::Sockets;
+use std::alloc::Global;
+use std::net::TcpStream;
+use std::sync::Arc;
+use std::sync::atomic::{AtomicBool, AtomicU32, Ordering};
+use tox_time::Stream;
+
+/// How a link was cut: not yet, by a close of both sockets, or by a reset.
+const UNCUT: u32 = 0;
+
+const CLOSED: u32 = 1;
+
+const RESET: u32 = 2;
+
+/// The two sockets of a link, which the threads of both its directions share.
+#[derive(Drop)]
+pub struct LinkSockets {
+    pub client: TcpStream,
+    pub server: TcpStream,
+    /// How the link was cut, one of the three above.
+    cut: AtomicU32,
+    /// Whether the run was told to stop while the link lived.
+    stopped: AtomicBool,
+}
+
+impl LinkSockets {
+    /// Of a client, and of the upstream that was connected for it. None if out of memory.
+    pub fn new(
+        alloc: Global,
+        client: TcpStream,
+        server: TcpStream,
+    ) -> Option<Arc<LinkSockets, Global>>
+        ensures client { IfSome result (λ link. (arc_value link).client ≡ client) }
+        ensures server { IfSome result (λ link. (arc_value link).server ≡ server) }
+    {
+        prepare(&client);
+        prepare(&server);
+        let cut = AtomicU32::new(UNCUT);
+        let stopped = AtomicBool::new(false);
+        Arc::new(
+            alloc,
+            LinkSockets {
+                client,
+                server,
+                cut,
+                stopped,
+            },
+        )
+        .ok()
+    }
+
+    /// Whether the link was cut. Nothing of its sockets is read from then on, and no half of them is shut by itself.
+    pub fn is_cut(&self) -> bool {
+        self.cut.load(Ordering::SeqCst) != UNCUT
+    }
+
+    /// Cuts the link, unless it was cut before. True if it is cut by a close, this one or that of the other stream.
+    pub fn cut_to_close(&self) -> bool {
+        match self
+            .cut
+            .compare_exchange(UNCUT, CLOSED, Ordering::SeqCst, Ordering::SeqCst)
+        {
+            Ok(_) => true,
+            Err(before) => before == CLOSED,
+        }
+    }
+
+    /// Cuts the link, unless it was cut before. True if it is this cut that resets it.
+    pub fn cut_to_reset(&self) -> bool {
+        self.cut
+            .compare_exchange(UNCUT, RESET, Ordering::SeqCst, Ordering::SeqCst)
+            .is_ok()
+    }
+
+    /// Ends the link, since the run was told to stop. Nothing more of it is written, a stream of it that ends from now on is
+    /// broken, and both sockets are reset.
+    pub fn stop(&self) {
+        self.stopped.store(true, Ordering::SeqCst);
+        self.ends_of(Stream::Upstream).reset();
+    }
+
+    /// Whether the link was stopped.
+    pub fn is_stopped(&self) -> bool {
+        self.stopped.load(Ordering::SeqCst)
+    }
+
+    /// The ends of a stream. Upstream goes from the client to the server, and downstream comes back.
+    pub fn ends_of(&self, stream: Stream) -> Sockets<'_>
+        ensures link { result.link.now ≡ self.now }
+        ensures source { result.source.now ≡ source_of stream self.now }
+        ensures target { result.target.now ≡ target_of stream self.now }
+    {
+        let (source, target) = match stream {
+            Stream::Upstream => (&self.client, &self.server),
+            Stream::Downstream => (&self.server, &self.client),
+        };
+        Sockets {
+            link: self,
+            source,
+            target,
+            was_stopped: false,
+        }
+    }
+}
+
+/// Small writes go out at once, and a peer that vanishes is found. A socket that is gone by now refuses that, and its first
+/// read or write tells.
+fn prepare(socket: &TcpStream) {
+    let _ = socket.set_nodelay(true);
+    let _ = keep_alive(socket);
+}
