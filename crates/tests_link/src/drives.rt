@@ -18,6 +18,7 @@ use tox_compile::compile;
 use tox_link::{LinkEvent, LinkFault, PolledLink, Progress, drive, finish};
 use tox_plan::deliver;
 use tox_time::{Arrivals, Ending, MemorySink, MemorySource, Micros, SliceList};
+use tox_words::{Words, WordsFault};
 
 /// More drives than a drawn direction takes.
 const MAX_DRIVES: usize = 1_000_000;
@@ -26,7 +27,7 @@ const MAX_DRIVES: usize = 1_000_000;
 pub fn drive_on(
     rt: &(impl Abort + AllocGlobal),
     generator: &mut Lcg64Xsh32,
-    link: &mut PolledLink<'_>,
+    link: &mut PolledLink,
     clock: &RestingClock,
     notes: &mut Noted,
     source: &mut BusyEnd<MemorySource>,
@@ -60,6 +61,11 @@ fn go_on(generator: &mut Lcg64Xsh32, clock: &RestingClock, until: Option<Micros>
         _ => drawn,
     };
     clock.micros.store(next, Ordering::SeqCst);
+}
+
+/// The words that a seed draws.
+fn words_of(alloc: Global, seed: u64) -> Result<Words, WordsFault> {
+    drawn_words(alloc, &mut Lcg64Xsh32::new(seed, 4))
 }
 
 /// Bytes that tell their position, up to 600 of them.
@@ -99,9 +105,9 @@ fn compare(rt: &(impl Abort + AllocGlobal), seed: u64) -> Result<bool, Fail> {
     let alloc = rt.alloc();
     let generator = &mut Lcg64Xsh32::new(seed, 3);
     let chain = drawn_chain(rt, generator);
-    let words = drawn_words(alloc, generator)?;
+    let words = words_of(alloc, seed)?;
     let bytes = drawn_bytes(alloc, generator)?;
-    let mut link = PolledLink::new(alloc, compile(&chain, &words), &words)?;
+    let mut link = PolledLink::new(alloc, compile(&chain, &words), words_of(alloc, seed)?)?;
     let clock = RestingClock {
         micros: Arc::new(alloc, AtomicU64::new(0))?,
     };

@@ -99,7 +99,7 @@ fn a_piece_is_stamped_after_its_read(rt: HostRuntime) -> Result<(), Fail> {
     };
     let words = Words::from_list(alloc, &[0])?;
     let chain = chain_of("latency:latency=1").expect(&rt, "a short form");
-    let mut link = PolledLink::new(alloc, compile(&chain, &words), &words)?;
+    let mut link = PolledLink::new(alloc, compile(&chain, &words), words)?;
     let mut notes = Noted {
         events: Vec::new(alloc),
     };
@@ -147,7 +147,7 @@ fn a_slice_that_waits_hides_no_reset(rt: HostRuntime) -> Result<(), Fail> {
     };
     let words = Words::from_list(alloc, &[0])?;
     let chain = chain_of("reset_peer:timeout=20").expect(&rt, "a short form");
-    let mut link = PolledLink::new(alloc, compile(&chain, &words), &words)?;
+    let mut link = PolledLink::new(alloc, compile(&chain, &words), words)?;
     let mut notes = NoNotes;
     let mut source = TickingSource {
         micros: micros.clone()?,
@@ -194,7 +194,7 @@ fn a_drive_that_moves_nothing_takes_no_memory(rt: HostRuntime) -> Result<(), Fai
     };
     let words = Words::from_list(alloc, &[0])?;
     let chain = chain_of("latency:latency=1").expect(&rt, "a short form");
-    let mut link = PolledLink::new(alloc, compile(&chain, &words), &words)?;
+    let mut link = PolledLink::new(alloc, compile(&chain, &words), words)?;
     let mut scratch = [0; 16_384];
     let mut source = TickingSource {
         micros,

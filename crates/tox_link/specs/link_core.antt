@@ -1,5 +1,6 @@
 -- The core of a live link.
 pub mod Acts
 pub mod Core
+pub mod NewCore
 pub mod CoreKept
 pub mod CoreInside

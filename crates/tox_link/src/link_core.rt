@@ -5,10 +5,11 @@ ghost use Rattle.tox_time.specs.declared.streams.item.Item.TheVariants.{Chunk, C
 ghost use Rattle.tox_time.specs.streams.Arrivals.{piece_fault};
 ghost use Rattle.tox_time.specs.streams.Stream.{IsStream};
 ghost use Rattle.tox_time.specs.streams.Table.{final_of};
-ghost use Rattle.tox_compile.specs.Meaning.{means};
+ghost use Rattle.tox_compile.specs.Meaning.{deadline_of};
 ghost use Rattle.tox_plan.specs.OpCursors.{ops_of};
 ghost use Rattle.tox_plan.specs.RunnerView.{answer_of, no_piece};
 ghost use Rattle.tox_link.specs.link_core.Core.{remaining_output, core_ending, core_position, core_deadline, kept_count, next_instant, KeepsCore, Looked, IsDrained, IsEmptied, Settled, HandsOnEnd};
+ghost use Rattle.tox_link.specs.link_core.NewCore.{core_of, IsNewCore};
 ghost use Rattle.tox_link.specs.link_core.Acts.{idle_act, IsSliceAct, After, Answered};
 
 pub(crate) mod act;
@@ -56,18 +57,34 @@ impl<'w> Model for LinkCore<'w> {
 impl<'w> LinkCore<'w> {
     /// A core of the plan. Nothing has arrived yet, and its last instant is 0.
     pub fn new(alloc: Global, plan: Plan, words: &'w Words) -> Result<LinkCore<'w>, AllocError>
-        ensures meaning { IfOk result (λ core. (items : List OneItem) → IsStream items
-            → remaining_output core items ≡ means plan words.now items) }
-        ensures start { IfOk result (λ core. (core.waiting ≡ []) × (core.runner.idle ≡ true)
-            × (core.ended ≡ false) × (core.bytes ≡ 0) × (core.latest ≡ 0)
-            × (core_position core ≡ 0)) }
-        ensures plan { IfOk result (λ core. (ops_of core.runner.cursors ≡ plan.ops)
-            × (core.runner.drawing ≡ record { lanes = plan.lanes; words = words.now })) }
+        ensures { IfOk result (IsNewCore plan words.now) }
+    {
+        let deadline = plan.deadline();
+        LinkCore::with_runner(alloc, Runner::new(plan, words), deadline)
+    }
+
+    /// A core of the plan that keeps its words. Nothing has arrived yet, and its last instant is 0.
+    pub fn owning(alloc: Global, plan: Plan, words: Words) -> Result<LinkCore<'w>, AllocError>
+        ensures { IfOk result (IsNewCore plan words) }
+    {
+        let deadline = plan.deadline();
+        LinkCore::with_runner(alloc, Runner::owning(plan, words), deadline)
+    }
+
+    /// A core of a new runner, whose plan has this deadline.
+    fn with_runner(
+        alloc: Global,
+        runner: Runner<'w>,
+        deadline: Option<Micros>,
+    ) -> Result<LinkCore<'w>, AllocError>
+        requires idle { runner.idle ≡ true }
+        requires piece { (runner.piece ≡ no_piece) × (runner.latest ≡ 0) }
+        requires deadline { deadline ≡ deadline_of (ops_of runner.cursors) }
+        ensures { IfOk result (λ core. core ≡ core_of runner.entry) }
     {
         let waiting = VecDeque::with_capacity(alloc, MAX_PIECES)?;
-        let deadline = plan.deadline();
         Ok(LinkCore {
-            runner: Runner::new(plan, words),
+            runner,
             waiting,
             found: None,
             end: None,

@@ -4,4 +4,5 @@ pub mod RunnerInside
 pub mod Cuts
 pub mod Delivering
 pub mod Given
+pub mod NewRunner
 pub mod Slices

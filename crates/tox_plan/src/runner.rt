@@ -7,10 +7,11 @@ ghost use Rattle.tox_time.specs.streams.Stream.{IsStream, IsStreamFrom};
 ghost use Rattle.tox_time.specs.streams.Table.{final_of, table};
 ghost use Rattle.tox_defs.specs.operations.Look.{as_chunk};
 ghost use Rattle.tox_compile.specs.Meaning.{Ops, IsPlan, means, deadline_of};
-ghost use Rattle.tox_plan.specs.OpCursors.{cursors_at_start, ops_of};
+ghost use Rattle.tox_plan.specs.OpCursors.{ops_of};
 ghost use Rattle.tox_plan.specs.RunnerView.{to_come, HasNoChunk, known_ending, next_piece, no_piece, offer_answer};
 ghost use Rattle.tox_plan.specs.Cuts.{IsCut, IsOneCut, KeepsOffers, BeginsApart, EndsHere};
 ghost use Rattle.tox_plan.specs.Given.{HasGiven, GoesOn, IsLasting, IsWhole, AreAfter};
+ghost use Rattle.tox_plan.specs.NewRunner.{IsNewRunner};
 
 use crate::cursor_endings::{ending_of_read, last_of};
 use crate::pulling::{PullStats, pull};
@@ -57,18 +58,25 @@ impl<'w> Model for Runner<'w> {
 impl<'w> Runner<'w> {
     /// A runner of the plan. Nothing was offered yet.
     pub fn new(plan: Plan, words: &'w Words) -> Runner<'w>
-        ensures to_come { (items : List OneItem) → IsStream items
-            → to_come result items ≡ means plan words.now items }
-        ensures start { (result.idle ≡ true) × (result.finished ≡ false) × (result.position ≡ 0)
-            × (result.piece ≡ no_piece) × (result.latest ≡ 0)
-            × (result.drawing ≡ record { lanes = plan.lanes; words = words.now }) }
-        ensures counters { (result.turns ≡ 0) × (result.cuts ≡ 0) × (result.pieces ≡ 0)
-            × (length result.cursors ≡ length plan.ops) }
-        ensures cursors { result.cursors ≡ cursors_at_start plan.ops }
-        ensures ops { ops_of result.cursors ≡ plan.ops }
-        ensures given { HasGiven plan [] [] result }
+        ensures { IsNewRunner plan words.now result }
     {
         let drawing = Drawing::new(plan.lanes(), words);
+        Runner::drawing_from(drawing, plan)
+    }
+
+    /// A runner of the plan that keeps its words. Nothing was offered yet.
+    pub fn owning(plan: Plan, words: Words) -> Runner<'w>
+        ensures { IsNewRunner plan words result }
+    {
+        let drawing = Drawing::owning(plan.lanes(), words);
+        Runner::drawing_from(drawing, plan)
+    }
+
+    /// A runner of the plan that draws from this table. Nothing was offered yet.
+    fn drawing_from(drawing: Drawing<'w>, plan: Plan) -> Runner<'w>
+        requires { drawing.lanes ≡ plan.lanes }
+        ensures { IsNewRunner plan drawing.entry.words result }
+    {
         let mut cursors = ArrayVec::new();
         push_cursors(&mut cursors, plan.ops());
         let ending = ending_of_read(&cursors);

@@ -1,4 +1,5 @@
 pub mod Draw
 pub mod Table
+pub mod WordTable
 pub mod WordsText
 pub mod Seeded

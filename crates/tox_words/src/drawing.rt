@@ -4,6 +4,7 @@ ghost use Rattle.tox_words.specs.Draw.{draws_of, lane_count};
 ghost use Rattle.tox_words.specs.Table.{max_words};
 
 use crate::lanes::{Lanes, MAX_LANES};
+use crate::word_table::WordTable;
 use crate::words::Words;
 use std::marker::Model;
 
@@ -11,7 +12,7 @@ use std::marker::Model;
 #[derive(Debug, Drop)]
 pub struct Drawing<'w> {
     lanes: Lanes,
-    words: &'w [u32],
+    words: WordTable<'w>,
 }
 
 impl<'w> Model for Drawing<'w> {
@@ -20,10 +21,11 @@ impl<'w> Model for Drawing<'w> {
     ghost Value = { DrawingView };
 
     ghost use Rattle.tox_words.specs.Table.{IsWordTable};
+    ghost use Rattle.tox_words.specs.WordTable.{words_in};
 
-    ghost view = { λ d. record { lanes = d.lanes; words = d.words.now } };
+    ghost view = { λ d. record { lanes = d.lanes; words = words_in d.words } };
 
-    ghost invariant = { λ d. IsWordTable d.words.now };
+    ghost invariant = { λ d. IsWordTable (words_in d.words) };
 }
 
 impl<'w> Drawing<'w> {
@@ -33,15 +35,24 @@ impl<'w> Drawing<'w> {
     {
         Drawing {
             lanes,
-            words: words.as_slice(),
+            words: WordTable::Lent(words.as_slice()),
         }
+    }
+
+    /// A table that so many lanes share, which keeps its words.
+    pub fn owning(lanes: Lanes, words: Words) -> Drawing<'w>
+        ensures { result ≡ record { lanes = lanes; words = words } }
+    {
+        let words = WordTable::Owned(words.into_vec());
+        Drawing { lanes, words }
     }
 
     /// The `j`-th word of a lane, both from 0. Total: any lane, any turn.
     pub fn draw(&self, lane: usize, j: u64) -> u32
         ensures { result ≡ draws_of self.now lane j }
     {
-        self.words[place_of(self.lanes, lane, j, self.words.len())]
+        let words = self.words.as_slice();
+        words[place_of(self.lanes, lane, j, words.len())]
     }
 }
 

@@ -6,6 +6,7 @@ mod fault;
 mod lanes;
 mod seed;
 mod text;
+mod word_table;
 mod words;
 
 pub use drawing::Drawing;

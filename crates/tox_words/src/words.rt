@@ -120,6 +120,14 @@ impl Words {
         &self.words
     }
 
+    /// The words in order, as a vector.
+    pub(crate) fn into_vec(self) -> Vec<u32>
+        ensures value { result.items ≡ self }
+        ensures table { IsWordTable self }
+    {
+        self.words
+    }
+
     /// The `j`-th word of a lane of 16, both from 0.
     pub fn draw(&self, lane: usize, j: u64) -> u32
         ensures { result ≡ draw self.now lane j }

@@ -13,7 +13,7 @@ use crate::link_core::act::Act;
 use tox_time::{Micros, Slice};
 
 /// Asks the core at the clock's reading. The slice of a `Write` is being written from now on.
-pub(crate) fn ask<C: Clock>(link: &mut PolledLink<'_>, clock: &C) -> Act
+pub(crate) fn ask<C: Clock>(link: &mut PolledLink, clock: &C) -> Act
     requires held { IsHeld link.old }
     requires read { (link.old.core.latest ≡ 0) ⊎ C.told clock.now link.old.core.latest }
     requires idle { link.old.unwritten ≡ None }
@@ -37,7 +37,7 @@ pub(crate) fn ask<C: Clock>(link: &mut PolledLink<'_>, clock: &C) -> Act
 }
 
 /// The slice is being written from now on.
-fn begin(link: &mut PolledLink<'_>, slice: &Slice, reading: &Micros)
+fn begin(link: &mut PolledLink, slice: &Slice, reading: &Micros)
     ensures { link.new ≡ record link.old {
       unwritten = Some (record { slice = slice.now; reading = reading.now });
     } }

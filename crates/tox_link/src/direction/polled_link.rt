@@ -16,10 +16,10 @@ use tox_lend::Window;
 use tox_words::Words;
 
 /// One direction of a live link between two events: its core, the pieces that are still needed, and the slice that is being
-/// written.
+/// written. It owns all that it needs, so it can be kept anywhere.
 #[derive(Drop)]
-pub struct PolledLink<'w> {
-    pub(crate) core: LinkCore<'w>,
+pub struct PolledLink {
+    pub(crate) core: LinkCore<'static>,
     pub(crate) window: Window,
     /// The slice that is being written. It is written up to `written`.
     pub(crate) unwritten: Option<Unwritten>,
@@ -31,16 +31,16 @@ pub struct PolledLink<'w> {
     pub(crate) written: u64,
 }
 
-impl<'w> PolledLink<'w> {
-    /// A direction under a plan, at which nothing has arrived.
-    pub fn new(alloc: Global, plan: Plan, words: &'w Words) -> Result<PolledLink<'w>, AllocError>
+impl PolledLink {
+    /// A direction under a plan, at which nothing has arrived. It keeps its words.
+    pub fn new(alloc: Global, plan: Plan, words: Words) -> Result<PolledLink, AllocError>
         ensures meaning { IfOk result (λ link. (items : List OneItem) → IsStream items
-            → remaining_output link.core items ≡ means plan words.now items) }
+            → remaining_output link.core items ≡ means plan words items) }
         ensures fresh { IfOk result IsNew }
         ensures held { IfOk result IsHeld }
     {
         Ok(PolledLink {
-            core: LinkCore::new(alloc, plan, words)?,
+            core: LinkCore::owning(alloc, plan, words)?,
             window: Window::new(alloc, WINDOW_SIZE)?,
             unwritten: None,
             source: SourceEnding::NotReached,

@@ -21,7 +21,7 @@ use tox_time::MAX_BYTES;
 /// Bytes came. They are stamped with a reading that the clock tells now, noted and kept. After a refused note nothing more
 /// is read.
 fn keep_bytes<C: Clock, N: Notes>(
-    link: &mut PolledLink<'_>,
+    link: &mut PolledLink,
     clock: &C,
     notes: &mut N,
     bytes: Vec<u8>,
@@ -63,7 +63,7 @@ fn keep_bytes<C: Clock, N: Notes>(
 /// The source ended so. Its end is stamped with a reading that the clock tells now and noted, unless the ending is known.
 /// Nothing more is read.
 pub(crate) fn end_source<C: Clock, N: Notes>(
-    link: &mut PolledLink<'_>,
+    link: &mut PolledLink,
     clock: &C,
     notes: &mut N,
     source: SourceEnding,
@@ -100,7 +100,7 @@ pub(crate) fn end_source<C: Clock, N: Notes>(
 /// Some bytes were read. They are kept, dropped where the ending is known, or end the source where they are too many.
 /// Without memory for them, or for a note, nothing more is read.
 pub(crate) fn keep_read<C: Clock, N: Notes>(
-    link: &mut PolledLink<'_>,
+    link: &mut PolledLink,
     alloc: Global,
     clock: &C,
     notes: &mut N,

@@ -15,7 +15,7 @@ use std::alloc::{AllocError, Global};
 /// Reads once. What came is stamped with a reading that the clock tells after the read. False where the source would wait.
 /// Without memory for the bytes, or for a note, nothing more is read.
 pub(crate) fn read_once<C: Clock, N: Notes, S: PollSource>(
-    link: &mut PolledLink<'_>,
+    link: &mut PolledLink,
     alloc: Global,
     clock: &C,
     notes: &mut N,

@@ -22,7 +22,7 @@ pub struct TimedReport<S> {
 
 /// What a direction reports that was driven until it ended, or broke off by a fault.
 pub fn finish<C: Clock, S: Drop>(
-    link: PolledLink<'_>,
+    link: PolledLink,
     clock: &C,
     driven: Result<Ending, LinkFault>,
     reader: S,
@@ -35,19 +35,19 @@ pub fn finish<C: Clock, S: Drop>(
         × (timed.report.reader ≡ reader)))
         (λ fault. result ≡ Err fault) }
     ensures log { IfOk result (λ timed. (left : Option (List ℕ))
-        (history : History (C.told clock.now) link.entry left)
+        (history : History (C.told clock.now) link left)
         → ReportsAt history.means (C.told clock.now) history.log
         timed.report.taken timed.report.written timed.report.ending
         (read_end_of timed.report.source) timed.reading) }
     ensures bytes { IfOk result (λ timed. (left : Option (List ℕ))
-        (history : History (C.told clock.now) link.entry left)
+        (history : History (C.told clock.now) link left)
         → WritesFirst history.given history.before history.after
         (take timed.report.taken history.came) timed.report.written
         × (length (take timed.report.taken history.came) ≡ timed.report.taken)
         × IfSome (read_end_of timed.report.source) (λ end.
         HandsOn history.given (take timed.report.taken history.came) end left)) }
     ensures broken { IfErr result (λ fault. (left : Option (List ℕ))
-        (history : History (C.told clock.now) link.entry left)
+        (history : History (C.told clock.now) link left)
         → IsCutOff history.means (C.told clock.now) (written_before fault) history.log
         × WritesFirst history.given history.before history.after
         history.came (written_before fault)) }

@@ -31,7 +31,7 @@ const STEPS: usize = 32;
 ///
 /// Out of memory, also for a note; a write fails or takes nothing. The direction may then be driven no more.
 pub fn drive<C: Clock, N: Notes, S: PollSource, W: PollSink>(
-    link: &mut PolledLink<'_>,
+    link: &mut PolledLink,
     alloc: Global,
     clock: &C,
     notes: &mut N,
@@ -74,7 +74,7 @@ pub fn drive<C: Clock, N: Notes, S: PollSource, W: PollSink>(
 
 /// One step: writes on, or does what the core says.
 fn step<C: Clock, N: Notes, S: PollSource, W: PollSink>(
-    link: &mut PolledLink<'_>,
+    link: &mut PolledLink,
     alloc: Global,
     clock: &C,
     notes: &mut N,
@@ -117,7 +117,7 @@ fn step<C: Clock, N: Notes, S: PollSource, W: PollSink>(
 
 /// Does what the core says, where no slice is being written.
 fn act<C: Clock, N: Notes, S: PollSource>(
-    link: &mut PolledLink<'_>,
+    link: &mut PolledLink,
     alloc: Global,
     clock: &C,
     notes: &mut N,
@@ -163,7 +163,7 @@ fn act<C: Clock, N: Notes, S: PollSource>(
 
 /// Reads once, where input may be taken. Else it waits.
 fn read_or_wait<C: Clock, N: Notes, S: PollSource>(
-    link: &mut PolledLink<'_>,
+    link: &mut PolledLink,
     alloc: Global,
     clock: &C,
     notes: &mut N,

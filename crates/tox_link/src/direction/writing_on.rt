@@ -18,7 +18,7 @@ use tox_time::Span;
 
 /// Writes the next part of the slice, as far as one piece holds it. False where the sink would wait.
 fn write_part<W: PollSink>(
-    link: &mut PolledLink<'_>,
+    link: &mut PolledLink,
     sink: &mut W,
     unwritten: &Unwritten,
 ) -> Result<bool, LinkFault>
@@ -53,7 +53,7 @@ fn write_part<W: PollSink>(
 
 /// Notes the slice, which is written to its end, and gives up the pieces before that. A refused note changes nothing.
 fn note_written<N: Notes>(
-    link: &mut PolledLink<'_>,
+    link: &mut PolledLink,
     notes: &mut N,
     unwritten: &Unwritten,
 ) -> Result<(), LinkFault>
@@ -80,7 +80,7 @@ fn note_written<N: Notes>(
 /// One step of the slice that is being written: its next part is written, or it is noted once it is written to its end.
 /// False where the sink would wait.
 pub(crate) fn write_on<N: Notes, W: PollSink>(
-    link: &mut PolledLink<'_>,
+    link: &mut PolledLink,
     notes: &mut N,
     sink: &mut W,
     unwritten: &Unwritten,
