@@ -1,8 +1,8 @@
 //! What a numbered connection meets.
-ghost use Rattle.std.specs.Prelude.{◌≡◌, ◌≢◌, ◌≤◌, ◌++◌, [], false, true, codes, decimal, length, map, string_bytes, OnOk, OnErr, IfErr, Err};
+ghost use Rattle.std.specs.Prelude.{◌≡◌, ◌≢◌, ◌≤◌, ◌++◌, false, true, codes, decimal, length, map, string_bytes, OnOk, OnErr, IfErr, Err};
 ghost use Rattle.std.specs.Io.KnownBytes.{append_known};
 ghost use Rattle.tox_words.specs.Draw.{draws_of};
-ghost use Rattle.tox_text.specs.PickText.{applied_word, enabled_word, pick_text, proxy_line, toxic_line, toxics_text};
+ghost use Rattle.tox_text.specs.PickText.{applied_word, enabled_word, pick_lines, pick_text, proxy_line, toxic_line, toxics_text};
 ghost use Rattle.tox_text.specs.PrintingPick.{PickLeaves};
 ghost use Rattle.tox_text.specs.Writing.{Prints, Writes};
 
@@ -59,8 +59,7 @@ pub fn print_pick<W: Sink>(
     let chain = script.chain(name, conn, stream);
     let names = script.names(name, conn, stream);
     let drawing = Drawing::new(chain.lanes(), &words);
-    let mut buffer = Buffer::new();
-    if write_pick(&mut buffer, writer, proxy, &drawing, chain.entries(), names).is_err() {
+    if write_pick(writer, proxy, &drawing, chain.entries(), names).is_err() {
         return Err(PrintPickFault::WriteFault);
     }
     Ok(())
@@ -68,7 +67,6 @@ pub fn print_pick<W: Sink>(
 
 /// Writes the lines of a proxy and of named toxics. After an `Err` a prefix of them is written.
 fn write_pick<W: Sink>(
-    buffer: &mut Buffer,
     writer: &mut W,
     proxy: &ProxyDef,
     drawing: &Drawing<'_>,
@@ -76,12 +74,12 @@ fn write_pick<W: Sink>(
     names: &[String],
 ) -> Result<(), EndFault>
     requires working { W.failed writer.old ≡ false }
-    requires empty { buffer.old ≡ [] }
     requires one_each { length names.now ≡ length entries.now }
     ensures { Writes result (W.written writer.old) (W.written writer.new) (W.failed writer.new)
-        (proxy_line proxy.now ++ toxics_text (draws_of drawing.now) entries.now (map string_bytes names.now)) }
+        (pick_lines proxy.now (draws_of drawing.now) entries.now (map string_bytes names.now)) }
 {
-    print_lines(buffer, writer, proxy, drawing, entries, names)?;
+    let mut buffer = Buffer::new();
+    print_lines(&mut buffer, writer, proxy, drawing, entries, names)?;
     buffer.flush(writer)
 }
 
@@ -97,7 +95,7 @@ fn print_lines<W: Sink>(
     requires one_each { length names.now ≡ length entries.now }
     ensures { Prints result (W.written writer.old) buffer.old (W.written writer.new) buffer.new
         (W.failed writer.new)
-        (proxy_line proxy.now ++ toxics_text (draws_of drawing.now) entries.now (map string_bytes names.now)) }
+        (pick_lines proxy.now (draws_of drawing.now) entries.now (map string_bytes names.now)) }
 {
     print_proxy(buffer, writer, proxy)?;
     print_toxics(buffer, writer, drawing, entries, names)

@@ -1,5 +1,5 @@
 //! The text of a plan.
-ghost use Rattle.std.specs.Prelude.{◌≡◌, ◌++◌, [], false, codes, flat_map};
+ghost use Rattle.std.specs.Prelude.{◌≡◌, ◌++◌, false, codes, flat_map};
 ghost use Rattle.tox_defs.specs.operations.Op.{op_until};
 ghost use Rattle.tox_text.specs.PlanText.{delay_words, op_line, plan_text, until_words, work_words};
 ghost use Rattle.tox_text.specs.ResultText.{ending_words};
@@ -20,17 +20,17 @@ pub fn print_plan<W: Sink>(writer: &mut W, plan: &Plan) -> Result<(), WriteFault
     ensures { Writes result (W.written writer.old) (W.written writer.new) (W.failed writer.new)
         (plan_text plan.now.ops) }
 {
-    write_ops(&mut Buffer::new(), writer, plan.ops()).map_err(|_| WriteFault)
+    write_ops(writer, plan.ops()).map_err(|_| WriteFault)
 }
 
 /// Writes the lines of operations, or `pass` where there is none.
-fn write_ops<W: Sink>(buffer: &mut Buffer, writer: &mut W, ops: &[Op]) -> Result<(), EndFault>
-    requires working { W.failed writer.old ≡ false }
-    requires empty { buffer.old ≡ [] }
+fn write_ops<W: Sink>(writer: &mut W, ops: &[Op]) -> Result<(), EndFault>
+    requires { W.failed writer.old ≡ false }
     ensures { Writes result (W.written writer.old) (W.written writer.new) (W.failed writer.new)
         (plan_text ops.now) }
 {
-    print_text(buffer, writer, ops)?;
+    let mut buffer = Buffer::new();
+    print_text(&mut buffer, writer, ops)?;
     buffer.flush(writer)
 }
 
