@@ -1,3 +1,4 @@
+pub mod ConfigFaults
 pub mod Address
 pub mod Proxy
 pub mod Populate

@@ -16,8 +16,8 @@ pub record Proxy : Type 0 where
   pub enabled : Bool
 
 -- the name of an object: a text of 1 to 255 bytes
-abbrev pub name_of : Data → Option (List ℕ)
-name_of d = option_and_then (passing (is_sized 255)) (option_and_then as_str (get (codes "name") d))
+abbrev pub proxy_name : Data → Option (List ℕ)
+proxy_name d = option_and_then (passing (is_sized 255)) (option_and_then as_str (get (codes "name") d))
 
 -- the upstream of an object: an address
 abbrev pub upstream_of : Data → Option (List ℕ)
@@ -57,7 +57,7 @@ enabled_of d = enabled_in (get (codes "enabled") d)
 abbrev pub proxy_of : ℕ → Data → Result Proxy ConfigFault
 proxy_of place d = do
   _ ← ok_or (as_object d) (NotObject place)
-  name ← ok_or (name_of d) (Name place)
+  name ← ok_or (proxy_name d) (Name place)
   listen ← ok_or (listen_of d) (Listen place)
   upstream ← ok_or (upstream_of d) (Upstream place)
   enabled ← ok_or (enabled_of d) (Enabled place)

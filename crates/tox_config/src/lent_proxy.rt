@@ -1,7 +1,7 @@
 //! One object of a populate file, lent from the value that was read.
 ghost use Rattle.std.specs.Prelude.{◌≡◌, codes, option_map, IfOk, IfErr, Ok, Err};
 ghost use Rattle.serde_json.specs.View.{view};
-ghost use Rattle.tox_config.specs.Proxy.{enabled_of, listen_of, listen_text, name_of, proxy_of, upstream_of};
+ghost use Rattle.tox_config.specs.Proxy.{enabled_of, listen_of, listen_text, proxy_name, proxy_of, upstream_of};
 ghost use Rattle.tox_config.specs.LentProxy.{lent_view};
 
 use crate::address::is_address;
@@ -32,7 +32,7 @@ impl<'a> LentProxy<'a> {
         if !value.is_object() {
             return Err(ConfigFault::NotObject(place));
         }
-        let name = name_of(value).ok_or(ConfigFault::Name(place))?;
+        let name = proxy_name(value).ok_or(ConfigFault::Name(place))?;
         let listen = listen_of(value).ok_or(ConfigFault::Listen(place))?;
         let upstream = upstream_of(value).ok_or(ConfigFault::Upstream(place))?;
         let enabled = enabled_of(value).ok_or(ConfigFault::Enabled(place))?;
@@ -58,8 +58,8 @@ impl<'a> LentProxy<'a> {
 }
 
 /// The name. None if it is absent or isn't a text of 1 to 255 bytes.
-fn name_of(value: &Value) -> Option<&str>
-    ensures { option_map (λ name. name.now) result ≡ name_of (view value.now) }
+fn proxy_name(value: &Value) -> Option<&str>
+    ensures { option_map (λ name. name.now) result ≡ proxy_name (view value.now) }
 {
     let name = value.get("name")?.as_str()?;
     if is_sized(name, MAX_TEXT_LEN) {

@@ -3,6 +3,7 @@ ghost use Rattle.std.specs.Prelude.{◌≡◌, ◌≢◌, ◌<◌, ◌≤◌, le
 ghost use Rattle.std.specs.List.{IsDistinct};
 ghost use Rattle.std.specs.Str.{bytes_eq, is_utf8};
 ghost use Rattle.serde_json.specs.View.{items_view, view};
+ghost use Rattle.tox_config.specs.ConfigFaults.{IsConfigFault};
 ghost use Rattle.tox_config.specs.LentProxy.{lent_view, put};
 ghost use Rattle.tox_config.specs.Populate.{front_of, is_named, json_of, most_names, populate, populated};
 ghost use Rattle.tox_config.specs.declared.fault.ConfigFault.TheVariants.{NotJson, OutOfMemory};
@@ -26,7 +27,7 @@ const MAX_PROXIES: usize = 64;
 /// stand in its place.
 pub fn read_populate(alloc: Global, bytes: &[u8]) -> Result<Vec<ProxyDef>, ConfigFault>
     ensures ok { IfOk result (λ defs. populate bytes.now ≡ Ok defs.items) }
-    ensures err { IfErr result (λ fault. fault ≢ OutOfMemory → populate bytes.now ≡ Err fault) }
+    ensures err { IfErr result (IsConfigFault (populate bytes.now)) }
     ensures distinct { IfOk result
         (λ defs. IsDistinct bytes_eq (map (λ def. def.name) defs.items)) }
     ensures few { IfOk result (λ defs. vec_len defs ≤ most_names) }
@@ -64,8 +65,7 @@ fn read_json(alloc: Global, bytes: &[u8]) -> Result<Value, ConfigFault>
 fn entries_of(alloc: Global, values: &[Value]) -> Result<Vec<LentProxy<'_>>, ConfigFault>
     ensures ok { IfOk result (λ entries. populated (front_of 0 (items_view values.now))
         ≡ Ok (map lent_view entries.items)) }
-    ensures err { IfErr result (λ fault. fault ≢ OutOfMemory
-        → populated (front_of 0 (items_view values.now)) ≡ Err fault) }
+    ensures err { IfErr result (IsConfigFault (populated (front_of 0 (items_view values.now)))) }
 {
     let mut entries = Vec::new(alloc);
     for (place, value) in values.iter().enumerate() {

@@ -5,7 +5,7 @@ use Rattle.tox_time.specs.declared.streams.arrivals.ArrivalFault.{ArrivalFault}
 use Rattle.tox_time.specs.streams.Arrivals.{push_fault, eof_fault}
 use Rattle.tox_text.specs.declared.fault.DryFault.{DryFault}
 use Rattle.tox_text.specs.declared.fault.DryFault.TheVariants.{OutOfMemory, BadLine, TooLong, ReadFault, WriteFault, Arrival}
-use Rattle.tox_text.specs.arrivals.ArrivalsText.{Arrived, arrivals_of, lines_of, nothing, unless_refused, with_end, with_line, with_lines, with_piece, with_read}
+use Rattle.tox_text.specs.arrivals.ArrivalsText.{Arrived, arrivals_of, lines_of, no_arrivals, arrived_or_fault, with_eof, after_line, after_lines, with_data, after_read}
 use Rattle.tox_text.specs.arrivals.Line.{Line, arrival, end, line_of}
 use Rattle.tox_runs.specs.runs.Reading.{HasCause, ReadsWhole}
 
@@ -19,14 +19,14 @@ IsOfLine (Err ReadFault) = ⊥
 IsOfLine (Err WriteFault) = ⊥
 IsOfLine (Err (Arrival fault n)) = Unit {0}
 
-of_line_refused : (n : ℕ) (fault : Option ArrivalFault) (arrived : Arrived) → IsOfLine (unless_refused n fault arrived)
+of_line_refused : (n : ℕ) (fault : Option ArrivalFault) (arrived : Arrived) → IsOfLine (arrived_or_fault n fault arrived)
 of_line_refused n (Some fault) arrived = tt
 of_line_refused n None arrived = tt
 
-of_line_read : (n : ℕ) (arrived : Arrived) (line : Option Line) → IsOfLine (with_read n arrived line)
+of_line_read : (n : ℕ) (arrived : Arrived) (line : Option Line) → IsOfLine (after_read n arrived line)
 of_line_read n arrived None = tt
-of_line_read n arrived (Some (arrival t piece)) = of_line_refused n (push_fault arrived.items (length piece) t) (with_piece arrived t piece)
-of_line_read n arrived (Some (end t)) = of_line_refused n (eof_fault arrived.items t) (with_end arrived t)
+of_line_read n arrived (Some (arrival t piece)) = of_line_refused n (push_fault arrived.items (length piece) t) (with_data arrived t piece)
+of_line_read n arrived (Some (end t)) = of_line_refused n (eof_fault arrived.items t) (with_eof arrived t)
 
 of_line_unless : (empty : Bool) (arrived : Arrived) (read : Result Arrived DryFault) → IsOfLine read → IsOfLine (if empty then Ok arrived else read)
 of_line_unless true arrived read of_line = tt
@@ -36,15 +36,15 @@ of_line_then : (first : Result Arrived DryFault) (next : Arrived → Result Arri
 of_line_then (Ok arrived) next first_of next_of = next_of arrived
 of_line_then (Err fault) next first_of next_of = first_of
 
-of_line_lines : (n : ℕ) (lines : List (List ℕ)) (arrived : Arrived) → IsOfLine (with_lines n lines arrived)
+of_line_lines : (n : ℕ) (lines : List (List ℕ)) (arrived : Arrived) → IsOfLine (after_lines n lines arrived)
 of_line_lines n [] arrived = tt
 of_line_lines n (line ∷ lines) arrived =
-    of_line_then (with_line n arrived line) (with_lines (n + 1) lines)
-    (of_line_unless (length line == 0) arrived (with_read n arrived (line_of line)) (of_line_read n arrived (line_of line)))
+    of_line_then (after_line n arrived line) (after_lines (n + 1) lines)
+    (of_line_unless (length line == 0) arrived (after_read n arrived (line_of line)) (of_line_read n arrived (line_of line)))
     (λ next. of_line_lines (n + 1) lines next)
 
 of_line_arrivals : (text : List ℕ) → IsOfLine (arrivals_of text)
-of_line_arrivals text = of_line_lines 1 (lines_of text) nothing
+of_line_arrivals text = of_line_lines 1 (lines_of text) no_arrivals
 
 -- the fault of a text that was read has its cause in the text
 pub HasCause-spelled : (before after : Option (List ℕ)) (read_failed write_failed : Bool) (text : List ℕ) (fault : DryFault) → ReadsWhole before after text

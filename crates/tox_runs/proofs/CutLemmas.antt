@@ -19,7 +19,7 @@ use Rattle.tox_text.specs.arrivals.ArrivalsText.{Arrived}
 use Rattle.tox_text.specs.ResultText.{arrival_of, bytes_line, ending_line, lines_text}
 use Rattle.tox_text.proofs.PieceRuns.{StartAnew-behind, StartAnew-instant, lines_text-slice}
 use Rattle.tox_text.proofs.Runs.{StartAnew, delivered_from}
-use Rattle.tox_runs.specs.runs.RunnerSlices.{IsReady, text_to_come}
+use Rattle.tox_runs.specs.runs.RunnerSlices.{MayComeNext, text_to_come}
 use Rattle.tox_runs.specs.runs.SecondPass.{IsPieceOf}
 use Rattle.tox_runs.proofs.PieceLines.{some_first, stands_whole}
 
@@ -100,11 +100,11 @@ pub record HasTaken (runner : RunnerView) (item : Item) : Type 0 where
   pub latest : (since : ℕ) → runner.latest ≤ latest_from since (item ∷ [])
   pub stands : runner.ending ≡ None → StandsBehind runner item
 
-pub next_for : (runner : RunnerView) (item : Item) (items : List Item) → IsReady runner (item ∷ items) → IsNextFor runner item
+pub next_for : (runner : RunnerView) (item : Item) (items : List Item) → MayComeNext runner (item ∷ items) → IsNextFor runner item
 next_for runner item items ready =
     let next = next_follows runner item items ready.ahead in
     record { last = next.0; follows = next.1; latest = next.2; stands = next.3 }
 
 -- behind the item that was taken the others come next
-pub IsReady-next : (old new : RunnerView) (item : Item) (items : List Item) → IsReady old (item ∷ items) → new.idle ≡ true → HasTaken new item → IsReady new items
-IsReady-next old new item items ready idle taken = record { idle = idle; ahead = ahead_next old new item items ready.ahead (taken.latest old.latest) taken.stands }
+pub MayComeNext-next : (old new : RunnerView) (item : Item) (items : List Item) → MayComeNext old (item ∷ items) → new.idle ≡ true → HasTaken new item → MayComeNext new items
+MayComeNext-next old new item items ready idle taken = record { idle = idle; ahead = ahead_next old new item items ready.ahead (taken.latest old.latest) taken.stands }

@@ -12,7 +12,7 @@ use Rattle.tox_time.specs.streams.Neighbours.{LiesInChunk}
 use Rattle.tox_time.specs.streams.Stream.{IsStreamFrom, arrived as count_of, has_final, latest}
 use Rattle.tox_time.proofs.StreamLemmas.{arrived-append}
 use Rattle.tox_lend.specs.Window.{Pieces}
-use Rattle.tox_text.specs.arrivals.ArrivalsText.{Arrived, lines_of, nothing, with_line, with_lines}
+use Rattle.tox_text.specs.arrivals.ArrivalsText.{Arrived, lines_of, no_arrivals, after_line, after_lines}
 use Rattle.tox_text.specs.arrivals.Checked.{AreArrivals}
 use Rattle.tox_text.specs.arrivals.Line.{arrival, end, line_of}
 use Rattle.tox_text.specs.arrivals.Lines.{lines_left}
@@ -26,7 +26,7 @@ use Rattle.tox_runs.proofs.TextTurns.{arrival_behind, arrival_in, bytes_in, canc
 -- the lines that are left, from the n-th on, leave all that arrived; a source stands before what they add
 pub record IsUnderWay (arrived : Arrived) (n : ℕ) (lines : List (List ℕ)) (stands : ℕ → List Item → Type 0) (window : Pieces) (later : List Item) : Type 0 where
   pub before : Arrived
-  pub rest : with_lines n lines before ≡ Ok arrived
+  pub rest : after_lines n lines before ≡ Ok arrived
   pub items : before.items ++ later ≡ arrived.items
   pub counted : length before.bytes ≡ count_of before.items
   pub window_is : window ≡ record { held = []; room = 1; stop = count_of before.items }
@@ -39,9 +39,9 @@ pub line_next : (left : Option (Bor (List ℕ))) (rest : Bor (List ℕ)) (line :
 line_next left rest line others is lines = ap (λ left. lines_left (option_map (λ text. text.now) left)) is ∙ lines
 
 -- at first all is left
-pub IsUnderWay-first : (arrived : Arrived) (lines : List (List ℕ)) (stands : ℕ → List Item → Type 0) (window : Pieces) → with_lines 1 lines nothing ≡ Ok arrived → stands 0 arrived.items
+pub IsUnderWay-first : (arrived : Arrived) (lines : List (List ℕ)) (stands : ℕ → List Item → Type 0) (window : Pieces) → after_lines 1 lines no_arrivals ≡ Ok arrived → stands 0 arrived.items
     → window ≡ record { held = []; room = 1; stop = 0 } → IsUnderWay arrived 1 lines stands window arrived.items
-IsUnderWay-first arrived lines stands window rest ready empty = record { before = nothing; rest = rest; items = refl; counted = refl; window_is = empty; ready = ready }
+IsUnderWay-first arrived lines stands window rest ready empty = record { before = no_arrivals; rest = rest; items = refl; counted = refl; window_is = empty; ready = ready }
 
 -- what a data line finds, and what it leaves
 pub record IsAtData (arrived : Arrived) (n : ℕ) (lines : List (List ℕ)) (stands : ℕ → List Item → Type 0) (start : ℕ) (later : List Item) (t : ℕ) (bytes : List ℕ) : Type 1 where
@@ -58,7 +58,7 @@ pub at_data : (arrived : Arrived) (n : ℕ) (left : List (List ℕ)) (line : Lis
     → start ≡ window.stop → left ≡ line ∷ lines → line_of line ≡ Some (arrival t bytes) → IsUnderWay arrived n left stands window later → IsAtData arrived n lines stands start later t bytes
 at_data arrived n left line lines stands window later start t bytes arrivals starts split is under_way =
     let on : IsUnderWay arrived n (line ∷ lines) stands window later = subst (λ left. IsUnderWay arrived n left stands window later) split under_way in
-    let went = bind_ok (with_line n on.before line) (with_lines (n + 1) lines) arrived on.rest in
+    let went = bind_ok (after_line n on.before line) (after_lines (n + 1) lines) arrived on.rest in
     let took = data_taken n on.before went.0 t bytes line is went.1 in
     let fits = accepted_piece (count_of on.before.items) (latest on.before.items) (length bytes) t (has_final on.before.items) took.0 in
     let rest = lines_grow (n + 1) lines went.0 arrived went.2 in
@@ -112,7 +112,7 @@ pub at_last : (arrived : Arrived) (n : ℕ) (left : List (List ℕ)) (line : Lis
     → line_of line ≡ Some (end t) → IsUnderWay arrived n left stands window later → IsAtLast arrived n lines stands window later t
 at_last arrived n left line lines stands window later t split is under_way =
     let on : IsUnderWay arrived n (line ∷ lines) stands window later = subst (λ left. IsUnderWay arrived n left stands window later) split under_way in
-    let went = bind_ok (with_line n on.before line) (with_lines (n + 1) lines) arrived on.rest in
+    let went = bind_ok (after_line n on.before line) (after_lines (n + 1) lines) arrived on.rest in
     let took = end_taken n on.before went.0 t line is went.1 in
     let rest = lines_grow (n + 1) lines went.0 arrived went.2 in
     let items : went.0.items ≡ on.before.items ++ Closed t ∷ [] = ap (λ a. a.items) took.1 in
@@ -139,13 +139,13 @@ pub pairs_there : (arrived : Arrived) (n : ℕ) (left : List (List ℕ)) (line :
     → left ≡ line ∷ lines → line_of line ≡ option_map (arrival t) (result_ok (decode_of digits)) → 0 < length line → IsUnderWay arrived n left stands window later → IsOk (decode_of digits)
 pairs_there arrived n left line lines stands window later t digits split says some under_way =
     let on : IsUnderWay arrived n (line ∷ lines) stands window later = subst (λ left. IsUnderWay arrived n left stands window later) split under_way in
-    let went = bind_ok (with_line n on.before line) (with_lines (n + 1) lines) arrived on.rest in
+    let went = bind_ok (after_line n on.before line) (after_lines (n + 1) lines) arrived on.rest in
     pairs_taken n on.before went.0 t digits line says some went.1
 
 -- nothing is left behind the last line
 pub none_left : (arrived : Arrived) (n : ℕ) (left : List (List ℕ)) (stands : ℕ → List Item → Type 0) (window : Pieces) (later : List Item) → left ≡ [] → IsUnderWay arrived n left stands window later → later ≡ []
 none_left arrived n left stands window later empty on =
-    let rest : with_lines n [] on.before ≡ Ok arrived = subst (λ lines. with_lines n lines on.before ≡ Ok arrived) empty on.rest in
+    let rest : after_lines n [] on.before ≡ Ok arrived = subst (λ lines. after_lines n lines on.before ≡ Ok arrived) empty on.rest in
     let same : on.before ≡ arrived = cc in
     cancel on.before.items later [] (on.items ∙ sym (ap (λ a. a.items) same) ∙ sym (append-nil on.before.items))
 

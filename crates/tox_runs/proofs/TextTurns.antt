@@ -7,7 +7,7 @@ use Rattle.tox_time.specs.declared.streams.span.Span.{Span}
 use Rattle.tox_time.specs.streams.Stream.{IsStreamFrom, arrived as count_of, span_len}
 use Rattle.tox_time.specs.streams.Arrivals.{arrival_list, next_chunk}
 use Rattle.tox_time.specs.streams.Neighbours.{LiesInChunk}
-use Rattle.tox_text.specs.arrivals.ArrivalsText.{Arrived, with_line, with_lines}
+use Rattle.tox_text.specs.arrivals.ArrivalsText.{Arrived, after_line, after_lines}
 use Rattle.tox_text.specs.arrivals.Line.{Line, arrival, end, line_of}
 use Rattle.tox_text.specs.ResultText.{arrival_of}
 use Rattle.tox_runs.specs.runs.SecondPass.{IsEdge}
@@ -29,7 +29,7 @@ adds_none before next same = record {
   bytes_are = append-nil before.bytes ∙ sym (ap (λ a. a.bytes) same);
 }
 
-line_adds : (n : ℕ) (before next : Arrived) (line : List ℕ) → with_line n before line ≡ Ok next → Adds before next
+line_adds : (n : ℕ) (before next : Arrived) (line : List ℕ) → after_line n before line ≡ Ok next → Adds before next
 line_adds n before next line took = by (line_of line) refl
   where
     by : (read : Option Line) → line_of line ≡ read → Adds before next
@@ -48,12 +48,12 @@ pub record GrowsTo (before arrived : Arrived) : Type 0 where
   pub items : before.items ++ later ≡ arrived.items
   pub bytes : before.bytes ++ more ≡ arrived.bytes
 
-pub lines_grow : (n : ℕ) (lines : List (List ℕ)) (before arrived : Arrived) → with_lines n lines before ≡ Ok arrived → GrowsTo before arrived
+pub lines_grow : (n : ℕ) (lines : List (List ℕ)) (before arrived : Arrived) → after_lines n lines before ≡ Ok arrived → GrowsTo before arrived
 lines_grow n [] before arrived is =
     let same : before ≡ arrived = cc in
     record { later = []; more = []; items = append-nil before.items ∙ ap (λ a. a.items) same; bytes = append-nil before.bytes ∙ ap (λ a. a.bytes) same }
 lines_grow n (line ∷ lines) before arrived is =
-    let went = bind_ok (with_line n before line) (with_lines (n + 1) lines) arrived is in
+    let went = bind_ok (after_line n before line) (after_lines (n + 1) lines) arrived is in
     let added = line_adds n before went.0 line went.1 in
     let rest = lines_grow (n + 1) lines went.0 arrived went.2 in
     record {

@@ -1,4 +1,5 @@
 pub mod fields
+pub mod ScriptFaults
 pub mod Settings
 pub mod chains
 pub mod Rule

@@ -1,11 +1,11 @@
 //! The chains of a rule, one for each stream.
-ghost use Rattle.std.specs.Prelude.{◌≡◌, ◌≢◌, false, string_bytes, OnOk, IfOk, IfErr, Ok, Err};
+ghost use Rattle.std.specs.Prelude.{◌≡◌, false, string_bytes, OnOk, IfOk, IfErr, Ok, Err};
 ghost use Rattle.toml.specs.View.{items_view, view};
 ghost use Rattle.tox_defs.specs.chain.Chain.{IsEntry, is_full};
 ghost use Rattle.tox_script.specs.chains.Chains.{has_name, no_chains, on, pushed, put_toxic};
 ghost use Rattle.tox_script.specs.chains.Toxics.{read_chains, toxic_at};
+ghost use Rattle.tox_script.specs.ScriptFaults.{IsScriptFault};
 ghost use Rattle.tox_script.specs.Views.{toxic_view};
-ghost use Rattle.tox_script.specs.declared.fault.ScriptFault.TheVariants.{OutOfMemory};
 
 pub(crate) mod named_chain;
 pub(crate) mod named_toxic;
@@ -48,8 +48,8 @@ impl Chains {
     ) -> Result<Chains, ScriptFault>
         ensures ok { IfOk result
             (λ chains. read_chains settings rule (items_view tables.now) ≡ Ok chains) }
-        ensures err { IfErr result (λ fault. fault ≢ OutOfMemory
-            → read_chains settings rule (items_view tables.now) ≡ Err fault) }
+        ensures err { IfErr result
+            (IsScriptFault (read_chains settings rule (items_view tables.now))) }
     {
         let mut chains = Chains::new(alloc, settings.lanes);
         for (index, table) in tables.iter().enumerate() {
@@ -82,8 +82,7 @@ impl Chains {
     ) -> Result<(), ScriptFault>
         requires { IsEntry toxic.now.entry }
         ensures ok { OnOk result (put_toxic at (toxic_view toxic.now) self.old ≡ Ok self.new) }
-        ensures err { IfErr result (λ fault. fault ≢ OutOfMemory
-            → put_toxic at (toxic_view toxic.now) self.old ≡ Err fault) }
+        ensures err { IfErr result (IsScriptFault (put_toxic at (toxic_view toxic.now) self.old)) }
     {
         let name = toxic.name(alloc)?;
         if self.has_name(&name) {

@@ -1,10 +1,11 @@
 //! Scripts of version 1 as scripts of version 2.
-ghost use Rattle.std.specs.Prelude.{◌≡◌, ◌≢◌, ◌≤◌, true, string_bytes, IsTrue, IfOk, IfErr, Some, Ok, Err};
+ghost use Rattle.std.specs.Prelude.{◌≡◌, ◌≤◌, true, string_bytes, IsTrue, IfOk, IfErr, Some, Ok, Err};
 ghost use Rattle.std.specs.Str.{is_utf8};
 ghost use Rattle.toml.specs.Data.{members_depth, members_have_valid_dates};
 ghost use Rattle.toml.specs.Parse.{parse_document};
 ghost use Rattle.toml.specs.View.{table_view, view};
 ghost use Rattle.tox_script.specs.Migrated.{IsMigrated, old_script_of, rules_in, version_2};
+ghost use Rattle.tox_script.specs.ScriptFaults.{IsScriptFault};
 ghost use Rattle.tox_script.specs.declared.fault.ScriptFault.TheVariants.{OutOfMemory};
 
 use crate::ascending::ascends;
@@ -24,7 +25,7 @@ use toml::{Table, Value};
 /// version 2. Out of memory may stand in place of any of them, but for bytes that are not UTF-8.
 pub fn migrate(alloc: Global, bytes: &[u8]) -> Result<String, ScriptFault>
     ensures ok { IfOk result (λ text. IsMigrated bytes.now (string_bytes text)) }
-    ensures err { IfErr result (λ fault. fault ≢ OutOfMemory → old_script_of bytes.now ≡ Err fault) }
+    ensures err { IfErr result (IsScriptFault (old_script_of bytes.now)) }
     ensures memory { result ≡ Err OutOfMemory → IsTrue (is_utf8 bytes.now) }
 {
     let document = read_toml(alloc, bytes)?;

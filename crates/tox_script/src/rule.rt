@@ -1,12 +1,12 @@
 //! A rule of a script.
-ghost use Rattle.std.specs.Prelude.{◌≡◌, ◌≢◌, IfOk, IfErr, Ok, Err, option_map, unwrap_or};
+ghost use Rattle.std.specs.Prelude.{◌≡◌, IfOk, IfErr, Ok, Err, option_map, unwrap_or};
 ghost use Rattle.toml.specs.View.{items_view, view};
 ghost use Rattle.tox_script.specs.chains.Chains.{no_chains};
 ghost use Rattle.tox_script.specs.Covering.{covers, is_up_to};
 ghost use Rattle.tox_script.specs.Rule.{rule_of};
 ghost use Rattle.tox_script.specs.chains.Toxics.{read_chains};
+ghost use Rattle.tox_script.specs.ScriptFaults.{IsScriptFault};
 ghost use Rattle.tox_script.specs.Views.{held_chains, rule_view};
-ghost use Rattle.tox_script.specs.declared.fault.ScriptFault.TheVariants.{OutOfMemory};
 ghost use Rattle.tox_words.specs.declared.lanes.Lanes.{Lanes};
 ghost use Rattle.tox_words.specs.declared.lanes.Lanes.TheVariants.{Sixteen};
 
@@ -36,8 +36,7 @@ impl Rule {
     ) -> Result<Rule, ScriptFault>
         ensures ok { IfOk result
             (λ rule. rule_of settings number (view table.now) ≡ Ok (rule_view settings.lanes rule)) }
-        ensures err { IfErr result (λ fault. fault ≢ OutOfMemory
-            → rule_of settings number (view table.now) ≡ Err fault) }
+        ensures err { IfErr result (IsScriptFault (rule_of settings number (view table.now))) }
     {
         let at = Location {
             rule: number,
@@ -89,8 +88,7 @@ fn read_chains(
 ) -> Result<Option<Box<Chains>>, ScriptFault>
     ensures ok { IfOk result (λ chains. read_chains settings rule (items_view tables.now)
         ≡ Ok (held_chains settings.lanes chains)) }
-    ensures err { IfErr result (λ fault. fault ≢ OutOfMemory
-        → read_chains settings rule (items_view tables.now) ≡ Err fault) }
+    ensures err { IfErr result (IsScriptFault (read_chains settings rule (items_view tables.now))) }
 {
     if tables.is_empty() {
         return Ok(None);

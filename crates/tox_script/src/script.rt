@@ -2,6 +2,7 @@
 ghost use Rattle.std.specs.Prelude.{◌≡◌, ◌≢◌, [], length, map, string_bytes, option_map, IsTrue, IfOk, IfErr, Some, None, Ok, Err};
 ghost use Rattle.std.specs.Str.{is_utf8};
 ghost use Rattle.toml.specs.View.{items_view, view};
+ghost use Rattle.tox_script.specs.ScriptFaults.{IsScriptFault};
 ghost use Rattle.tox_script.specs.Views.{rule_view};
 ghost use Rattle.tox_script.specs.Script.{rules_from, script_in, script_of, toml_of};
 ghost use Rattle.tox_script.specs.declared.fault.ScriptFault.TheVariants.{NotToml, OutOfMemory};
@@ -99,7 +100,7 @@ impl Script {
 /// memory may stand in place of any of them, but for bytes that are not UTF-8.
 pub fn read_script(alloc: Global, bytes: &[u8]) -> Result<Script, ScriptFault>
     ensures ok { IfOk result (λ script. script_of bytes.now ≡ Ok script) }
-    ensures err { IfErr result (λ fault. fault ≢ OutOfMemory → script_of bytes.now ≡ Err fault) }
+    ensures err { IfErr result (IsScriptFault (script_of bytes.now)) }
     // Bytes that are not UTF-8 are refused before any request for memory.
     ensures memory { result ≡ Err OutOfMemory → IsTrue (is_utf8 bytes.now) }
 {
@@ -110,8 +111,7 @@ pub fn read_script(alloc: Global, bytes: &[u8]) -> Result<Script, ScriptFault>
 /// The script of a document that was read.
 pub(crate) fn script_in(alloc: Global, document: &Value) -> Result<Script, ScriptFault>
     ensures ok { IfOk result (λ script. script_in (Some (view document.now)) ≡ Ok script) }
-    ensures err { IfErr result (λ fault. fault ≢ OutOfMemory
-        → script_in (Some (view document.now)) ≡ Err fault) }
+    ensures err { IfErr result (IsScriptFault (script_in (Some (view document.now)))) }
 {
     let at = Location { rule: 0, toxic: 0 };
     let fields = DocumentFields::read(document).map_err(|field| ScriptFault::Field(at, field))?;
@@ -144,8 +144,7 @@ fn read_rules(alloc: Global, settings: Settings, tables: &[Value]) -> Result<Vec
     ensures ok { IfOk result
         (λ rules. rules_from settings [] (items_view tables.now)
         ≡ Ok (map (rule_view settings.lanes) rules.items)) }
-    ensures err { IfErr result (λ fault. fault ≢ OutOfMemory
-        → rules_from settings [] (items_view tables.now) ≡ Err fault) }
+    ensures err { IfErr result (IsScriptFault (rules_from settings [] (items_view tables.now))) }
 {
     let mut rules = Vec::new(alloc);
     for (index, table) in tables.iter().enumerate() {

@@ -1,2 +1,1 @@
-pub mod ServeParts
 pub mod ServeLemmas

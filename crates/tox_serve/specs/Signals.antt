@@ -4,12 +4,12 @@ use Rattle.std.specs.List.{starts_with}
 use Rattle.std.specs.Char.{digit_value, is_digit}
 
 -- the bytes behind the first place where a name stands, or none
-abbrev pub behind : List ℕ → List ℕ → List ℕ
-behind name [] = []
-behind name (byte ∷ text) =
+abbrev pub bytes_behind : List ℕ → List ℕ → List ℕ
+bytes_behind name [] = []
+bytes_behind name (byte ∷ text) =
     if starts_with nat_eq (byte ∷ text) name
     then drop (length name) (byte ∷ text)
-    else behind name text
+    else bytes_behind name text
 
 -- whether a hexadecimal digit has a bit
 abbrev pub has_bit : ℕ → ℕ → Bool
@@ -21,15 +21,15 @@ has_bit_at None bit = false
 has_bit_at (Some digit) bit = has_bit digit bit
 
 -- whether the set behind a name has a signal: of its 16 hexadecimal digits the last has the signals 1 to 4, the one before 5 to 8
-abbrev pub is_in : List ℕ → List ℕ → ℕ → Bool
-is_in status name signal =
-    has_bit_at (slice_get (behind name status) (15 - (signal - 1) / 4)) ((signal - 1) % 4)
+abbrev pub has_signal : List ℕ → List ℕ → ℕ → Bool
+has_signal status name signal =
+    has_bit_at (slice_get (bytes_behind name status) (15 - (signal - 1) / 4)) ((signal - 1) % 4)
 
 -- whether a signal waits, for the process or for its first thread, is blocked and isn't ignored
 abbrev pub stops : List ℕ → ℕ → Bool
 stops status signal =
-    (is_in status (codes "\nShdPnd:\t") signal || is_in status (codes "\nSigPnd:\t") signal)
-    && is_in status (codes "\nSigBlk:\t") signal && not (is_in status (codes "\nSigIgn:\t") signal)
+    (has_signal status (codes "\nShdPnd:\t") signal || has_signal status (codes "\nSigPnd:\t") signal)
+    && has_signal status (codes "\nSigBlk:\t") signal && not (has_signal status (codes "\nSigIgn:\t") signal)
 
 -- whether the process is told to stop: by signal 2, SIGINT, or 15, SIGTERM
 abbrev pub tells_to_stop : List ℕ → Bool

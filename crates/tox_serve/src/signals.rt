@@ -1,6 +1,6 @@
 //! The signals that tell a process to stop, as `/proc/self/status` shows them.
 ghost use Rattle.std.specs.Prelude.{◌≡◌, ◌≤◌, ◌<◌};
-ghost use Rattle.tox_serve.specs.Signals.{behind, has_bit, is_in, stops, tells_to_stop};
+ghost use Rattle.tox_serve.specs.Signals.{bytes_behind, has_bit, has_signal, stops, tells_to_stop};
 
 /// SIGINT and SIGTERM.
 const INTERRUPT: usize = 2;
@@ -19,18 +19,18 @@ fn stops(status: &[u8], signal: usize) -> bool
     requires { (1 ≤ signal) × (signal ≤ 64) }
     ensures { result ≡ stops status.now signal }
 {
-    (is_in(status, b"\nShdPnd:\t", signal) || is_in(status, b"\nSigPnd:\t", signal))
-        && is_in(status, b"\nSigBlk:\t", signal)
-        && !is_in(status, b"\nSigIgn:\t", signal)
+    (has_signal(status, b"\nShdPnd:\t", signal) || has_signal(status, b"\nSigPnd:\t", signal))
+        && has_signal(status, b"\nSigBlk:\t", signal)
+        && !has_signal(status, b"\nSigIgn:\t", signal)
 }
 
 /// Whether the set behind this name has a signal. A set is 16 hexadecimal digits, the last of which has the signals 1 to 4.
-fn is_in(status: &[u8], name: &[u8], signal: usize) -> bool
+fn has_signal(status: &[u8], name: &[u8], signal: usize) -> bool
     requires { (1 ≤ signal) × (signal ≤ 64) }
-    ensures { result ≡ is_in status.now name.now signal }
+    ensures { result ≡ has_signal status.now name.now signal }
 {
     let place = signal - 1;
-    match behind(status, name).get(15 - place / 4) {
+    match bytes_behind(status, name).get(15 - place / 4) {
         Some(digit) => has_bit(*digit, place % 4),
         None => false,
     }
@@ -48,8 +48,8 @@ fn has_bit(digit: u8, bit: usize) -> bool
 }
 
 /// The bytes behind the first place where a name stands. None where it doesn't.
-fn behind<'a>(text: &'a [u8], name: &[u8]) -> &'a [u8]
-    ensures { result.now ≡ behind name.now text.now }
+fn bytes_behind<'a>(text: &'a [u8], name: &[u8]) -> &'a [u8]
+    ensures { result.now ≡ bytes_behind name.now text.now }
 {
     let mut rest = text;
     while let Some((_, next)) = rest.split_first() {

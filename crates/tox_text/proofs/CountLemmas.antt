@@ -15,16 +15,16 @@ use Rattle.tox_time.specs.streams.Arrivals.{end_fault, eof_fault, next_chunk, pi
 use Rattle.tox_time.proofs.ArrivalsKept.{IsArrivalList-append}
 use Rattle.tox_time.proofs.StreamLemmas.{arrived-append, has_final-append, latest_from-append}
 use Rattle.tox_text.specs.declared.fault.DryFault.TheVariants.{Arrival}
-use Rattle.tox_text.specs.arrivals.ArrivalsText.{Arrived, nothing, unless_refused, with_end, with_line, with_piece, with_read}
+use Rattle.tox_text.specs.arrivals.ArrivalsText.{Arrived, no_arrivals, arrived_or_fault, with_eof, after_line, with_data, after_read}
 use Rattle.tox_text.specs.arrivals.Checked.{AreArrivals, AreShort}
 use Rattle.tox_text.specs.arrivals.Counting.{Counts}
 use Rattle.tox_text.specs.arrivals.Line.{Line, arrival, end, line_of}
 use Rattle.tox_time.specs.declared.streams.position.StreamPosition.{StreamPosition}
 
 -- a line that isn't empty says what is read of it
-pub with_line-read : (n : ℕ) (before : Arrived) (line : List ℕ) (read : Option Line) → (length line == 0) ≡ false → line_of line ≡ read → with_line n before line ≡ with_read n before read
-with_line-read n before line read filled is =
-    ap (λ empty. if empty then Ok before else with_read n before (line_of line)) filled ∙ ap (with_read n before) is
+pub after_line-read : (n : ℕ) (before : Arrived) (line : List ℕ) (read : Option Line) → (length line == 0) ≡ false → line_of line ≡ read → after_line n before line ≡ after_read n before read
+after_line-read n before line read filled is =
+    ap (λ empty. if empty then Ok before else after_read n before (line_of line)) filled ∙ ap (after_read n before) is
 
 unrefused : (a b c d : Bool) → (if a then Some TimeBack else (if b then Some EmptyPiece else (if c then Some TooManyBytes else (if d then Some AfterEnd else None)))) ≡ None
     → (a ≡ false) × (b ≡ false) × (c ≡ false) × (d ≡ false)
@@ -55,7 +55,7 @@ accepted_end since t ended none =
     (search (rules, tests), tests_are.1)
 
 -- a piece more
-pub AreArrivals-piece : (before : Arrived) (t : ℕ) (bytes : List ℕ) → AreArrivals before → IsInstant t → push_fault before.items (length bytes) t ≡ None → AreArrivals (with_piece before t bytes)
+pub AreArrivals-piece : (before : Arrived) (t : ℕ) (bytes : List ℕ) → AreArrivals before → IsInstant t → push_fault before.items (length bytes) t ≡ None → AreArrivals (with_data before t bytes)
 AreArrivals-piece before t bytes arrivals instant none =
     let fits = accepted_piece (arrived before.items) (latest before.items) (length bytes) t (has_final before.items) none in
     let chunk : Item = next_chunk before.items (length bytes) t in
@@ -65,7 +65,7 @@ AreArrivals-piece before t bytes arrivals instant none =
     }
 
 -- the source's end
-pub AreArrivals-end : (before : Arrived) (t : ℕ) → AreArrivals before → IsInstant t → eof_fault before.items t ≡ None → AreArrivals (with_end before t)
+pub AreArrivals-end : (before : Arrived) (t : ℕ) → AreArrivals before → IsInstant t → eof_fault before.items t ≡ None → AreArrivals (with_eof before t)
 AreArrivals-end before t arrivals instant none =
     let fits = accepted_end (latest before.items) t (has_final before.items) none in
     record {
@@ -86,13 +86,13 @@ counted_end count before t counts =
 -- a data line is counted
 pub data_counted : (n : ℕ) (old new : StreamPosition) (before : Arrived) (t : ℕ) (bytes line : List ℕ) → (length line == 0) ≡ false → line_of line ≡ Some (arrival t bytes) → IsInstant t
     → piece_fault old.position old.latest old.ended (length bytes) t ≡ None → (new.position ≡ old.position + length bytes) × (new.latest ≡ t) × (new.ended ≡ false) → Counts old before
-    → (after : Arrived) × (with_line n before line ≡ Ok after) × Counts new after
+    → (after : Arrived) × (after_line n before line ≡ Ok after) × Counts new after
 data_counted n old new before t bytes line filled is instant none grown counts =
     let accepted : push_fault before.items (length bytes) t ≡ None = sym (counted_fault old before (length bytes) t counts) ∙ none in
     let fits = accepted_piece (arrived before.items) (latest before.items) (length bytes) t (has_final before.items) accepted in
     let chunk : Item = next_chunk before.items (length bytes) t in (
-      with_piece before t bytes,
-      with_line-read n before line (Some (arrival t bytes)) filled is ∙ ap (λ fault. unless_refused n fault (with_piece before t bytes)) accepted,
+      with_data before t bytes,
+      after_line-read n before line (Some (arrival t bytes)) filled is ∙ ap (λ fault. arrived_or_fault n fault (with_data before t bytes)) accepted,
       record {
         arrivals = AreArrivals-piece before t bytes counts.arrivals instant accepted;
         bytes = omega (arith, grown.0, counts.bytes, arrived-append before.items (chunk ∷ []));
@@ -104,12 +104,12 @@ data_counted n old new before t bytes line filled is instant none grown counts =
 -- a last line is counted
 pub end_counted : (n : ℕ) (old new : StreamPosition) (before : Arrived) (t : ℕ) (line : List ℕ) → (length line == 0) ≡ false → line_of line ≡ Some (end t) → IsInstant t
     → end_fault old.latest old.ended t ≡ None → (new.position ≡ old.position) × (new.latest ≡ t) × (new.ended ≡ true) → Counts old before
-    → (after : Arrived) × (with_line n before line ≡ Ok after) × Counts new after
+    → (after : Arrived) × (after_line n before line ≡ Ok after) × Counts new after
 end_counted n old new before t line filled is instant none grown counts =
     let accepted : eof_fault before.items t ≡ None = sym (counted_end old before t counts) ∙ none in
     let fits = accepted_end (latest before.items) t (has_final before.items) accepted in (
-      with_end before t,
-      with_line-read n before line (Some (end t)) filled is ∙ ap (λ fault. unless_refused n fault (with_end before t)) accepted,
+      with_eof before t,
+      after_line-read n before line (Some (end t)) filled is ∙ ap (λ fault. arrived_or_fault n fault (with_eof before t)) accepted,
       record {
         arrivals = AreArrivals-end before t counts.arrivals instant accepted;
         bytes = omega (arith, grown.0, counts.bytes, arrived-append before.items (Closed t ∷ []));
@@ -120,16 +120,16 @@ end_counted n old new before t line filled is instant none grown counts =
 
 -- and a refused one is told
 pub data_refused : (n : ℕ) (old : StreamPosition) (before : Arrived) (t : ℕ) (bytes line : List ℕ) (fault : ArrivalFault) → (length line == 0) ≡ false → line_of line ≡ Some (arrival t bytes)
-    → piece_fault old.position old.latest old.ended (length bytes) t ≡ Some fault → Counts old before → with_line n before line ≡ Err (Arrival fault n)
+    → piece_fault old.position old.latest old.ended (length bytes) t ≡ Some fault → Counts old before → after_line n before line ≡ Err (Arrival fault n)
 data_refused n old before t bytes line fault filled is refused counts =
-    with_line-read n before line (Some (arrival t bytes)) filled is
-    ∙ ap (λ f. unless_refused n f (with_piece before t bytes)) (sym (counted_fault old before (length bytes) t counts) ∙ refused)
+    after_line-read n before line (Some (arrival t bytes)) filled is
+    ∙ ap (λ f. arrived_or_fault n f (with_data before t bytes)) (sym (counted_fault old before (length bytes) t counts) ∙ refused)
 
 pub end_refused : (n : ℕ) (old : StreamPosition) (before : Arrived) (t : ℕ) (line : List ℕ) (fault : ArrivalFault) → (length line == 0) ≡ false → line_of line ≡ Some (end t)
-    → end_fault old.latest old.ended t ≡ Some fault → Counts old before → with_line n before line ≡ Err (Arrival fault n)
+    → end_fault old.latest old.ended t ≡ Some fault → Counts old before → after_line n before line ≡ Err (Arrival fault n)
 end_refused n old before t line fault filled is refused counts =
-    with_line-read n before line (Some (end t)) filled is
-    ∙ ap (λ f. unless_refused n f (with_end before t)) (sym (counted_end old before t counts) ∙ refused)
+    after_line-read n before line (Some (end t)) filled is
+    ∙ ap (λ f. arrived_or_fault n f (with_eof before t)) (sym (counted_end old before t counts) ∙ refused)
 
 -- pairs of digits say bytes
 pub pairs_read : (t : ℕ) (digits : List ℕ) → is_ok (decode_of digits) ≡ true
@@ -149,7 +149,7 @@ unpaired_read t digits unpaired = by (decode_of digits) refl
     by (Err fault) is = ap (λ r. option_map (arrival t) (result_ok r)) is
 
 -- nothing was counted yet
-pub Counts-first : (count : StreamPosition) → count.position ≡ 0 → count.latest ≡ 0 → count.ended ≡ false → Counts count nothing
+pub Counts-first : (count : StreamPosition) → count.position ≡ 0 → count.latest ≡ 0 → count.ended ≡ false → Counts count no_arrivals
 Counts-first count bytes latest ended = record {
   arrivals = record { list = (refl, λ reset. reset); few = omega arith };
   bytes = bytes;

@@ -1,7 +1,6 @@
 pub mod Digits
 pub mod HexParts
 pub mod HexPairs
-pub mod LineParts
 pub mod LineTurns
 pub mod Listed
 pub mod PickParts

@@ -7,41 +7,41 @@ use Rattle.hex.specs.declared.error.FromHexError.{FromHexError}
 use Rattle.hex.proofs.HexLemmas.{decode_of-ok}
 use Rattle.tox_time.specs.declared.streams.arrivals.ArrivalFault.{ArrivalFault}
 use Rattle.tox_time.specs.streams.Arrivals.{eof_fault, next_chunk, push_fault}
-use Rattle.tox_text.specs.arrivals.ArrivalsText.{Arrived, unless_refused, with_end, with_line, with_piece, with_read}
+use Rattle.tox_text.specs.arrivals.ArrivalsText.{Arrived, arrived_or_fault, with_eof, after_line, with_data, after_read}
 use Rattle.tox_text.specs.arrivals.Line.{Line, arrival, end, line_of}
-use Rattle.tox_text.proofs.CountLemmas.{with_line-read}
+use Rattle.tox_text.proofs.CountLemmas.{after_line-read}
 
 filled : (line : List ℕ) (said : Line) → line_of line ≡ Some said → (length line == 0) ≡ false
 filled [] said is = absurd (cc)
 filled (x ∷ xs) said is = search (rules, tests)
 
-taken : (n : ℕ) (fault : Option ArrivalFault) (a b : Arrived) → unless_refused n fault a ≡ Ok b → (fault ≡ None) × (b ≡ a)
+taken : (n : ℕ) (fault : Option ArrivalFault) (a b : Arrived) → arrived_or_fault n fault a ≡ Ok b → (fault ≡ None) × (b ≡ a)
 taken n (Some fault) a b is = absurd (cc)
 taken n None a b is = (refl, cc)
 
 -- a data line of such a text was accepted
-pub data_taken : (n : ℕ) (before next : Arrived) (t : ℕ) (bytes line : List ℕ) → line_of line ≡ Some (arrival t bytes) → with_line n before line ≡ Ok next
-    → (push_fault before.items (length bytes) t ≡ None) × (next ≡ with_piece before t bytes)
+pub data_taken : (n : ℕ) (before next : Arrived) (t : ℕ) (bytes line : List ℕ) → line_of line ≡ Some (arrival t bytes) → after_line n before line ≡ Ok next
+    → (push_fault before.items (length bytes) t ≡ None) × (next ≡ with_data before t bytes)
 data_taken n before next t bytes line is took =
-    taken n (push_fault before.items (length bytes) t) (with_piece before t bytes) next (sym (with_line-read n before line (Some (arrival t bytes)) (filled line (arrival t bytes) is) is) ∙ took)
+    taken n (push_fault before.items (length bytes) t) (with_data before t bytes) next (sym (after_line-read n before line (Some (arrival t bytes)) (filled line (arrival t bytes) is) is) ∙ took)
 
 -- and so was the end
-pub end_taken : (n : ℕ) (before next : Arrived) (t : ℕ) (line : List ℕ) → line_of line ≡ Some (end t) → with_line n before line ≡ Ok next
-    → (eof_fault before.items t ≡ None) × (next ≡ with_end before t)
+pub end_taken : (n : ℕ) (before next : Arrived) (t : ℕ) (line : List ℕ) → line_of line ≡ Some (end t) → after_line n before line ≡ Ok next
+    → (eof_fault before.items t ≡ None) × (next ≡ with_eof before t)
 end_taken n before next t line is took =
-    taken n (eof_fault before.items t) (with_end before t) next (sym (with_line-read n before line (Some (end t)) (filled line (end t) is) is) ∙ took)
+    taken n (eof_fault before.items t) (with_eof before t) next (sym (after_line-read n before line (Some (end t)) (filled line (end t) is) is) ∙ took)
 
 -- a line that is none says nothing
-pub none_taken : (n : ℕ) (before next : Arrived) (line : List ℕ) → line_of line ≡ None → with_line n before line ≡ Ok next → next ≡ before
+pub none_taken : (n : ℕ) (before next : Arrived) (line : List ℕ) → line_of line ≡ None → after_line n before line ≡ Ok next → next ≡ before
 none_taken n before next line is took = by (length line == 0) refl
   where
     by : (empty : Bool) → (length line == 0) ≡ empty → next ≡ before
-    by true empty = let same : with_line n before line ≡ Ok before = ap (λ b. if b then Ok before else with_read n before (line_of line)) empty in cc
-    by false empty = let bad = sym (with_line-read n before line None empty is) ∙ took in absurd (cc)
+    by true empty = let same : after_line n before line ≡ Ok before = ap (λ b. if b then Ok before else after_read n before (line_of line)) empty in cc
+    by false empty = let bad = sym (after_line-read n before line None empty is) ∙ took in absurd (cc)
 
 -- the digits of such a line are pairs
 pub pairs_taken : (n : ℕ) (before next : Arrived) (t : ℕ) (digits line : List ℕ) → line_of line ≡ option_map (arrival t) (result_ok (decode_of digits)) → 0 < length line
-    → with_line n before line ≡ Ok next → IsOk (decode_of digits)
+    → after_line n before line ≡ Ok next → IsOk (decode_of digits)
 pairs_taken n before next t digits line says some took = by (decode_of digits) refl
   where
     by : (read : Result (List ℕ) FromHexError) → decode_of digits ≡ read → IsOk (decode_of digits)
@@ -49,12 +49,12 @@ pairs_taken n before next t digits line says some took = by (decode_of digits) r
     by (Err fault) is =
         let none : line_of line ≡ None = says ∙ ap (λ r. option_map (arrival t) (result_ok r)) is in
         let filled : (length line == 0) ≡ false = search (rules, tests) in
-        let bad = sym (with_line-read n before line None filled none) ∙ took in
+        let bad = sym (after_line-read n before line None filled none) ∙ took in
         absurd (cc)
 
 -- and half as many as they are arrived
 pub chunk_taken : (n : ℕ) (before next : Arrived) (t : ℕ) (digits line : List ℕ) → line_of line ≡ option_map (arrival t) (result_ok (decode_of digits)) → 0 < length line
-    → with_line n before line ≡ Ok next → next.items ≡ before.items ++ next_chunk before.items (length digits / 2) t ∷ []
+    → after_line n before line ≡ Ok next → next.items ≡ before.items ++ next_chunk before.items (length digits / 2) t ∷ []
 chunk_taken n before next t digits line says some took = by (decode_of digits) refl
   where
     by : (read : Result (List ℕ) FromHexError) → decode_of digits ≡ read → next.items ≡ before.items ++ next_chunk before.items (length digits / 2) t ∷ []

@@ -2,12 +2,9 @@
 use Rattle.std.proofs.Common.{◌≡◌, ℕ, Bool, true, false, filter, if◌then◌else◌, List, [], ◌∷◌, ◌++◌, codes, decimal, flat_map, map, append_assoc, append-nil, refl, ap, ◌∙◌}
 use Rattle.std.specs.List.{join_with_byte, zip}
 use Rattle.tox_defs.specs.Toxic.{attributes_of, name_of, values_of}
-use Rattle.tox_defs.specs.short.Printed.{is_shown, printed_pair, printed_pairs, printed_short}
+use Rattle.tox_defs.specs.short.Printed.{is_shown, printed_pair, printed_short}
 use Rattle.tox_defs.specs.declared.toxic.Toxic.{Toxic}
-use Rattle.tox_text.specs.ShortForm.{pair_before_comma, shown_before_comma}
-
-pub pair-parts : (key : List ℕ) (value : ℕ) → (key ++ codes "=") ++ (decimal value ++ codes ",") ≡ pair_before_comma (key, value)
-pair-parts key value = simp append_assoc
+use Rattle.tox_text.specs.ShortForm.{shown_before_comma}
 
 -- the type, the pairs of the attributes, and that of the toxicity
 abbrev pub short_parts : List ℕ → List (List ℕ) → List ℕ → ℕ → List ℕ
@@ -29,8 +26,8 @@ pairs_of toxic = map printed_pair (filter is_shown (zip (attributes_of toxic) (v
 
 -- each pair that is printed with a comma behind it
 spelled_by : (shown : Bool) (pair : List ℕ × ℕ) (pairs : List (List ℕ × ℕ)) → flat_map shown_before_comma pairs ≡ flat_map (λ part. part ++ codes ",") (map printed_pair (filter is_shown pairs))
-    → (if shown then pair_before_comma pair else []) ++ flat_map shown_before_comma pairs ≡ flat_map (λ part. part ++ codes ",") (map printed_pair (if shown then pair ∷ filter is_shown pairs else filter is_shown pairs))
-spelled_by true pair pairs others = ap (λ text. pair_before_comma pair ++ text) others
+    → (if shown then printed_pair pair ++ codes "," else []) ++ flat_map shown_before_comma pairs ≡ flat_map (λ part. part ++ codes ",") (map printed_pair (if shown then pair ∷ filter is_shown pairs else filter is_shown pairs))
+spelled_by true pair pairs others = ap (λ text. (printed_pair pair ++ codes ",") ++ text) others
 spelled_by false pair pairs others = others
 
 spelled : (pairs : List (List ℕ × ℕ)) → flat_map shown_before_comma pairs ≡ flat_map (λ part. part ++ codes ",") (map printed_pair (filter is_shown pairs))

@@ -4,6 +4,7 @@ pub mod ResultText
 pub mod PlanText
 pub mod ShortForm
 pub mod Names
+pub mod Parts
 pub mod PickText
 pub mod PrintingPick
 pub mod PrintingMigrated

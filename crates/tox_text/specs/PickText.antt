@@ -42,8 +42,12 @@ toxics_text draws entries names =
     flat_map (λ placed. toxic_line draws placed.0 placed.1.0 placed.1.1)
     (enumerate_from 0 (zip entries names))
 
+-- the line of a proxy, and then those of named toxics
+abbrev pub pick_lines : Proxy → Draws → List Entry → List (List ℕ) → List ℕ
+pick_lines proxy draws entries names = proxy_line proxy ++ toxics_text draws entries names
+
 -- what a numbered connection of a proxy meets on a stream, under the words of a seed
 abbrev pub pick_text : Proxy → Rules → ℕ → Stream → ℕ → List ℕ
 pick_text proxy script conn stream seed =
     let met : NamedToxics = toxics_for proxy.name conn stream script in
-    proxy_line proxy ++ toxics_text (chain_draws met.chain (seeded_words seed conn stream)) met.chain.entries met.names
+    pick_lines proxy (chain_draws met.chain (seeded_words seed conn stream)) met.chain.entries met.names

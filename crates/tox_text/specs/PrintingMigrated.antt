@@ -1,8 +1,8 @@
 -- A migrated script that was printed, and what is left of one that was not.
-use Rattle.std.specs.Prelude.{◌≡◌, ◌≢◌, ℕ, Bool, true, List, Option, Err}
+use Rattle.std.specs.Prelude.{◌≡◌, ℕ, Bool, true, List, Option}
 use Rattle.std.specs.Io.KnownBytes.{append_known}
 use Rattle.tox_script.specs.Migrated.{IsMigrated, old_script_of}
-use Rattle.tox_script.specs.declared.fault.ScriptFault.TheVariants.{OutOfMemory}
+use Rattle.tox_script.specs.ScriptFaults.{IsScriptFault}
 use Rattle.tox_text.specs.Writing.{AppendsFront}
 use Rattle.tox_text.specs.declared.migrated_text.PrintMigratedFault.{PrintMigratedFault}
 use Rattle.tox_text.specs.declared.migrated_text.PrintMigratedFault.TheVariants.{Script, WriteFault}
@@ -23,6 +23,6 @@ pub record WritesMigratedFront (script : List ℕ) (old new : Option (List ℕ))
 abbrev pub LeavesMigrated : List ℕ → Option (List ℕ) → Option (List ℕ) → Bool → PrintMigratedFault
     → Type 0
 LeavesMigrated script old new failed (Script fault) =
-    (new ≡ old) × (fault ≢ OutOfMemory → old_script_of script ≡ Err fault)
+    (new ≡ old) × (IsScriptFault (old_script_of script) fault)
 LeavesMigrated script old new failed WriteFault =
     WritesMigratedFront script old new × (failed ≡ true)

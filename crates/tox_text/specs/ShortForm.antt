@@ -2,10 +2,6 @@
 use Rattle.std.specs.Prelude.{ℕ, List, [], ◌++◌, codes, if◌then◌else◌}
 use Rattle.tox_defs.specs.short.Printed.{is_shown, printed_pair}
 
--- a key with its value, and the comma behind it
-abbrev pub pair_before_comma : List ℕ × ℕ → List ℕ
-pair_before_comma pair = printed_pair pair ++ codes ","
-
--- the same, and nothing where the pair isn't printed
+-- a key with its value and the comma behind it, and nothing where the pair isn't printed
 abbrev pub shown_before_comma : List ℕ × ℕ → List ℕ
-shown_before_comma pair = if is_shown pair then pair_before_comma pair else []
+shown_before_comma pair = if is_shown pair then printed_pair pair ++ codes "," else []

@@ -1,8 +1,11 @@
 //! A buffer in front of a writer, so that each of its calls gets many bytes.
-ghost use Rattle.std.specs.Prelude.{◌≡◌, [], ◌++◌, false, ◌≤◌, length, OnOk, decimal, flat_map};
+ghost use Rattle.std.specs.Prelude.{◌≡◌, [], false, ◌≤◌, length, OnOk, decimal};
 ghost use Rattle.hex.specs.Hex.{encode_lower};
+ghost use Rattle.tox_text.specs.Parts.{printed, text_of};
 ghost use Rattle.tox_text.specs.Writing.{Prints, Writes};
 
+use crate::names::print_name;
+use crate::parts::Part;
 use arrayvec::ArrayVec;
 use std::marker::Model;
 use tox_time::{EndFault, Sink};
@@ -37,30 +40,14 @@ impl Buffer {
         }
     }
 
-    /// Adds bytes. Writes what waits first if there is no room for them.
-    pub fn put<W: Sink>(&mut self, writer: &mut W, bytes: &[u8]) -> Result<(), EndFault>
+    /// Adds the parts of a text, one behind the other.
+    pub fn print<W: Sink>(&mut self, writer: &mut W, parts: &[Part<'_>]) -> Result<(), EndFault>
         requires { W.failed writer.old ≡ false }
         ensures { Prints result (W.written writer.old) self.old (W.written writer.new) self.new
-            (W.failed writer.new) bytes.now }
-    {
-        if bytes.len() > self.bytes.remaining_capacity() {
-            self.flush(writer)?;
-        }
-        if bytes.len() > CAPACITY {
-            return write_all(writer, bytes);
-        }
-        self.bytes.try_extend_from_slice(bytes).unwrap();
-        Ok(())
-    }
-
-    /// Adds several parts, one behind the other.
-    pub fn put_all<W: Sink>(&mut self, writer: &mut W, parts: &[&[u8]]) -> Result<(), EndFault>
-        requires { W.failed writer.old ≡ false }
-        ensures { Prints result (W.written writer.old) self.old (W.written writer.new) self.new
-            (W.failed writer.new) (flat_map (λ part. part.now) parts.now) }
+            (W.failed writer.new) (text_of parts.now) }
     {
         for part in parts {
-            self.put(writer, part)?;
+            self.print_part(writer, part)?;
         }
         Ok(())
     }
@@ -77,24 +64,45 @@ impl Buffer {
         Ok(())
     }
 
-    /// Adds a number in decimal digits, and then some bytes.
-    pub fn put_number<W: Sink>(
-        &mut self,
-        writer: &mut W,
-        number: u64,
-        then: &[u8],
-    ) -> Result<(), EndFault>
+    fn print_part<W: Sink>(&mut self, writer: &mut W, part: &Part<'_>) -> Result<(), EndFault>
         requires { W.failed writer.old ≡ false }
         ensures { Prints result (W.written writer.old) self.old (W.written writer.new) self.new
-            (W.failed writer.new) (decimal number ++ then.now) }
+            (W.failed writer.new) (printed part.now) }
     {
-        let mut digits = itoa::Buffer::new();
-        self.put(writer, digits.format(number).as_bytes())?;
-        self.put(writer, then)
+        match part {
+            Part::Word(text) => self.put(writer, text.as_bytes()),
+            Part::Number(number) => self.put_number(writer, *number),
+            Part::Name(name) => print_name(self, writer, name.as_bytes()),
+            Part::Hex(bytes) => self.put_hex(writer, bytes),
+        }
+    }
+
+    /// Adds bytes. Writes what waits first if there is no room for them.
+    pub(crate) fn put<W: Sink>(&mut self, writer: &mut W, bytes: &[u8]) -> Result<(), EndFault>
+        requires { W.failed writer.old ≡ false }
+        ensures { Prints result (W.written writer.old) self.old (W.written writer.new) self.new
+            (W.failed writer.new) bytes.now }
+    {
+        if bytes.len() > self.bytes.remaining_capacity() {
+            self.flush(writer)?;
+        }
+        if bytes.len() > CAPACITY {
+            return write_all(writer, bytes);
+        }
+        self.bytes.try_extend_from_slice(bytes).unwrap();
+        Ok(())
+    }
+
+    fn put_number<W: Sink>(&mut self, writer: &mut W, number: u64) -> Result<(), EndFault>
+        requires { W.failed writer.old ≡ false }
+        ensures { Prints result (W.written writer.old) self.old (W.written writer.new) self.new
+            (W.failed writer.new) (decimal number) }
+    {
+        self.put(writer, itoa::Buffer::new().format(number).as_bytes())
     }
 
     /// Adds bytes in hexadecimal digits.
-    pub fn put_hex<W: Sink>(&mut self, writer: &mut W, bytes: &[u8]) -> Result<(), EndFault>
+    pub(crate) fn put_hex<W: Sink>(&mut self, writer: &mut W, bytes: &[u8]) -> Result<(), EndFault>
         requires { W.failed writer.old ≡ false }
         ensures { Prints result (W.written writer.old) self.old (W.written writer.new) self.new
             (W.failed writer.new) (encode_lower bytes.now) }
@@ -120,6 +128,17 @@ impl Buffer {
         hex::encode_to_slice(bytes, text).unwrap();
         self.put(writer, text)
     }
+}
+
+/// Writes the parts of a text.
+pub fn write_parts<W: Sink>(writer: &mut W, parts: &[Part<'_>]) -> Result<(), EndFault>
+    requires { W.failed writer.old ≡ false }
+    ensures { Writes result (W.written writer.old) (W.written writer.new)
+        (W.failed writer.new) (text_of parts.now) }
+{
+    let mut buffer = Buffer::new();
+    buffer.print(writer, parts)?;
+    buffer.flush(writer)
 }
 
 /// Writes all the bytes.

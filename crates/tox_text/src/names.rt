@@ -1,5 +1,5 @@
 //! Names on one line.
-ghost use Rattle.std.specs.Prelude.{◌≡◌, ◌++◌, false, Some};
+ghost use Rattle.std.specs.Prelude.{◌≡◌, false, Some};
 ghost use Rattle.std.specs.Char.{encode_utf8};
 ghost use Rattle.std.specs.Fmt.{WritesOnOk};
 ghost use Rattle.tox_text.specs.Names.{escaped, is_control, visible, visible_name};
@@ -9,7 +9,7 @@ use crate::buffer::Buffer;
 use std::fmt;
 use tox_time::{EndFault, Sink};
 
-/// A name that keeps to its line where it is displayed, as [`print_name`] prints it.
+/// A name that keeps to its line where it is displayed, as [`Part::Name`](crate::Part) is printed.
 #[derive(Clone, Copy, Debug, PartialEq, Eq)]
 pub struct VisibleName<'a>(pub &'a str);
 
@@ -48,30 +48,17 @@ fn display_code<W: fmt::Write>(byte: u8, f: &mut fmt::Formatter<W>) -> fmt::Resu
     f.write_str(text)
 }
 
-/// Prints a name between two texts. A name keeps to its line: a control character is printed as `\x` and its code in two
-/// hexadecimal digits.
-pub fn print_name<W: Sink>(
+/// Prints a name that keeps to its line.
+pub(crate) fn print_name<W: Sink>(
     buffer: &mut Buffer,
     writer: &mut W,
-    before: &[u8],
-    name: &str,
-    after: &[u8],
+    name: &[u8],
 ) -> Result<(), EndFault>
     requires { W.failed writer.old ≡ false }
     ensures { Prints result (W.written writer.old) buffer.old (W.written writer.new) buffer.new
-        (W.failed writer.new) (before.now ++ visible_name name.now ++ after.now) }
+        (W.failed writer.new) (visible_name name.now) }
 {
-    buffer.put(writer, before)?;
-    print_visible(buffer, writer, name.as_bytes())?;
-    buffer.put(writer, after)
-}
-
-fn print_visible<W: Sink>(buffer: &mut Buffer, writer: &mut W, bytes: &[u8]) -> Result<(), EndFault>
-    requires { W.failed writer.old ≡ false }
-    ensures { Prints result (W.written writer.old) buffer.old (W.written writer.new) buffer.new
-        (W.failed writer.new) (visible_name bytes.now) }
-{
-    for byte in bytes {
+    for byte in name {
         print_byte(buffer, writer, *byte)?;
     }
     Ok(())

@@ -1,13 +1,13 @@
 //! What a numbered connection meets.
-ghost use Rattle.std.specs.Prelude.{◌≡◌, ◌≢◌, ◌≤◌, ◌++◌, [], false, true, length, map, string_bytes, OnOk, OnErr, IfErr, Err};
+ghost use Rattle.std.specs.Prelude.{◌≡◌, ◌≢◌, ◌≤◌, ◌++◌, false, true, codes, decimal, length, map, string_bytes, OnOk, OnErr, IfErr, Err};
 ghost use Rattle.std.specs.Io.KnownBytes.{append_known};
 ghost use Rattle.tox_words.specs.Draw.{draws_of};
-ghost use Rattle.tox_text.specs.PickText.{applied_word, enabled_word, pick_text, proxy_line, toxic_line, toxics_text};
+ghost use Rattle.tox_text.specs.PickText.{applied_word, enabled_word, pick_lines, pick_text, proxy_line, toxic_line, toxics_text};
 ghost use Rattle.tox_text.specs.PrintingPick.{PickLeaves};
 ghost use Rattle.tox_text.specs.Writing.{Prints, Writes};
 
 use crate::buffer::Buffer;
-use crate::names::print_name;
+use crate::parts::Part::{Name, Number, Word};
 use crate::short_form::print_short;
 use std::alloc::Global;
 use thiserror::Error;
@@ -59,8 +59,7 @@ pub fn print_pick<W: Sink>(
     let chain = script.chain(name, conn, stream);
     let names = script.names(name, conn, stream);
     let drawing = Drawing::new(chain.lanes(), &words);
-    let mut buffer = Buffer::new();
-    if write_pick(&mut buffer, writer, proxy, &drawing, chain.entries(), names).is_err() {
+    if write_pick(writer, proxy, &drawing, chain.entries(), names).is_err() {
         return Err(PrintPickFault::WriteFault);
     }
     Ok(())
@@ -68,7 +67,6 @@ pub fn print_pick<W: Sink>(
 
 /// Writes the lines of a proxy and of named toxics. After an `Err` a prefix of them is written.
 fn write_pick<W: Sink>(
-    buffer: &mut Buffer,
     writer: &mut W,
     proxy: &ProxyDef,
     drawing: &Drawing<'_>,
@@ -76,12 +74,12 @@ fn write_pick<W: Sink>(
     names: &[String],
 ) -> Result<(), EndFault>
     requires working { W.failed writer.old ≡ false }
-    requires empty { buffer.old ≡ [] }
     requires one_each { length names.now ≡ length entries.now }
     ensures { Writes result (W.written writer.old) (W.written writer.new) (W.failed writer.new)
-        (proxy_line proxy.now ++ toxics_text (draws_of drawing.now) entries.now (map string_bytes names.now)) }
+        (pick_lines proxy.now (draws_of drawing.now) entries.now (map string_bytes names.now)) }
 {
-    print_lines(buffer, writer, proxy, drawing, entries, names)?;
+    let mut buffer = Buffer::new();
+    print_lines(&mut buffer, writer, proxy, drawing, entries, names)?;
     buffer.flush(writer)
 }
 
@@ -97,7 +95,7 @@ fn print_lines<W: Sink>(
     requires one_each { length names.now ≡ length entries.now }
     ensures { Prints result (W.written writer.old) buffer.old (W.written writer.new) buffer.new
         (W.failed writer.new)
-        (proxy_line proxy.now ++ toxics_text (draws_of drawing.now) entries.now (map string_bytes names.now)) }
+        (pick_lines proxy.now (draws_of drawing.now) entries.now (map string_bytes names.now)) }
 {
     print_proxy(buffer, writer, proxy)?;
     print_toxics(buffer, writer, drawing, entries, names)
@@ -113,16 +111,24 @@ fn print_proxy<W: Sink>(
     ensures { Prints result (W.written writer.old) buffer.old (W.written writer.new) buffer.new
         (W.failed writer.new) (proxy_line proxy.now) }
 {
-    print_name(buffer, writer, b"proxy ", &proxy.name, b" listen ")?;
-    buffer.put_all(writer, &[proxy.listen.as_bytes(), b" upstream "])?;
-    buffer.put_all(writer, &[proxy.upstream.as_bytes(), b" "])?;
-    buffer.put_all(writer, &[enabled_word(proxy.enabled), b"\n"])
+    let parts = [
+        Word("proxy "),
+        Name(&proxy.name),
+        Word(" listen "),
+        Word(&proxy.listen),
+        Word(" upstream "),
+        Word(&proxy.upstream),
+        Word(" "),
+        Word(enabled_word(proxy.enabled)),
+        Word("\n"),
+    ];
+    buffer.print(writer, &parts)
 }
 
-fn enabled_word(enabled: bool) -> &'static [u8]
+fn enabled_word(enabled: bool) -> &'static str
     ensures { result.now ≡ enabled_word enabled }
 {
-    if enabled { b"enabled" } else { b"disabled" }
+    if enabled { "enabled" } else { "disabled" }
 }
 
 /// Prints the lines of named toxics.
@@ -157,17 +163,33 @@ fn print_toxic<W: Sink>(
     ensures { Prints result (W.written writer.old) buffer.old (W.written writer.new) buffer.new
         (W.failed writer.new) (toxic_line (draws_of drawing.now) place entry.now name.now) }
 {
-    buffer.put_number(writer, place as u64, b" ")?;
-    buffer.put_all(
-        writer,
-        &[applied_word(entry.is_applied(place, drawing)), b" "],
-    )?;
+    print_place(buffer, writer, place, entry.is_applied(place, drawing))?;
     print_short(buffer, writer, entry)?;
-    buffer.put_all(writer, &[b" ", name.as_bytes(), b"\n"])
+    buffer.print(writer, &[Word(" "), Word(name), Word("\n")])
 }
 
-fn applied_word(applied: bool) -> &'static [u8]
+/// Prints a place of a chain, and whether its toxic is applied.
+fn print_place<W: Sink>(
+    buffer: &mut Buffer,
+    writer: &mut W,
+    place: usize,
+    applied: bool,
+) -> Result<(), EndFault>
+    requires { W.failed writer.old ≡ false }
+    ensures { Prints result (W.written writer.old) buffer.old (W.written writer.new) buffer.new
+        (W.failed writer.new) (decimal place ++ codes " " ++ applied_word applied ++ codes " ") }
+{
+    let parts = [
+        Number(place as u64),
+        Word(" "),
+        Word(applied_word(applied)),
+        Word(" "),
+    ];
+    buffer.print(writer, &parts)
+}
+
+fn applied_word(applied: bool) -> &'static str
     ensures { result.now ≡ applied_word applied }
 {
-    if applied { b"applied" } else { b"skipped" }
+    if applied { "applied" } else { "skipped" }
 }

@@ -1,22 +1,16 @@
 //! The text of a plan.
-ghost use Rattle.std.specs.Prelude.{◌≡◌, ◌+◌, ◌<◌, ◌≤◌, ◌++◌, [], false, codes, length, decimal, flat_map};
-ghost use Rattle.arrayvec.specs.ArrayString.{array_string_len};
-ghost use Rattle.tox_text.specs.PlanText.{jitter_words, until_words, op_words, op_line, plan_text};
+ghost use Rattle.std.specs.Prelude.{◌≡◌, ◌++◌, false, codes, flat_map};
+ghost use Rattle.tox_defs.specs.operations.Op.{op_until};
+ghost use Rattle.tox_text.specs.PlanText.{delay_words, op_line, plan_text, until_words, work_words};
 ghost use Rattle.tox_text.specs.ResultText.{ending_words};
 ghost use Rattle.tox_text.specs.Writing.{Prints, Writes};
 
 use crate::buffer::Buffer;
 use crate::fault::WriteFault;
-use arrayvec::ArrayString;
+use crate::parts::Part::{Number, Word};
 use tox_compile::Plan;
 use tox_defs::Op;
 use tox_time::{EndFault, Ending, Sink};
-
-/// How many bytes the line of an operation has at most.
-const MAX_LINE: usize = 160;
-
-/// Buffers the line of one operation.
-type Line = ArrayString<MAX_LINE>;
 
 /// Writes the text of a plan: a line for each operation, or `pass` where there is none.
 ///
@@ -26,17 +20,17 @@ pub fn print_plan<W: Sink>(writer: &mut W, plan: &Plan) -> Result<(), WriteFault
     ensures { Writes result (W.written writer.old) (W.written writer.new) (W.failed writer.new)
         (plan_text plan.now.ops) }
 {
-    write_ops(&mut Buffer::new(), writer, plan.ops()).map_err(|_| WriteFault)
+    write_ops(writer, plan.ops()).map_err(|_| WriteFault)
 }
 
 /// Writes the lines of operations, or `pass` where there is none.
-fn write_ops<W: Sink>(buffer: &mut Buffer, writer: &mut W, ops: &[Op]) -> Result<(), EndFault>
-    requires working { W.failed writer.old ≡ false }
-    requires empty { buffer.old ≡ [] }
+fn write_ops<W: Sink>(writer: &mut W, ops: &[Op]) -> Result<(), EndFault>
+    requires { W.failed writer.old ≡ false }
     ensures { Writes result (W.written writer.old) (W.written writer.new) (W.failed writer.new)
         (plan_text ops.now) }
 {
-    print_text(buffer, writer, ops)?;
+    let mut buffer = Buffer::new();
+    print_text(&mut buffer, writer, ops)?;
     buffer.flush(writer)
 }
 
@@ -46,7 +40,7 @@ fn print_text<W: Sink>(buffer: &mut Buffer, writer: &mut W, ops: &[Op]) -> Resul
         (W.failed writer.new) (plan_text ops.now) }
 {
     if ops.is_empty() {
-        return buffer.put(writer, b"pass\n");
+        return buffer.print(writer, &[Word("pass\n")]);
     }
     print_ops(buffer, writer, ops)
 }
@@ -57,19 +51,26 @@ fn print_ops<W: Sink>(buffer: &mut Buffer, writer: &mut W, ops: &[Op]) -> Result
         (W.failed writer.new) (flat_map op_line ops.now) }
 {
     for op in ops {
-        let mut line = Line::new();
-        add_op(&mut line, op);
-        line.push('\n');
-        buffer.put(writer, line.as_str().as_bytes())?;
+        print_op(buffer, writer, op)?;
     }
     Ok(())
 }
 
-/// Adds the words of an operation.
-fn add_op(line: &mut Line, op: &Op)
-    requires { array_string_len line.old ≡ 0 }
-    ensures words { line.new.bytes ≡ line.old.bytes ++ op_words op.now }
-    ensures most { array_string_len line.new < MAX_LINE }
+/// Prints the line of an operation.
+fn print_op<W: Sink>(buffer: &mut Buffer, writer: &mut W, op: &Op) -> Result<(), EndFault>
+    requires { W.failed writer.old ≡ false }
+    ensures { Prints result (W.written writer.old) buffer.old (W.written writer.new) buffer.new
+        (W.failed writer.new) (op_line op.now) }
+{
+    print_work(buffer, writer, op)?;
+    print_rest(buffer, writer, until_of(op))
+}
+
+/// Prints what an operation does before it stops.
+fn print_work<W: Sink>(buffer: &mut Buffer, writer: &mut W, op: &Op) -> Result<(), EndFault>
+    requires { W.failed writer.old ≡ false }
+    ensures { Prints result (W.written writer.old) buffer.old (W.written writer.new) buffer.new
+        (W.failed writer.new) (work_words op.now) }
 {
     match op {
         Op::Delay {
@@ -77,79 +78,106 @@ fn add_op(line: &mut Line, op: &Op)
             latency,
             jitter,
             lane,
-            until,
-        } => {
-            add_number(line, "delay ", u64::from(*fixed));
-            add_jitter(line, *latency, *jitter, *lane);
-            add_until(line, *until);
+            ..
+        } => print_delay(buffer, writer, *fixed, *latency, *jitter, *lane),
+        Op::Pace { rate, .. } => {
+            buffer.print(writer, &[Word("pace "), Number(u64::from(*rate))])
         }
-        Op::Pace { rate, until } => {
-            add_number(line, "pace ", u64::from(*rate));
-            add_until(line, *until);
-        }
-        Op::Slow { millis } => add_number(line, "slow ", u64::from(*millis)),
-        Op::Limit { bytes } => add_number(line, "limit ", *bytes),
-        Op::Cutoff { instant } => add_number(line, "cutoff ", instant.get()),
+        Op::Slow { millis } => buffer.print(writer, &[Word("slow "), Number(u64::from(*millis))]),
+        Op::Limit { bytes } => buffer.print(writer, &[Word("limit "), Number(*bytes)]),
+        Op::Cutoff { instant } => buffer.print(writer, &[Word("cutoff "), Number(instant.get())]),
         Op::Slicing {
             average,
             variation,
             micros,
             lane,
-            until,
+            ..
         } => {
-            add_number(line, "slicing ", u64::from(*average));
-            add_number(line, " ", u64::from(*variation));
-            add_number(line, " ", *micros);
-            add_number(line, " lane ", *lane as u64);
-            add_until(line, *until);
+            let parts = [
+                Word("slicing "),
+                Number(u64::from(*average)),
+                Word(" "),
+                Number(u64::from(*variation)),
+                Word(" "),
+                Number(*micros),
+                Word(" lane "),
+                Number(*lane as u64),
+            ];
+            buffer.print(writer, &parts)
         }
-        Op::Mute { ending } => add_mute(line, ending),
+        Op::Mute { ending } => print_mute(buffer, writer, ending),
     }
 }
 
-/// Adds how a link ends that lets no data through.
-fn add_mute(line: &mut Line, ending: &Ending)
-    requires { array_string_len line.old ≡ 0 }
-    ensures text { line.new.bytes ≡ line.old.bytes ++ codes "mute " ++ ending_words ending.now }
-    ensures most { array_string_len line.new < MAX_LINE }
+/// Prints a delay, with what it draws if it has jitter.
+fn print_delay<W: Sink>(
+    buffer: &mut Buffer,
+    writer: &mut W,
+    fixed: u32,
+    latency: u32,
+    jitter: u32,
+    lane: usize,
+) -> Result<(), EndFault>
+    requires { W.failed writer.old ≡ false }
+    ensures { Prints result (W.written writer.old) buffer.old (W.written writer.new) buffer.new
+        (W.failed writer.new) (delay_words fixed latency jitter lane) }
+{
+    if jitter == 0 {
+        return buffer.print(writer, &[Word("delay "), Number(u64::from(fixed))]);
+    }
+    let parts = [
+        Word("delay "),
+        Number(u64::from(fixed)),
+        Word(" jitter "),
+        Number(u64::from(latency)),
+        Word(" "),
+        Number(u64::from(jitter)),
+        Word(" lane "),
+        Number(lane as u64),
+    ];
+    buffer.print(writer, &parts)
+}
+
+/// Prints how a link ends that lets no data through.
+fn print_mute<W: Sink>(buffer: &mut Buffer, writer: &mut W, ending: &Ending) -> Result<(), EndFault>
+    requires { W.failed writer.old ≡ false }
+    ensures { Prints result (W.written writer.old) buffer.old (W.written writer.new) buffer.new
+        (W.failed writer.new) (codes "mute " ++ ending_words ending.now) }
 {
     match ending {
-        Ending::StillOpen => line.push_str("mute open"),
-        Ending::Closed(instant) => add_number(line, "mute closed ", instant.get()),
-        Ending::Reset(instant) => add_number(line, "mute reset ", instant.get()),
+        Ending::StillOpen => buffer.print(writer, &[Word("mute open")]),
+        Ending::Closed(instant) => {
+            buffer.print(writer, &[Word("mute closed "), Number(instant.get())])
+        }
+        Ending::Reset(instant) => {
+            buffer.print(writer, &[Word("mute reset "), Number(instant.get())])
+        }
     }
 }
 
-/// Adds what a delay draws, if it has jitter.
-fn add_jitter(line: &mut Line, latency: u32, jitter: u32, lane: usize)
-    requires { array_string_len line.old + 75 ≤ MAX_LINE }
-    ensures text { line.new.bytes ≡ line.old.bytes ++ jitter_words latency jitter lane }
-    ensures most { array_string_len line.new ≤ array_string_len line.old + 75 }
+/// From how many milliseconds on an operation lets chunks pass. 0 if it never stops.
+fn until_of(op: &Op) -> u32
+    ensures { result ≡ op_until op.now }
 {
-    if jitter != 0 {
-        add_number(line, " jitter ", u64::from(latency));
-        add_number(line, " ", u64::from(jitter));
-        add_number(line, " lane ", lane as u64);
+    match op {
+        Op::Delay { until, .. } => *until,
+        Op::Pace { until, .. } => *until,
+        Op::Slicing { until, .. } => *until,
+        Op::Slow { .. } | Op::Mute { .. } | Op::Cutoff { .. } | Op::Limit { .. } => 0,
     }
 }
 
-/// Adds from when on an operation lets chunks pass, if it stops.
-fn add_until(line: &mut Line, until: u32)
-    requires { array_string_len line.old + 27 ≤ MAX_LINE }
-    ensures text { line.new.bytes ≡ line.old.bytes ++ until_words until }
-    ensures most { array_string_len line.new ≤ array_string_len line.old + 27 }
+/// Prints from when on an operation lets chunks pass, if it stops, and ends its line.
+fn print_rest<W: Sink>(buffer: &mut Buffer, writer: &mut W, until: u32) -> Result<(), EndFault>
+    requires { W.failed writer.old ≡ false }
+    ensures { Prints result (W.written writer.old) buffer.old (W.written writer.new) buffer.new
+        (W.failed writer.new) (until_words until ++ codes "\n") }
 {
-    if until != 0 {
-        add_number(line, " until ", u64::from(until));
+    if until == 0 {
+        return buffer.print(writer, &[Word("\n")]);
     }
-}
-
-/// Adds a word and a number behind it.
-fn add_number(line: &mut Line, word: &str, number: u64)
-    requires { array_string_len line.old + length word.now + 20 ≤ MAX_LINE }
-    ensures text { line.new.bytes ≡ line.old.bytes ++ word.now ++ decimal number }
-    ensures most { array_string_len line.new ≤ array_string_len line.old + length word.now + 20 }
-{
-    line.push_str(word);
-    line.push_str(itoa::Buffer::new().format(number));
+    buffer.print(
+        writer,
+        &[Word(" until "), Number(u64::from(until)), Word("\n")],
+    )
 }

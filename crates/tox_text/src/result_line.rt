@@ -4,6 +4,7 @@ ghost use Rattle.tox_text.specs.ResultText.{bytes_line, ending_line};
 ghost use Rattle.tox_text.specs.Writing.{Prints};
 
 use crate::buffer::Buffer;
+use crate::parts::Part::{Hex, Number, Word};
 use tox_lend::Lent;
 use tox_time::{EndFault, Ending, Sink};
 
@@ -19,11 +20,17 @@ pub fn print_lent<W: Sink>(
         (W.failed writer.new) (bytes_line lent.now.instant lent.now.start lent.now.bytes.now) }
 {
     let stop = lent.start + lent.bytes.len() as u64;
-    buffer.put_number(writer, lent.instant.get(), b" ")?;
-    buffer.put_number(writer, lent.start, b"..")?;
-    buffer.put_number(writer, stop, b" ")?;
-    buffer.put_hex(writer, lent.bytes)?;
-    buffer.put(writer, b"\n")
+    let parts = [
+        Number(lent.instant.get()),
+        Word(" "),
+        Number(lent.start),
+        Word(".."),
+        Number(stop),
+        Word(" "),
+        Hex(lent.bytes),
+        Word("\n"),
+    ];
+    buffer.print(writer, &parts)
 }
 
 /// Prints the line of an ending.
@@ -37,14 +44,15 @@ pub fn print_ending<W: Sink>(
         (W.failed writer.new) (ending_line ending.now) }
 {
     match ending {
-        Ending::StillOpen => buffer.put(writer, b"open\n"),
+        Ending::StillOpen => buffer.print(writer, &[Word("open\n")]),
         Ending::Closed(instant) => {
-            buffer.put(writer, b"closed ")?;
-            buffer.put_number(writer, instant.get(), b"\n")
+            buffer.print(
+                writer,
+                &[Word("closed "), Number(instant.get()), Word("\n")],
+            )
         }
         Ending::Reset(instant) => {
-            buffer.put(writer, b"reset ")?;
-            buffer.put_number(writer, instant.get(), b"\n")
+            buffer.print(writer, &[Word("reset "), Number(instant.get()), Word("\n")])
         }
     }
 }

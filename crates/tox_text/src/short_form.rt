@@ -2,10 +2,11 @@
 ghost use Rattle.std.specs.Prelude.{◌≡◌, ◌≤◌, false, flat_map, length, map};
 ghost use Rattle.std.specs.List.{zip};
 ghost use Rattle.tox_defs.specs.short.Printed.{printed_short};
-ghost use Rattle.tox_text.specs.ShortForm.{pair_before_comma, shown_before_comma};
+ghost use Rattle.tox_text.specs.ShortForm.{shown_before_comma};
 ghost use Rattle.tox_text.specs.Writing.{Prints};
 
 use crate::buffer::Buffer;
+use crate::parts::Part::{Number, Word};
 use tox_defs::Entry;
 use tox_time::{EndFault, Sink};
 
@@ -20,10 +21,10 @@ pub(crate) fn print_short<W: Sink>(
         (W.failed writer.new) (printed_short entry.now.toxic entry.now.toxicity) }
 {
     let toxic = &entry.toxic;
-    buffer.put_all(writer, &[toxic.name().as_bytes(), b":"])?;
+    buffer.print(writer, &[Word(toxic.name()), Word(":")])?;
     print_attributes(buffer, writer, toxic.attributes(), &toxic.values())?;
-    buffer.put(writer, b"toxicity=")?;
-    buffer.put_number(writer, u64::from(entry.toxicity), b"")
+    let toxicity = u64::from(entry.toxicity);
+    buffer.print(writer, &[Word("toxicity="), Number(toxicity)])
 }
 
 /// Prints each key with its value and a comma, but for an `until` of 0.
@@ -58,19 +59,5 @@ fn print_shown<W: Sink>(
     if key == "until" && value == 0 {
         return Ok(());
     }
-    print_pair(buffer, writer, key, value)
-}
-
-fn print_pair<W: Sink>(
-    buffer: &mut Buffer,
-    writer: &mut W,
-    key: &str,
-    value: u64,
-) -> Result<(), EndFault>
-    requires { W.failed writer.old ≡ false }
-    ensures { Prints result (W.written writer.old) buffer.old (W.written writer.new) buffer.new
-        (W.failed writer.new) (pair_before_comma (key.now, value)) }
-{
-    buffer.put_all(writer, &[key.as_bytes(), b"="])?;
-    buffer.put_number(writer, value, b",")
+    buffer.print(writer, &[Word(key), Word("="), Number(value), Word(",")])
 }

@@ -1,12 +1,14 @@
 -- What files set up: the proxies of a populate file, and the script of a script file.
-use Rattle.std.specs.Prelude.{◌≡◌, ◌≢◌, ℕ, ◌<◌, ◌⊎◌, IsTrue, List, length, Ok, Err}
+use Rattle.std.specs.Prelude.{◌≡◌, ℕ, ◌<◌, ◌⊎◌, IsTrue, List, length, Ok}
 use Rattle.std.specs.Str.{is_utf8}
+use Rattle.tox_config.specs.ConfigFaults.{IsConfigFault}
 use Rattle.tox_config.specs.Populate.{populate}
 use Rattle.tox_config.specs.Proxy.{Proxy}
 use Rattle.tox_config.specs.declared.fault.ConfigFault.{ConfigFault}
 use Rattle.tox_config.specs.declared.fault.ConfigFault.TheVariants as config
 use Rattle.tox_script.specs.Rule.{Rules}
 use Rattle.tox_script.specs.Script.{script_of}
+use Rattle.tox_script.specs.ScriptFaults.{IsScriptFault}
 use Rattle.tox_script.specs.declared.fault.ScriptFault.{ScriptFault}
 use Rattle.tox_script.specs.declared.fault.ScriptFault.TheVariants as script
 use Rattle.tox_runs.specs.files.Files.{KnownFile, IsFileFault, IsFileOf}
@@ -39,14 +41,14 @@ pub record HasPopulated (file : KnownFile) : Type 0 where
 pub record RefusesConfig (file : KnownFile) (fault : ConfigFault) : Type 0 where
   pub bytes : List ℕ
   pub read : IsFileOf file bytes
-  pub refused : fault ≢ config.OutOfMemory → populate bytes ≡ Err fault
+  pub refused : IsConfigFault (populate bytes) fault
   pub memory : fault ≡ config.OutOfMemory → IsTrue (is_utf8 bytes) × (0 < length bytes)
 
 -- the file was read, and this is its first fault as a script, unless it is text and out of memory came first
 pub record RefusesScript (file : KnownFile) (fault : ScriptFault) : Type 0 where
   pub bytes : List ℕ
   pub read : IsFileOf file bytes
-  pub refused : fault ≢ script.OutOfMemory → script_of bytes ≡ Err fault
+  pub refused : IsScriptFault (script_of bytes) fault
   pub memory : fault ≡ script.OutOfMemory → IsTrue (is_utf8 bytes)
 
 -- why the file of a name defines no proxies

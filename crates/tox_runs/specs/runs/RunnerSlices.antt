@@ -17,6 +17,6 @@ text_to_come arrived runner items =
     ++ ending_line (ending (to_come runner items))
 
 -- the runner is idle, and these items may come next
-pub record IsReady (runner : RunnerView) (items : List Item) : Type 0 where
+pub record MayComeNext (runner : RunnerView) (items : List Item) : Type 0 where
   pub idle : runner.idle ≡ true
   pub ahead : IsAhead runner items

@@ -1,5 +1,6 @@
 -- What the second pass over an arrivals text still prints.
 use Rattle.std.specs.Prelude.{◌≡◌, ◌≢◌, ℕ, ◌+◌, ◌<◌, ◌≤◌, Bool, true, false, List, [], ◌∷◌, ◌++◌, length, slice_index, Any, Option, Result, Ok, Err}
+use Rattle.std.specs.Result.{ForOk}
 use Rattle.tox_time.specs.declared.ends.EndFault.{EndFault}
 use Rattle.tox_time.specs.declared.streams.item.Item.{Item}
 use Rattle.tox_time.specs.declared.streams.item.Item.TheVariants.{Chunk, Closed}
@@ -7,7 +8,7 @@ use Rattle.tox_time.specs.declared.streams.span.Span.{Span}
 use Rattle.tox_time.specs.streams.Arrivals.{arrival_list}
 use Rattle.tox_time.specs.streams.Neighbours.{LiesInChunk}
 use Rattle.tox_lend.specs.Run.{Run, stop_of}
-use Rattle.tox_text.specs.arrivals.ArrivalsText.{Arrived}
+use Rattle.tox_text.specs.arrivals.ArrivalsText.{Arrived, arrivals_of}
 use Rattle.tox_text.specs.ResultText.{arrival_of}
 use Rattle.tox_text.specs.Writing.{AppendsFront, Passes}
 
@@ -32,6 +33,11 @@ chunk_at start len t = Chunk (record { start = start; stop = start + len }) t
 -- the chunk that a piece arrived as
 abbrev pub chunk_of : Run → Item
 chunk_of piece = chunk_at piece.start (length piece.bytes) piece.instant
+
+-- all that a text describes comes next
+abbrev pub IsAtStart : (Arrived → ℕ → List Item → Type 0) → List ℕ → Type 0
+IsAtStart stands text =
+    ForOk (arrivals_of text) (λ arrived. stands arrived 0 arrived.items)
 
 -- this piece comes next where a source stands so
 pub record IsAtPiece (stands : Arrived → ℕ → List Item → Type 0) (piece : Run) : Type 0 where

@@ -1,8 +1,9 @@
 //! The dry run: arrivals in, the result of a chain out, with no clock and no socket.
-ghost use Rattle.std.specs.Prelude.{◌≡◌, ◌≢◌, ◌+◌, [], false, vec_capacity, OnOk, IfErr, Ok, Err};
+ghost use Rattle.std.specs.Prelude.{◌≡◌, ◌≢◌, ◌+◌, [], false, vec_capacity, OnOk, IfErr, Err};
+ghost use Rattle.std.specs.Result.{ForOk};
 ghost use Rattle.tox_runs.specs.runs.DryRun.{DryLeaves, WritesEveryRest, WritesResult, flow_text};
 ghost use Rattle.tox_runs.specs.runs.Reading.{HasCause, TakesAtMost};
-ghost use Rattle.tox_text.specs.arrivals.ArrivalsText.{Arrived, arrivals_of};
+ghost use Rattle.tox_text.specs.arrivals.ArrivalsText.{arrivals_of};
 ghost use Rattle.tox_text.specs.arrivals.Checked.{IsChecked};
 ghost use Rattle.tox_text.specs.Writing.{Writes};
 ghost use Rattle.tox_text.specs.declared.fault.DryFault.TheVariants.{ReadFault, WriteFault};
@@ -66,9 +67,9 @@ fn write_flow<W: Sink>(
     requires working { W.failed writer.old ≡ false }
     requires empty { room.window ≡ record { held = []; room = 1; stop = 0 } }
     requires checked { IsChecked text.now (vec_capacity room.spare) }
-    ensures { (arrived : Arrived) → arrivals_of text.now ≡ Ok arrived
-        → Writes result (W.written writer.old) (W.written writer.new) (W.failed writer.new)
-        (flow_text chain.now words.now arrived) }
+    ensures { ForOk (arrivals_of text.now) (λ arrived.
+        Writes result (W.written writer.old) (W.written writer.new) (W.failed writer.new)
+        (flow_text chain.now words.now arrived)) }
 {
     let mut runner = Runner::new(compile(chain, words), words);
     write_text(&mut runner, writer, text, room)

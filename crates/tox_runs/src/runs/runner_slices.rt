@@ -14,9 +14,9 @@ use tox_text::{Buffer, print_lent};
 use tox_time::{EndFault, Ending, Micros, Sink};
 
 impl<'w> SliceSource for Runner<'w> {
-    ghost use Rattle.tox_runs.specs.runs.RunnerSlices.{IsReady, text_to_come};
+    ghost use Rattle.tox_runs.specs.runs.RunnerSlices.{MayComeNext, text_to_come};
 
-    ghost stands = { λ runner arrived position items. IsReady runner items };
+    ghost stands = { λ runner arrived position items. MayComeNext runner items };
 
     ghost text_left = { λ runner arrived items. text_to_come arrived runner items };
 

@@ -1,12 +1,13 @@
 //! The second pass over an arrivals text: each data line becomes a piece, and its slices are printed at once.
-ghost use Rattle.std.specs.Prelude.{◌≡◌, ◌+◌, ◌<◌, ◌≤◌, ◌^◌, ℕ, [], ◌∷◌, length, false, vec_capacity, IfOk, Ok, OnOk};
+ghost use Rattle.std.specs.Prelude.{◌≡◌, ◌+◌, ◌<◌, ◌≤◌, ◌^◌, ℕ, [], ◌∷◌, length, false, vec_capacity, IfOk, OnOk};
+ghost use Rattle.std.specs.Result.{ForOk};
 ghost use Rattle.tox_time.specs.streams.Arrivals.{arrival_list};
 ghost use Rattle.tox_time.specs.declared.streams.item.Item.TheVariants.{Quiet};
 ghost use Rattle.tox_lend.specs.Run.{stop_of};
-ghost use Rattle.tox_text.specs.arrivals.ArrivalsText.{Arrived, arrivals_of};
+ghost use Rattle.tox_text.specs.arrivals.ArrivalsText.{arrivals_of};
 ghost use Rattle.tox_text.specs.arrivals.Checked.{IsChecked};
 ghost use Rattle.tox_text.specs.Writing.{Prints, Writes};
-ghost use Rattle.tox_runs.specs.runs.SecondPass.{IsAtPiece, PrintsDownTo, chunk_of};
+ghost use Rattle.tox_runs.specs.runs.SecondPass.{IsAtPiece, IsAtStart, PrintsDownTo, chunk_of};
 
 use crate::runs::slice_source::SliceSource;
 use std::alloc::{AllocError, Global};
@@ -80,14 +81,13 @@ fn print_lines<S: SliceSource, W: Sink>(
     requires working { W.failed writer.old ≡ false }
     requires empty { window.old ≡ record { held = []; room = 1; stop = 0 } }
     requires checked { IsChecked text.now (vec_capacity spare) }
-    requires first { (arrived : Arrived) → arrivals_of text.now ≡ Ok arrived
-        → S.stands source.old arrived 0 arrived.items }
-    ensures prints { (arrived : Arrived) → arrivals_of text.now ≡ Ok arrived
-        → PrintsDownTo result (W.written writer.old) buffer.old (W.written writer.new) buffer.new
+    requires first { IsAtStart (S.stands source.old) text.now }
+    ensures prints { ForOk (arrivals_of text.now) (λ arrived.
+        PrintsDownTo result (W.written writer.old) buffer.old (W.written writer.new) buffer.new
         (W.failed writer.new) (S.text_left source.old arrived (arrival_list arrived.items))
-        (S.text_left source.new arrived (Quiet ∷ [])) }
-    ensures behind { OnOk result ((arrived : Arrived) → arrivals_of text.now ≡ Ok arrived
-        → (position : ℕ) × S.stands source.new arrived position []) }
+        (S.text_left source.new arrived (Quiet ∷ []))) }
+    ensures behind { OnOk result (ForOk (arrivals_of text.now)
+        (λ arrived. (position : ℕ) × S.stands source.new arrived position [])) }
 {
     let mut bytes = spare;
     let mut left = Some(text);
@@ -125,12 +125,10 @@ fn print_text<S: SliceSource, W: Sink>(
     requires working { W.failed writer.old ≡ false }
     requires empty { window.old ≡ record { held = []; room = 1; stop = 0 } }
     requires checked { IsChecked text.now (vec_capacity spare) }
-    requires first { (arrived : Arrived) → arrivals_of text.now ≡ Ok arrived
-        → S.stands source.old arrived 0 arrived.items }
-    ensures { (arrived : Arrived) → arrivals_of text.now ≡ Ok arrived
-        → Prints result (W.written writer.old) buffer.old (W.written writer.new) buffer.new
-        (W.failed writer.new)
-        (S.text_left source.old arrived (arrival_list arrived.items)) }
+    requires first { IsAtStart (S.stands source.old) text.now }
+    ensures { ForOk (arrivals_of text.now) (λ arrived.
+        Prints result (W.written writer.old) buffer.old (W.written writer.new) buffer.new
+        (W.failed writer.new) (S.text_left source.old arrived (arrival_list arrived.items))) }
 {
     print_lines(source, window, buffer, writer, text, spare)?;
     let ending = source.last();
@@ -147,11 +145,10 @@ pub(crate) fn write_text<S: SliceSource, W: Sink>(
     requires working { W.failed writer.old ≡ false }
     requires empty { room.window ≡ record { held = []; room = 1; stop = 0 } }
     requires checked { IsChecked text.now (vec_capacity room.spare) }
-    requires first { (arrived : Arrived) → arrivals_of text.now ≡ Ok arrived
-        → S.stands source.old arrived 0 arrived.items }
-    ensures { (arrived : Arrived) → arrivals_of text.now ≡ Ok arrived
-        → Writes result (W.written writer.old) (W.written writer.new) (W.failed writer.new)
-        (S.text_left source.old arrived (arrival_list arrived.items)) }
+    requires first { IsAtStart (S.stands source.old) text.now }
+    ensures { ForOk (arrivals_of text.now) (λ arrived.
+        Writes result (W.written writer.old) (W.written writer.new) (W.failed writer.new)
+        (S.text_left source.old arrived (arrival_list arrived.items))) }
 {
     let PieceRoom { spare, mut window } = room;
     let mut buffer = Buffer::new();

@@ -1,9 +1,10 @@
 //! A run of stages in real threads: arrivals in, the result of a chain out.
-ghost use Rattle.std.specs.Prelude.{◌≡◌, ◌≢◌, ◌+◌, ◌≤◌, [], false, vec_capacity, OnOk, IfErr, Ok, Err};
+ghost use Rattle.std.specs.Prelude.{◌≡◌, ◌≢◌, ◌+◌, ◌≤◌, [], false, vec_capacity, OnOk, IfErr, Err};
+ghost use Rattle.std.specs.Result.{ForOk};
 ghost use Rattle.tox_time.specs.streams.Arrivals.{arrival_list};
 ghost use Rattle.tox_time.specs.streams.Neighbours.{AreNeighbours};
 ghost use Rattle.tox_time.specs.streams.Table.{slices_table};
-ghost use Rattle.tox_text.specs.arrivals.ArrivalsText.{Arrived, arrivals_of};
+ghost use Rattle.tox_text.specs.arrivals.ArrivalsText.{arrivals_of};
 ghost use Rattle.tox_text.specs.arrivals.Checked.{IsChecked};
 ghost use Rattle.tox_text.specs.ResultText.{result_text};
 ghost use Rattle.tox_text.specs.Writing.{Writes};
@@ -87,11 +88,11 @@ fn write_outcome<W: Sink>(
     requires working { W.failed writer.old ≡ false }
     requires empty { room.window ≡ record { held = []; room = 1; stop = 0 } }
     requires checked { IsChecked text.now (vec_capacity room.spare) }
-    requires neighbours { (arrived : Arrived) → arrivals_of text.now ≡ Ok arrived
-        → AreNeighbours (arrival_list arrived.items) 0 outcome.now.slices }
-    ensures { (arrived : Arrived) → arrivals_of text.now ≡ Ok arrived
-        → Writes result (W.written writer.old) (W.written writer.new) (W.failed writer.new)
-        (result_text arrived (slices_table outcome.now.slices) outcome.now.ending) }
+    requires neighbours { ForOk (arrivals_of text.now)
+        (λ arrived. AreNeighbours (arrival_list arrived.items) 0 outcome.now.slices) }
+    ensures { ForOk (arrivals_of text.now) (λ arrived.
+        Writes result (W.written writer.old) (W.written writer.new) (W.failed writer.new)
+        (result_text arrived (slices_table outcome.now.slices) outcome.now.ending)) }
 {
     write_text(&mut OutcomeSlices::new(outcome), writer, text, room)
 }

@@ -1,126 +1,80 @@
 //! The lines that serving prints.
-ghost use Rattle.std.specs.Prelude.{◌≡◌, ◌++◌, [], false, length, codes, decimal};
-ghost use Rattle.tox_text.specs.Writing.{Prints, Writes};
+ghost use Rattle.std.specs.Prelude.{◌≡◌, length, IfSome};
 ghost use Rattle.tox_time.specs.declared.streams.stream.Stream.TheVariants.{Upstream, Downstream};
 ghost use Rattle.tox_book.specs.Links.{total_of};
-ghost use Rattle.tox_serve.specs.lines.ServeLines.{end_word, link_line, listening_line, side_text, total_line};
+ghost use Rattle.tox_serve.specs.lines.ServeLines.{end_word, link_line, listening_line, total_line};
 
-use crate::link::end::{LinkEnd, SideEnd};
+use crate::lines::LineText;
+use crate::link::end::LinkEnd;
 use tox_book::Book;
-use tox_text::{Buffer, print_name};
-use tox_time::{EndFault, Ending, Sink, Stream};
+use tox_text::Part::{Name, Number, Word};
+use tox_time::{Ending, Stream};
 
-/// Writes that a proxy listens at an address.
-pub(crate) fn write_listening<W: Sink>(
-    writer: &mut W,
-    name: &str,
-    address: &str,
-) -> Result<(), EndFault>
-    requires { W.failed writer.old ≡ false }
-    ensures { Writes result (W.written writer.old) (W.written writer.new) (W.failed writer.new)
-        (listening_line name.now address.now) }
+/// The line of a proxy that listens. None if it is too long, which none is.
+pub(crate) fn listening_text<'x>(name: &'x str, address: &'x str) -> Option<LineText>
+    ensures { IfSome result (λ line. line.bytes.items ≡ listening_line name.now address.now) }
 {
-    let mut buffer = Buffer::new();
-    put_listening(&mut buffer, writer, name, address)?;
-    buffer.flush(writer)
+    let parts = [
+        Word("listening "),
+        Name(name),
+        Word(" "),
+        Word(address),
+        Word("\n"),
+    ];
+    LineText::of(&parts)
 }
 
-fn put_listening<W: Sink>(
-    buffer: &mut Buffer,
-    writer: &mut W,
-    name: &str,
-    address: &str,
-) -> Result<(), EndFault>
-    requires { W.failed writer.old ≡ false }
-    ensures { Prints result (W.written writer.old) buffer.old (W.written writer.new) buffer.new
-        (W.failed writer.new) (listening_line name.now address.now) }
+/// The line of a link that ended. None if it is too long, which none is.
+pub(crate) fn link_text(name: &str, end: &LinkEnd) -> Option<LineText>
+    ensures { IfSome result (λ line. line.bytes.items ≡ link_line name.now end.now) }
 {
-    print_name(buffer, writer, b"listening ", name, b" ")?;
-    buffer.put_all(writer, &[address.as_bytes(), b"\n"])
+    let parts = [
+        Word("link "),
+        Name(name),
+        Word(" "),
+        Number(end.number),
+        Word(" up "),
+        Number(end.upstream.bytes),
+        Word(" "),
+        Word(end_word(&end.upstream.ending)),
+        Word(" down "),
+        Number(end.downstream.bytes),
+        Word(" "),
+        Word(end_word(&end.downstream.ending)),
+        Word("\n"),
+    ];
+    LineText::of(&parts)
 }
 
-/// Writes how a numbered link of a proxy ended.
-pub(crate) fn write_link<W: Sink>(writer: &mut W, name: &str, end: &LinkEnd) -> Result<(), EndFault>
-    requires { W.failed writer.old ≡ false }
-    ensures { Writes result (W.written writer.old) (W.written writer.new) (W.failed writer.new)
-        (link_line name.now end.now) }
-{
-    let mut buffer = Buffer::new();
-    put_link(&mut buffer, writer, name, end)?;
-    buffer.flush(writer)
-}
-
-fn put_link<W: Sink>(
-    buffer: &mut Buffer,
-    writer: &mut W,
-    name: &str,
-    end: &LinkEnd,
-) -> Result<(), EndFault>
-    requires { W.failed writer.old ≡ false }
-    ensures { Prints result (W.written writer.old) buffer.old (W.written writer.new) buffer.new
-        (W.failed writer.new) (link_line name.now end.now) }
-{
-    print_name(buffer, writer, b"link ", name, b" ")?;
-    buffer.put_number(writer, end.number, b" up ")?;
-    put_side(buffer, writer, &end.upstream, b" down ")?;
-    put_side(buffer, writer, &end.downstream, b"\n")
-}
-
-/// Adds the bytes of a side and how it ended, and then some bytes.
-fn put_side<W: Sink>(
-    buffer: &mut Buffer,
-    writer: &mut W,
-    side: &SideEnd,
-    then: &[u8],
-) -> Result<(), EndFault>
-    requires { W.failed writer.old ≡ false }
-    ensures { Prints result (W.written writer.old) buffer.old (W.written writer.new) buffer.new
-        (W.failed writer.new) (side_text side.now ++ then.now) }
-{
-    buffer.put_number(writer, side.bytes, b" ")?;
-    buffer.put(writer, end_word(&side.ending))?;
-    buffer.put(writer, then)
-}
-
-fn end_word(ending: &Option<Ending>) -> &'static [u8]
+fn end_word(ending: &Option<Ending>) -> &'static str
     ensures { result.now ≡ end_word ending.now }
 {
     match ending {
-        Some(Ending::StillOpen) => b"open",
-        Some(Ending::Closed(_)) => b"closed",
-        Some(Ending::Reset(_)) => b"reset",
-        None => b"broken",
+        Some(Ending::StillOpen) => "open",
+        Some(Ending::Closed(_)) => "closed",
+        Some(Ending::Reset(_)) => "reset",
+        None => "broken",
     }
 }
 
-/// Writes how many links a proxy's book has, and their bytes on both streams.
-pub(crate) fn write_total<W: Sink>(writer: &mut W, name: &str, book: &Book) -> Result<(), EndFault>
-    requires { W.failed writer.old ≡ false }
-    ensures { Writes result (W.written writer.old) (W.written writer.new) (W.failed writer.new)
-        (total_line name.now (length book.now) (total_of Upstream book.now) (total_of Downstream book.now)) }
+/// The line of a proxy's totals: how many links its book has, and their bytes on both streams. None if it is too long, which
+/// none is.
+pub(crate) fn total_text(name: &str, book: &Book) -> Option<LineText>
+    ensures { IfSome result (λ line. line.bytes.items
+        ≡ total_line name.now (length book.now) (total_of Upstream book.now) (total_of Downstream book.now)) }
 {
-    let mut buffer = Buffer::new();
-    let links = book.links();
     let upstream = book.total(Stream::Upstream);
     let downstream = book.total(Stream::Downstream);
-    put_total(&mut buffer, writer, name, links, upstream, downstream)?;
-    buffer.flush(writer)
-}
-
-fn put_total<W: Sink>(
-    buffer: &mut Buffer,
-    writer: &mut W,
-    name: &str,
-    links: u64,
-    upstream: u64,
-    downstream: u64,
-) -> Result<(), EndFault>
-    requires { W.failed writer.old ≡ false }
-    ensures { Prints result (W.written writer.old) buffer.old (W.written writer.new) buffer.new
-        (W.failed writer.new) (total_line name.now links upstream downstream) }
-{
-    print_name(buffer, writer, b"total ", name, b" ")?;
-    buffer.put_number(writer, links, b" up ")?;
-    buffer.put_number(writer, upstream, b" down ")?;
-    buffer.put_number(writer, downstream, b"\n")
+    let parts = [
+        Word("total "),
+        Name(name),
+        Word(" "),
+        Number(book.links()),
+        Word(" up "),
+        Number(upstream),
+        Word(" down "),
+        Number(downstream),
+        Word("\n"),
+    ];
+    LineText::of(&parts)
 }

@@ -1,7 +1,9 @@
 //! The text of one line, made before it is sent.
-ghost use Rattle.std.specs.Prelude.{◌≡◌, Some, [], false};
+ghost use Rattle.std.specs.Prelude.{◌≡◌, Some, [], false, IfSome};
+ghost use Rattle.tox_text.specs.Parts.{text_of};
 
 use arrayvec::ArrayVec;
+use tox_text::{Part, write_parts};
 use tox_time::{EndFault, Sink};
 
 /// The longest line, in bytes. A name of 255 control characters takes 1,020 of them.
@@ -15,8 +17,17 @@ pub(crate) struct LineText {
 }
 
 impl LineText {
+    /// The text of these parts. None if it is too long, which no line is.
+    pub(crate) fn of(parts: &[Part<'_>]) -> Option<LineText>
+        ensures { IfSome result (λ line. line.bytes.items ≡ text_of parts.now) }
+    {
+        let mut line = LineText::new();
+        write_parts(&mut line, parts).ok()?;
+        Some(line)
+    }
+
     /// An empty text.
-    pub(crate) fn new() -> LineText
+    fn new() -> LineText
         ensures empty { result.bytes.items ≡ [] }
         ensures working { result.failed ≡ false }
     {

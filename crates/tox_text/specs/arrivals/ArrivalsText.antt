@@ -16,12 +16,12 @@ pub record Arrived : Type 0 where
   pub bytes : List ℕ
 
 -- nothing arrived yet
-abbrev pub nothing : Arrived
-nothing = record { items = []; bytes = [] }
+abbrev pub no_arrivals : Arrived
+no_arrivals = record { items = []; bytes = [] }
 
 -- a piece more
-abbrev pub with_piece : Arrived → ℕ → List ℕ → Arrived
-with_piece arrived t piece =
+abbrev pub with_data : Arrived → ℕ → List ℕ → Arrived
+with_data arrived t piece =
     record {
       items = arrived.items
           ++ next_chunk arrived.items (length piece) t ∷ [];
@@ -29,31 +29,31 @@ with_piece arrived t piece =
     }
 
 -- the source's end
-abbrev pub with_end : Arrived → ℕ → Arrived
-with_end arrived t = record { items = arrived.items ++ Closed t ∷ []; bytes = arrived.bytes }
+abbrev pub with_eof : Arrived → ℕ → Arrived
+with_eof arrived t = record { items = arrived.items ++ Closed t ∷ []; bytes = arrived.bytes }
 
 -- what a line leaves, unless its arrival is refused
-abbrev pub unless_refused : ℕ → Option ArrivalFault → Arrived → Result Arrived DryFault
-unless_refused n (Some fault) arrived = Err (Arrival fault n)
-unless_refused n None arrived = Ok arrived
+abbrev pub arrived_or_fault : ℕ → Option ArrivalFault → Arrived → Result Arrived DryFault
+arrived_or_fault n (Some fault) arrived = Err (Arrival fault n)
+arrived_or_fault n None arrived = Ok arrived
 
 -- what the n-th line leaves, where it is a line of the arrivals text
-abbrev pub with_read : ℕ → Arrived → Option Line → Result Arrived DryFault
-with_read n arrived None = Err (BadLine n)
-with_read n arrived (Some (arrival t piece)) =
-    unless_refused n (push_fault arrived.items (length piece) t) (with_piece arrived t piece)
-with_read n arrived (Some (end t)) =
-    unless_refused n (eof_fault arrived.items t) (with_end arrived t)
+abbrev pub after_read : ℕ → Arrived → Option Line → Result Arrived DryFault
+after_read n arrived None = Err (BadLine n)
+after_read n arrived (Some (arrival t piece)) =
+    arrived_or_fault n (push_fault arrived.items (length piece) t) (with_data arrived t piece)
+after_read n arrived (Some (end t)) =
+    arrived_or_fault n (eof_fault arrived.items t) (with_eof arrived t)
 
 -- what the n-th line leaves: an empty one says nothing
-abbrev pub with_line : ℕ → Arrived → List ℕ → Result Arrived DryFault
-with_line n arrived line =
-    if length line == 0 then Ok arrived else with_read n arrived (line_of line)
+abbrev pub after_line : ℕ → Arrived → List ℕ → Result Arrived DryFault
+after_line n arrived line =
+    if length line == 0 then Ok arrived else after_read n arrived (line_of line)
 
 -- what the lines leave one after the other, from the n-th on
-abbrev pub with_lines : ℕ → List (List ℕ) → Arrived → Result Arrived DryFault
-with_lines n [] arrived = Ok arrived
-with_lines n (line ∷ lines) arrived = with_line n arrived line >>= with_lines (n + 1) lines
+abbrev pub after_lines : ℕ → List (List ℕ) → Arrived → Result Arrived DryFault
+after_lines n [] arrived = Ok arrived
+after_lines n (line ∷ lines) arrived = after_line n arrived line >>= after_lines (n + 1) lines
 
 -- the lines between the line feeds; behind a last line feed stands an empty one
 abbrev pub lines_of : List ℕ → List (List ℕ)
@@ -61,4 +61,4 @@ lines_of text = slice_split (λ byte. byte == 10) text
 
 -- what a text says has arrived, or its first fault with its line from 1
 abbrev pub arrivals_of : List ℕ → Result Arrived DryFault
-arrivals_of text = with_lines 1 (lines_of text) nothing
+arrivals_of text = after_lines 1 (lines_of text) no_arrivals

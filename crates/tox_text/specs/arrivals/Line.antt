@@ -37,8 +37,8 @@ digits_at text =
     else None
 
 -- the parts of a line: its instant, and its digits if it is a data line
-abbrev pub parts_of : List ℕ → Option (ℕ × Option (List ℕ))
-parts_of text = do
+abbrev pub line_parts : List ℕ → Option (ℕ × Option (List ℕ))
+line_parts text = do
   parts ← cut_at 32 text
   t ← instant_of parts.0
   option_map (λ digits. (t, digits)) (digits_at parts.1)
@@ -51,7 +51,7 @@ line_at t (Some digits) = option_map (arrival t) (result_ok (decode_of digits))
 -- what a line says, or none where it is no line of the arrivals text
 abbrev pub line_of : List ℕ → Option Line
 line_of text = do
-  parts ← parts_of text
+  parts ← line_parts text
   line_at parts.0 parts.1
 
 -- the digits that the code keeps of a line

@@ -1,6 +1,6 @@
 //! The check of an arrivals text, which keeps no list of what arrived.
 ghost use Rattle.std.specs.Prelude.{◌≡◌, ◌+◌, ◌<◌, ◌≤◌, ◌^◌, false, true, length, None, Some, Ok, Err, IfOk, IfErr, OnOk};
-ghost use Rattle.tox_text.specs.arrivals.ArrivalsText.{Arrived, arrivals_of, lines_of, with_line};
+ghost use Rattle.tox_text.specs.arrivals.ArrivalsText.{Arrived, arrivals_of, lines_of, after_line};
 ghost use Rattle.tox_text.specs.arrivals.Checked.{IsChecked, half_longest};
 ghost use Rattle.tox_text.specs.arrivals.Counting.{Counts};
 
@@ -35,10 +35,10 @@ pub fn check_arrivals(text: &[u8]) -> Result<usize, DryFault>
 /// Adds what a line says.
 fn add_line(so_far: &mut StreamPosition, line: &[u8], number: u64) -> Result<(), DryFault>
     ensures ok { OnOk result ((before : Arrived) → Counts so_far.old before
-        → (after : Arrived) × (with_line number before line.now ≡ Ok after)
+        → (after : Arrived) × (after_line number before line.now ≡ Ok after)
         × Counts so_far.new after) }
     ensures fault { IfErr result (λ e. (before : Arrived) → Counts so_far.old before
-        → with_line number before line.now ≡ Err e) }
+        → after_line number before line.now ≡ Err e) }
 {
     if line.is_empty() {
         return Ok(());

@@ -1,6 +1,6 @@
 //! One line of the arrivals text, in its parts.
 ghost use Rattle.std.specs.Prelude.{◌≡◌, ◌==◌, ◌<◌, length, option_map, position, IfSome};
-ghost use Rattle.tox_text.specs.arrivals.Line.{cut_at, digit_count, instant_of, line_of, line_seen, parts_of, parts_seen};
+ghost use Rattle.tox_text.specs.arrivals.Line.{cut_at, digit_count, instant_of, line_of, line_seen, line_parts, parts_seen};
 
 use std::str;
 use tox_time::{HORIZON, Micros, parse_decimal};
@@ -25,7 +25,7 @@ pub enum Event<'a> {
 
 /// The parts of a line, or None if it isn't a line of the arrivals text whatever the digits are.
 pub fn line_of<'a>(text: &'a [u8]) -> Option<Line<'a>>
-    ensures parts { option_map parts_seen result ≡ parts_of text.now }
+    ensures parts { option_map parts_seen result ≡ line_parts text.now }
     ensures says { line_seen result ≡ line_of text.now }
     ensures shorter { IfSome result (λ line. digit_count line.event < length text.now) }
 {

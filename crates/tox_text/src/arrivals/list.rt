@@ -1,5 +1,6 @@
 //! The arrival list of a text without faults.
 ghost use Rattle.std.specs.Prelude.{◌≡◌, Ok, IfOk};
+ghost use Rattle.std.specs.Result.{ForOk};
 ghost use Rattle.tox_text.specs.arrivals.ArrivalsText.{Arrived, arrivals_of};
 
 use crate::arrivals::line::{Event, line_of};
@@ -11,8 +12,7 @@ use tox_time::Arrivals;
 pub fn list_arrivals(alloc: Global, text: &[u8]) -> Result<Arrivals, AllocError>
     requires faultless { (arrived : Arrived) × (arrivals_of text.now ≡ Ok arrived) }
     ensures { IfOk result
-        (λ arrivals. (arrived : Arrived) → arrivals_of text.now ≡ Ok arrived
-        → arrivals ≡ arrived.items) }
+        (λ arrivals. ForOk (arrivals_of text.now) (λ arrived. arrivals ≡ arrived.items)) }
 {
     let mut arrivals = Arrivals::new(alloc);
     let mut left = Some(text);

@@ -1,33 +1,26 @@
--- What comes before the name, the name, and what comes after it.
-use Rattle.std.proofs.Common.{◌≡◌, ℕ, List, ◌++◌, refl, ap, sym, ◌∙◌, append_assoc}
+-- One byte behind the other.
 use Rattle.std.proofs.lemmas.Result.{err_from_is_err_and}
-use Rattle.tox_text.specs.Names.{visible_name}
-use Rattle.tox_text.proofs.Writes.{Prints-as, Prints-failed, Prints-then}
+use Rattle.tox_text.specs.Names.{visible}
+use Rattle.tox_text.proofs.Listed.{IsAt-read, Passes-all, Passes-more, Prints-stopped}
+use Rattle.tox_text.proofs.Writes.{Passes-none}
 use Rattle.tox_text.proofs.names.print_name.Goals as goal
 
--- what the call answered is the name
-named : (before name after text : List ℕ) → text ≡ name → before ++ (visible_name text ++ after) ≡ before ++ visible_name name ++ after
-named before name after text is = ap (λ xs. before ++ (visible_name xs ++ after)) is ∙ sym (append_assoc before (visible_name name) after)
+pub loop-byte-init : goal.loop-byte-init
+loop-byte-init g c = record { working = c.requires; passed = Passes-none _ _ }
 
-pub returns-in_err-put : goal.returns-in_err-put
-returns-in_err-put g c =
-    let result = c.from_residual.result in
-    let exit = err_from_is_err_and result c.from_residual.ensures.1 in
-    Prints-as result _ _ _ _ _ _ _ (named c.args.before.now c.args.name.now c.args.after.now _ refl)
-    (Prints-failed result exit.0 _ _ _ _ _ _ _ exit.1 c.in_err-put.ensures)
+pub loop-byte-preserved : goal.loop-byte-preserved
+loop-byte-preserved g c =
+    let here = IsAt-read c.args.name.now c.loop-byte.byte-index 0 c.loop-byte-test.true in record {
+      working = c.in_ok-print_byte.ensures.1;
+      passed = Passes-more visible c.args.name.now c.loop-byte.byte-index _ _ _ _ _ _ _ here c.loop-byte.invariant.passed c.in_ok-print_byte.ensures.0;
+    }
 
-pub returns-in_err-print_visible : goal.returns-in_err-print_visible
-returns-in_err-print_visible g c =
-    let result = c.from_residual-in_err-print_visible.result in
-    let exit = err_from_is_err_and result c.from_residual-in_err-print_visible.ensures.1 in
-    Prints-as result _ _ _ _ _ _ _ (named c.args.before.now c.args.name.now c.args.after.now _ c.as_bytes.ensures.value)
-    (Prints-then result _ _ _ _ _ _ _ _ _ c.in_ok-put.ensures.0
-    (Prints-failed result exit.0 _ _ _ _ _ _ _ exit.1 c.in_err-print_visible.ensures))
+pub returns-in_err-print_byte : goal.returns-in_err-print_byte
+returns-in_err-print_byte g c =
+    let here = IsAt-read c.args.name.now c.loop-byte.byte-index 0 c.loop-byte-test.true in
+    let exit = err_from_is_err_and c.from_residual.result c.from_residual.ensures.1 in
+    Prints-stopped visible c.args.name.now c.loop-byte.byte-index _ _ _ _ _ _ _ _ c.from_residual.result exit.0 here exit.1 c.loop-byte.invariant.passed c.in_err-print_byte.ensures
 
 pub returns : goal.returns
 returns g c =
-    let result = c.put-2.result in
-    Prints-as result _ _ _ _ _ _ _ (named c.args.before.now c.args.name.now c.args.after.now _ c.as_bytes.ensures.value)
-    (Prints-then result _ _ _ _ _ _ _ _ _ c.in_ok-put.ensures.0
-    (Prints-then result _ _ _ _ _ _ _ _ _ c.in_ok-print_visible.ensures.0
-    c.put-2.ensures))
+    (Passes-all visible c.args.name.now c.loop-byte.byte-index _ _ _ _ c.loop-byte-test.false c.loop-byte.invariant.passed, c.loop-byte.invariant.working)

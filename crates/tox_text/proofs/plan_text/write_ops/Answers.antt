@@ -2,4 +2,4 @@ use Rattle.tox_text.proofs.Writes.{Writes-flushed}
 use Rattle.tox_text.proofs.plan_text.write_ops.Goals as goal
 
 pub returns : goal.returns
-returns g c = Writes-flushed c.flush.result _ _ _ _ _ _ (rw c.requires.empty at c.in_ok-print_text.ensures.0) c.flush.ensures.writes
+returns g c = Writes-flushed c.flush.result _ _ _ _ _ _ (rw c.new-buffer.ensures at c.in_ok-print_text.ensures.0) c.flush.ensures.writes

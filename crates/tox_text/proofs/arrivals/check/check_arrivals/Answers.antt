@@ -1,6 +1,6 @@
 -- One line more.
 use Rattle.std.proofs.Common.{◌≡◌, ◌+◌, ◌≤◌, max, ◌∷◌, arith, length, option_map, sym, ◌∙◌, ap, refl, subst}
-use Rattle.tox_text.specs.arrivals.ArrivalsText.{lines_of, nothing, with_lines}
+use Rattle.tox_text.specs.arrivals.ArrivalsText.{lines_of, no_arrivals, after_lines}
 use Rattle.tox_time.specs.Steps.{◌>>=◌}
 use Rattle.tox_text.specs.arrivals.Checked.{AreShort, half_longest}
 use Rattle.tox_text.specs.arrivals.Lines.{lines_left, size_left}
@@ -10,7 +10,7 @@ use Rattle.tox_text.proofs.arrivals.check.check_arrivals.Goals as goal
 pub loop-left-init : goal.loop-left-init
 loop-left-init c = record {
   few = omega arith;
-  before = nothing;
+  before = no_arrivals;
   counts = Counts-first _ (ap (λ place. place.position) c.start-so_far.ensures) (ap (λ place. place.latest) c.start-so_far.ensures) (ap (λ place. place.ended) c.start-so_far.ensures);
   rest = refl;
   short = λ most longest short. short;
@@ -29,8 +29,8 @@ loop-left-preserved c =
       before = after.0;
       counts = after.2;
       rest =
-          sym (ap (λ left. left >>= with_lines (c.loop-left.number + 1 + 1) others) after.1)
-          ∙ ap (λ lines. with_lines (c.loop-left.number + 1) lines on.before) (sym split) ∙ on.rest;
+          sym (ap (λ left. left >>= after_lines (c.loop-left.number + 1 + 1) others) after.1)
+          ∙ ap (λ lines. after_lines (c.loop-left.number + 1) lines on.before) (sym split) ∙ on.rest;
       short = λ most longest short. on.short most (omega (arith, longest)) (subst (AreShort most) (sym split) (omega (arith, longest), short));
       longest = omega (arith, subst (λ lines. max c.loop-left.longest (half_longest lines) ≡ half_longest (lines_of c.args.text.now)) split on.longest);
     }

@@ -2,7 +2,7 @@
 use Rattle.std.proofs.Common.{◌≡◌, ◌+◌, ◌/◌, ◌<◌, ◌∷◌, ◌++◌, [], Ok, Some, length, option_map, arith, rules, sym, ◌∙◌, ap, subst}
 use Rattle.tox_time.specs.declared.streams.item.Item.TheVariants.{Closed}
 use Rattle.tox_time.specs.streams.Arrivals.{next_chunk}
-use Rattle.tox_text.specs.arrivals.ArrivalsText.{with_line, with_lines}
+use Rattle.tox_text.specs.arrivals.ArrivalsText.{after_line, after_lines}
 use Rattle.tox_text.specs.arrivals.Line.{end, event_seen, line_of}
 use Rattle.tox_text.specs.arrivals.Lines.{lines_left}
 use Rattle.tox_time.proofs.Steps.{bind_ok}
@@ -17,7 +17,7 @@ loop-left-preserved c =
     let others = lines_left (option_map (λ rest. rest.now) c.first_line.result.1) in
     let t = c.in-Some-line_of.said.instant in
     let split : lines_left (option_map (λ rest. rest.now) c.loop-left.left) ≡ line ∷ others = ap (λ left. lines_left (option_map (λ rest. rest.now) left)) c.in-Some.is ∙ c.first_line.ensures.lines in
-    let went = bind_ok (with_line on.number on.before line) (with_lines (on.number + 1) others) on.arrived (subst (λ lines. with_lines on.number lines on.before ≡ Ok on.arrived) split on.rest) in
+    let went = bind_ok (after_line on.number on.before line) (after_lines (on.number + 1) others) on.arrived (subst (λ lines. after_lines on.number lines on.before ≡ Ok on.arrived) split on.rest) in
     let some : 0 < length line = omega (arith, c.in-Some-line_of.ensures.shorter) in
     record {
       arrived = on.arrived;

@@ -1,6 +1,6 @@
 -- The lines that are left add the items that are not listed yet.
 use Rattle.std.proofs.Common.{◌≡◌, ℕ, Ok, option_map}
-use Rattle.tox_text.specs.arrivals.ArrivalsText.{Arrived, arrivals_of, with_lines}
+use Rattle.tox_text.specs.arrivals.ArrivalsText.{Arrived, arrivals_of, after_lines}
 use Rattle.tox_text.specs.arrivals.Lines.{lines_left, size_left}
 use Rattle.tox_text.proofs.arrivals.list.list_arrivals.Given as goal
 
@@ -10,7 +10,7 @@ invariant-loop-left l = record {
   spelled : arrivals_of l.text ≡ Ok arrived;
   number : ℕ;
   before : Arrived;
-  rest : with_lines number (lines_left (option_map (λ rest. rest.now) l.left)) before ≡ Ok arrived;
+  rest : after_lines number (lines_left (option_map (λ rest. rest.now) l.left)) before ≡ Ok arrived;
   items : l.arrivals ≡ before.items;
 }
 

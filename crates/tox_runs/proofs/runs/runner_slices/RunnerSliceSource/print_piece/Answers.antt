@@ -3,7 +3,7 @@ use Rattle.std.proofs.Common.{◌≡◌, ◌∷◌, rules}
 use Rattle.tox_time.specs.streams.Arrivals.{arrival_list}
 use Rattle.tox_plan.specs.RunnerView.{to_come}
 use Rattle.tox_runs.specs.runs.SecondPass.{chunk_of}
-use Rattle.tox_runs.proofs.CutLemmas.{HasTaken, IsReady-next, next_for, text_to_come-same}
+use Rattle.tox_runs.proofs.CutLemmas.{HasTaken, MayComeNext-next, next_for, text_to_come-same}
 use Rattle.tox_runs.proofs.Passing.{PassesDownTo-from}
 use Rattle.tox_runs.proofs.runs.runner_slices.RunnerSliceSource.print_piece.Goals as goal
 
@@ -22,4 +22,4 @@ returns-else-is_ok-clause-stands g c =
     λ at.
     let next = next_for c.args.self.now (chunk_of c.args.piece.now) at.later at.before in
     let taken : HasTaken c.offer.new.self (chunk_of c.args.piece.now) = search rules in
-    IsReady-next c.args.self.now c.offer.new.self (chunk_of c.args.piece.now) at.later at.before (search rules) taken
+    MayComeNext-next c.args.self.now c.offer.new.self (chunk_of c.args.piece.now) at.later at.before (search rules) taken
