@@ -8,3 +8,4 @@ pub mod Joins
 pub mod NormalForms
 pub mod Sums
 pub mod CompileTurns
+pub mod Undrawn

@@ -1,4 +1,5 @@
 pub mod Meaning
+pub mod Drawing
 pub mod Compiled
 pub mod Normal
 pub mod NormalInside

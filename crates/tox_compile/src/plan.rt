@@ -1,6 +1,8 @@
 //! Plans.
-ghost use Rattle.std.specs.Prelude.{◌≡◌, ◌<◌, Some};
-ghost use Rattle.tox_compile.specs.Meaning.{deadline_of, earlier};
+ghost use Rattle.std.specs.Prelude.{◌≡◌, ◌<◌, List, ℕ, Some, false};
+ghost use Rattle.tox_time.specs.declared.streams.item.Item.{Item as OneItem};
+ghost use Rattle.tox_compile.specs.Drawing.{op_draws, plan_draws};
+ghost use Rattle.tox_compile.specs.Meaning.{deadline_of, earlier, means};
 
 use arrayvec::ArrayVec;
 use std::marker::Model;
@@ -59,6 +61,33 @@ impl Plan {
         ensures { result ≡ deadline_of self.now.ops }
     {
         deadline_of(&self.ops)
+    }
+
+    /// Whether some operation draws words. Where none does, the plan means the same for all words.
+    pub fn draws(&self) -> bool
+        ensures value { result ≡ plan_draws self.now.ops }
+        ensures same { result ≡ false → (words other : List ℕ) (items : List OneItem)
+            → means self.now words items ≡ means self.now other items }
+    {
+        plan_draws(self.ops())
+    }
+}
+
+/// Whether some of these operations draws words.
+fn plan_draws(ops: &[Op]) -> bool
+    ensures { result ≡ plan_draws ops.now }
+{
+    ops.iter().any(op_draws)
+}
+
+/// Whether an operation draws words.
+fn op_draws(op: &Op) -> bool
+    ensures { result ≡ op_draws op.now }
+{
+    match op {
+        Op::Delay { jitter, .. } => *jitter > 0,
+        Op::Slicing { variation, .. } => *variation > 0,
+        _ => false,
     }
 }
 

@@ -1,7 +1,8 @@
 //! What a direction holds between two events.
-ghost use Rattle.std.specs.Prelude.{◌≡◌, List, IfOk};
+ghost use Rattle.std.specs.Prelude.{◌≡◌, ℕ, List, IfOk, false};
 ghost use Rattle.tox_time.specs.declared.streams.item.Item.{Item as OneItem};
 ghost use Rattle.tox_time.specs.streams.Stream.{IsStream};
+ghost use Rattle.tox_compile.specs.Drawing.{plan_draws};
 ghost use Rattle.tox_compile.specs.Meaning.{means};
 ghost use Rattle.tox_link.specs.link_core.Core.{remaining_output};
 ghost use Rattle.tox_link.specs.direction.Follows.{IsHeld, IsNew};
@@ -47,5 +48,21 @@ impl PolledLink {
             ended: false,
             written: 0,
         })
+    }
+
+    /// A direction under a plan that draws no words, at which nothing has arrived. It keeps none but a table of one word.
+    pub fn without_words(alloc: Global, plan: Plan) -> Result<PolledLink, AllocError>
+        requires { plan_draws plan.ops ≡ false }
+        ensures meaning { IfOk result (λ link. (words : List ℕ) (items : List OneItem) → IsStream items
+            → remaining_output link.core items ≡ means plan words items) }
+        ensures fresh { IfOk result IsNew }
+        ensures held { IfOk result IsHeld }
+    {
+        let draws = plan.draws();
+        prove!(!draws);
+        let Ok(words) = Words::from_list(alloc, &[0]) else {
+            return Err(AllocError);
+        };
+        PolledLink::new(alloc, plan, words)
     }
 }
