@@ -34,8 +34,8 @@ impl Rule {
         table: &Value,
         number: usize,
     ) -> Result<Rule, ScriptFault>
-        ensures ok { IfOk result
-            (λ rule. rule_of settings number (view table.now) ≡ Ok (rule_view settings.lanes rule)) }
+        ensures ok { IfOk result (λ rule. rule_of settings number (view table.now)
+            ≡ Ok (rule_view settings.lanes rule)) }
         ensures err { IfErr result (IsScriptFault (rule_of settings number (view table.now))) }
     {
         let at = Location {

@@ -142,7 +142,8 @@ fn print_toxics<W: Sink>(
     requires working { W.failed writer.old ≡ false }
     requires one_each { length names.now ≡ length entries.now }
     ensures { Prints result (W.written writer.old) buffer.old (W.written writer.new) buffer.new
-        (W.failed writer.new) (toxics_text (draws_of drawing.now) entries.now (map string_bytes names.now)) }
+        (W.failed writer.new)
+        (toxics_text (draws_of drawing.now) entries.now (map string_bytes names.now)) }
 {
     for (place, entry) in entries.iter().enumerate() {
         print_toxic(buffer, writer, drawing, place, entry, &names[place])?;

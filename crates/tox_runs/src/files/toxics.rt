@@ -18,7 +18,8 @@ pub enum ToxicsFault {
 
 /// The chain of so many lanes with the toxics that short forms name, in order; or the first fault, from the left.
 pub fn read_chain(lanes: Lanes, texts: &[&str]) -> Result<Chain, ToxicsFault>
-    ensures ok { IfOk result (λ chain. chain_of lanes (map (λ text. text.now) texts.now) ≡ Ok chain) }
+    ensures ok { IfOk result
+        (λ chain. chain_of lanes (map (λ text. text.now) texts.now) ≡ Ok chain) }
     ensures fault { IfErr result (λ e. chain_of lanes (map (λ text. text.now) texts.now) ≡ Err e) }
 {
     let mut chain = Chain::with_lanes(lanes);

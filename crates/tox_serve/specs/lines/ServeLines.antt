@@ -1,7 +1,10 @@
 -- The lines that serving prints.
-use Rattle.std.specs.Prelude.{ℕ, List, ◌++◌, Option, Some, None, codes, decimal}
+use Rattle.std.specs.Prelude.{ℕ, List, ◌++◌, length, Option, Some, None, codes, decimal}
 use Rattle.tox_time.specs.declared.streams.ending.Ending.{Ending}
 use Rattle.tox_time.specs.declared.streams.ending.Ending.TheVariants.{StillOpen, Closed, Reset}
+use Rattle.tox_time.specs.declared.streams.stream.Stream.TheVariants.{Upstream, Downstream}
+use Rattle.tox_book.specs.declared.sides.Link.{Link}
+use Rattle.tox_book.specs.Links.{total_of}
 use Rattle.tox_text.specs.Names.{visible_name}
 use Rattle.tox_serve.specs.declared.link.end.SideEnd.{SideEnd}
 use Rattle.tox_serve.specs.declared.link.end.LinkEnd.{LinkEnd}
@@ -26,7 +29,7 @@ abbrev pub link_line : List ℕ → LinkEnd → List ℕ
 link_line name end =
     codes "link " ++ visible_name name ++ codes " " ++ decimal end.number ++ codes " up " ++ side_text end.upstream ++ codes " down " ++ side_text end.downstream ++ codes "\n"
 
--- the proxy of this name ended: its links, and their bytes on both streams
-abbrev pub total_line : List ℕ → ℕ → ℕ → ℕ → List ℕ
-total_line name links upstream downstream =
-    codes "total " ++ visible_name name ++ codes " " ++ decimal links ++ codes " up " ++ decimal upstream ++ codes " down " ++ decimal downstream ++ codes "\n"
+-- the proxy of this name ended: how many links it had, and their bytes on both streams
+abbrev pub total_line : List ℕ → List Link → List ℕ
+total_line name links =
+    codes "total " ++ visible_name name ++ codes " " ++ decimal (length links) ++ codes " up " ++ decimal (total_of Upstream links) ++ codes " down " ++ decimal (total_of Downstream links) ++ codes "\n"

@@ -1,7 +1,5 @@
 //! The lines that serving prints.
-ghost use Rattle.std.specs.Prelude.{◌≡◌, length, IfSome};
-ghost use Rattle.tox_time.specs.declared.streams.stream.Stream.TheVariants.{Upstream, Downstream};
-ghost use Rattle.tox_book.specs.Links.{total_of};
+ghost use Rattle.std.specs.Prelude.{◌≡◌, IfSome};
 ghost use Rattle.tox_serve.specs.lines.ServeLines.{end_word, link_line, listening_line, total_line};
 
 use crate::lines::LineText;
@@ -60,8 +58,7 @@ fn end_word(ending: &Option<Ending>) -> &'static str
 /// The line of a proxy's totals: how many links its book has, and their bytes on both streams. None if it is too long, which
 /// none is.
 pub(crate) fn total_text(name: &str, book: &Book) -> Option<LineText>
-    ensures { IfSome result (λ line. line.bytes.items
-        ≡ total_line name.now (length book.now) (total_of Upstream book.now) (total_of Downstream book.now)) }
+    ensures { IfSome result (λ line. line.bytes.items ≡ total_line name.now book.now) }
 {
     let upstream = book.total(Stream::Upstream);
     let downstream = book.total(Stream::Downstream);
