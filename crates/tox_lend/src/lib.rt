@@ -3,8 +3,10 @@
 
 mod lent;
 mod piece;
+mod ring;
 mod window;
 
 pub use lent::Lent;
 pub use piece::Piece;
+pub use ring::take_front;
 pub use window::Window;

@@ -5,6 +5,7 @@ ghost use Rattle.tox_lend.specs.Run.{stop_of};
 ghost use Rattle.tox_lend.specs.Window.{JoinUpTo, has_position};
 
 use crate::piece::Piece;
+use crate::ring::take_front;
 use std::alloc::{AllocError, Global};
 use std::collections::VecDeque;
 use std::marker::Model;
@@ -84,7 +85,7 @@ impl Window {
             if !piece.ends_by(position) {
                 return;
             }
-            self.held.pop_front();
+            take_front(&mut self.held);
         }
     }
 

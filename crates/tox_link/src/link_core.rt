@@ -21,6 +21,7 @@ use std::alloc::{AllocError, Global};
 use std::collections::VecDeque;
 use std::marker::Model;
 use tox_compile::Plan;
+use tox_lend::take_front;
 use tox_plan::Runner;
 use tox_time::{ArrivalFault, Ending, Micros, Slice, StreamPosition};
 use tox_words::Words;
@@ -256,7 +257,7 @@ impl<'w> LinkCore<'w> {
         ensures none { result ≡ false → (self.new ≡ self.old) × (self.old.waiting ≡ []) }
         ensures drained { self.new.found ≡ None → IsDrained self.new }
     {
-        let Some(piece) = self.waiting.pop_front() else {
+        let Some(piece) = take_front(&mut self.waiting) else {
             return false;
         };
         let Ok(()) = self.runner.offer(piece.len, piece.instant) else {

@@ -13,19 +13,19 @@ refused c = sym c.in_default-offer.ensures.answer
 pub invariant_of-self-in_default-offer : goal.invariant_of-self-in_default-offer
 invariant_of-self-in_default-offer c =
     rw c.in_default-offer.ensures.err (record {
-      core = IsCore-after_refusal (core_view c.self.inside) c.in-Some.piece c.pop_front.new.self.items c.in_default-offer.field-0 c.self.invariant.core c.in-Some.ensures.items (refused c);
-      room = omega (arith, c.self.invariant.room, c.pop_front.ensures.capacity);
+      core = IsCore-after_refusal (core_view c.self.inside) c.in-Some.piece c.take_front.new.ring.items c.in_default-offer.field-0 c.self.invariant.core c.in-Some.ensures.items (refused c);
+      room = omega (arith, c.self.invariant.room, c.take_front.ensures.capacity);
       deadline = c.self.invariant.deadline;
     })
 
 pub returns-in_default-offer-clause-looked : goal.returns-in_default-offer-clause-looked
 returns-in_default-offer-clause-looked c =
     rw c.in_default-offer.ensures.err
-    (subst (λ old. Looked old (after_refusal (core_view c.self.inside) c.in-Some.piece c.pop_front.new.self.items c.in_default-offer.field-0)) c.self.view_is
-    (looked-refusal (core_view c.self.inside) c.in-Some.piece c.pop_front.new.self.items c.in_default-offer.field-0 c.self.invariant.core c.in-Some.ensures.items (refused c)))
+    (subst (λ old. Looked old (after_refusal (core_view c.self.inside) c.in-Some.piece c.take_front.new.ring.items c.in_default-offer.field-0)) c.self.view_is
+    (looked-refusal (core_view c.self.inside) c.in-Some.piece c.take_front.new.ring.items c.in_default-offer.field-0 c.self.invariant.core c.in-Some.ensures.items (refused c)))
 
 -- the runner took the piece
-offers : (c : goal.After-self-1) → Offers (core_view c.self.inside) c.offer.new.self c.in-Some.piece c.pop_front.new.self.items
+offers : (c : goal.After-self-1) → Offers (core_view c.self.inside) c.offer.new.self c.in-Some.piece c.take_front.new.ring.items
 offers c = record {
   waiting = c.in-Some.ensures.items;
   unfound = ap (λ core. core.found) c.self.view_is ∙ c.requires.found;
@@ -49,8 +49,8 @@ cuts c =
 pub returns-clause-looked : goal.returns-clause-looked
 returns-clause-looked c =
     let old : CoreView = core_view c.self.inside in
-    let middle : CoreView = after_offer old c.offer.new.self c.in-Some.piece c.pop_front.new.self.items in
+    let middle : CoreView = after_offer old c.offer.new.self c.in-Some.piece c.take_front.new.ring.items in
     let new : CoreView = after_cut middle c.next_cut-self-inside.new.self c.next_cut-self-inside.result in
     subst (λ old. Looked old new) c.self.view_is
-    (looked-both old middle new (looked-offer old c.offer.new.self c.in-Some.piece c.pop_front.new.self.items (offers c))
+    (looked-both old middle new (looked-offer old c.offer.new.self c.in-Some.piece c.take_front.new.ring.items (offers c))
     (looked-cut middle c.next_cut-self-inside.new.self c.next_cut-self-inside.result (cuts c) (offers c).unfound (offers c).busy))
