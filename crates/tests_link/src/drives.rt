@@ -1,7 +1,7 @@
 //! Driven directions beside `deliver`, under schedules drawn at random.
 ghost use Rattle.std.specs.Prelude.{◌≡◌, ◌<◌, false, Some, IfOk, MatchResult};
 ghost use Rattle.tox_link.specs.direction.Driven.{IsAtEnd, IsReady};
-ghost use Rattle.tox_link.specs.direction.Follows.{IsHeld};
+ghost use Rattle.tox_link.specs.direction.Follows.{IsHeld, IsNew};
 ghost use Rattle.tox_link.specs.Reports.{written_before};
 
 use crate::link_ends::{Noted, RestingClock};
@@ -15,6 +15,7 @@ use std::sync::atomic::{AtomicU64, Ordering};
 use std::test::Fail;
 use tests_support::{below, drawn_words, table_of};
 use tox_compile::compile;
+use tox_defs::Chain;
 use tox_link::{LinkEvent, LinkFault, PolledLink, Progress, drive, finish};
 use tox_plan::deliver;
 use tox_time::{Arrivals, Ending, MemorySink, MemorySource, Micros, SliceList};
@@ -68,6 +69,19 @@ fn words_of(alloc: Global, seed: u64) -> Result<Words, WordsFault> {
     drawn_words(alloc, &mut Lcg64Xsh32::new(seed, 4))
 }
 
+/// A direction under the chain and the words of a seed. It keeps the words only if it draws any.
+fn link_of(alloc: Global, chain: &Chain, seed: u64) -> Result<PolledLink, Fail>
+    ensures fresh { IfOk result IsNew }
+    ensures held { IfOk result IsHeld }
+{
+    let words = words_of(alloc, seed)?;
+    let plan = compile(chain, &words);
+    if plan.draws() {
+        return Ok(PolledLink::new(alloc, plan, words)?);
+    }
+    Ok(PolledLink::without_words(alloc, plan)?)
+}
+
 /// Bytes that tell their position, up to 600 of them.
 fn drawn_bytes(alloc: Global, generator: &mut Lcg64Xsh32) -> Result<Vec<u8>, AllocError> {
     let mut bytes = Vec::new(alloc);
@@ -107,7 +121,7 @@ fn compare(rt: &(impl Abort + AllocGlobal), seed: u64) -> Result<bool, Fail> {
     let chain = drawn_chain(rt, generator);
     let words = words_of(alloc, seed)?;
     let bytes = drawn_bytes(alloc, generator)?;
-    let mut link = PolledLink::new(alloc, compile(&chain, &words), words_of(alloc, seed)?)?;
+    let mut link = link_of(alloc, &chain, seed)?;
     let clock = RestingClock {
         micros: Arc::new(alloc, AtomicU64::new(0))?,
     };

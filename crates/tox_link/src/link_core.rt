@@ -3,7 +3,6 @@ ghost use Rattle.std.specs.Prelude.{◌≡◌, ℕ, ◌+◌, ◌<◌, ◌≤◌,
 ghost use Rattle.tox_time.specs.declared.streams.item.Item.{Item as OneItem};
 ghost use Rattle.tox_time.specs.declared.streams.item.Item.TheVariants.{Chunk, Closed, Quiet};
 ghost use Rattle.tox_time.specs.streams.Arrivals.{piece_fault};
-ghost use Rattle.tox_time.specs.streams.Stream.{IsStream};
 ghost use Rattle.tox_time.specs.streams.Table.{final_of};
 ghost use Rattle.tox_compile.specs.Meaning.{deadline_of};
 ghost use Rattle.tox_plan.specs.OpCursors.{ops_of};

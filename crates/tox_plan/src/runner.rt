@@ -6,9 +6,9 @@ ghost use Rattle.tox_time.specs.declared.streams.slice.Slice.{Slice as OneSlice}
 ghost use Rattle.tox_time.specs.streams.Stream.{IsStream, IsStreamFrom};
 ghost use Rattle.tox_time.specs.streams.Table.{final_of, table};
 ghost use Rattle.tox_defs.specs.operations.Look.{as_chunk};
-ghost use Rattle.tox_compile.specs.Meaning.{Ops, IsPlan, means, deadline_of};
+ghost use Rattle.tox_compile.specs.Meaning.{Ops, IsPlan, deadline_of};
 ghost use Rattle.tox_plan.specs.OpCursors.{ops_of};
-ghost use Rattle.tox_plan.specs.RunnerView.{to_come, HasNoChunk, known_ending, next_piece, no_piece, offer_answer};
+ghost use Rattle.tox_plan.specs.RunnerView.{to_come, HasNoChunk, known_ending, next_piece, offer_answer};
 ghost use Rattle.tox_plan.specs.Cuts.{IsCut, IsOneCut, KeepsOffers, BeginsApart, EndsHere};
 ghost use Rattle.tox_plan.specs.Given.{HasGiven, GoesOn, IsLasting, IsWhole, AreAfter};
 ghost use Rattle.tox_plan.specs.NewRunner.{IsNewRunner};
