@@ -1,3 +1,4 @@
+pub mod Phase
 pub mod OpCursors
 pub mod RunnerView
 pub mod RunnerInside

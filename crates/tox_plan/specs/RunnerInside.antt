@@ -1,5 +1,6 @@
 -- What a contract sees of a `Runner`, and what its fields keep.
 use Rattle.tox_plan.specs.declared.runner.Runner.TheInside.{Inside}
+use Rattle.tox_plan.specs.Phase.{phase_view}
 use Rattle.tox_plan.specs.RunnerView.{RunnerView, IsRunning}
 
 abbrev pub runner_view : Inside → RunnerView
@@ -10,10 +11,10 @@ runner_view runner = record {
   piece = runner.piece;
   latest = runner.latest;
   lookahead = runner.lookahead;
-  drained = runner.drained;
-  ending = runner.ending;
-  finished = runner.finished;
-  idle = runner.idle;
+  drained = (phase_view runner.phase).drained;
+  ending = (phase_view runner.phase).ending;
+  finished = (phase_view runner.phase).finished;
+  idle = (phase_view runner.phase).idle;
   turns = runner.looks.turns;
   ended = runner.looks.ended;
   cuts = runner.cuts;

@@ -4,6 +4,7 @@
 
 mod cursor_endings;
 mod delivery;
+mod phase;
 mod pulling;
 mod runner;
 mod slices;

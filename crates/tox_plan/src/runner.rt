@@ -14,6 +14,7 @@ ghost use Rattle.tox_plan.specs.Given.{HasGiven, GoesOn, IsLasting, IsWhole, Are
 ghost use Rattle.tox_plan.specs.NewRunner.{IsNewRunner};
 
 use crate::cursor_endings::{ending_of_read, last_of};
+use crate::phase::Phase;
 use crate::pulling::{PullStats, pull};
 use crate::starting::push_cursors;
 use arrayvec::ArrayVec;
@@ -34,10 +35,7 @@ pub struct Runner<'w> {
     piece: Slice,
     latest: Micros,
     lookahead: Option<Slice>,
-    drained: bool,
-    ending: Option<Ending>,
-    finished: bool,
-    idle: bool,
+    phase: Phase,
     looks: PullStats,
     cuts: u64,
     pieces: u64,
@@ -90,10 +88,7 @@ impl<'w> Runner<'w> {
             },
             latest: Micros::ZERO,
             lookahead: None,
-            drained: true,
-            ending,
-            finished: false,
-            idle: true,
+            phase: Phase::first(&ending),
             looks: PullStats {
                 turns: 0,
                 ended: ending.is_some(),
@@ -108,7 +103,7 @@ impl<'w> Runner<'w> {
         ensures value { result ≡ self.now.idle }
         ensures drained { self.now.idle ≡ true → HasNoChunk (to_come self.now (Quiet ∷ [])) }
     {
-        self.idle
+        self.phase.is_idle()
     }
 
     /// Offers the next piece of `len` bytes, which arrives at `instant`.
@@ -140,7 +135,7 @@ impl<'w> Runner<'w> {
         let offered = StreamPosition {
             position: start,
             latest: self.latest,
-            ended: self.ending.is_some(),
+            ended: self.phase.ending().is_some(),
         };
         offered.with_piece(len, instant)?;
         self.piece = Slice {
@@ -152,8 +147,7 @@ impl<'w> Runner<'w> {
         };
         self.latest = instant;
         self.pieces += 1;
-        self.drained = false;
-        self.idle = false;
+        self.phase = self.phase.after_offer();
         Ok(())
     }
 
@@ -212,7 +206,7 @@ impl<'w> Runner<'w> {
     {
         self.look();
         let Some(cut) = self.lookahead else {
-            self.idle = true;
+            self.phase = self.phase.after_all();
             return None;
         };
         self.give(&cut);
@@ -263,7 +257,7 @@ impl<'w> Runner<'w> {
         ensures turns { self.new.turns ≤ self.old.turns + length self.old.cursors }
         ensures kept { KeepsOffers self.old self.new }
     {
-        if self.drained || self.lookahead.is_some() {
+        if self.phase.is_drained() || self.lookahead.is_some() {
             return;
         }
         match pull(
@@ -274,14 +268,14 @@ impl<'w> Runner<'w> {
             &mut self.looks,
         ) {
             Some(Emission::Piece(cut)) => {
-                self.drained = cut.span.stop == self.piece.span.stop && !self.looks.ended;
+                let last = cut.span.stop == self.piece.span.stop && !self.looks.ended;
+                self.phase = self.phase.after_cut(last);
                 self.lookahead = Some(cut);
             }
             Some(Emission::End(ending)) => {
-                self.ending = Some(ending);
-                self.drained = true;
+                self.phase = self.phase.after_end(&ending);
             }
-            None => self.drained = true,
+            None => self.phase = self.phase.after_cut(true),
         }
     }
 
@@ -321,12 +315,11 @@ impl<'w> Runner<'w> {
             → IsStreamFrom position since items
             → to_come self.old items ≡ to_come self.old (Quiet ∷ []) }
     {
-        self.finished = true;
-        if let Some(known) = self.ending {
-            return known;
-        }
-        let last = &last_of(&self.cursors, ending);
-        self.ending = Some(*last);
+        let last = &match self.phase.ending() {
+            Some(known) => known,
+            None => last_of(&self.cursors, ending),
+        };
+        self.phase = self.phase.after_finish(last);
         *last
     }
 
@@ -339,7 +332,11 @@ impl<'w> Runner<'w> {
         ensures only { IfSome result
             (λ ending. (items : List OneItem) → to_come self.now items ≡ final_of ending ∷ []) }
     {
-        if self.idle { self.ending } else { None }
+        if self.phase.is_idle() {
+            self.phase.ending()
+        } else {
+            None
+        }
     }
 
     /// How often `next_cut` looked at an operation: at most once for each operation, for each cut and each piece.

@@ -24,10 +24,10 @@ knows c =
 
 pub invariant_of-result-3 : goal.invariant_of-result-3
 invariant_of-result-3 c =
-    rw (c.is_some.ensures, cursors_are c)
+    rw (c.is_some.ensures, c.first.ensures, cursors_are c)
     (IsRunning-first c.args.plan.ops c.args.drawing c.ending_of_read-ending.result c.ops.ensures.plan.operations c.ops.ensures.plan.most (knows c) (λ some. subst HaveEnded (asked c) (c.ending_of_read-ending.ensures.kept some)))
 
 pub returns : goal.returns
 returns c =
-    rw (c.is_some.ensures, cursors_are c)
+    rw (c.is_some.ensures, c.first.ensures, cursors_are c)
     (IsNewRunner-first c.args.plan c.args.drawing c.ending_of_read-ending.result c.requires c.ops.ensures.plan.operations (knows c))

@@ -11,15 +11,16 @@ use Rattle.tox_plan.proofs.runner.Runner.offer.Goals as goal
 
 pub invariant_of-self : goal.invariant_of-self
 invariant_of-self c =
-    IsRunning-after_offer (runner_view c.self.inside) c.args.len c.args.instant c.self.invariant
-    (ap (λ runner. runner.idle) c.self.view_is ∙ c.requires) (none_of c.self.inside.ending (sym c.is_some.ensures ∙ c.in_ok-with_piece.ensures.bounds.3))
-    c.in_ok-with_piece.ensures.bounds.1 (omega (arith, c.self.invariant.few, c.in_ok-with_piece.ensures.bounds.2))
+    rw c.after_offer-self-inside.ensures
+    (IsRunning-after_offer (runner_view c.self.inside) c.args.len c.args.instant c.self.invariant
+    (ap (λ runner. runner.idle) c.self.view_is ∙ c.requires) (sym c.ending.ensures ∙ none_of c.ending.result (sym c.is_some.ensures ∙ c.in_ok-with_piece.ensures.bounds.3))
+    c.in_ok-with_piece.ensures.bounds.1 (omega (arith, c.self.invariant.few, c.in_ok-with_piece.ensures.bounds.2)))
 
 pub returns-clause-to_come : goal.returns-clause-to_come
 returns-clause-to_come c =
-    rw (← c.self.view_is)
+    rw (c.after_offer-self-inside.ensures, ← c.self.view_is)
     (to_come-after_offer (runner_view c.self.inside) c.args.len c.args.instant c.self.invariant
-    (ap (λ runner. runner.idle) c.self.view_is ∙ c.requires) (none_of c.self.inside.ending (sym c.is_some.ensures ∙ c.in_ok-with_piece.ensures.bounds.3))
+    (ap (λ runner. runner.idle) c.self.view_is ∙ c.requires) (sym c.ending.ensures ∙ none_of c.ending.result (sym c.is_some.ensures ∙ c.in_ok-with_piece.ensures.bounds.3))
     c.in_ok-with_piece.ensures.bounds.1)
 
 pub returns-clause-given : goal.returns-clause-given
@@ -28,4 +29,4 @@ returns-clause-given c = given-offer c.args.self.now _ (as_chunk (next_piece c.a
 pub returns-clause-unread : goal.returns-clause-unread
 returns-clause-unread c =
     sym (drained-at _ c.self.inside.cursors.items c.self.inside.piece
-    (idle-drained (runner_view c.self.inside) c.self.invariant (ap (λ runner. runner.idle) c.self.view_is ∙ c.requires) (none_of c.self.inside.ending (sym c.is_some.ensures ∙ c.in_ok-with_piece.ensures.bounds.3))))
+    (idle-drained (runner_view c.self.inside) c.self.invariant (ap (λ runner. runner.idle) c.self.view_is ∙ c.requires) (sym c.ending.ensures ∙ none_of c.ending.result (sym c.is_some.ensures ∙ c.in_ok-with_piece.ensures.bounds.3))))
