@@ -70,7 +70,7 @@ fn words_of(alloc: Global, seed: u64) -> Result<Words, WordsFault> {
 }
 
 /// A direction under the chain and the words of a seed. It keeps the words only if it draws any.
-fn link_of(alloc: Global, chain: &Chain, seed: u64) -> Result<PolledLink, Fail>
+pub fn link_of(alloc: Global, chain: &Chain, seed: u64) -> Result<PolledLink, Fail>
     ensures fresh { IfOk result IsNew }
     ensures held { IfOk result IsHeld }
 {
@@ -83,7 +83,7 @@ fn link_of(alloc: Global, chain: &Chain, seed: u64) -> Result<PolledLink, Fail>
 }
 
 /// Bytes that tell their position, up to 600 of them.
-fn drawn_bytes(alloc: Global, generator: &mut Lcg64Xsh32) -> Result<Vec<u8>, AllocError> {
+pub fn drawn_bytes(alloc: Global, generator: &mut Lcg64Xsh32) -> Result<Vec<u8>, AllocError> {
     let mut bytes = Vec::new(alloc);
     for nth in 0..below(generator, 600) {
         bytes.push((nth % 251) as u8)?;
@@ -92,7 +92,7 @@ fn drawn_bytes(alloc: Global, generator: &mut Lcg64Xsh32) -> Result<Vec<u8>, All
 }
 
 /// At one call in eight of those that fail, which one.
-fn drawn_fault(generator: &mut Lcg64Xsh32) -> Option<u64> {
+pub fn drawn_fault(generator: &mut Lcg64Xsh32) -> Option<u64> {
     if below(generator, 8) == 0 {
         Some(u64::from(1 + below(generator, 20)))
     } else {

@@ -14,10 +14,10 @@ use tox_words::Words;
 
 /// A source that gives one byte a call, so often, and then would wait. The clock moves on by 10 at each call.
 #[derive(Drop)]
-struct TickingSource {
-    micros: Arc<AtomicU64>,
-    left: u64,
-    waits: bool,
+pub struct TickingSource {
+    pub micros: Arc<AtomicU64>,
+    pub left: u64,
+    pub waits: bool,
 }
 
 impl PollSource for TickingSource {
@@ -40,10 +40,10 @@ impl PollSource for TickingSource {
 
 /// A sink that would wait until it is due, and then fails.
 #[derive(Drop)]
-struct StuckSink {
-    micros: Arc<AtomicU64>,
-    due: Micros,
-    failed: bool,
+pub struct StuckSink {
+    pub micros: Arc<AtomicU64>,
+    pub due: Micros,
+    pub failed: bool,
 }
 
 impl PollSink for StuckSink {

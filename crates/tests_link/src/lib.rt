@@ -14,6 +14,8 @@ mod drives_one_by_one;
 #[cfg(test)]
 mod link_ends;
 #[cfg(test)]
+mod plain_drives;
+#[cfg(test)]
 mod polled_ends;
 #[cfg(test)]
 mod scarce_links;

@@ -11,3 +11,4 @@ pub mod LoggedLemmas
 pub mod CarryLemmas
 pub mod FollowLemmas
 pub mod DriveLemmas
+pub mod PlainLemmas

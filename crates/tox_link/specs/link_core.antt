@@ -4,3 +4,6 @@ pub mod Core
 pub mod NewCore
 pub mod CoreKept
 pub mod CoreInside
+pub mod Plain
+pub mod PlainInside
+pub mod DirectionInside

@@ -9,9 +9,11 @@ ghost use Rattle.tox_plan.specs.OpCursors.{ops_of};
 ghost use Rattle.tox_plan.specs.RunnerView.{answer_of, no_piece};
 ghost use Rattle.tox_link.specs.link_core.Core.{remaining_output, core_ending, core_position, core_deadline, kept_count, next_instant, KeepsCore, Looked, IsDrained, IsEmptied, Settled, HandsOnEnd};
 ghost use Rattle.tox_link.specs.link_core.NewCore.{core_of, IsNewCore};
-ghost use Rattle.tox_link.specs.link_core.Acts.{idle_act, IsSliceAct, After, Answered};
+ghost use Rattle.tox_link.specs.link_core.Acts.{idle_act, Answered, HearsEnd, HearsPiece};
 
 pub(crate) mod act;
+pub(crate) mod direction_core;
+pub(crate) mod plain_core;
 pub(crate) mod waiting;
 
 use crate::link_core::act::Act;
@@ -26,7 +28,7 @@ use tox_time::{ArrivalFault, Ending, Micros, Slice, StreamPosition};
 use tox_words::Words;
 
 /// The most pieces that a core keeps.
-const MAX_PIECES: usize = 1024;
+pub(crate) const MAX_PIECES: usize = 1024;
 
 /// One direction of one live link, without clock, socket or thread.
 ///
@@ -134,14 +136,7 @@ impl<'w> LinkCore<'w> {
     pub fn on_piece(&mut self, len: u64, instant: Micros) -> Result<(), ArrivalFault>
         requires room { kept_count self.old < 1024 }
         requires later { self.old.latest ≤ instant }
-        ensures answer { result
-            ≡ answer_of (piece_fault self.old.bytes self.old.latest (self.old.ended || is_some (core_ending self.old)) len instant) }
-        ensures taken { OnOk result (self.new
-            ≡ record self.old { waiting = self.old.waiting ++ record { len = len; instant = instant } ∷ []; bytes = self.old.bytes + len; latest = instant }) }
-        ensures output { OnOk result ((items : List OneItem)
-            → remaining_output self.new items
-            ≡ remaining_output self.old (Chunk (record { start = self.old.bytes; stop = self.old.bytes + len }) instant ∷ items)) }
-        ensures err { OnErr result (self.new ≡ self.old) }
+        ensures { HearsPiece self.old self.new len instant result }
     {
         let so_far = StreamPosition {
             ended: self.is_over(),
@@ -159,13 +154,7 @@ impl<'w> LinkCore<'w> {
     pub fn on_end(&mut self, end: Micros)
         requires first { self.old.ended ≡ false }
         requires later { self.old.latest ≤ end }
-        ensures output { (items : List OneItem)
-            → remaining_output self.new items ≡ remaining_output self.old (Closed end ∷ []) }
-        ensures ended { (self.new.ended ≡ true) × (self.new.latest ≡ end) }
-        ensures kept { (KeepsCore (record self.old { ended = true }) self.new)
-            × (self.new.waiting ≡ self.old.waiting)
-            × (core_position self.new ≡ core_position self.old) }
-        ensures at_once { kept_count self.old ≡ 0 → IsSome (core_ending self.new) }
+        ensures { HearsEnd self.old self.new end }
     {
         self.so_far.ended = true;
         self.so_far.latest = end;
@@ -179,20 +168,7 @@ impl<'w> LinkCore<'w> {
     /// What to do at `now`. Drops the pieces that bring no further slice.
     pub fn on_clock(&mut self, now: Micros) -> Act
         requires { self.old.latest ≤ now }
-        ensures slice { (t : ℕ) → next_instant (remaining_output self.old (Quiet ∷ [])) ≡ Some t
-            → IsSliceAct t now result }
-        ensures idle { next_instant (remaining_output self.old (Quiet ∷ [])) ≡ None
-            → result ≡ idle_act self.old.ended now (core_deadline self.old) (core_ending self.new) }
-        ensures ended { next_instant (remaining_output self.old (Quiet ∷ [])) ≡ None
-            → self.old.ended ≡ true → IsSome (core_ending self.new) }
-        ensures dropped { next_instant (remaining_output self.old (Quiet ∷ [])) ≡ None
-            → kept_count self.new ≡ 0 }
-        ensures deadline { (d : ℕ) → next_instant (remaining_output self.old (Quiet ∷ [])) ≡ None
-            → core_deadline self.old ≡ Some d → d ≤ now
-            → IsSome (core_ending self.new) }
-        ensures output { After self.old now result self.new }
-        ensures kept { KeepsCore self.old self.new }
-        ensures latest { self.new.latest ≡ now }
+        ensures { Answered self.old self.new now result }
     {
         self.so_far.latest = now;
         self.look();

@@ -1,7 +1,7 @@
 -- A window that holds pieces of the heard bytes.
-use Rattle.std.specs.Prelude.{◌≡◌, ℕ, ◌<◌, ◌≤◌, Bool, false, None, List, [], ◌∷◌, length, take, drop}
+use Rattle.std.specs.Prelude.{◌≡◌, ℕ, ◌<◌, ◌≤◌, Bool, false, None, List, [], ◌∷◌, ◌++◌, length, take, drop}
 use Rattle.tox_time.specs.declared.streams.span.Span.{Span}
-use Rattle.tox_lend.specs.Run.{Run}
+use Rattle.tox_lend.specs.Run.{Run, stop_of}
 use Rattle.tox_lend.specs.Window.{Pieces, JoinUpTo, start_of}
 use Rattle.tox_link.specs.link_core.Core.{CoreView, core_ending, kept_count}
 
@@ -9,6 +9,10 @@ use Rattle.tox_link.specs.link_core.Core.{CoreView, core_ending, kept_count}
 abbrev pub AreOf : List ℕ → List Run → Type 0
 AreOf heard [] = Unit {0}
 AreOf heard (piece ∷ pieces) = (piece.bytes ≡ take (length piece.bytes) (drop piece.start heard)) × AreOf heard pieces
+
+-- the window with one more piece
+abbrev pub with_piece : Pieces → Run → Pieces
+with_piece window piece = record window { held = window.held ++ piece ∷ []; stop = stop_of piece }
 
 -- the window holds each position of the span
 pub record HoldsSpan (window : Pieces) (span : Span) : Type 0 where
@@ -20,4 +24,4 @@ pub record HoldsSpan (window : Pieces) (span : Span) : Type 0 where
 -- input may be taken: the source has not ended, and there is room, or what comes is dropped as the ending is known
 abbrev pub MayTake : CoreView → Pieces → Bool → Type 0
 MayTake core window ended =
-    (ended ≡ false) × (kept_count core < 1024) × (core_ending core ≡ None → length window.held < window.room)
+    (ended ≡ false) × (kept_count core < core.room) × (core_ending core ≡ None → length window.held < window.room)

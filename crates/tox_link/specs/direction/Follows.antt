@@ -2,6 +2,7 @@
 use Rattle.std.specs.Prelude.{◌≡◌, ℕ, ◌≤◌, ◌^◌, false, List, [], ◌∷◌, ◌++◌, length, take, drop, Option, Some, None, IfSome, is_some}
 use Rattle.std.specs.Io.KnownBytes.{append_known}
 use Rattle.tox_time.specs.declared.streams.item.Item.{Item}
+use Rattle.tox_defs.specs.declared.operations.op.Op.{Op}
 use Rattle.tox_lend.specs.Window.{JoinUpTo, start_of}
 use Rattle.tox_link.specs.declared.direction.polled_link.PolledLink.{PolledLink}
 use Rattle.tox_link.specs.declared.direction.unwritten.Unwritten.{Unwritten}
@@ -11,6 +12,7 @@ use Rattle.tox_link.specs.declared.source_ending.SourceEnding.{SourceEnding}
 use Rattle.tox_link.specs.declared.source_ending.SourceEnding.TheVariants.{NotReached}
 use Rattle.tox_link.specs.log.Carried.{Carried}
 use Rattle.tox_link.specs.link_core.Core.{core_ending, core_position}
+use Rattle.tox_link.specs.link_core.NewCore.{room_of}
 use Rattle.tox_link.specs.carrying.Held.{AreOf}
 use Rattle.tox_link.specs.log.Log.{has_source_end, IsFaithful}
 use Rattle.tox_link.specs.ring.Messages.{IsUnsent}
@@ -50,6 +52,11 @@ pub record IsNew (link : PolledLink) : Type 0 where
   pub source : link.source ≡ NotReached
   pub ended : link.ended ≡ false
   pub written : link.written ≡ 0
+
+-- core and window have room for as many pieces as a plan with these operations needs
+pub record HasRoomOf (ops : List Op) (link : PolledLink) : Type 0 where
+  pub core : link.core.room ≡ room_of ops
+  pub window : link.window.room ≡ room_of ops
 
 -- these bytes came, these events were noted and these bytes are written: all that the plan means up to here, but for the slice
 -- that is being written

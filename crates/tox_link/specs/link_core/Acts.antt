@@ -1,11 +1,15 @@
 -- What a link core answers, and what an answer changes.
-use Rattle.std.specs.Prelude.{◌≡◌, ℕ, ◌<◌, ◌≤◌, Bool, true, false, [], ◌∷◌, Option, Some, None, IsSome, nat_le, if◌then◌else◌}
+use Rattle.std.specs.Prelude.{◌≡◌, ℕ, ◌+◌, ◌<◌, ◌≤◌, ◌||◌, Bool, true, false, List, [], ◌∷◌, ◌++◌, Option, Some, None, IsSome, Result, OnOk, OnErr, is_some, nat_le, if◌then◌else◌}
 use Rattle.tox_time.specs.declared.streams.ending.Ending.{Ending}
 use Rattle.tox_time.specs.declared.streams.ending.Ending.TheVariants.{StillOpen, Closed as ClosedAt, Reset as ResetAt}
-use Rattle.tox_time.specs.declared.streams.item.Item.TheVariants.{Quiet}
+use Rattle.tox_time.specs.declared.streams.item.Item.{Item}
+use Rattle.tox_time.specs.declared.streams.item.Item.TheVariants.{Chunk, Closed, Quiet}
+use Rattle.tox_time.specs.declared.streams.arrivals.ArrivalFault.{ArrivalFault}
+use Rattle.tox_time.specs.streams.Arrivals.{piece_fault}
+use Rattle.tox_plan.specs.RunnerView.{answer_of}
 use Rattle.tox_link.specs.declared.link_core.act.Act.{Act}
 use Rattle.tox_link.specs.declared.link_core.act.Act.TheVariants.{Write, WaitUntil, WaitForInput, End}
-use Rattle.tox_link.specs.link_core.Core.{CoreView, TakesSlice, LeavesOutput, KeepsCore, remaining_output, next_instant, core_ending, core_deadline, kept_count}
+use Rattle.tox_link.specs.link_core.Core.{CoreView, TakesSlice, LeavesOutput, KeepsCore, remaining_output, next_instant, core_ending, core_deadline, core_position, kept_count}
 
 -- until the deadline, or without one for input
 abbrev pub wait_act : Option ℕ → Act
@@ -53,3 +57,19 @@ pub record Answered (old new : CoreView) (now : ℕ) (act : Act) : Type 0 where
 pub record Says (core : CoreView) (now : ℕ) (act : Act) : Type 0 where
   pub slice : (t : ℕ) → next_instant (remaining_output core (Quiet ∷ [])) ≡ Some t → IsSliceAct t now act
   pub idle : next_instant (remaining_output core (Quiet ∷ [])) ≡ None → act ≡ idle_act core.ended now (core_deadline core) (core_ending core)
+
+-- what a piece of so many bytes is answered that arrives at an instant, and what it changes
+pub record HearsPiece (old new : CoreView) (len instant : ℕ) (result : Result (Unit {0}) ArrivalFault) : Type 0 where
+  pub answer : result ≡ answer_of (piece_fault old.bytes old.latest (old.ended || is_some (core_ending old)) len instant)
+  pub taken : OnOk result
+      (new ≡ record old { waiting = old.waiting ++ record { len = len; instant = instant } ∷ []; bytes = old.bytes + len; latest = instant })
+  pub output : OnOk result ((items : List Item) → remaining_output new items
+      ≡ remaining_output old (Chunk (record { start = old.bytes; stop = old.bytes + len }) instant ∷ items))
+  pub err : OnErr result (new ≡ old)
+
+-- what the source's end at an instant changes
+pub record HearsEnd (old new : CoreView) (end : ℕ) : Type 0 where
+  pub output : (items : List Item) → remaining_output new items ≡ remaining_output old (Closed end ∷ [])
+  pub ended : (new.ended ≡ true) × (new.latest ≡ end)
+  pub kept : KeepsCore (record old { ended = true }) new × (new.waiting ≡ old.waiting) × (core_position new ≡ core_position old)
+  pub at_once : kept_count old ≡ 0 → IsSome (core_ending new)

@@ -26,6 +26,8 @@ pub record CoreView : Type 0 where
   -- how many bytes have arrived, and the last instant
   pub bytes : ℕ
   pub latest : ℕ
+  -- how many pieces it has room for
+  pub room : ℕ
 
 -- how many pieces are kept
 abbrev pub kept_count : CoreView → ℕ

@@ -14,6 +14,7 @@ core_view inside = record {
   ended = inside.so_far.ended;
   bytes = inside.so_far.position;
   latest = inside.so_far.latest;
+  room = 1024;
 }
 
 pub record IsKept (inside : Inside) : Type 0 where

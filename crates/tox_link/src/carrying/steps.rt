@@ -1,6 +1,6 @@
 //! The steps of a link: a piece, the source's end or a reading of the clock reaches the core.
-ghost use Rattle.std.specs.Prelude.{◌≡◌, ◌+◌, ◌<◌, ◌≤◌, ◌^◌, ◌⊎◌, ◌↔◌, List, IsTrue, false, true, None, IsSome, is_none, OnOk, OnErr};
-ghost use Rattle.tox_link.specs.carrying.Held.{MayTake};
+ghost use Rattle.std.specs.Prelude.{◌≡◌, ◌+◌, ◌<◌, ◌≤◌, ◌^◌, ◌⊎◌, ◌↔◌, List, length, vec_capacity, IsTrue, false, true, None, IsSome, is_none, OnOk, OnErr};
+ghost use Rattle.tox_link.specs.carrying.Held.{MayTake, with_piece};
 ghost use Rattle.tox_link.specs.log.Events.{with_events};
 ghost use Rattle.tox_link.specs.log.Log.{has_source_end};
 ghost use Rattle.tox_link.specs.link_core.Core.{core_ending, core_position, kept_count, KeepsCore};
@@ -9,51 +9,66 @@ ghost use Rattle.tox_link.specs.log.Carried.{KeepsCarried, ReadsOn, noted_of};
 ghost use Rattle.tox_link.specs.declared.notes.LinkEvent.{LinkEvent as OneEvent};
 
 use crate::clock::{Clock, reading};
-use crate::link_core::LinkCore;
 use crate::link_core::act::Act;
+use crate::link_core::direction_core::DirectionCore;
 use crate::notes::{LinkEvent, Notes};
 use std::alloc::AllocError;
-use tox_lend::Window;
+use tox_lend::{Piece, Window};
 use tox_time::Micros;
 
 /// Whether input may be taken. A piece that comes once the ending is known is dropped, so it needs no room in the window.
-pub(crate) fn may_take(core: &LinkCore<'_>, window: &Window, ended: bool) -> bool
+pub(crate) fn may_take(core: &DirectionCore<'_>, window: &Window, ended: bool) -> bool
     ensures { IsTrue result ↔ MayTake core.now window.now ended }
 {
     !ended && core.has_room() && (window.has_room() || core.ending().is_some())
 }
 
-/// A nonempty piece arrives, and is stamped with the greatest reading so far. A refused note leaves the core as it was.
+/// A nonempty piece arrives. It is stamped with the greatest reading so far, noted and kept. A refused note changes nothing.
 pub(crate) fn take_piece<C: Clock, N: Notes>(
-    core: &mut LinkCore<'_>,
+    core: &mut DirectionCore<'_>,
+    window: &mut Window,
     clock: &C,
     notes: &mut N,
-    len: u64,
+    bytes: Vec<u8>,
 ) -> Result<(), AllocError>
-    requires room { kept_count core.old < 1024 }
+    requires room { (kept_count core.old < core.old.room)
+        × (length window.old.held < window.old.room) }
     requires read { (core.old.latest ≡ 0) ⊎ C.told clock.now core.old.latest }
     requires goes_on { (core.old.ended ≡ false) × (core_ending core.old ≡ None) }
-    requires fits { (0 < len) × (core.old.bytes + len ≤ 2 ^ 40) }
-    ensures counts { OnOk result ((core.new.bytes ≡ core.old.bytes + len)
+    requires fits { (0 < length bytes.items) × (core.old.bytes + length bytes.items ≤ 2 ^ 40) }
+    requires starts { window.old.stop ≡ core.old.bytes }
+    ensures counts { OnOk result ((core.new.bytes ≡ core.old.bytes + length bytes.items)
         × (core.new.ended ≡ false) × (core_position core.new ≡ core_position core.old)) }
     ensures reads { ReadsOn (C.told clock.now) core.old.latest core.new.latest }
     ensures carried { OnOk result ((more : List OneEvent)
         × (N.events notes.new ≡ with_events (N.events notes.old) more)
         × KeepsCarried (C.told clock.now) core.old more core.new × (has_source_end more ≡ false)) }
-    ensures err { OnErr result
-        ((N.events notes.new ≡ N.events notes.old) × (core.new ≡ core.old)) }
+    ensures kept { OnOk result (window.new ≡ with_piece window.old (record {
+      start = window.old.stop;
+      bytes = bytes.items;
+      instant = core.new.latest;
+      room = vec_capacity bytes;
+    })) }
+    ensures err { OnErr result ((N.events notes.new ≡ N.events notes.old)
+        × (core.new ≡ core.old) × (window.new ≡ window.old)) }
 {
-    let now = reading(clock, core.latest());
-    notes.note(LinkEvent::Piece(len, now))?;
-    let Ok(()) = core.on_piece(len, now) else {
+    let instant = reading(clock, core.latest());
+    let len = bytes.len() as u64;
+    notes.note(LinkEvent::Piece(len, instant))?;
+    let Ok(()) = core.on_piece(len, instant) else {
         unreachable!()
     };
+    window.add(Piece {
+        start: window.stop(),
+        bytes,
+        instant,
+    });
     Ok(())
 }
 
 /// The source's end arrives. It is noted unless the ending is known. A refused note leaves the core as it was.
 pub(crate) fn take_end<C: Clock, N: Notes>(
-    core: &mut LinkCore<'_>,
+    core: &mut DirectionCore<'_>,
     clock: &C,
     notes: &mut N,
 ) -> Result<(), AllocError>
@@ -85,7 +100,7 @@ pub(crate) fn take_end<C: Clock, N: Notes>(
 }
 
 /// Asks the core at the greatest reading so far. Returns its answer and that reading.
-pub(crate) fn decide<C: Clock>(core: &mut LinkCore<'_>, clock: &C) -> (Act, Micros)
+pub(crate) fn decide<C: Clock>(core: &mut DirectionCore<'_>, clock: &C) -> (Act, Micros)
     requires { (core.old.latest ≡ 0) ⊎ C.told clock.now core.old.latest }
     ensures told { C.told clock.now result.1 × (core.old.latest ≤ result.1) }
     ensures answered { Answered core.old core.new result.1 result.0 }

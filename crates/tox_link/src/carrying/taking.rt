@@ -17,7 +17,6 @@ use crate::notes::Notes;
 use crate::ring::message::{Message, ReadEnd};
 use crate::source_ending::SourceEnding;
 use std::alloc::AllocError;
-use tox_lend::Piece;
 use tox_time::Gate;
 
 /// A piece came. It is stamped, noted and kept, unless the ending is known.
@@ -28,7 +27,7 @@ fn keep_piece<C: Clock, N: Notes>(
     bytes: Vec<u8>,
 ) -> Result<(), AllocError>
     requires came { Comes side.old (PieceOf bytes) }
-    requires core { kept_count side.old.core < 1024 }
+    requires core { kept_count side.old.core < side.old.core.room }
     requires window { core_ending side.old.core ≡ None
         → length side.old.window.held < side.old.window.room }
     requires read { (side.old.core.latest ≡ 0) ⊎ C.told clock.now side.old.core.latest }
@@ -46,14 +45,7 @@ fn keep_piece<C: Clock, N: Notes>(
     let None = side.core.ending() else {
         return Ok(());
     };
-    take_piece(&mut side.core, clock, notes, bytes.len() as u64)?;
-    let start = side.window.stop();
-    let instant = side.core.latest();
-    side.window.add(Piece {
-        start,
-        bytes,
-        instant,
-    });
+    take_piece(&mut side.core, &mut side.window, clock, notes, bytes)?;
     Ok(())
 }
 

@@ -9,7 +9,7 @@ ghost use Rattle.tox_link.specs.carrying.Side.{IsFresh};
 ghost use Rattle.tox_link.specs.link_core.Core.{remaining_output};
 
 use crate::carrying::steps::may_take;
-use crate::link_core::LinkCore;
+use crate::link_core::direction_core::{DirectionCore, room_of};
 use crate::ring::inbox::Inbox;
 use crate::ring::message::{InOrder, Message, Sender};
 use crate::ring::parking::Parkers;
@@ -24,13 +24,10 @@ use tox_words::Words;
 /// The most pieces in the ring.
 const RING_SIZE: usize = 64;
 
-/// The most pieces in the window.
-pub(crate) const WINDOW_SIZE: usize = 1024;
-
 /// The writer's side of a link.
 #[derive(Drop)]
 pub struct WriterSide<'w> {
-    pub core: LinkCore<'w>,
+    pub core: DirectionCore<'w>,
     pub window: Window,
     pub inbox: Inbox,
     /// How the source ended, if its end came before the ending was known.
@@ -54,8 +51,8 @@ impl<'w> WriterSide<'w> {
         ensures ring { IfOk result (λ made. (sent made.1 ≡ [])
             × (IsPair made.1 made.0.inbox.receiver)) }
     {
-        let core = LinkCore::new(alloc, plan, words)?;
-        let window = Window::new(alloc, WINDOW_SIZE)?;
+        let window = Window::new(alloc, room_of(&plan))?;
+        let core = DirectionCore::new(alloc, plan, words)?;
         let (sender, receiver) = RingBuffer::<Message>::with_protocol::<Global, InOrder>(
             alloc, RING_SIZE,
         )?;

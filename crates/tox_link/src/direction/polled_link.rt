@@ -5,11 +5,10 @@ ghost use Rattle.tox_time.specs.streams.Stream.{IsStream};
 ghost use Rattle.tox_compile.specs.Drawing.{plan_draws};
 ghost use Rattle.tox_compile.specs.Meaning.{means};
 ghost use Rattle.tox_link.specs.link_core.Core.{remaining_output};
-ghost use Rattle.tox_link.specs.direction.Follows.{IsHeld, IsNew};
+ghost use Rattle.tox_link.specs.direction.Follows.{HasRoomOf, IsHeld, IsNew};
 
-use crate::carrying::writer_side::WINDOW_SIZE;
 use crate::direction::unwritten::Unwritten;
-use crate::link_core::LinkCore;
+use crate::link_core::direction_core::{DirectionCore, room_of};
 use crate::source_ending::SourceEnding;
 use std::alloc::{AllocError, Global};
 use tox_compile::Plan;
@@ -17,10 +16,11 @@ use tox_lend::Window;
 use tox_words::Words;
 
 /// One direction of a live link between two events: its core, the pieces that are still needed, and the slice that is being
-/// written. It owns all that it needs, so it can be kept anywhere.
+/// written. It owns all that it needs, so it can be kept anywhere. Where its plan has no operation it stands under 512 bytes, and
+/// holds at most one read.
 #[derive(Drop)]
 pub struct PolledLink {
-    pub(crate) core: LinkCore<'static>,
+    pub(crate) core: DirectionCore<'static>,
     pub(crate) window: Window,
     /// The slice that is being written. It is written up to `written`.
     pub(crate) unwritten: Option<Unwritten>,
@@ -39,10 +39,11 @@ impl PolledLink {
             → remaining_output link.core items ≡ means plan words items) }
         ensures fresh { IfOk result IsNew }
         ensures held { IfOk result IsHeld }
+        ensures room { IfOk result (HasRoomOf plan.ops) }
     {
         Ok(PolledLink {
-            core: LinkCore::owning(alloc, plan, words)?,
-            window: Window::new(alloc, WINDOW_SIZE)?,
+            window: Window::new(alloc, room_of(&plan))?,
+            core: DirectionCore::owning(alloc, plan, words)?,
             unwritten: None,
             source: SourceEnding::NotReached,
             ended: false,
@@ -57,6 +58,7 @@ impl PolledLink {
             → remaining_output link.core items ≡ means plan words items) }
         ensures fresh { IfOk result IsNew }
         ensures held { IfOk result IsHeld }
+        ensures room { IfOk result (HasRoomOf plan.ops) }
     {
         let draws = plan.draws();
         prove!(!draws);
@@ -64,5 +66,19 @@ impl PolledLink {
             return Err(AllocError);
         };
         PolledLink::new(alloc, plan, words)
+    }
+
+    /// Whether nothing more is read: the source has ended.
+    pub fn has_read_all(&self) -> bool
+        ensures { result ≡ self.now.ended }
+    {
+        self.ended
+    }
+
+    /// How many bytes are written.
+    pub fn written(&self) -> u64
+        ensures { result ≡ self.now.written }
+    {
+        self.written
     }
 }

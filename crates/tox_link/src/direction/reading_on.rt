@@ -15,7 +15,6 @@ use crate::direction::polled_link::PolledLink;
 use crate::notes::Notes;
 use crate::source_ending::SourceEnding;
 use std::alloc::{AllocError, Global};
-use tox_lend::Piece;
 use tox_time::MAX_BYTES;
 
 /// Bytes came. They are stamped with a reading that the clock tells now, noted and kept. After a refused note nothing more
@@ -46,17 +45,10 @@ fn keep_bytes<C: Clock, N: Notes>(
         })
         link.new (record { remaining = left; written = written; events = N.events notes.new }) }
 {
-    let Ok(()) = take_piece(&mut link.core, clock, notes, bytes.len() as u64) else {
+    let Ok(()) = take_piece(&mut link.core, &mut link.window, clock, notes, bytes) else {
         link.ended = true;
         return Err(AllocError);
     };
-    let start = link.window.stop();
-    let instant = link.core.latest();
-    link.window.add(Piece {
-        start,
-        bytes,
-        instant,
-    });
     Ok(())
 }
 

@@ -3,11 +3,6 @@ use Rattle.std.proofs.Common.{◌∙◌, arith}
 use Rattle.tox_link.proofs.StepLemmas.{act-carried}
 use Rattle.tox_link.proofs.carrying.steps.decide.Goals as goal
 
-pub returns-clause-answered : goal.returns-clause-answered
-returns-clause-answered g c =
-    let told = c.on_clock.ensures in
-    record { slice = told.slice; idle = told.idle; ended = told.ended; dropped = told.dropped; overdue = told.deadline; output = told.output; kept = told.kept; latest = told.latest }
-
 pub returns-clause-carried : goal.returns-clause-carried
 returns-clause-carried g c =
     let told = c.on_clock.ensures in

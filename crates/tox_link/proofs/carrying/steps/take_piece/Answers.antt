@@ -8,10 +8,10 @@ use Rattle.tox_link.proofs.carrying.steps.take_piece.Goals as goal
 pub returns-clause-carried : goal.returns-clause-carried
 returns-clause-carried g c =
     let taken = c.in-Ok.ensures.taken in (
-      Piece c.args.len c.reading-now.result ∷ [],
+      Piece c.len-len.result c.reading-instant.result ∷ [],
       c.in_ok-note.ensures.noted,
-      piece-carried (g.C.Clock.told c.args.clock.now) c.args.core.now c.on_piece.new.self c.args.len c.reading-now.result
-          (omega (arith, c.reading-now.ensures.later, c.latest.ensures)) c.reading-now.ensures.bound c.reading-now.ensures.told c.requires.fits.0 c.requires.goes_on.0
+      piece-carried (g.C.Clock.told c.args.clock.now) c.args.core.now c.on_piece.new.self c.len-len.result c.reading-instant.result
+          (omega (arith, c.reading-instant.ensures.later, c.latest.ensures)) c.reading-instant.ensures.bound c.reading-instant.ensures.told (omega (arith, c.len-len.ensures, c.requires.fits.0)) c.requires.goes_on.0
           (ap (λ (core : CoreView). core.latest) taken) (ap (λ (core : CoreView). core.bytes) taken) (ap core_position taken) c.in-Ok.ensures.output,
       refl,
     )

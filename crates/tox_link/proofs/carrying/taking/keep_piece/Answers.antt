@@ -1,5 +1,5 @@
 -- A piece that is kept is one more event.
-use Rattle.std.proofs.Common.{refl, append-nil, sym, ◌∙◌, arith}
+use Rattle.std.proofs.Common.{refl, append-nil, sym, ◌∙◌}
 use Rattle.tox_link.specs.declared.ring.message.Message.TheVariants.{Piece}
 use Rattle.tox_link.proofs.LoggedLemmas.{logged-on}
 use Rattle.tox_link.proofs.SideLemmas.{some-known, sound-kept, sound-dropped}
@@ -15,7 +15,7 @@ returns-clause-ok g c =
     let came = c.requires.came in
     let counts = c.in_ok-take_piece.ensures.counts in
     sound-kept c.args.side.now _ came.before _ (Piece c.args.bytes) c.args.bytes.items _ came.sound came.going (sym c.ending.ensures.value ∙ c.in-None.is) came.came refl
-    (append-nil c.args.bytes.items) came.allowed.1 (omega (arith, counts.0, c.len.ensures)) counts.1 counts.2 c.add.ensures c.stop-start.ensures.value refl refl refl refl
+    (append-nil c.args.bytes.items) came.allowed.1 counts.0 counts.1 counts.2 c.in_ok-take_piece.ensures.kept refl refl refl refl refl
 
 pub returns-clause-log : goal.returns-clause-log
 returns-clause-log g c =

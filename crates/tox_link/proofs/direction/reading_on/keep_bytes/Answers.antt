@@ -1,5 +1,5 @@
 -- Bytes that are kept are one more event.
-use Rattle.std.proofs.Common.{◌≡◌, ◌+◌, length, refl, arith}
+use Rattle.std.proofs.Common.{refl, arith}
 use Rattle.std.specs.Prelude.{vec_capacity}
 use Rattle.tox_lend.specs.Run.{Run}
 use Rattle.tox_link.proofs.DriveLemmas.{drove-took, drove-shut}
@@ -10,22 +10,20 @@ pub returns-in_default-clause-drove : goal.returns-in_default-clause-drove
 returns-in_default-clause-drove g c =
     let refused = c.in_default.ensures.err in
     λ left written.
-    drove-shut (g.C.Clock.told c.args.clock.now) c.args.link.now _ c.args.bytes.items left written (g.N.Notes.events c.args.notes.now) _ c.requires.held c.requires.idle c.requires.room.0 refl refl refl refl refused.1 refl refused.0
+    drove-shut (g.C.Clock.told c.args.clock.now) c.args.link.now _ c.args.bytes.items left written (g.N.Notes.events c.args.notes.now) _ c.requires.held c.requires.idle c.requires.room.0 refused.2 refl refl refl refused.1 refl refused.0
 
 pub returns-clause-held : goal.returns-clause-held
 returns-clause-held g c =
     let counts = c.in-Ok.ensures.counts in
-    let run : Run = record { start = c.stop-start.result; bytes = c.args.bytes.items; instant = c.latest-instant.result; room = vec_capacity c.args.bytes } in
-    let more : c.take_piece.new.core.bytes ≡ c.args.link.now.core.bytes + length c.args.bytes.items = omega (arith, counts.0, c.len.ensures) in
-    held-kept c.args.link.now _ run c.requires.held c.requires.idle c.requires.fits.0 c.stop-start.ensures.value more counts.2 c.add.ensures refl refl refl refl counts.1 (omega (arith, more, c.requires.fits.1))
+    let run : Run = record { start = c.args.link.now.window.stop; bytes = c.args.bytes.items; instant = c.take_piece.new.core.latest; room = vec_capacity c.args.bytes } in
+    held-kept c.args.link.now _ run c.requires.held c.requires.idle c.requires.fits.0 refl counts.0 counts.2 c.in-Ok.ensures.kept refl refl refl refl counts.1 (omega (arith, counts.0, c.requires.fits.1))
 
 pub returns-clause-drove : goal.returns-clause-drove
 returns-clause-drove g c =
     let counts = c.in-Ok.ensures.counts in
     let noted = c.in-Ok.ensures.carried in
-    let run : Run = record { start = c.stop-start.result; bytes = c.args.bytes.items; instant = c.latest-instant.result; room = vec_capacity c.args.bytes } in
-    let more : c.take_piece.new.core.bytes ≡ c.args.link.now.core.bytes + length c.args.bytes.items = omega (arith, counts.0, c.len.ensures) in
+    let run : Run = record { start = c.args.link.now.window.stop; bytes = c.args.bytes.items; instant = c.take_piece.new.core.latest; room = vec_capacity c.args.bytes } in
     λ left written.
     drove-took (g.C.Clock.told c.args.clock.now) c.args.link.now _ c.args.bytes.items left written (g.N.Notes.events c.args.notes.now) _ noted.0 noted.1
-    (drives-kept c.args.link.now _ run c.requires.held c.requires.idle c.requires.fits.0 c.stop-start.ensures.value more counts.2 c.add.ensures refl refl refl refl (g.C.Clock.told c.args.clock.now) noted.0 written c.requires.room.0
+    (drives-kept c.args.link.now _ run c.requires.held c.requires.idle c.requires.fits.0 refl counts.0 counts.2 c.in-Ok.ensures.kept refl refl refl refl (g.C.Clock.told c.args.clock.now) noted.0 written c.requires.room.0
     c.requires.unknown noted.2 noted.3) (omega (arith, counts.2, c.requires.fits.0))

@@ -1,5 +1,5 @@
 -- A look at a later instant, and then an answer.
-use Rattle.std.proofs.Common.{◌≤◌, sym, subst}
+use Rattle.std.proofs.Common.{◌≤◌, sym, subst, rules}
 use Rattle.tox_link.specs.link_core.Core.{CoreView, KeepsCore}
 use Rattle.tox_link.specs.link_core.CoreInside.{core_view}
 use Rattle.tox_link.proofs.CoreLemmas.{IsCore-later}
@@ -13,8 +13,17 @@ invariant_of-self c = record {
   deadline = c.self.invariant.deadline;
 }
 
-pub returns-clause-kept : goal.returns-clause-kept
-returns-clause-kept c =
+pub returns : goal.returns
+returns c =
     let core : CoreView = core_view c.self.inside in
-    subst (λ old. KeepsCore old c.answer.new.self) c.self.view_is
-    (keeps-after core c.look.new.self c.answer.new.self c.args.now c.look.ensures.looked c.look.ensures.known c.answer.ensures.kept)
+    record {
+      slice = search rules;
+      idle = search rules;
+      ended = search rules;
+      dropped = search rules;
+      overdue = search rules;
+      output = search rules;
+      kept = subst (λ old. KeepsCore old c.answer.new.self) c.self.view_is
+          (keeps-after core c.look.new.self c.answer.new.self c.args.now c.look.ensures.looked c.look.ensures.known c.answer.ensures.kept);
+      latest = search rules;
+    }

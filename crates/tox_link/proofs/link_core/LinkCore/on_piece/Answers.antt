@@ -1,5 +1,5 @@
 -- An accepted piece waits behind the others.
-use Rattle.std.proofs.Common.{◌≡◌, Bool, ◌||◌, false, ◌<◌, ◌≤◌, ◌∷◌, ◌∙◌, sym, subst, ap, arith}
+use Rattle.std.proofs.Common.{◌≡◌, Bool, ◌||◌, false, ◌<◌, ◌≤◌, ◌∷◌, ◌∙◌, sym, subst, ap, arith, rules}
 use Rattle.std.proofs.lemmas.Bool.{or_parts}
 use Rattle.tox_link.specs.link_core.Core.{kept_count, remaining_output}
 use Rattle.tox_link.specs.link_core.CoreInside.{core_view}
@@ -19,8 +19,12 @@ invariant_of-self c = record {
   deadline = c.self.invariant.deadline;
 }
 
-pub returns-clause-output : goal.returns-clause-output
-returns-clause-output c =
-    λ items. rw c.push_back_reserved.ensures.items
-    (subst (λ old. remaining_output (after_piece (core_view c.self.inside) c.args.len c.args.instant) items ≡ remaining_output old (chunk_from old.bytes (record { len = c.args.len; instant = c.args.instant }) ∷ items)) c.self.view_is
-    (output-after_piece (core_view c.self.inside) c.args.len c.args.instant c.self.invariant.core (ap (λ core. core.ended) c.self.view_is ∙ running c.args.self.now.ended _ c.is_over.result c.is_over.ensures c.in_ok-with_piece.ensures.bounds.3) items))
+pub returns : goal.returns
+returns c = record {
+  answer = search rules;
+  taken = search rules;
+  output = λ items. rw c.push_back_reserved.ensures.items
+      (subst (λ old. remaining_output (after_piece (core_view c.self.inside) c.args.len c.args.instant) items ≡ remaining_output old (chunk_from old.bytes (record { len = c.args.len; instant = c.args.instant }) ∷ items)) c.self.view_is
+      (output-after_piece (core_view c.self.inside) c.args.len c.args.instant c.self.invariant.core (ap (λ core. core.ended) c.self.view_is ∙ running c.args.self.now.ended _ c.is_over.result c.is_over.ensures c.in_ok-with_piece.ensures.bounds.3) items));
+  err = search rules;
+}
