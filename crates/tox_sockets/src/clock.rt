@@ -25,6 +25,17 @@ impl LinkStart {
             instant: Instant::now(rt).ok(),
         }
     }
+
+    /// The time since then. None passes where the clock can't be read.
+    pub fn elapsed<R: Clock>(&self, rt: &R) -> Micros {
+        let Some(start) = self.instant else {
+            return Micros::ZERO;
+        };
+        let Ok(now) = Instant::now(rt) else {
+            return Micros::ZERO;
+        };
+        micros_between(start, now)
+    }
 }
 
 /// The time since a link's start. It stands still where the clock can't be read. Once the link is stopped it is the last
@@ -54,13 +65,7 @@ impl<'r, R: Clock> SinceStart<'r, R> {
         if self.is_stopped() {
             return Micros::ZERO.after(HORIZON);
         }
-        let Some(start) = self.start.instant else {
-            return Micros::ZERO;
-        };
-        let Ok(now) = Instant::now(self.rt) else {
-            return Micros::ZERO;
-        };
-        micros_between(start, now)
+        self.start.elapsed(self.rt)
     }
 }
 

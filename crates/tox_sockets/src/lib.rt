@@ -1,9 +1,13 @@
 //! The sockets of served links: their options, how they are cut and shut, the ends of a direction over them, and a link's clock.
 #![tactic(auto)]
 
+mod bound;
 mod clock;
 mod link_sockets;
 mod live_sockets;
+mod readiness;
+mod ready_sink;
+mod ready_source;
 mod reset_due;
 mod socket_calls;
 mod sockets;
@@ -13,6 +17,8 @@ mod until_due;
 pub use clock::{LinkStart, SinceStart};
 pub use link_sockets::LinkSockets;
 pub use live_sockets::{LiveSocket, LiveSockets};
+pub use ready_sink::ReadySink;
+pub use ready_source::ReadySource;
 pub use socket_calls::{can_write, lengthen_queue};
 pub use until_cut::UntilCut;
 pub use until_due::UntilDue;

@@ -1,9 +1,9 @@
 //! Writing a socket of a link until the reset of its stream is due.
 ghost use Rattle.std.specs.Prelude.{◌≡◌, false, None, fold};
 ghost use Rattle.std.specs.Io.{WritesAtMost};
-ghost use Rattle.tox_sockets.specs.Bound.{is_reached};
 ghost use Rattle.tox_sockets.specs.ResetDue.{after_op};
 
+use crate::bound::is_reached;
 use crate::clock::SinceStart;
 use crate::reset_due::reset_due;
 use std::io;
@@ -77,16 +77,6 @@ impl<'a, 'r, R: Wait + Clock> UntilDue<'a, 'r, R> {
             }
         }
         unreachable!()
-    }
-}
-
-/// Whether an instant is reached, if there is one.
-fn is_reached(due: Option<Micros>, now: Micros) -> bool
-    ensures { result ≡ is_reached due now }
-{
-    match due {
-        Some(due) => due <= now,
-        None => false,
     }
 }
 

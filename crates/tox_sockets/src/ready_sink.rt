@@ -1,0 +1,144 @@
+//! Writing a socket of a link that doesn't wait, until the reset of its stream is due.
+ghost use Rattle.std.specs.Prelude.{◌≡◌, false, true, not, None, fold, IfSome, IfOk, OnErr};
+ghost use Rattle.std.specs.Arc.{arc_value};
+ghost use Rattle.tox_sockets.specs.ResetDue.{after_op};
+ghost use Rattle.tox_sockets.specs.Streams.{target_of};
+
+use crate::bound::is_reached;
+use crate::clock::{LinkStart, SinceStart};
+use crate::link_sockets::LinkSockets;
+use crate::readiness::{would_wait, write_on};
+use crate::reset_due::reset_due;
+use std::alloc::Global;
+use std::net::TcpStream;
+use std::sync::Arc;
+use std::time::Clock;
+use tox_defs::Op;
+use tox_link::{Clock as LinkClock, PollSink};
+use tox_time::{EndFault, Micros, Stream};
+
+/// The target of a stream, a socket that doesn't wait. From the instant by which its plan resets the stream, a write that finds
+/// no room fails, so that a peer that doesn't read can't hold up the reset. Once the link is stopped every write fails.
+#[derive(Drop)]
+pub struct ReadySink<'r, R> {
+    rt: &'r R,
+    link: Arc<LinkSockets, Global>,
+    pub stream: Stream,
+    start: LinkStart,
+    pub due: Option<Micros>,
+    /// Whether a write may take something.
+    writable: bool,
+    /// Whether the last write found too little room.
+    full: bool,
+    failed: bool,
+    /// Whether it has answered that it would wait.
+    waits: bool,
+}
+
+impl<'r, R: Clock> ReadySink<'r, R> {
+    /// A writer of a stream's target, for a plan of these operations. None where the link can't be shared by one more.
+    pub fn new(
+        rt: &'r R,
+        link: &Arc<LinkSockets, Global>,
+        stream: Stream,
+        start: LinkStart,
+        ops: &[Op],
+    ) -> Option<ReadySink<'r, R>>
+        ensures link { IfSome result (λ writer. arc_value writer.link ≡ arc_value link.now) }
+        ensures stream { IfSome result (λ writer. writer.stream ≡ stream) }
+        ensures due { IfSome result (λ writer. writer.due ≡ fold after_op None ops.now) }
+        ensures working { IfSome result (λ writer. writer.failed ≡ false) }
+    {
+        let link = link.clone().ok()?;
+        let due = reset_due(ops);
+        Some(ReadySink {
+            rt,
+            link,
+            stream,
+            start,
+            due,
+            writable: true,
+            full: false,
+            failed: false,
+            waits: false,
+        })
+    }
+
+    /// The system reported that a write may take something. Whether that is news.
+    pub fn note(&mut self) -> bool
+        ensures news { result ≡ not self.old.writable }
+        ensures noted { self.new ≡ record self.old { writable = true } }
+    {
+        let news = !self.writable;
+        self.writable = true;
+        news
+    }
+
+    fn is_due(&self) -> bool {
+        let clock = SinceStart::new(self.rt, &self.link, self.start);
+        is_reached(self.due, clock.now())
+    }
+
+    /// The socket that is written.
+    fn target(&self) -> &TcpStream
+        ensures { result.now ≡ target_of self.now.stream (arc_value self.now.link) }
+    {
+        self.link.ends_of(self.stream).target
+    }
+
+    /// Writes fail from now on.
+    fn fail(&mut self) -> EndFault
+        ensures { self.new ≡ record self.old { failed = true } }
+    {
+        self.failed = true;
+        EndFault
+    }
+
+    /// There was too little room. It waits for more, unless the reset is due.
+    fn wait(&mut self) -> Result<Option<usize>, EndFault>
+        ensures waits { IfOk result (λ took. (took ≡ None) × (self.new.waits ≡ true)
+            × (self.new.failed ≡ self.old.failed)) }
+        ensures fails { OnErr result (self.new.failed ≡ true) }
+    {
+        self.writable = false;
+        self.full = true;
+        if self.is_due() {
+            return Err(self.fail());
+        }
+        self.waits = true;
+        Ok(None)
+    }
+}
+
+impl<'r, R: Clock> PollSink for ReadySink<'r, R> {
+    ghost failed = { λ sink. sink.failed };
+
+    ghost written = { λ sink. None };
+
+    ghost waits = { λ sink. sink.waits };
+
+    ghost due = { λ sink. sink.due };
+
+    fn poll_write(&mut self, bytes: &[u8]) -> Result<Option<usize>, EndFault> {
+        if self.link.is_stopped() || (self.full && self.is_due()) {
+            return Err(self.fail());
+        }
+        if !self.writable {
+            return self.wait();
+        }
+        match write_on(self.target(), bytes) {
+            Ok(count) => {
+                self.full = count < bytes.len();
+                self.writable = !self.full;
+                self.failed = count == 0 && !bytes.is_empty();
+                Ok(Some(count))
+            }
+            Err(error) if would_wait(&error) => self.wait(),
+            Err(_) => Err(self.fail()),
+        }
+    }
+
+    fn due(&self) -> Option<Micros> {
+        self.due
+    }
+}

@@ -1,0 +1,104 @@
+//! Reading a socket of a link that doesn't wait, until the link is cut.
+ghost use Rattle.std.specs.Prelude.{◌≡◌, ◌||◌, false, true, None, IfSome};
+ghost use Rattle.std.specs.Arc.{arc_value};
+ghost use Rattle.tox_sockets.specs.Streams.{source_of};
+
+use crate::link_sockets::LinkSockets;
+use crate::readiness::{read_on, would_wait};
+use std::alloc::Global;
+use std::net::TcpStream;
+use std::sync::Arc;
+use tox_link::PollSource;
+use tox_time::{EndFault, Stream};
+
+/// The source of a stream, a socket that doesn't wait. It is read only while it may give something, and until its link is cut:
+/// see [`UntilCut`](crate::UntilCut).
+#[derive(Drop)]
+pub struct ReadySource {
+    link: Arc<LinkSockets, Global>,
+    pub stream: Stream,
+    /// Whether a read may give something.
+    readable: bool,
+    /// Whether its peer was reported to send no more. A short read then doesn't mean that the socket is empty: the end is still
+    /// to be read.
+    closing: bool,
+    failed: bool,
+    /// Whether it has answered that it would wait.
+    waits: bool,
+}
+
+impl ReadySource {
+    /// A reader of a stream's source, of which nothing is known but whether its peer was reported to send no more. None where
+    /// the link can't be shared by one more.
+    pub fn new(
+        link: &Arc<LinkSockets, Global>,
+        stream: Stream,
+        closing: bool,
+    ) -> Option<ReadySource>
+        ensures link { IfSome result (λ reader. arc_value reader.link ≡ arc_value link.now) }
+        ensures stream { IfSome result (λ reader. reader.stream ≡ stream) }
+        ensures working { IfSome result (λ reader. reader.failed ≡ false) }
+    {
+        let link = link.clone().ok()?;
+        Some(ReadySource {
+            link,
+            stream,
+            readable: true,
+            closing,
+            failed: false,
+            waits: false,
+        })
+    }
+
+    /// The system reported that a read may give something, and perhaps that the peer sends no more.
+    pub fn note(&mut self, closing: bool)
+        ensures { self.new ≡ record self.old { readable = true; closing = self.old.closing || closing } }
+    {
+        self.readable = true;
+        self.closing = self.closing || closing;
+    }
+
+    /// The socket that is read.
+    fn source(&self) -> &TcpStream
+        ensures { result.now ≡ source_of self.now.stream (arc_value self.now.link) }
+    {
+        self.link.ends_of(self.stream).source
+    }
+}
+
+impl PollSource for ReadySource {
+    ghost failed = { λ source. source.failed };
+
+    ghost remaining = { λ source. None };
+
+    ghost waits = { λ source. source.waits };
+
+    fn poll_read(&mut self, buffer: &mut [u8]) -> Result<Option<usize>, EndFault> {
+        if self.link.is_cut() {
+            return Ok(Some(0));
+        }
+        if !self.readable {
+            self.waits = true;
+            return Ok(None);
+        }
+        let answer = read_on(self.source(), buffer);
+        if self.link.is_cut() {
+            return Ok(Some(0));
+        }
+        match answer {
+            Ok(count) => {
+                self.readable = self.closing || count == buffer.len();
+                Ok(Some(count))
+            }
+            Err(error) if would_wait(&error) => {
+                self.readable = false;
+                self.waits = true;
+                Ok(None)
+            }
+            Err(_) => {
+                self.failed = true;
+                Err(EndFault)
+            }
+        }
+    }
+}
