@@ -1,17 +1,9 @@
 //! Serving proxies: sockets under the plans of a script.
 ghost use Rattle.std.specs.Prelude.{◌≡◌, All, false, IfErr, Ok};
-ghost use Rattle.tox_serve.specs.lines.LineQueue.{no_lines};
-ghost use Rattle.tox_serve.specs.Serving.{HasServeCause};
+ghost use Rattle.tox_links.specs.lines.LineQueue.{no_lines};
+ghost use Rattle.tox_links.specs.Serving.{HasServeCause};
 
-use crate::fault::ServeFault;
-use crate::lines::printing::print_listening;
-use crate::lines::{Gaps, LineChannel, LineQueue, NoGaps, write_lines};
-use crate::options::ServeOptions;
-use crate::proxy::listening::{Listening, listen_all};
-use crate::proxy::thread::serve_proxy;
-use crate::run::ServeRun;
-use crate::runtime::ServeRuntime;
-use crate::stop::Stop;
+use crate::threads::proxy::serve_proxy;
 use std::alloc::Global;
 use std::io::Write;
 use std::net::{Net, TcpListener, TcpStream};
@@ -21,9 +13,14 @@ use std::thread;
 use std::thread::{Scope, Threads};
 use std::time::Clock;
 use tox_config::ProxyDef;
+use tox_links::{
+    Gaps, LineChannel, LineQueue, Listening, NoGaps, ServeFault, ServeOptions, ServeRun,
+    ServeRuntime, Stop, listen_all, print_listening, write_lines,
+};
 use tox_script::Script;
 use tox_sockets::LiveSockets;
 use tox_time::OpenGate;
+use tox_workers::{Crew, start_crew};
 
 /// [`serve_with`], with this limit of links and no other option. Dropped lines are told to nobody.
 pub fn serve<
@@ -52,6 +49,7 @@ pub fn serve<
     let options = ServeOptions {
         links,
         connect_timeout: None,
+        workers: None,
     };
     serve_with(
         rt,
@@ -171,8 +169,20 @@ fn serve_and_write<R: ServeRuntime, W: Write + Send, G: Gaps + Sync>(
     )
 }
 
-/// Serves each proxy in a thread of its own. False if one is refused: then no connection is taken.
+/// Serves the proxies, by workers or with threads for each link. False if a thread is refused: then no connection is taken.
 fn serve_all<R: ServeRuntime>(rt: &R, run: &ServeRun<'_>, listening: Vec<Listening<'_>>) -> bool {
+    match run.options.workers {
+        Some(workers) => serve_by_workers(rt, run, listening, workers),
+        None => serve_by_threads(rt, run, listening),
+    }
+}
+
+/// Serves each proxy in a thread of its own, and each link in more of them.
+fn serve_by_threads<R: ServeRuntime>(
+    rt: &R,
+    run: &ServeRun<'_>,
+    listening: Vec<Listening<'_>>,
+) -> bool {
     let go = Mutex::new(false);
     let may_go = &go;
     thread::scope(thread::scope_env(), rt, |scope| {
@@ -186,6 +196,35 @@ fn serve_all<R: ServeRuntime>(rt: &R, run: &ServeRun<'_>, listening: Vec<Listeni
         drop(all_started);
         if run.stop.wait(rt, &run.proxies) {
             run.live.stop(rt);
+        }
+        true
+    })
+}
+
+/// Has so many workers drive all links.
+fn serve_by_workers<R: ServeRuntime>(
+    rt: &R,
+    run: &ServeRun<'_>,
+    listening: Vec<Listening<'_>>,
+    workers: u32,
+) -> bool {
+    let go = Mutex::new(false);
+    let may_go = &go;
+    let mut all_started = may_go.lock(rt);
+    print_listening(rt, run.lines, &listening);
+    let Some((crew, desks)) = Crew::new(rt, run.alloc, listening, workers) else {
+        return false;
+    };
+    let shared = &crew;
+    thread::scope(thread::scope_env(), rt, |scope| {
+        *all_started = start_crew(rt, run, shared, desks, may_go, scope);
+        if !*all_started {
+            return false;
+        }
+        drop(all_started);
+        if run.stop.wait(rt, &run.proxies) {
+            run.live.stop(rt);
+            shared.wake_all();
         }
         true
     })

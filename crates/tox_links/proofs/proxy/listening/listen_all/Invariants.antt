@@ -1,0 +1,9 @@
+-- The enabled ones of the first proxies are bound.
+use Rattle.std.proofs.Common.{◌≡◌, take, filter, map}
+use Rattle.tox_config.specs.Proxy.{Proxy}
+use Rattle.tox_links.proofs.proxy.listening.listen_all.Given as goal
+
+abbrev pub invariant-loop-proxy : goal.invariant-loop-proxy
+invariant-loop-proxy g l =
+    map (λ bound. bound.proxy.now) l.listening.items
+    ≡ filter (λ (proxy : Proxy). proxy.enabled) (take l.proxy-index l.proxies)

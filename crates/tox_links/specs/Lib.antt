@@ -1,0 +1,5 @@
+pub mod Addresses
+pub mod Serving
+pub mod proxy
+pub mod link
+pub mod lines

@@ -1,0 +1,14 @@
+//! Lines on their way to the output: written by one thread, so that an output that nobody reads holds up no link.
+mod channel;
+mod printing;
+mod queue;
+mod serve_lines;
+mod text;
+mod writer;
+
+pub use channel::LineChannel;
+pub use printing::print_listening;
+pub(crate) use printing::{print_link, print_total};
+pub use queue::LineQueue;
+pub(crate) use text::LineText;
+pub use writer::{Gaps, NoGaps, write_lines};

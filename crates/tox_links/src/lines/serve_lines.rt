@@ -1,0 +1,77 @@
+//! The lines that serving prints.
+ghost use Rattle.std.specs.Prelude.{◌≡◌, IfSome};
+ghost use Rattle.tox_links.specs.lines.ServeLines.{end_word, link_line, listening_line, total_line};
+
+use crate::lines::LineText;
+use crate::link::end::LinkEnd;
+use tox_book::Book;
+use tox_text::Part::{Name, Number, Word};
+use tox_time::{Ending, Stream};
+
+/// The line of a proxy that listens. None if it is too long, which none is.
+pub(crate) fn listening_text<'x>(name: &'x str, address: &'x str) -> Option<LineText>
+    ensures { IfSome result (λ line. line.bytes.items ≡ listening_line name.now address.now) }
+{
+    let parts = [
+        Word("listening "),
+        Name(name),
+        Word(" "),
+        Word(address),
+        Word("\n"),
+    ];
+    LineText::of(&parts)
+}
+
+/// The line of a link that ended. None if it is too long, which none is.
+pub(crate) fn link_text(name: &str, end: &LinkEnd) -> Option<LineText>
+    ensures { IfSome result (λ line. line.bytes.items ≡ link_line name.now end.now) }
+{
+    let parts = [
+        Word("link "),
+        Name(name),
+        Word(" "),
+        Number(end.number),
+        Word(" up "),
+        Number(end.upstream.bytes),
+        Word(" "),
+        Word(end_word(&end.upstream.ending)),
+        Word(" down "),
+        Number(end.downstream.bytes),
+        Word(" "),
+        Word(end_word(&end.downstream.ending)),
+        Word("\n"),
+    ];
+    LineText::of(&parts)
+}
+
+fn end_word(ending: &Option<Ending>) -> &'static str
+    ensures { result.now ≡ end_word ending.now }
+{
+    match ending {
+        Some(Ending::StillOpen) => "open",
+        Some(Ending::Closed(_)) => "closed",
+        Some(Ending::Reset(_)) => "reset",
+        None => "broken",
+    }
+}
+
+/// The line of a proxy's totals: how many links its book has, and their bytes on both streams. None if it is too long, which
+/// none is.
+pub(crate) fn total_text(name: &str, book: &Book) -> Option<LineText>
+    ensures { IfSome result (λ line. line.bytes.items ≡ total_line name.now book.now) }
+{
+    let upstream = book.total(Stream::Upstream);
+    let downstream = book.total(Stream::Downstream);
+    let parts = [
+        Word("total "),
+        Name(name),
+        Word(" "),
+        Number(book.links()),
+        Word(" up "),
+        Number(upstream),
+        Word(" down "),
+        Number(downstream),
+        Word("\n"),
+    ];
+    LineText::of(&parts)
+}

@@ -1,0 +1,3 @@
+//! One link: what its streams meet, and how it ended.
+pub mod course;
+pub mod end;

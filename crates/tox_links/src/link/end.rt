@@ -1,0 +1,172 @@
+//! How a served link ended, and what the book keeps of it.
+ghost use Rattle.std.specs.Prelude.{◌≡◌};
+ghost use Rattle.tox_time.specs.declared.streams.stream.Stream.TheVariants as StreamOf;
+ghost use Rattle.tox_links.specs.link.LinkEnds.{broken_link, broken_side, carried_before, end_before_stop, ending_of, is_refused, link_end, nothing_carried, settled, side_end};
+
+use tox_book::Book;
+use tox_link::{LinkFault, LinkReport};
+use tox_time::{Ending, Stream};
+
+/// How one direction ended.
+#[derive(Clone, Copy, Debug, PartialEq, Eq)]
+pub enum StreamEnd {
+    Ended(Ending),
+    /// A write failed.
+    Failed,
+    /// Memory or a thread was refused.
+    Refused,
+    /// The run was told to stop before.
+    Stopped,
+}
+
+/// What one direction carried.
+#[derive(Clone, Copy, Debug, PartialEq, Eq)]
+pub struct Carried {
+    pub stream: Stream,
+    pub bytes: u64,
+    pub end: StreamEnd,
+}
+
+/// What is told of one side of a link: the bytes written, and how it ended, or None if it is broken.
+#[derive(Clone, Copy, Debug, PartialEq, Eq)]
+pub struct SideEnd {
+    pub bytes: u64,
+    pub ending: Option<Ending>,
+}
+
+/// What is told of a link.
+#[derive(Clone, Copy, Debug, PartialEq, Eq)]
+pub struct LinkEnd {
+    pub number: u64,
+    pub upstream: SideEnd,
+    pub downstream: SideEnd,
+}
+
+impl Carried {
+    /// What a stream carried that ended, by its plan or once its link was stopped.
+    pub fn until_end<S>(stream: Stream, report: &LinkReport<S>, was_stopped: bool) -> Carried
+        ensures { result ≡ record {
+          stream = stream;
+          bytes = report.now.written;
+          end = end_before_stop was_stopped report.now.ending;
+        } }
+    {
+        let end = if was_stopped {
+            StreamEnd::Stopped
+        } else {
+            StreamEnd::Ended(report.ending)
+        };
+        Carried {
+            stream,
+            bytes: report.written,
+            end,
+        }
+    }
+
+    /// What a stream carried before a fault.
+    pub fn until_fault(stream: Stream, fault: &LinkFault) -> Carried
+        ensures { result ≡ carried_before stream fault.now }
+    {
+        let end = match fault {
+            LinkFault::WriteFault(_) => StreamEnd::Failed,
+            LinkFault::SpawnRefused(_) | LinkFault::OutOfMemory(_) => StreamEnd::Refused,
+        };
+        Carried {
+            stream,
+            bytes: fault.written(),
+            end,
+        }
+    }
+
+    fn is_refused(&self) -> bool
+        ensures { result ≡ is_refused self.now.end }
+    {
+        match self.end {
+            StreamEnd::Refused => true,
+            StreamEnd::Ended(_) | StreamEnd::Failed | StreamEnd::Stopped => false,
+        }
+    }
+
+    fn ending(&self) -> Option<Ending>
+        ensures { result ≡ ending_of self.now.end }
+    {
+        match self.end {
+            StreamEnd::Ended(ending) => Some(ending),
+            StreamEnd::Failed | StreamEnd::Refused | StreamEnd::Stopped => None,
+        }
+    }
+
+    fn broken(&self) -> SideEnd
+        ensures { result ≡ broken_side self.now }
+    {
+        SideEnd {
+            bytes: self.bytes,
+            ending: None,
+        }
+    }
+
+    fn side_end(&self) -> SideEnd
+        ensures { result ≡ side_end self.now }
+    {
+        SideEnd {
+            bytes: self.bytes,
+            ending: self.ending(),
+        }
+    }
+}
+
+impl SideEnd {
+    /// A broken side that carried nothing.
+    fn nothing_carried() -> SideEnd
+        ensures { result ≡ nothing_carried }
+    {
+        SideEnd {
+            bytes: 0,
+            ending: None,
+        }
+    }
+}
+
+impl LinkEnd {
+    /// A link of which nothing was carried: its upstream wasn't reached, or memory or a thread was refused.
+    pub fn broken(number: u64) -> LinkEnd
+        ensures { result ≡ broken_link number }
+    {
+        LinkEnd {
+            number,
+            upstream: SideEnd::nothing_carried(),
+            downstream: SideEnd::nothing_carried(),
+        }
+    }
+
+    /// The end of a numbered link whose directions carried this. If either was refused memory or a thread, both are broken.
+    pub fn of(number: u64, upstream: &Carried, downstream: &Carried) -> LinkEnd
+        requires up { upstream.now.stream ≡ StreamOf.Upstream }
+        requires down { downstream.now.stream ≡ StreamOf.Downstream }
+        ensures { result ≡ link_end number upstream.now downstream.now }
+    {
+        if upstream.is_refused() || downstream.is_refused() {
+            return LinkEnd {
+                number,
+                upstream: upstream.broken(),
+                downstream: downstream.broken(),
+            };
+        }
+        LinkEnd {
+            number,
+            upstream: upstream.side_end(),
+            downstream: downstream.side_end(),
+        }
+    }
+
+    /// Counts the bytes of a link in the book, and then notes how both its sides ended.
+    pub(crate) fn settle(&self, book: &mut Book)
+        ensures { book.new ≡ settled self.now book.old }
+    {
+        let number = self.number;
+        let _ = book.add_bytes(number, Stream::Upstream, self.upstream.bytes);
+        let _ = book.add_bytes(number, Stream::Downstream, self.downstream.bytes);
+        let _ = book.ended(number, Stream::Upstream, self.upstream.ending);
+        let _ = book.ended(number, Stream::Downstream, self.downstream.ending);
+    }
+}

@@ -1,0 +1,87 @@
+//! The addresses of proxies, bound before anything is served.
+ghost use Rattle.std.specs.Prelude.{◌≡◌, true, filter, map, IfOk, IfErr};
+ghost use Rattle.tox_links.specs.Serving.{HasServeCause, IsListenFault};
+
+use crate::addresses::listen_address;
+use crate::fault::ServeFault;
+use std::alloc::Global;
+use std::net::{Net, TcpListener, TcpStream};
+use std::sync::{Arc, Wait};
+use tox_config::ProxyDef;
+use tox_sockets::{LiveSocket, LiveSockets, lengthen_queue};
+
+/// An enabled proxy whose address is bound.
+#[derive(Drop)]
+pub struct Listening<'a> {
+    pub proxy: &'a ProxyDef,
+    pub listener: Arc<TcpListener, Global>,
+    /// Its key among the live sockets.
+    pub key: usize,
+    /// The address that was bound, as it is printed.
+    pub address: String,
+}
+
+/// Binds the address of each enabled proxy, in order.
+pub fn listen_all<'a, R: Net<Listener = TcpListener, Stream = TcpStream> + Wait>(
+    rt: &R,
+    alloc: Global,
+    live: &LiveSockets,
+    proxies: &'a [ProxyDef],
+) -> Result<Vec<Listening<'a>>, ServeFault<'a>>
+    ensures all { IfOk result (λ listening. map (λ bound. bound.proxy.now) listening.items
+        ≡ filter (λ proxy. proxy.enabled) proxies.now) }
+    ensures fault { IfErr result (HasServeCause proxies.now) }
+{
+    let mut listening = Vec::new(alloc);
+    for proxy in proxies {
+        if proxy.enabled {
+            let bound = listen(rt, alloc, live, proxy)?;
+            if listening.push(bound).is_err() {
+                return Err(ServeFault::OutOfMemory);
+            }
+        }
+    }
+    Ok(listening)
+}
+
+/// Binds the address of a proxy. Its queue of connections is as long as the system allows.
+fn listen<'a, R: Net<Listener = TcpListener, Stream = TcpStream> + Wait>(
+    rt: &R,
+    alloc: Global,
+    live: &LiveSockets,
+    proxy: &'a ProxyDef,
+) -> Result<Listening<'a>, ServeFault<'a>>
+    ensures proxy { IfOk result (λ bound. bound.proxy.now ≡ proxy.now) }
+    ensures fault { IfErr result (IsListenFault proxy.now) }
+{
+    let Ok(address) = listen_address(alloc, &proxy.listen) else {
+        return Err(ServeFault::OutOfMemory);
+    };
+    let Ok(listener) = TcpListener::bind(rt, address.as_str()) else {
+        return Err(ServeFault::ListenRefused(&proxy.name));
+    };
+    if lengthen_queue(&listener).is_err() {
+        return Err(ServeFault::ListenRefused(&proxy.name));
+    }
+    let Ok(bound) = listener.local_addr() else {
+        return Err(ServeFault::ListenRefused(&proxy.name));
+    };
+    let Ok(address) = format!(in alloc; "{bound}") else {
+        return Err(ServeFault::OutOfMemory);
+    };
+    let Ok(listener) = Arc::new(alloc, listener) else {
+        return Err(ServeFault::OutOfMemory);
+    };
+    let Ok(shared) = listener.clone() else {
+        return Err(ServeFault::OutOfMemory);
+    };
+    let Ok(key) = live.add(rt, LiveSocket::Listener(shared)) else {
+        return Err(ServeFault::OutOfMemory);
+    };
+    Ok(Listening {
+        proxy,
+        listener,
+        key,
+        address,
+    })
+}

@@ -1,0 +1,6 @@
+//! Serving with threads of its own for each link.
+mod accepting;
+mod connecting;
+mod direction;
+mod link;
+pub(crate) mod proxy;

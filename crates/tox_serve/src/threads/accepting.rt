@@ -1,0 +1,24 @@
+//! Waiting for the next connection of a listener.
+use std::net::{TcpListener, TcpStream};
+use std::sync::Wait;
+use std::thread;
+use std::time::{Clock, Duration};
+use tox_links::{Next, after};
+
+/// How long a listener rests at a momentary lack, in milliseconds.
+const SHORT_REST: u64 = 10;
+
+/// The next connection. None where the listener fails for good.
+pub(crate) fn next_client<R: Wait + Clock>(rt: &R, listener: &TcpListener) -> Option<TcpStream> {
+    for _ in rt.forever() {
+        match listener.accept() {
+            Ok((client, _)) => return Some(client),
+            Err(error) => match after(&error) {
+                Next::TryAgain => {}
+                Next::Rest => thread::sleep(rt, Duration::from_millis(SHORT_REST)),
+                Next::GiveUp => return None,
+            },
+        }
+    }
+    unreachable!()
+}

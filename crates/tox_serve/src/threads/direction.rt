@@ -1,0 +1,90 @@
+//! One direction of a served link.
+ghost use Rattle.std.specs.Prelude.{◌≡◌, None, fold, IfSome};
+ghost use Rattle.std.specs.Arc.{arc_value};
+ghost use Rattle.tox_sockets.specs.ResetDue.{after_op};
+ghost use Rattle.tox_sockets.specs.Streams.{target_of};
+
+use std::alloc::Global;
+use std::sync::Arc;
+use tox_link::{Ends, NoNotes, carry};
+use tox_links::{Carried, Course, ServeRuntime};
+use tox_sockets::{LinkSockets, LinkStart, SinceStart, UntilCut, UntilDue};
+use tox_time::{MAX_BYTES, OpenGate, Real};
+
+/// One direction of a link, before it is carried.
+#[derive(Drop)]
+pub(crate) struct Direction {
+    pub(crate) course: Course,
+    pub(crate) reader: UntilCut,
+}
+
+impl Direction {
+    /// The direction of a course's stream. None where its reader can't share the link.
+    pub(crate) fn new(link: &Arc<LinkSockets, Global>, course: Course) -> Option<Direction>
+        ensures course { IfSome result (λ direction. direction.course ≡ course) }
+        ensures link { IfSome result (λ direction.
+            arc_value direction.reader.link ≡ arc_value link.now) }
+        ensures stream { IfSome result (λ direction. direction.reader.stream ≡ course.stream) }
+    {
+        let reader = UntilCut::new(link, course.stream)?;
+        Some(Direction { course, reader })
+    }
+}
+
+/// The writer of a stream of a link.
+fn writer_of<'a, 'r, R: ServeRuntime>(
+    rt: &'r R,
+    link: &'a LinkSockets,
+    course: &Course,
+    clock: SinceStart<'r, R>,
+) -> UntilDue<'a, 'r, R>
+    ensures socket { result.socket.now ≡ target_of course.now.stream link.now }
+    ensures due { result.due ≡ fold after_op None course.now.plan.ops }
+{
+    let target = link.ends_of(course.stream).target;
+    UntilDue::new(rt, target, clock, course.plan.ops())
+}
+
+/// Carries one direction to its end. After a fault both sockets are reset, so that the other direction ends too.
+pub(crate) fn carry_stream<R: ServeRuntime>(
+    rt: &R,
+    alloc: Global,
+    link: &LinkSockets,
+    direction: Direction,
+    start: LinkStart,
+    gate: &Arc<OpenGate, Global>,
+) -> Carried
+    ensures { result.stream ≡ direction.course.stream }
+{
+    let Direction { course, reader } = direction;
+    let clock = SinceStart::new(rt, link, start);
+    let sockets = link.ends_of(course.stream);
+    let mut ends = Ends {
+        writer: Real::new(writer_of(rt, link, &course, clock)),
+        hangup: sockets,
+    };
+    let Course {
+        stream,
+        words,
+        plan,
+    } = course;
+    let done = carry(
+        rt,
+        alloc,
+        Real::new(reader),
+        &mut ends,
+        &clock,
+        plan,
+        &words,
+        MAX_BYTES,
+        &mut NoNotes,
+        gate,
+    );
+    match done {
+        Ok(report) => Carried::until_end(stream, &report, ends.hangup.was_stopped),
+        Err(fault) => {
+            sockets.reset();
+            Carried::until_fault(stream, &fault)
+        }
+    }
+}

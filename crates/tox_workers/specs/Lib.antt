@@ -1,0 +1,4 @@
+pub mod Driven
+pub mod Lanes
+pub mod Tokens
+pub mod Ready

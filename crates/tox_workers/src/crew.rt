@@ -1,0 +1,88 @@
+//! The workers of a run and its proxies.
+use crate::served_proxy::ServedProxy;
+use crate::subject::{Subject, token_of};
+use crate::worker::accepting::Accepting;
+use mio::{Events, Poll, Registry, Waker};
+use std::alloc::Global;
+use std::net::{Net, TcpListener, TcpStream};
+use std::sync::Wait;
+use tox_links::Listening;
+
+/// How many events a wait gives at most.
+const EVENTS: usize = 512;
+
+/// What all workers of a run share.
+#[derive(Drop)]
+pub struct Crew<'a> {
+    pub(crate) proxies: Vec<ServedProxy<'a>>,
+    /// What wakes each worker.
+    wakers: Vec<Waker>,
+}
+
+/// What a worker waits at. The listeners and what wakes it are registered.
+#[derive(Drop)]
+pub struct Desk {
+    pub(crate) poll: Poll,
+    pub(crate) registry: Registry,
+    pub(crate) events: Events<Global>,
+    pub(crate) accepting: Vec<Accepting>,
+}
+
+impl<'a> Crew<'a> {
+    /// The crew of so many workers for proxies whose addresses are bound, and the workers' desks. None if memory or descriptors
+    /// are refused.
+    pub fn new<R: Net<Listener = TcpListener, Stream = TcpStream> + Wait>(
+        rt: &R,
+        alloc: Global,
+        listening: Vec<Listening<'a>>,
+        workers: u32,
+    ) -> Option<(Crew<'a>, Vec<Desk>)> {
+        let mut crew = Crew {
+            proxies: Vec::new(alloc),
+            wakers: Vec::new(alloc),
+        };
+        for bound in listening {
+            crew.proxies.push(ServedProxy::new(alloc, bound)?).ok()?;
+        }
+        let mut desks = Vec::new(alloc);
+        for _ in 0..workers {
+            let (desk, waker) = crew.desk(rt, alloc)?;
+            crew.wakers.push(waker).ok()?;
+            desks.push(desk).ok()?;
+        }
+        Some((crew, desks))
+    }
+
+    /// A desk, and what wakes its worker.
+    fn desk<R: Net<Listener = TcpListener, Stream = TcpStream> + Wait>(
+        &self,
+        rt: &R,
+        alloc: Global,
+    ) -> Option<(Desk, Waker)> {
+        let poll = Poll::new(rt).ok()?;
+        let registry = poll.registry().try_clone().ok()?;
+        let waker = Waker::new(&registry, token_of(Subject::Waker)).ok()?;
+        let mut accepting = Vec::new(alloc);
+        for (place, proxy) in self.proxies.iter().enumerate() {
+            let place = u32::try_from(place).ok()?;
+            let token = token_of(Subject::Listener(place));
+            proxy.door.register(rt, &registry, token).ok()?;
+            accepting.push(Accepting::Goes).ok()?;
+        }
+        let events = Events::with_capacity(alloc, EVENTS).ok()?;
+        let desk = Desk {
+            poll,
+            registry,
+            events,
+            accepting,
+        };
+        Some((desk, waker))
+    }
+
+    /// Wakes all workers.
+    pub fn wake_all(&self) {
+        for waker in &self.wakers {
+            let _ = waker.wake();
+        }
+    }
+}

@@ -1,0 +1,175 @@
+//! One direction of a link while it goes on: the step machine and its two ends.
+ghost use Rattle.std.specs.Prelude.{◌≡◌, true, false, List, IfSome};
+ghost use Rattle.tox_link.specs.direction.Driven.{IsAtEnd};
+ghost use Rattle.tox_link.specs.direction.Follows.{IsHeld, IsNew};
+ghost use Rattle.tox_link.specs.declared.source_ending.SourceEnding.TheVariants.{ReadFault as AtFault, ReadsUsedUp as AtLastRead};
+ghost use Rattle.std.proofs.Props.{props};
+ghost use Rattle.tox_workers.specs.Ready.{IsHeld-prop};
+ghost use Rattle.tox_time.specs.declared.streams.item.Item.{Item as OneItem};
+ghost use Rattle.tox_time.specs.streams.Stream.{IsStream};
+ghost use Rattle.tox_compile.specs.Meaning.{means};
+ghost use Rattle.tox_link.specs.link_core.Core.{remaining_output};
+
+use crate::news::News;
+use std::alloc::Global;
+use std::boxed::Box;
+use std::sync::Arc;
+use std::time::Clock;
+use tox_compile::Plan;
+use tox_link::{Hangup, NoNotes, PollSink, PollSource, PolledLink, Progress, drive, finish};
+use tox_links::{Carried, Course};
+use tox_sockets::{LinkSockets, LinkStart, ReadySink, ReadySource, SinceStart};
+use tox_time::{Ending, Micros, Stream};
+use tox_words::Words;
+
+/// The most bytes of one read.
+pub(crate) const READ_SIZE: usize = 16_384;
+
+/// One direction of a link that goes on.
+#[derive(Drop)]
+pub(crate) struct Flow<'r, R> {
+    pub(crate) stream: Stream,
+    pub(crate) link: Box<PolledLink>,
+    pub(crate) source: ReadySource,
+    pub(crate) sink: ReadySink<'r, R>,
+    pub(crate) ghost held: { IsHeld link.value } by { IsHeld-prop link.value },
+    pub(crate) ghost readable: { link.value.ended ≡ false → source.failed ≡ false },
+    pub(crate) ghost failed: { link.value.source ≡ AtFault → source.failed ≡ true } by { Prim.hlevel props },
+    pub(crate) ghost unlimited: { ¬ (link.value.source ≡ AtLastRead) },
+    pub(crate) ghost writable: { sink.failed ≡ false },
+}
+
+/// What a direction does next, once it was driven.
+#[derive(Drop)]
+pub(crate) enum Driven<'r, R> {
+    /// It waits for an event of its sockets, at most until this instant of its link's clock if there is one.
+    Waits(Flow<'r, R>, Option<Micros>),
+    /// It may go on at once.
+    Again(Flow<'r, R>),
+    Ended(Carried),
+}
+
+impl<'r, R: Clock> Flow<'r, R> {
+    ghost use Rattle.tox_workers.specs.Driven.{IsDrivenOf};
+
+    /// A direction of a course, at which nothing has come. `closing` tells whether the source's peer was reported to send no
+    /// more. None if out of memory.
+    pub(crate) fn new(
+        rt: &'r R,
+        alloc: Global,
+        sockets: &Arc<LinkSockets, Global>,
+        start: LinkStart,
+        course: Course,
+        closing: bool,
+    ) -> Option<Flow<'r, R>>
+        ensures stream { IfSome result (λ flow. (flow.stream ≡ course.stream)
+            × (flow.source.stream ≡ course.stream) × (flow.sink.stream ≡ course.stream)) }
+        ensures meaning { IfSome result (λ flow. (items : List OneItem) → IsStream items
+            → remaining_output flow.link.value.core items ≡ means course.plan course.words items) }
+    {
+        let Course {
+            stream,
+            words,
+            plan,
+        } = course;
+        let source = ReadySource::new(sockets, stream, closing)?;
+        let sink = ReadySink::new(rt, sockets, stream, start, plan.ops())?;
+        let link = link_of(alloc, plan, words)?;
+        let link = Box::new(alloc, link).ok()?;
+        Some(Flow {
+            stream,
+            link,
+            source,
+            sink,
+        })
+    }
+
+    /// Takes as many steps as the sockets allow, and no more than 32. Where the direction ends it is hung up, and after a fault
+    /// both sockets are reset.
+    pub(crate) fn drive(
+        self,
+        alloc: Global,
+        clock: &SinceStart<'_, R>,
+        sockets: &LinkSockets,
+        scratch: &mut [u8; READ_SIZE],
+    ) -> Driven<'r, R>
+        ensures { IsDrivenOf self.entry.stream result }
+    {
+        let Flow {
+            stream,
+            mut link,
+            mut source,
+            mut sink,
+        } = self;
+        let notes = &mut NoNotes;
+        match drive(
+            &mut link,
+            alloc,
+            clock,
+            notes,
+            &mut source,
+            &mut sink,
+            scratch,
+        ) {
+            Ok(Progress::Waits(until)) => {
+                let flow = Flow {
+                    stream,
+                    link,
+                    source,
+                    sink,
+                };
+                Driven::Waits(flow, until)
+            }
+            Ok(Progress::Again) => Driven::Again(Flow {
+                stream,
+                link,
+                source,
+                sink,
+            }),
+            Ok(Progress::Ended(ending)) => {
+                Driven::Ended(end(link, clock, sockets, stream, &ending))
+            }
+            Err(fault) => {
+                sockets.ends_of(stream).reset();
+                Driven::Ended(Carried::until_fault(stream, &fault))
+            }
+        }
+    }
+}
+
+/// The step machine of a plan. It keeps its words where the plan draws.
+fn link_of(alloc: Global, plan: Plan, words: Words) -> Option<PolledLink>
+    ensures meaning { IfSome result (λ link. (items : List OneItem) → IsStream items
+        → remaining_output link.core items ≡ means plan words items) }
+    ensures fresh { IfSome result IsNew }
+    ensures held { IfSome result IsHeld }
+{
+    if plan.draws() {
+        PolledLink::new(alloc, plan, words).ok()
+    } else {
+        PolledLink::without_words(alloc, plan).ok()
+    }
+}
+
+/// Hangs a direction up that has ended, and tells what it carried.
+fn end<R: Clock>(
+    link: Box<PolledLink>,
+    clock: &SinceStart<'_, R>,
+    sockets: &LinkSockets,
+    stream: Stream,
+    ending: &Ending,
+) -> Carried
+    requires held { IsHeld link.value }
+    requires ended { IsAtEnd (λ _. Unit {0}) link.value ending.now }
+    ensures { result.stream ≡ stream }
+{
+    let mut ends = sockets.ends_of(stream);
+    ends.hang_up(*ending, link.has_read_all());
+    let was_stopped = ends.was_stopped;
+    let link = Box::into_inner(link);
+    let driven = Ok(*ending);
+    match finish(link, clock, driven, ()) {
+        Ok(timed) => Carried::until_end(stream, &timed.report, was_stopped),
+        Err(fault) => Carried::until_fault(stream, &fault),
+    }
+}

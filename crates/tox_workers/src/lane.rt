@@ -1,0 +1,160 @@
+//! One direction of a link whose upstream is connected.
+ghost use Rattle.std.specs.Prelude.{◌≡◌, IfSome};
+ghost use Rattle.tox_workers.specs.Lanes.{IsOf, IsOf-prop};
+
+use crate::flow::{Driven, Flow, READ_SIZE};
+use crate::news::News;
+use crate::since::Since;
+use std::alloc::Global;
+use std::mem;
+use std::time::Clock;
+use tox_link::LinkFault;
+use tox_links::Carried;
+use tox_sockets::{LinkSockets, SinceStart};
+use tox_time::Stream;
+
+/// How far a direction is.
+#[derive(Drop)]
+pub(crate) enum State<'r, R> {
+    Going(Flow<'r, R>),
+    Ended(Carried),
+    /// It is being driven.
+    Driven,
+}
+
+/// What a direction that was driven does next.
+#[derive(Clone, Copy, Debug, PartialEq, Eq)]
+pub(crate) enum Next {
+    /// It waits for an event, or for a timer that is set.
+    Waits,
+    /// It waits for an event, at most until this instant of the worker's clock, for which no timer is set.
+    WaitsUntil(u64),
+    /// It may go on at once.
+    Again,
+    /// It has just ended.
+    Ended,
+}
+
+/// One direction of a link.
+#[derive(Drop)]
+pub(crate) struct Lane<'r, R> {
+    pub(crate) stream: Stream,
+    pub(crate) state: State<'r, R>,
+    /// When its earliest timer is due, by the worker's clock.
+    armed: Option<u64>,
+    ghost of_stream: { IsOf stream state } by { IsOf-prop stream state },
+}
+
+impl<'r, R: Clock> Lane<'r, R> {
+    /// A direction that goes on.
+    pub(crate) fn new(flow: Flow<'r, R>) -> Lane<'r, R>
+        ensures { result.stream ≡ flow.entry.stream }
+    {
+        Lane {
+            stream: flow.stream,
+            state: State::Going(flow),
+            armed: None,
+        }
+    }
+
+    /// The system reported something of its source. Whether it is to be driven.
+    pub(crate) fn note_source(&mut self, news: &News) -> bool
+        ensures { self.new.stream ≡ self.old.stream }
+    {
+        match &mut self.state {
+            State::Going(flow) if news.readable => {
+                flow.source.note(news.closing);
+                true
+            }
+            _ => false,
+        }
+    }
+
+    /// The system reported something of its target. Whether it is to be driven.
+    pub(crate) fn note_target(&mut self, news: &News) -> bool
+        ensures { self.new.stream ≡ self.old.stream }
+    {
+        match &mut self.state {
+            State::Going(flow) if news.writable => flow.sink.note() || news.gone,
+            _ => false,
+        }
+    }
+
+    /// A timer of it is over.
+    pub(crate) fn disarm(&mut self, due: u64)
+        ensures { self.new.stream ≡ self.old.stream }
+    {
+        if self.armed == Some(due) {
+            self.armed = None;
+        }
+    }
+
+    /// Drives it, unless it has ended before.
+    pub(crate) fn drive(
+        &mut self,
+        rt: &'r R,
+        alloc: Global,
+        sockets: &LinkSockets,
+        since: Since,
+        scratch: &mut [u8; READ_SIZE],
+    ) -> Next
+        ensures { self.new.stream ≡ self.old.stream }
+    {
+        let flow = match mem::replace(&mut self.state, State::Driven) {
+            State::Going(flow) => flow,
+            other => {
+                self.state = other;
+                return Next::Waits;
+            }
+        };
+        let clock = SinceStart::new(rt, sockets, since.start);
+        match flow.drive(alloc, &clock, sockets, scratch) {
+            Driven::Waits(flow, until) => {
+                self.state = State::Going(flow);
+                match until {
+                    Some(until) => self.arm(since.worker.saturating_add(until.get())),
+                    None => Next::Waits,
+                }
+            }
+            Driven::Again(flow) => {
+                self.state = State::Going(flow);
+                Next::Again
+            }
+            Driven::Ended(carried) => {
+                self.state = State::Ended(carried);
+                Next::Ended
+            }
+        }
+    }
+
+    /// It waits until an instant. A timer that is due before serves too: it drives it once more.
+    fn arm(&mut self, due: u64) -> Next
+        ensures { self.new.stream ≡ self.old.stream }
+    {
+        if self.armed.is_some_and(|armed| armed <= due) {
+            return Next::Waits;
+        }
+        self.armed = Some(due);
+        Next::WaitsUntil(due)
+    }
+
+    /// Breaks it off, out of memory.
+    pub(crate) fn break_off(&mut self)
+        ensures { self.new.stream ≡ self.old.stream }
+    {
+        if let State::Going(flow) = &self.state {
+            let fault = LinkFault::OutOfMemory(flow.link.written());
+            self.state = State::Ended(Carried::until_fault(self.stream, &fault));
+        }
+    }
+
+    /// What it carried, if it has ended.
+    pub(crate) fn carried(&self) -> Option<&Carried>
+        ensures { IfSome result (λ carried. carried.now.stream ≡ self.now.stream) }
+    {
+        match &self.state {
+            State::Ended(carried) => Some(carried),
+            _ => None,
+        }
+    }
+}

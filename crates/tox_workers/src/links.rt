@@ -1,0 +1,108 @@
+//! The links of a worker, in slots that are used again.
+ghost use Rattle.std.specs.Prelude.{◌≡◌, ◌<◌, ◌^◌, IfSome, None, Some};
+ghost use Rattle.slab.specs.Slab.{get};
+
+use crate::link_key::LinkKey;
+use crate::stage::Stage;
+use crate::subject::MAX_SLOTS;
+use slab::Slab;
+use std::alloc::Global;
+
+/// A slot: the generation of the link that has it, and how far the link is, unless it is being driven.
+#[derive(Drop)]
+pub(crate) struct Place<'r, R> {
+    pub(crate) generation: u32,
+    pub(crate) stage: Option<Stage<'r, R>>,
+}
+
+/// The links of a worker.
+#[derive(Drop)]
+pub(crate) struct Links<'r, R> {
+    pub(crate) places: Slab<Place<'r, R>, Global>,
+    /// The generation of the next link.
+    next: u32,
+}
+
+impl<'r, R> Links<'r, R> {
+    /// No links.
+    pub(crate) fn new(alloc: Global) -> Links<'r, R> {
+        Links {
+            places: Slab::new(alloc),
+            next: 0,
+        }
+    }
+
+    pub(crate) fn is_empty(&self) -> bool {
+        self.places.is_empty()
+    }
+
+    /// How many slots there are.
+    pub(crate) fn slots(&self) -> usize {
+        self.places.capacity()
+    }
+
+    /// The key of the link in a slot, if there is one.
+    pub(crate) fn key_at(&self, slot: usize) -> Option<LinkKey> {
+        if slot >= MAX_SLOTS {
+            return None;
+        }
+        let place = self.places.get(slot)?;
+        Some(LinkKey {
+            slot: slot as u32,
+            generation: place.generation,
+        })
+    }
+
+    /// A place for one more link. None if out of memory.
+    pub(crate) fn open(&mut self) -> Option<LinkKey>
+        ensures { IfSome result (λ key. key.slot < 2 ^ 30) }
+    {
+        let generation = self.next;
+        self.next = generation.wrapping_add(1);
+        let place = Place {
+            generation,
+            stage: None,
+        };
+        let slot = self.places.insert(place).ok()?;
+        if slot >= MAX_SLOTS {
+            let refused = self.places.try_remove(slot);
+            drop(refused);
+            return None;
+        }
+        Some(LinkKey {
+            slot: slot as u32,
+            generation,
+        })
+    }
+
+    /// Takes a link out of its place, to drive it. None if the key is that of a link that has ended.
+    pub(crate) fn take(&mut self, key: LinkKey) -> Option<Stage<'r, R>>
+        ensures { IfSome result (λ stage. (place : _) × (get self.old.places key.slot ≡ Some place)
+            × (place.generation ≡ key.generation) × (place.stage ≡ Some stage)) }
+    {
+        let place = self.places.get_mut(key.slot as usize)?;
+        if place.generation != key.generation {
+            return None;
+        }
+        place.stage.take()
+    }
+
+    /// Puts a link back into its place.
+    pub(crate) fn put(&mut self, key: LinkKey, stage: Stage<'r, R>) {
+        match self.places.get_mut(key.slot as usize) {
+            Some(place) if place.generation == key.generation => place.stage = Some(stage),
+            _ => {}
+        }
+    }
+
+    /// Frees the place of a link that was taken out. Its key names no link from now on.
+    pub(crate) fn close(&mut self, key: LinkKey) {
+        let slot = key.slot as usize;
+        match self.places.get(slot) {
+            Some(place) if place.generation == key.generation => {}
+            _ => return,
+        }
+        let closed = self.places.try_remove(slot);
+        drop(closed);
+    }
+}

@@ -1,0 +1,134 @@
+//! A link whose upstream is connected: its sockets and its two directions.
+ghost use Rattle.std.specs.Prelude.{◌≡◌, IfSome};
+ghost use Rattle.tox_time.specs.declared.streams.stream.Stream.TheVariants as StreamOf;
+
+use crate::flow::{Flow, READ_SIZE};
+use crate::lane::{Lane, Next};
+use crate::news::News;
+use crate::side::Side;
+use crate::since::Since;
+use std::alloc::Global;
+use std::sync::Arc;
+use std::time::Clock;
+use tox_links::{Courses, LinkEnd};
+use tox_sockets::LinkSockets;
+use tox_time::Stream;
+
+/// A link whose upstream is connected.
+#[derive(Drop)]
+pub(crate) struct OpenLink<'r, R> {
+    pub(crate) number: u64,
+    /// The place of its proxy.
+    pub(crate) proxy: usize,
+    sockets: Arc<LinkSockets, Global>,
+    /// Its key among the live sockets.
+    pub(crate) live: usize,
+    since: Since,
+    up: Lane<'r, R>,
+    down: Lane<'r, R>,
+    ghost upstream: { up.stream ≡ StreamOf.Upstream },
+    ghost downstream: { down.stream ≡ StreamOf.Downstream },
+}
+
+/// What an open link is made of besides its courses.
+#[derive(Drop)]
+pub(crate) struct Opening {
+    pub(crate) number: u64,
+    pub(crate) proxy: usize,
+    pub(crate) sockets: Arc<LinkSockets, Global>,
+    pub(crate) live: usize,
+    pub(crate) since: Since,
+    /// Whether its client was reported to send no more.
+    pub(crate) closing: bool,
+}
+
+impl<'r, R: Clock> OpenLink<'r, R> {
+    /// A link of these courses, at which nothing has come. None if out of memory.
+    pub(crate) fn new(
+        rt: &'r R,
+        alloc: Global,
+        opening: Opening,
+        courses: Courses,
+    ) -> Option<OpenLink<'r, R>>
+        requires up { courses.up.stream ≡ StreamOf.Upstream }
+        requires down { courses.down.stream ≡ StreamOf.Downstream }
+        ensures { IfSome result (λ link. (link.number ≡ opening.number)
+            × (link.proxy ≡ opening.proxy)) }
+    {
+        let Opening {
+            number,
+            proxy,
+            sockets,
+            live,
+            since,
+            closing,
+        } = opening;
+        let Courses { up, down } = courses;
+        let up = Flow::new(rt, alloc, &sockets, since.start, up, closing)?;
+        let down = Flow::new(rt, alloc, &sockets, since.start, down, false)?;
+        Some(OpenLink {
+            number,
+            proxy,
+            sockets,
+            live,
+            since,
+            up: Lane::new(up),
+            down: Lane::new(down),
+        })
+    }
+
+    /// The system reported something of a socket. Tells whether the upstream and the downstream direction are to be driven.
+    pub(crate) fn note(&mut self, side: Side, news: &News) -> (bool, bool) {
+        match side {
+            Side::Client => {
+                let up = self.up.note_source(news);
+                let down = self.down.note_target(news);
+                (up, down)
+            }
+            Side::Server => {
+                let up = self.up.note_target(news);
+                let down = self.down.note_source(news);
+                (up, down)
+            }
+        }
+    }
+
+    /// A timer of a direction is over.
+    pub(crate) fn disarm(&mut self, stream: Stream, due: u64) {
+        match stream {
+            Stream::Upstream => self.up.disarm(due),
+            Stream::Downstream => self.down.disarm(due),
+        }
+    }
+
+    /// Drives a direction, unless it has ended before.
+    pub(crate) fn drive(
+        &mut self,
+        rt: &'r R,
+        alloc: Global,
+        stream: Stream,
+        scratch: &mut [u8; READ_SIZE],
+    ) -> Next {
+        let since = self.since;
+        match stream {
+            Stream::Upstream => self.up.drive(rt, alloc, &self.sockets, since, scratch),
+            Stream::Downstream => self.down.drive(rt, alloc, &self.sockets, since, scratch),
+        }
+    }
+
+    /// Breaks the link off, out of memory.
+    pub(crate) fn break_off(&mut self) {
+        self.sockets.ends_of(Stream::Upstream).reset();
+        self.up.break_off();
+        self.down.break_off();
+    }
+
+    /// How the link ended, if both its directions have.
+    pub(crate) fn end(&self) -> Option<LinkEnd>
+        ensures { IfSome result (λ end. end.number ≡ self.now.number) }
+    {
+        let up = self.up.carried()?;
+        let down = self.down.carried()?;
+        Some(LinkEnd::of(self.number, up, down))
+    }
+}

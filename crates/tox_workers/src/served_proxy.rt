@@ -1,0 +1,32 @@
+//! A proxy that workers serve: what all of them share of it.
+use crate::door::Door;
+use crate::upstream::Upstream;
+use std::alloc::Global;
+use tox_links::{Listening, ProxyLinks};
+
+/// A proxy that workers serve.
+#[derive(Drop)]
+pub(crate) struct ServedProxy<'a> {
+    pub(crate) links: ProxyLinks<'a>,
+    pub(crate) door: Door,
+    pub(crate) upstream: Upstream,
+}
+
+impl<'a> ServedProxy<'a> {
+    /// A proxy whose address is bound. None if it can't be served.
+    pub(crate) fn new(alloc: Global, listening: Listening<'a>) -> Option<ServedProxy<'a>> {
+        let Listening {
+            proxy,
+            listener,
+            key,
+            address: _,
+        } = listening;
+        let upstream = Upstream::new(alloc, &proxy.upstream)?;
+        let door = Door::new(listener, key).ok()?;
+        Some(ServedProxy {
+            links: ProxyLinks::new(alloc, proxy),
+            door,
+            upstream,
+        })
+    }
+}

@@ -1,0 +1,90 @@
+//! Starting the threads of a crew: one for each worker, and one for each proxy.
+use crate::crew::{Crew, Desk};
+use crate::served_proxy::ServedProxy;
+use crate::upstream::Job;
+use crate::worker::work;
+use std::sync::Mutex;
+use std::thread::Scope;
+use tox_links::{ServeRun, ServeRuntime};
+
+/// Starts the workers and the threads of the proxies, all of which wait until they may go. False if one is refused.
+pub fn start_crew<'s, E: 's, R: ServeRuntime>(
+    rt: &'s R,
+    run: &'s ServeRun<'s>,
+    crew: &'s Crew<'s>,
+    desks: Vec<Desk>,
+    may_go: &'s Mutex<bool>,
+    scope: &'s Scope<'s, E>,
+) -> bool {
+    for desk in desks {
+        if !start_worker(rt, run, crew, desk, may_go, scope) {
+            return false;
+        }
+    }
+    for proxy in &crew.proxies {
+        if !start_proxy(rt, run, crew, proxy, may_go, scope) {
+            return false;
+        }
+    }
+    true
+}
+
+fn start_worker<'s, E: 's, R: ServeRuntime>(
+    rt: &'s R,
+    run: &'s ServeRun<'s>,
+    crew: &'s Crew<'s>,
+    desk: Desk,
+    may_go: &'s Mutex<bool>,
+    scope: &'s Scope<'s, E>,
+) -> bool {
+    let started = scope.spawn(move || {
+        let goes = *may_go.lock(rt);
+        if goes {
+            work(rt, run, crew, desk);
+        }
+    });
+    started.is_ok()
+}
+
+fn start_proxy<'s, E: 's, R: ServeRuntime>(
+    rt: &'s R,
+    run: &'s ServeRun<'s>,
+    crew: &'s Crew<'s>,
+    proxy: &'s ServedProxy<'s>,
+    may_go: &'s Mutex<bool>,
+    scope: &'s Scope<'s, E>,
+) -> bool {
+    let started = scope.spawn(move || {
+        let goes = *may_go.lock(rt);
+        if goes {
+            serve_proxy(rt, run, crew, proxy);
+        }
+        run.stop.ended(rt, &run.proxies);
+    });
+    started.is_ok()
+}
+
+/// Resolves the names that workers ask for, and prints the totals once the proxy has stopped listening and all its links have
+/// ended.
+fn serve_proxy<R: ServeRuntime>(
+    rt: &R,
+    run: &ServeRun<'_>,
+    crew: &Crew<'_>,
+    proxy: &ServedProxy<'_>,
+) {
+    let served = proxy.links.proxy;
+    for _ in rt.forever() {
+        match proxy.upstream.next_job(rt) {
+            Job::Resolve => {
+                proxy.upstream.resolve(rt, &served.upstream);
+                crew.wake_all();
+            }
+            Job::Look => {
+                if proxy.links.have_ended(rt) || run.live.is_stopping(rt) {
+                    break;
+                }
+            }
+        }
+    }
+    proxy.links.end(rt, run);
+}

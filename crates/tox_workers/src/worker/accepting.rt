@@ -1,0 +1,92 @@
+//! Taking connections.
+use crate::door::Given;
+use crate::waits::earlier;
+use crate::worker::Worker;
+use tox_links::ServeRuntime;
+
+/// How many connections are taken before the links have their turns.
+const ACCEPTS: usize = 16;
+
+/// How long a worker takes no connections of a proxy for lack of descriptors, in microseconds.
+const REST: u64 = 10_000;
+
+/// Whether a proxy may have more connections.
+#[derive(Clone, Copy, Debug, PartialEq, Eq)]
+pub(crate) enum Accepting {
+    /// After an event.
+    Waits,
+    Goes,
+    /// At this instant of the worker's clock.
+    RestsUntil(u64),
+    /// It has stopped listening.
+    Closed,
+}
+
+impl<'s, R: ServeRuntime> Worker<'s, R> {
+    /// A proxy may have connections, unless it has stopped listening.
+    pub(super) fn may_accept(&mut self, place: usize) {
+        if let Some(state) = self.accepting.get_mut(place) {
+            if *state != Accepting::Closed {
+                *state = Accepting::Goes;
+            }
+        }
+    }
+
+    /// When a proxy is next asked for connections that had none for lack of descriptors.
+    pub(super) fn next_accept(&self) -> Option<u64> {
+        let mut next = None;
+        for state in &self.accepting {
+            if let Accepting::RestsUntil(instant) = state {
+                next = earlier(next, Some(*instant));
+            }
+        }
+        next
+    }
+
+    /// Whether connections of a proxy are to be taken now.
+    pub(super) fn accepts_now(&self, place: usize) -> bool {
+        match self.accepting.get(place) {
+            Some(Accepting::Goes) => true,
+            Some(Accepting::RestsUntil(instant)) => *instant <= self.now(),
+            _ => false,
+        }
+    }
+
+    /// Takes some connections of a proxy, and begins their links.
+    pub(super) fn accept(&mut self, place: usize) {
+        let mut next = Accepting::Goes;
+        for _ in 0..ACCEPTS {
+            match self.take_one(place) {
+                Some(state) => {
+                    next = state;
+                    break;
+                }
+                None => {}
+            }
+        }
+        if let Some(state) = self.accepting.get_mut(place) {
+            *state = next;
+        }
+    }
+
+    /// Takes a connection, and begins its link. Tells when the proxy is to be asked again, if not at once.
+    fn take_one(&mut self, place: usize) -> Option<Accepting> {
+        let crew = self.crew;
+        let proxy = crew.proxies.get(place)?;
+        match proxy.door.take(self.rt, self.run, &proxy.links) {
+            Given::Client(taken) => {
+                self.begin(place, taken);
+                None
+            }
+            Given::Nobody => None,
+            Given::Empty => Some(Accepting::Waits),
+            Given::Lack => Some(Accepting::RestsUntil(self.now().saturating_add(REST))),
+            Given::Closes => {
+                proxy.upstream.close(self.rt);
+                crew.wake_all();
+                Some(Accepting::Closed)
+            }
+            Given::Closed => Some(Accepting::Closed),
+        }
+    }
+}

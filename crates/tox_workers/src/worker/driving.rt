@@ -1,0 +1,166 @@
+//! Driving the directions of links: after an event, at a timer, or in their turn.
+use crate::flow::READ_SIZE;
+use crate::lane::Next;
+use crate::link_key::LinkKey;
+use crate::news::News;
+use crate::open_link::OpenLink;
+use crate::side::Side;
+use crate::stage::Stage;
+use crate::timers::Turn;
+use crate::worker::Worker;
+use std::boxed::Box;
+use std::mem;
+use tox_links::ServeRuntime;
+use tox_time::Stream;
+
+/// The other stream of a link.
+fn other(stream: Stream) -> Stream {
+    match stream {
+        Stream::Upstream => Stream::Downstream,
+        Stream::Downstream => Stream::Upstream,
+    }
+}
+
+impl<'s, R: ServeRuntime> Worker<'s, R> {
+    /// The system reported something of a link's socket.
+    pub(super) fn on_socket(
+        &mut self,
+        key: LinkKey,
+        side: Side,
+        news: &News,
+        scratch: &mut [u8; READ_SIZE],
+    ) {
+        match self.links.take(key) {
+            Some(Stage::Naming(client)) => {
+                if let Some(client) = self.note_client(key, client, news) {
+                    self.links.put(key, Stage::Naming(client));
+                }
+            }
+            Some(Stage::Connecting(connecting)) => {
+                if let Some(open) = self.on_connecting(key, connecting, side, news) {
+                    self.drive_both(key, open, scratch);
+                }
+            }
+            Some(Stage::Open(open)) => self.on_open(key, open, side, news, scratch),
+            None => {}
+        }
+    }
+
+    /// Drives the directions of an open link that wait for what the system reported.
+    fn on_open(
+        &mut self,
+        key: LinkKey,
+        open: Box<OpenLink<'s, R>>,
+        side: Side,
+        news: &News,
+        scratch: &mut [u8; READ_SIZE],
+    ) {
+        let mut open = open;
+        let (up, down) = open.note(side, news);
+        if up {
+            self.drive(key, &mut open, Stream::Upstream, scratch);
+        }
+        if down {
+            self.drive(key, &mut open, Stream::Downstream, scratch);
+        }
+        self.settle(key, open);
+    }
+
+    /// Drives both directions of a link that was just opened.
+    fn drive_both(
+        &mut self,
+        key: LinkKey,
+        open: Box<OpenLink<'s, R>>,
+        scratch: &mut [u8; READ_SIZE],
+    ) {
+        let mut open = open;
+        self.drive(key, &mut open, Stream::Upstream, scratch);
+        self.drive(key, &mut open, Stream::Downstream, scratch);
+        self.settle(key, open);
+    }
+
+    /// Drives a direction, and sees to it that it is driven again. Once it has ended the other one has a turn: its sockets may
+    /// have been cut.
+    fn drive(
+        &mut self,
+        key: LinkKey,
+        open: &mut OpenLink<'s, R>,
+        stream: Stream,
+        scratch: &mut [u8; READ_SIZE],
+    ) {
+        let kept = match open.drive(self.rt, self.run.alloc, stream, scratch) {
+            Next::Waits => true,
+            Next::WaitsUntil(due) => self.timers.set(due, Turn { key, stream }),
+            Next::Again => self.turns.push(Turn { key, stream }).is_ok(),
+            Next::Ended => {
+                let stream = other(stream);
+                self.turns.push(Turn { key, stream }).is_ok()
+            }
+        };
+        if !kept {
+            open.break_off();
+        }
+    }
+
+    /// Puts a link back that was driven. One that has ended is closed, and its line is printed.
+    pub(super) fn settle(&mut self, key: LinkKey, open: Box<OpenLink<'s, R>>) {
+        let Some(end) = open.end() else {
+            self.links.put(key, Stage::Open(open));
+            return;
+        };
+        self.links.close(key);
+        self.run.live.remove(self.rt, open.live);
+        let place = open.proxy;
+        drop(open);
+        self.end_link(place, &end);
+    }
+
+    /// Gives each direction its turn that may go on.
+    pub(super) fn take_turns(&mut self, scratch: &mut [u8; READ_SIZE]) {
+        let spare = mem::replace(&mut self.no_turns, Vec::new(self.run.alloc));
+        let mut turns = mem::replace(&mut self.turns, spare);
+        for turn in &turns {
+            self.take_turn(turn.key, turn.stream, scratch);
+        }
+        turns.clear();
+        self.no_turns = turns;
+    }
+
+    fn take_turn(&mut self, key: LinkKey, stream: Stream, scratch: &mut [u8; READ_SIZE]) {
+        match self.links.take(key) {
+            Some(Stage::Open(open)) => {
+                let mut open = open;
+                self.drive(key, &mut open, stream, scratch);
+                self.settle(key, open);
+            }
+            Some(stage) => self.links.put(key, stage),
+            None => {}
+        }
+    }
+
+    /// Drives the directions whose timers are due.
+    pub(super) fn fire(&mut self, scratch: &mut [u8; READ_SIZE]) {
+        let now = self.now();
+        for _ in 0..u64::MAX {
+            let Some((due, turn)) = self.timers.pop_due(now) else {
+                return;
+            };
+            self.on_timer(due, turn, scratch);
+        }
+    }
+
+    fn on_timer(&mut self, due: u64, turn: Turn, scratch: &mut [u8; READ_SIZE]) {
+        let Turn { key, stream } = turn;
+        match self.links.take(key) {
+            Some(Stage::Open(open)) => {
+                let mut open = open;
+                open.disarm(stream, due);
+                self.drive(key, &mut open, stream, scratch);
+                self.settle(key, open);
+            }
+            Some(Stage::Connecting(connecting)) => self.on_deadline(key, connecting, due),
+            Some(stage) => self.links.put(key, stage),
+            None => {}
+        }
+    }
+}

@@ -1,0 +1,346 @@
+//! From a connection that was taken to an open link.
+use crate::connecting::{Client, Connecting, Connection, connection_of};
+use crate::link_key::LinkKey;
+use crate::news::News;
+use crate::open_link::{OpenLink, Opening};
+use crate::side::Side;
+use crate::since::Since;
+use crate::stage::Stage;
+use crate::subject::{Subject, token_of};
+use crate::timers::Turn;
+use crate::upstream::Addresses;
+use crate::worker::Worker;
+use mio::Interest;
+use mio::net::TcpStream as BegunStream;
+use mio::unix::SourceFd;
+use std::alloc::Global;
+use std::boxed::Box;
+use std::mem;
+use std::net::{SocketAddr, TcpStream};
+use std::os::fd::AsRawFd;
+use std::sync::Arc;
+use tox_links::{LinkEnd, ServeRuntime, Taken, courses_of};
+use tox_sockets::{LinkSockets, LinkStart, LiveSocket};
+use tox_time::Stream;
+
+/// How many microseconds a millisecond has.
+const MILLI: u64 = 1_000;
+
+impl<'s, R: ServeRuntime> Worker<'s, R> {
+    /// Has the poll report all that happens to a link's socket. False if it can't.
+    fn register(&self, socket: &TcpStream, subject: Subject) -> bool {
+        let fd = socket.as_raw_fd();
+        let both = Interest::READABLE | Interest::WRITABLE;
+        let source = &mut SourceFd(&fd);
+        self.registry
+            .register(source, token_of(subject), both)
+            .is_ok()
+    }
+
+    /// Begins the link of a connection to the proxy at a place.
+    pub(super) fn begin(&mut self, place: usize, taken: Taken) {
+        let since = Since {
+            start: LinkStart::now(self.rt),
+            worker: self.now(),
+        };
+        let client = Client {
+            taken,
+            proxy: place,
+            since,
+            closing: false,
+        };
+        let Some(key) = self.links.open() else {
+            self.end_broken(client);
+            return;
+        };
+        let socket = &client.taken.client;
+        if socket.set_nonblocking(true).is_ok() && self.register(socket, Subject::Client(key)) {
+            self.name(key, client);
+        } else {
+            self.refuse(key, client);
+        }
+    }
+
+    /// Connects the upstream of a link, or has its name resolved.
+    fn name(&mut self, key: LinkKey, client: Client) {
+        let Some(proxy) = self.crew.proxies.get(client.proxy) else {
+            self.refuse(key, client);
+            return;
+        };
+        match proxy.upstream.addresses(self.rt) {
+            Addresses::Known(addresses) => self.connect(key, client, addresses, 0),
+            Addresses::Unreachable => self.refuse(key, client),
+            Addresses::Asked => self.await_name(key, client),
+        }
+    }
+
+    /// The link waits for the addresses of its upstream.
+    fn await_name(&mut self, key: LinkKey, client: Client) {
+        if self.naming.push(key).is_ok() {
+            self.links.put(key, Stage::Naming(client));
+        } else {
+            self.refuse(key, client);
+        }
+    }
+
+    /// Begins to connect the first of the addresses, from a place on, that can be tried. Without one the link is broken.
+    fn connect(
+        &mut self,
+        key: LinkKey,
+        client: Client,
+        addresses: Arc<Vec<SocketAddr>, Global>,
+        from: usize,
+    ) {
+        let Some((server, next)) = self.begin_connect(key, &addresses, from) else {
+            self.refuse(key, client);
+            return;
+        };
+        let Ok(deadline) = self.set_deadline(key) else {
+            self.refuse(key, client);
+            return;
+        };
+        let connecting = Connecting {
+            client,
+            server,
+            addresses,
+            next,
+            deadline,
+        };
+        self.links.put(key, Stage::Connecting(connecting));
+    }
+
+    /// A connect that has begun, and the place behind its address. None if there is none left, or the run is stopping.
+    fn begin_connect(
+        &self,
+        key: LinkKey,
+        addresses: &[SocketAddr],
+        from: usize,
+    ) -> Option<(TcpStream, usize)> {
+        for place in from..addresses.len() {
+            if self.run.live.is_stopping(self.rt) {
+                return None;
+            }
+            if let Ok(server) = BegunStream::connect(self.rt, addresses[place]) {
+                let server = TcpStream::from(server);
+                if self.register(&server, Subject::Server(key)) {
+                    return Some((server, place + 1));
+                }
+            }
+        }
+        None
+    }
+
+    /// Sets a timer for when a connect that begins now is given up, if it is. An error if out of memory.
+    fn set_deadline(&mut self, key: LinkKey) -> Result<Option<u64>, ()> {
+        let Some(millis) = self.run.options.connect_timeout else {
+            return Ok(None);
+        };
+        let due = self
+            .now()
+            .saturating_add(u64::from(millis).saturating_mul(MILLI));
+        let turn = Turn {
+            key,
+            stream: Stream::Upstream,
+        };
+        if self.timers.set(due, turn) {
+            Ok(Some(due))
+        } else {
+            Err(())
+        }
+    }
+
+    /// The system reported something of the client of a link that isn't connected yet. None if it is gone: the link is broken then.
+    pub(super) fn note_client(
+        &mut self,
+        key: LinkKey,
+        client: Client,
+        news: &News,
+    ) -> Option<Client> {
+        let mut client = client;
+        if news.gone {
+            self.refuse(key, client);
+            return None;
+        }
+        client.closing = client.closing || news.closing;
+        Some(client)
+    }
+
+    /// The system reported something of a socket of a link that is being connected. The link, once it is open.
+    pub(super) fn on_connecting(
+        &mut self,
+        key: LinkKey,
+        connecting: Connecting,
+        side: Side,
+        news: &News,
+    ) -> Option<Box<OpenLink<'s, R>>> {
+        if side == Side::Client {
+            self.on_waiting_client(key, connecting, news);
+            return None;
+        }
+        match connection_of(&connecting.server) {
+            Connection::Coming => {
+                self.links.put(key, Stage::Connecting(connecting));
+                None
+            }
+            Connection::There => self.open(key, connecting),
+            Connection::Refused => {
+                self.connect_next(key, connecting);
+                None
+            }
+        }
+    }
+
+    fn on_waiting_client(&mut self, key: LinkKey, connecting: Connecting, news: &News) {
+        let Connecting {
+            client,
+            server,
+            addresses,
+            next,
+            deadline,
+        } = connecting;
+        if let Some(client) = self.note_client(key, client, news) {
+            let connecting = Connecting {
+                client,
+                server,
+                addresses,
+                next,
+                deadline,
+            };
+            self.links.put(key, Stage::Connecting(connecting));
+        }
+    }
+
+    /// Gives a connect up, and tries the next address.
+    fn connect_next(&mut self, key: LinkKey, connecting: Connecting) {
+        let Connecting {
+            client,
+            server,
+            addresses,
+            next,
+            deadline: _,
+        } = connecting;
+        drop(server);
+        self.connect(key, client, addresses, next);
+    }
+
+    /// The timer of a connect is over. It is given up if that is its own, and not one of an address before.
+    pub(super) fn on_deadline(&mut self, key: LinkKey, connecting: Connecting, due: u64) {
+        if connecting.deadline == Some(due) {
+            self.connect_next(key, connecting);
+        } else {
+            self.links.put(key, Stage::Connecting(connecting));
+        }
+    }
+
+    /// The link of an upstream that is connected. None if out of memory or the run is stopping: the link is broken then.
+    fn open(&mut self, key: LinkKey, connecting: Connecting) -> Option<Box<OpenLink<'s, R>>> {
+        let Connecting {
+            client,
+            server,
+            addresses: _,
+            next: _,
+            deadline: _,
+        } = connecting;
+        let (number, place) = (client.taken.number, client.proxy);
+        let open = self.make(client, server);
+        if open.is_none() {
+            self.links.close(key);
+            self.end_link(place, &LinkEnd::broken(number));
+        }
+        open
+    }
+
+    fn make(&mut self, client: Client, server: TcpStream) -> Option<Box<OpenLink<'s, R>>> {
+        let (run, rt) = (self.run, self.rt);
+        let proxy = self.crew.proxies.get(client.proxy)?;
+        let served = proxy.links.proxy;
+        let courses = courses_of(run, &served.name, client.taken.number)?;
+        let Client {
+            taken,
+            proxy,
+            since,
+            closing,
+        } = client;
+        let Taken { client, number } = taken;
+        let sockets = LinkSockets::new(run.alloc, client, server)?;
+        let shared = sockets.clone().ok()?;
+        let live = run.live.add(rt, LiveSocket::Link(shared)).ok()?;
+        let opening = Opening {
+            number,
+            proxy,
+            sockets,
+            live,
+            since,
+            closing,
+        };
+        let open = OpenLink::new(rt, run.alloc, opening, courses);
+        let open = open.and_then(|open| Box::new(run.alloc, open).ok());
+        if open.is_none() {
+            run.live.remove(rt, live);
+        }
+        open
+    }
+
+    /// Breaks a link whose upstream isn't connected. Its client is closed.
+    pub(super) fn refuse(&mut self, key: LinkKey, client: Client) {
+        self.links.close(key);
+        self.end_broken(client);
+    }
+
+    fn end_broken(&mut self, client: Client) {
+        let (number, place) = (client.taken.number, client.proxy);
+        drop(client);
+        self.end_link(place, &LinkEnd::broken(number));
+    }
+
+    /// Settles a link of the proxy at a place.
+    pub(super) fn end_link(&self, place: usize, end: &LinkEnd) {
+        if let Some(proxy) = self.crew.proxies.get(place) {
+            proxy.links.end_link(self.rt, self.run, end);
+        }
+    }
+
+    /// Another thread has woken this one: a name was resolved, a proxy has stopped listening, or the run is stopping.
+    pub(super) fn on_wake(&mut self) {
+        for place in 0..self.accepting.len() {
+            self.may_accept(place);
+        }
+        if self.run.live.is_stopping(self.rt) {
+            self.stop_links();
+        }
+        let keys = mem::replace(&mut self.naming, Vec::new(self.run.alloc));
+        for key in keys {
+            match self.links.take(key) {
+                Some(Stage::Naming(client)) => self.name(key, client),
+                Some(stage) => self.links.put(key, stage),
+                None => {}
+            }
+        }
+    }
+
+    /// Breaks all links whose upstreams aren't connected, and drives the others: a stopped link that was cut before has no event.
+    fn stop_links(&mut self) {
+        for slot in 0..self.links.slots() {
+            let Some(key) = self.links.key_at(slot) else {
+                continue;
+            };
+            match self.links.take(key) {
+                Some(Stage::Naming(client)) => self.refuse(key, client),
+                Some(Stage::Connecting(connecting)) => self.refuse(key, connecting.into_client()),
+                Some(Stage::Open(open)) => self.turn_both(key, open),
+                None => {}
+            }
+        }
+    }
+
+    /// Gives both directions of an open link a turn.
+    fn turn_both(&mut self, key: LinkKey, open: Box<OpenLink<'s, R>>) {
+        let mut open = open;
+        for stream in [Stream::Upstream, Stream::Downstream] {
+            if self.turns.push(Turn { key, stream }).is_err() {
+                open.break_off();
+            }
+        }
+        self.settle(key, open);
+    }
+}
