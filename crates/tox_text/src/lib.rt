@@ -25,3 +25,4 @@ pub use parts::Part;
 pub use pick_text::{PrintPickFault, print_pick};
 pub use plan_text::print_plan;
 pub use result_line::{print_ending, print_lent};
+pub use short_form::print_short;

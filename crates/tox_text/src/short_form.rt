@@ -11,7 +11,7 @@ use tox_defs::Entry;
 use tox_time::{EndFault, Sink};
 
 /// Prints the short form of a toxic with its toxicity.
-pub(crate) fn print_short<W: Sink>(
+pub fn print_short<W: Sink>(
     buffer: &mut Buffer,
     writer: &mut W,
     entry: &Entry,

@@ -1,0 +1,41 @@
+-- Lines of the header, in the parts in which they are printed.
+use Rattle.std.proofs.Common.{◌≡◌, ℕ, ◌<◌, List, [], ◌++◌, codes, decimal, length, map, get_or, ap, sym, ◌∙◌, append-nil, append_assoc, arith}
+use Rattle.std.specs.List.{zip}
+use Rattle.std.proofs.lemmas.List.{get_or-map, length-map}
+use Rattle.std.proofs.lemmas.Slice.Zip.{get_or-zip, length-zip}
+use Rattle.tox_defs.specs.short.Printed.{printed_short}
+use Rattle.tox_defs.specs.declared.chain.Entry.{Entry}
+use Rattle.tox_text.proofs.Listed.{IsAt}
+use Rattle.tox_time.specs.declared.streams.stream.Stream.{Stream}
+use Rattle.tox_time.specs.streams.StreamName.{stream_name}
+use Rattle.tox_words.specs.declared.lanes.Lanes.{Lanes}
+use Rattle.tox_words.specs.Draw.{lane_count}
+use Rattle.tox_log.specs.HeaderText.{heading_lines, toxic_line}
+
+three-lines : (title a name b number c word d e count f seed g : List ℕ)
+    → title ++ (a ++ (name ++ (b ++ (number ++ (c ++ (word ++ (d ++ (e ++ (count ++ (f ++ (seed ++ (g ++ []))))))))))))
+    ≡ title ++ (a ++ name ++ b ++ number ++ c ++ word ++ d) ++ (e ++ count ++ f ++ seed ++ g)
+three-lines title a name b number c word d e count f seed g = simp (append_assoc, append-nil)
+
+pub heading-parts : (name : List ℕ) (number : ℕ) (direction : Stream) (lanes : Lanes) (seed : ℕ) (word : List ℕ) (count : ℕ) → word ≡ stream_name direction → count ≡ lane_count lanes
+    → codes "toxi log 1\n" ++ (codes "link " ++ (name ++ (codes " " ++ (decimal number ++ (codes " " ++ (word ++ (codes "\n" ++ (codes "lanes " ++ (decimal count ++ (codes " seed " ++ (decimal seed ++ (codes "\n" ++ []))))))))))))
+    ≡ heading_lines name number direction lanes seed
+heading-parts name number direction lanes seed word count is_name is_count =
+    rw (is_name, is_count)
+    (three-lines (codes "toxi log 1\n") (codes "link ") name (codes " ") (decimal number) (codes " ") (stream_name direction) (codes "\n") (codes "lanes ") (decimal (lane_count lanes)) (codes " seed ") (decimal seed) (codes "\n"))
+
+pub toxic_line-parts : (entry : Entry) (name : List ℕ)
+    → codes "toxic " ++ (printed_short entry.toxic entry.toxicity ++ (codes " " ++ (name ++ codes "\n"))) ≡ toxic_line entry name
+toxic_line-parts entry name = simp append_assoc
+
+-- an element, and the text of its name, stand at their index
+pub IsAt-named : {X N : Type 0} (text : N → List ℕ) (xs : List X) (names : List N) (i : ℕ) (x : X) (name : N) → length names ≡ length xs → i < length xs → name ≡ get_or names i name
+    → IsAt (zip xs (map text names)) i (get_or xs i x, text name)
+IsAt-named text xs names i x name one_each below is =
+    let named : i < length (map text names) = omega (arith, length-map names text, one_each, below) in
+    let same = get_or-map text names i name (text name) (omega (arith, one_each, below)) ∙ ap text (sym is) in
+    record {
+      below = omega (arith, length-zip xs (map text names), below, named);
+      default = (x, text name);
+      is = sym (get_or-zip xs (map text names) i (x, text name) below named ∙ ap (λ t. (get_or xs i x, t)) same);
+    }

@@ -1,0 +1,4 @@
+pub mod Decimals
+pub mod HeaderParts
+pub mod LineParts
+pub mod Judging

@@ -1,0 +1,50 @@
+-- Part by part, and then the whole slice.
+use Rattle.std.proofs.Common.{◌≡◌, ◌+◌, ◌-◌, ◌≤◌, ◌<◌, ℕ, replicate, true, ◌∙◌, rules, refl, arith}
+use Rattle.tox_log.specs.Judging.{rest_table}
+use Rattle.tox_log.proofs.Judging.{begins-saying, goes-saying, said-all, begins-held}
+use Rattle.tox_log.proofs.judge.hear_wrote.Goals as goal
+
+pub parts-init : goal.parts-init
+parts-init c =
+    let judge = c.args.judge.now in
+    let slice = c.args.slice.now in
+    record {
+      held = begins-held judge c.args.reading.now c.requires.later c.requires.held;
+      heard = refl;
+      latest = refl;
+      ended = refl;
+      from = omega arith;
+      to = omega arith;
+      follows = λ means told log follows. begins-saying means told judge.core judge.heard judge.ended slice.span.start log slice.instant (rest_table judge.rest) judge.latest c.args.reading.now judge.said c.requires.later (omega arith) follows;
+    }
+
+pub parts-preserved : goal.parts-preserved
+parts-preserved c =
+    let old = c.parts.judge in
+    let new = c.say_part.new.judge in
+    let slice = c.args.slice.now in
+    let yes : c.say_part.result ≡ true = search rules in
+    let on = c.say_part.ensures.on yes in
+    let counts = c.say_part.ensures.counts yes in
+    record {
+      held = c.say_part.ensures.held;
+      heard = counts.0 ∙ c.parts.invariant.heard;
+      latest = counts.1;
+      ended = counts.2 ∙ c.parts.invariant.ended;
+      from = omega (arith, on, c.parts.invariant.from);
+      to = on.1;
+      follows = λ means told log follows.
+          let count : ℕ = new.said - old.said in
+          let more : new.said ≡ old.said + count = omega (arith, on) in
+          let whole : new.said - slice.span.start ≡ (old.said - slice.span.start) + count = omega (arith, on, c.parts.invariant.from) in
+          goes-saying means told new.core new.heard new.ended slice.span.start log slice.instant (rest_table new.rest) new.latest (old.said - slice.span.start) count (new.said - slice.span.start) whole
+          (c.say_part.ensures.says yes means told (replicate (old.said - slice.span.start) slice.instant) slice.span.start log count more (c.parts.invariant.follows means told log follows));
+    }
+
+pub returns-clause-hears : goal.returns-clause-hears
+returns-clause-hears c = λ _ means told log says follows.
+    let slice = c.args.slice.now in
+    let due : slice.instant ≤ c.args.reading.now = first_of (omega arith, search rules) in
+    let some : slice.span.start < slice.span.stop = first_of (omega arith, search rules) in
+    let all : c.parts.judge.said ≡ slice.span.stop = omega (arith, c.parts.invariant.to, c.parts-test.false) in
+    said-all means told c.parts.judge slice c.args.reading.now log c.parts.invariant.latest all says due some (c.parts.invariant.follows means told log follows)

@@ -1,0 +1,16 @@
+-- The clock goes on, and the core is asked where nothing is left.
+use Rattle.std.proofs.Common.{◌++◌}
+use Rattle.tox_log.specs.Judging.{rest_table}
+use Rattle.tox_log.proofs.Judging.{follows-later}
+use Rattle.tox_log.proofs.judge.look.Goals as goal
+
+pub returns-then-is_none-clause-stays : goal.returns-then-is_none-clause-stays
+returns-then-is_none-clause-stays c = λ means told front start log follows.
+    let judge = c.args.judge.now in
+    c.ask.ensures.stays means told front start log
+    (follows-later means told judge.core judge.heard judge.latest judge.ended start log (front ++ rest_table judge.rest) c.args.reading.now c.requires.later follows)
+
+pub returns-else-is_none-clause-stays : goal.returns-else-is_none-clause-stays
+returns-else-is_none-clause-stays c = λ means told front start log follows.
+    let judge = c.args.judge.now in
+    follows-later means told judge.core judge.heard judge.latest judge.ended start log (front ++ rest_table judge.rest) c.args.reading.now c.requires.later follows

@@ -1,0 +1,18 @@
+-- The front of the slice is said.
+use Rattle.std.proofs.Common.{◌≡◌, ◌++◌, Some, replicate, ap, sym, subst, ◌∙◌, append_assoc}
+use Rattle.tox_link.specs.link_core.Core.{core_position}
+use Rattle.tox_log.specs.Judging.{Follows, IsRest, part_from, rest_table}
+use Rattle.tox_log.proofs.Judging.{say-table}
+use Rattle.tox_log.proofs.judge.say.Goals as goal
+
+pub returns-clause-says : goal.returns-clause-says
+returns-clause-says c = λ means told front start log count counts follows.
+    let judge = c.args.judge.now in
+    let part = c.args.part.now in
+    let held : IsRest (Some part) judge.said (core_position judge.core) = subst (λ rest. IsRest rest judge.said (core_position judge.core)) c.requires.part c.requires.held.rest in
+    let parts : front ++ rest_table judge.rest ≡ (front ++ replicate count part.instant) ++ rest_table (part_from part c.args.stop) =
+    ap (λ rest. front ++ rest_table rest) c.requires.part
+    ∙ ap (λ ts. front ++ ts) (say-table part judge.said c.args.stop count held.0 c.requires.within.0 c.requires.within.1 counts)
+    ∙ sym (append_assoc front (replicate count part.instant) (rest_table (part_from part c.args.stop))) in
+    subst (λ rest. Follows means told judge.core ((front ++ replicate count part.instant) ++ rest_table rest) judge.heard judge.latest judge.ended start log) (sym c.part_from-judge.ensures)
+    (subst (λ given. Follows means told judge.core given judge.heard judge.latest judge.ended start log) parts follows)

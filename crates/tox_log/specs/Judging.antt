@@ -1,0 +1,83 @@
+-- A log under judgement: what the plan still has to say, beside what the log said.
+use Rattle.std.specs.Prelude.{◌≡◌, ℕ, ◌+◌, ◌<◌, ◌≤◌, Bool, true, false, List, [], ◌∷◌, ◌++◌, replicate, nat_lt, if◌then◌else◌, Option, Some, None}
+use Rattle.tox_time.specs.declared.streams.slice.Slice.{Slice}
+use Rattle.tox_time.specs.declared.streams.item.Item.{Item}
+use Rattle.tox_time.specs.streams.Stream.{IsStreamFrom, span_len}
+use Rattle.tox_time.specs.streams.Table.{table, slices_table, ending}
+use Rattle.tox_link.specs.declared.link_core.act.Act.{Act}
+use Rattle.tox_link.specs.declared.link_core.act.Act.TheVariants.{Write, WaitUntil, WaitForInput, End}
+use Rattle.tox_link.specs.declared.notes.LinkEvent.{LinkEvent}
+use Rattle.tox_link.specs.declared.ring.message.ReadEnd.{ReadEnd}
+use Rattle.tox_link.specs.declared.ring.message.ReadEnd.TheVariants.{Eof}
+use Rattle.tox_link.specs.link_core.Core.{CoreView, remaining_output, core_ending, core_position}
+use Rattle.tox_link.specs.log.Carried.{IsBy}
+use Rattle.tox_link.specs.log.Log.{heard_from, heard_bytes, has_source_end, said, reading_of, IsFaithful, IsGapless}
+use Rattle.tox_log.specs.declared.judge.Judge.{Judge}
+
+-- the instants of what is left of a slice
+abbrev pub rest_table : Option Slice → List ℕ
+rest_table None = []
+rest_table (Some slice) = replicate (span_len slice.span) slice.instant
+
+-- the slice that an answer gives
+abbrev pub slice_in : Act → Option Slice
+slice_in (Write slice) = Some slice
+slice_in (WaitUntil instant) = None
+slice_in WaitForInput = None
+slice_in (End last) = None
+
+-- what is left of a slice from a position on
+abbrev pub part_from : Slice → ℕ → Option Slice
+part_from slice start =
+    if nat_lt start slice.span.stop then Some (record slice { span = record slice.span { start = start } }) else None
+
+-- what is left of a slice goes from what was said to where the core's next slice starts
+abbrev pub IsRest : Option Slice → ℕ → ℕ → Type 0
+IsRest None said_to position = said_to ≡ position
+IsRest (Some slice) said_to position = (slice.span.start ≡ said_to) × (said_to < slice.span.stop) × (slice.span.stop ≡ position)
+
+-- the core has heard of all that was heard, until its ending is known
+pub record IsHeld (judge : Judge) : Type 0 where
+  pub ended : judge.core.ended ≡ judge.ended
+  pub latest : judge.core.latest ≤ judge.latest
+  pub live : core_ending judge.core ≡ None → judge.heard ≡ judge.core.bytes
+  pub rest : IsRest judge.rest judge.said (core_position judge.core)
+
+-- what was said up to a position, what the core gave since then, and what is to come are together what the plan means for what was
+-- heard and goes on from there; the log is faithful, and no reading of it is above the last one
+pub record Follows (means : List Item → List Item) (told : ℕ → Bool) (core : CoreView) (given : List ℕ) (heard latest : ℕ) (ended : Bool) (start : ℕ) (log : List LinkEvent) : Type 0 where
+  pub tables : (items : List Item) → IsStreamFrom heard latest items → table (means (heard_from 0 log items)) ≡ slices_table (said log) ++ (given ++ table (remaining_output core items))
+  pub endings : (items : List Item) → IsStreamFrom heard latest items → ending (means (heard_from 0 log items)) ≡ ending (remaining_output core items)
+  pub faithful : IsFaithful means (λ t. told t ≡ true) log
+  pub by : IsBy latest log
+  pub gapless : IsGapless 0 (said log) start
+  pub bytes : heard_bytes log ≡ heard
+  pub closed : has_source_end log ≡ ended
+
+-- a judge after a log, and after these instants of a slice that starts at a position
+abbrev pub FollowsWith : (List Item → List Item) → (ℕ → Bool) → Judge → List ℕ → ℕ → List LinkEvent → Type 0
+FollowsWith means told judge front start log = Follows means told judge.core (front ++ rest_table judge.rest) judge.heard judge.latest judge.ended start log
+
+-- a judge after a log
+abbrev pub Judged : (List Item → List Item) → (ℕ → Bool) → Judge → List LinkEvent → Type 0
+Judged means told judge log = FollowsWith means told judge [] judge.said log
+
+-- a step with no event
+abbrev pub Stays : Judge → Judge → Type 0
+Stays old new = (means : List Item → List Item) (told : ℕ → Bool) (front : List ℕ) (start : ℕ) (log : List LinkEvent)
+    → FollowsWith means told old front start log → FollowsWith means told new front start log
+
+-- a step with an event
+abbrev pub Hears : Judge → LinkEvent → Judge → Type 0
+Hears old event new = (means : List Item → List Item) (told : ℕ → Bool) (log : List LinkEvent) → told (reading_of event) ≡ true
+    → Judged means told old log → Judged means told new (log ++ event ∷ [])
+
+-- the next bytes of a slice that leaves at an instant are said
+abbrev pub Says : Judge → ℕ → Judge → Type 0
+Says old due new = (means : List Item → List Item) (told : ℕ → Bool) (front : List ℕ) (start : ℕ) (log : List LinkEvent) (count : ℕ)
+    → new.said ≡ old.said + count → FollowsWith means told old front start log → FollowsWith means told new (front ++ replicate count due) start log
+
+-- how the source ended, if its end was heard
+abbrev pub source_heard : Bool → Option ReadEnd
+source_heard true = Some Eof
+source_heard false = None

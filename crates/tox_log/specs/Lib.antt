@@ -1,0 +1,6 @@
+pub mod EventText
+pub mod LastText
+pub mod HeaderText
+pub mod Judging
+pub mod Lines
+pub mod Numbers

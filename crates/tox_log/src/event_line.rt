@@ -1,0 +1,138 @@
+//! A line behind the header: an event, or the last line.
+ghost use Rattle.std.specs.Prelude.{◌≡◌, ◌++◌, ◌∷◌, [], codes, decimal, IfSome};
+ghost use Rattle.tox_time.specs.Time.{IsInstant};
+ghost use Rattle.tox_log.specs.Lines.{line_words, IsWritable, IsWritableSpan};
+ghost use Rattle.tox_log.specs.LastText.{cause_name};
+
+use crate::last_line::{BreakCause, LastLine};
+use crate::numbers::{cut_at, instant_of, number_of};
+use tox_link::LinkEvent;
+use tox_time::{Ending, MAX_BYTES, Micros, Slice, Span};
+
+/// A line behind the header.
+#[derive(Clone, Copy, Debug, PartialEq, Eq)]
+pub enum LogLine {
+    Event(LinkEvent),
+    Last(LastLine),
+}
+
+/// What a line behind the header says, without its line feed. None if it isn't of the form.
+pub fn read_line(text: &[u8]) -> Option<LogLine>
+    ensures { IfSome result (λ line. (text.now ≡ line_words line) × IsWritable line) }
+{
+    let (first, rest) = cut_at(text, b' ')?;
+    if first == b"broken".as_slice() {
+        return broken_of(rest);
+    }
+    let reading = instant_of(first)?;
+    words_of(&reading, rest)
+}
+
+/// What the words behind a reading say.
+fn words_of(reading: &Micros, words: &[u8]) -> Option<LogLine>
+    requires { IsInstant reading.now }
+    ensures { IfSome result (λ line.
+        (decimal reading.now ++ 32 ∷ words.now ≡ line_words line) × IsWritable line) }
+{
+    if words == b"end".as_slice() {
+        return Some(LogLine::Event(LinkEvent::SourceEnd(*reading)));
+    }
+    if words == b"open".as_slice() {
+        return Some(LogLine::Last(LastLine::Ended(*reading, Ending::StillOpen)));
+    }
+    let (word, rest) = cut_at(words, b' ')?;
+    if word == b"wrote".as_slice() {
+        return wrote_of(reading, rest);
+    }
+    if word == b"piece".as_slice() {
+        return piece_of(reading, rest);
+    }
+    ending_of(reading, word, rest)
+}
+
+/// The event of a piece of so many bytes.
+fn piece_of(reading: &Micros, bytes: &[u8]) -> Option<LogLine>
+    requires { IsInstant reading.now }
+    ensures { IfSome result (λ line.
+        (decimal reading.now ++ codes " piece " ++ bytes.now ≡ line_words line)
+        × IsWritable line) }
+{
+    let len = number_of(bytes, MAX_BYTES)?;
+    Some(LogLine::Event(LinkEvent::Piece(len, *reading)))
+}
+
+/// The event of a slice: its range and its instant.
+fn wrote_of(reading: &Micros, words: &[u8]) -> Option<LogLine>
+    requires { IsInstant reading.now }
+    ensures { IfSome result (λ line.
+        (decimal reading.now ++ codes " wrote " ++ words.now ≡ line_words line)
+        × IsWritable line) }
+{
+    let (range, due) = cut_at(words, b' ')?;
+    let span = span_of(range)?;
+    let instant = instant_of(due)?;
+    Some(LogLine::Event(LinkEvent::Wrote(Slice { span, instant }, *reading)))
+}
+
+/// A range of positions, `<start>..<stop>`.
+fn span_of(text: &[u8]) -> Option<Span>
+    ensures { IfSome result (λ span.
+        (text.now ≡ decimal span.start ++ codes ".." ++ decimal span.stop)
+        × IsWritableSpan span) }
+{
+    let (start, rest) = cut_at(text, b'.')?;
+    let stop = rest.strip_prefix(b".")?;
+    let start = number_of(start, MAX_BYTES)?;
+    let stop = number_of(stop, MAX_BYTES)?;
+    Some(Span { start, stop })
+}
+
+/// A timed ending: its name and its instant.
+fn ending_of(reading: &Micros, name: &[u8], instant: &[u8]) -> Option<LogLine>
+    requires { IsInstant reading.now }
+    ensures { IfSome result (λ line.
+        (decimal reading.now ++ codes " " ++ name.now ++ codes " " ++ instant.now ≡ line_words line)
+        × IsWritable line) }
+{
+    let instant = instant_of(instant)?;
+    if name == b"closed".as_slice() {
+        return Some(LogLine::Last(LastLine::Ended(*reading, Ending::Closed(instant))));
+    }
+    if name == b"reset".as_slice() {
+        return Some(LogLine::Last(LastLine::Ended(*reading, Ending::Reset(instant))));
+    }
+    None
+}
+
+/// Why a stream broke off, and after how many bytes.
+fn broken_of(words: &[u8]) -> Option<LogLine>
+    ensures { IfSome result (λ line.
+        (codes "broken " ++ words.now ≡ line_words line) × IsWritable line) }
+{
+    let (name, bytes) = cut_at(words, b' ')?;
+    let cause = cause_of(name)?;
+    let bytes = number_of(bytes, MAX_BYTES)?;
+    Some(LogLine::Last(LastLine::Broken(cause, bytes)))
+}
+
+/// The cause of this name.
+fn cause_of(name: &[u8]) -> Option<BreakCause>
+    ensures { IfSome result (λ cause. name.now ≡ cause_name cause) }
+{
+    if name == b"write".as_slice() {
+        return Some(BreakCause::Write);
+    }
+    if name == b"memory".as_slice() {
+        return Some(BreakCause::Memory);
+    }
+    if name == b"thread".as_slice() {
+        return Some(BreakCause::Thread);
+    }
+    if name == b"upstream".as_slice() {
+        return Some(BreakCause::Upstream);
+    }
+    if name == b"stopped".as_slice() {
+        return Some(BreakCause::Stopped);
+    }
+    None
+}

@@ -1,0 +1,106 @@
+//! The header of a log.
+ghost use Rattle.std.specs.Prelude.{◌≡◌, false, length, map, string_bytes};
+ghost use Rattle.tox_text.specs.Names.{visible_name};
+ghost use Rattle.tox_text.specs.Writing.{Prints};
+ghost use Rattle.tox_log.specs.HeaderText.{header_text, heading_lines, toxic_line, toxic_lines};
+
+use tox_defs::{Chain, Entry};
+use tox_text::Part::{Name, Number, Word};
+use tox_text::{Buffer, print_short};
+use tox_time::{EndFault, Sink, Stream};
+use tox_words::Lanes;
+
+/// The stream of a link that a log is of, and the seed of its words.
+#[derive(Clone, Copy, Debug)]
+pub struct LoggedLink<'a> {
+    /// The proxy's name.
+    pub proxy: &'a str,
+    /// The link's number, from 1.
+    pub number: u64,
+    pub stream: Stream,
+    pub seed: u64,
+}
+
+/// Prints the header of the log of a link's stream: three lines, and a line for each toxic of the stream's chain, applied or not.
+pub fn print_header<W: Sink>(
+    buffer: &mut Buffer,
+    writer: &mut W,
+    link: &LoggedLink<'_>,
+    chain: &Chain,
+    names: &[String],
+) -> Result<(), EndFault>
+    requires working { W.failed writer.old ≡ false }
+    requires one_each { length names.now ≡ length chain.now.entries }
+    ensures { Prints result (W.written writer.old) buffer.old (W.written writer.new) buffer.new
+        (W.failed writer.new)
+        (header_text (visible_name link.now.proxy.now) link.now.number link.now.stream
+        link.now.seed chain.now (map string_bytes names.now)) }
+{
+    print_heading(buffer, writer, link, chain.lanes())?;
+    print_toxics(buffer, writer, chain.entries(), names)
+}
+
+/// Prints the first three lines.
+fn print_heading<W: Sink>(
+    buffer: &mut Buffer,
+    writer: &mut W,
+    link: &LoggedLink<'_>,
+    lanes: Lanes,
+) -> Result<(), EndFault>
+    requires { W.failed writer.old ≡ false }
+    ensures { Prints result (W.written writer.old) buffer.old (W.written writer.new) buffer.new
+        (W.failed writer.new)
+        (heading_lines (visible_name link.now.proxy.now) link.now.number link.now.stream lanes
+        link.now.seed) }
+{
+    let parts = [
+        Word("toxi log 1\n"),
+        Word("link "),
+        Name(link.proxy),
+        Word(" "),
+        Number(link.number),
+        Word(" "),
+        Word(link.stream.name()),
+        Word("\n"),
+        Word("lanes "),
+        Number(lanes.count() as u64),
+        Word(" seed "),
+        Number(link.seed),
+        Word("\n"),
+    ];
+    buffer.print(writer, &parts)
+}
+
+/// Prints the lines of named toxics.
+fn print_toxics<W: Sink>(
+    buffer: &mut Buffer,
+    writer: &mut W,
+    entries: &[Entry],
+    names: &[String],
+) -> Result<(), EndFault>
+    requires working { W.failed writer.old ≡ false }
+    requires one_each { length names.now ≡ length entries.now }
+    ensures { Prints result (W.written writer.old) buffer.old (W.written writer.new) buffer.new
+        (W.failed writer.new) (toxic_lines entries.now (map string_bytes names.now)) }
+{
+    for (place, entry) in entries.iter().enumerate() {
+        print_toxic(buffer, writer, entry, &names[place])?;
+    }
+    Ok(())
+}
+
+/// Prints the line of a named toxic.
+fn print_toxic<W: Sink>(
+    buffer: &mut Buffer,
+    writer: &mut W,
+    entry: &Entry,
+    name: &str,
+) -> Result<(), EndFault>
+    requires { W.failed writer.old ≡ false }
+    ensures { Prints result (W.written writer.old) buffer.old (W.written writer.new) buffer.new
+        (W.failed writer.new) (toxic_line entry.now name.now) }
+{
+    buffer.print(writer, &[Word("toxic ")])?;
+    print_short(buffer, writer, entry)?;
+    buffer.print(writer, &[Word(" "), Word(name), Word("\n")])
+}

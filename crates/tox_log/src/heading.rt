@@ -1,0 +1,153 @@
+//! The header of a log, line by line.
+ghost use Rattle.std.specs.Prelude.{◌≡◌, ◌++◌, ◌≤◌, codes, decimal, IfSome, IfOk, IsTrue, ◌↔◌};
+ghost use Rattle.tox_defs.specs.chain.Chain.{IsEntry};
+
+use crate::log_bytes::LogBytes;
+use crate::numbers::{cut_at, cut_at_last, number_of};
+use std::alloc::{AllocError, Global};
+use std::str;
+use tox_defs::{Entry, read_short};
+use tox_text::{Buffer, print_short};
+use tox_time::Stream;
+use tox_words::{Lanes, MAX_CONNECTIONS};
+
+/// What the first three lines of a log say.
+#[derive(Debug, Drop)]
+pub struct Heading {
+    /// The proxy's name, as it is printed.
+    pub proxy: String,
+    /// The link's number, from 1.
+    pub number: u64,
+    pub stream: Stream,
+    pub lanes: Lanes,
+    pub seed: u64,
+    pub ghost numbered: { (1 ≤ number) × (number ≤ 1_000_000) },
+}
+
+/// The stream of a link, as the second line says it.
+#[derive(Clone, Copy, Debug)]
+pub(crate) struct LinkWords<'a> {
+    pub(crate) proxy: &'a str,
+    pub(crate) number: u64,
+    pub(crate) stream: Stream,
+}
+
+/// Whether this is the first line.
+pub(crate) fn is_title(line: &[u8]) -> bool {
+    line == b"toxi log 1".as_slice()
+}
+
+/// What the second line says: `link <name> <number> <stream>`.
+pub(crate) fn read_link(line: &[u8]) -> Option<LinkWords<'_>>
+    ensures { IfSome result (λ link. (1 ≤ link.number) × (link.number ≤ 1_000_000)) }
+{
+    let rest = line.strip_prefix(b"link ")?;
+    let (rest, stream) = cut_at_last(rest, b' ')?;
+    let (name, number) = cut_at_last(rest, b' ')?;
+    let proxy = name_of(name)?;
+    let number = number_of(number, MAX_CONNECTIONS)?;
+    if number == 0 {
+        return None;
+    }
+    let stream = stream_of(stream)?;
+    Some(LinkWords {
+        proxy,
+        number,
+        stream,
+    })
+}
+
+fn stream_of(name: &[u8]) -> Option<Stream> {
+    let Ok(name) = str::from_utf8(name) else {
+        return None;
+    };
+    Stream::of_name(name)
+}
+
+/// The name that a text is: not empty, and without control characters.
+fn name_of(text: &[u8]) -> Option<&str> {
+    if text.is_empty() || text.iter().any(|byte| byte.is_ascii_control()) {
+        return None;
+    }
+    let Ok(name) = str::from_utf8(text) else {
+        return None;
+    };
+    Some(name)
+}
+
+/// What the third line says: `lanes <lanes> seed <seed>`.
+pub(crate) fn read_seed(line: &[u8]) -> Option<(Lanes, u64)> {
+    let rest = line.strip_prefix(b"lanes ")?;
+    let (count, rest) = cut_at(rest, b' ')?;
+    let lanes = lanes_of(count)?;
+    let seed = rest.strip_prefix(b"seed ")?;
+    let seed = number_of(seed, u64::MAX)?;
+    Some((lanes, seed))
+}
+
+fn lanes_of(count: &[u8]) -> Option<Lanes> {
+    if count == b"16".as_slice() {
+        return Some(Lanes::Sixteen);
+    }
+    if count == b"32".as_slice() {
+        return Some(Lanes::ThirtyTwo);
+    }
+    None
+}
+
+/// Whether a line is to be a toxic's.
+pub(crate) fn is_toxic(line: &[u8]) -> bool {
+    line.starts_with(b"toxic ")
+}
+
+/// The toxic of a line: `toxic <short form> <name>`, with the short form as it is printed.
+pub(crate) fn read_toxic(alloc: Global, line: &[u8]) -> Result<Option<Entry>, AllocError>
+    ensures { IfOk result (λ read. IfSome read (λ entry. IsEntry entry)) }
+{
+    let Some((short, name)) = toxic_words(line) else {
+        return Ok(None);
+    };
+    if name_of(name).is_none() {
+        return Ok(None);
+    }
+    let Some(entry) = entry_of(short) else {
+        return Ok(None);
+    };
+    if is_printed(alloc, &entry, short)? {
+        Ok(Some(entry))
+    } else {
+        Ok(None)
+    }
+}
+
+/// The short form and the name of a toxic's line.
+fn toxic_words(line: &[u8]) -> Option<(&[u8], &[u8])> {
+    let rest = line.strip_prefix(b"toxic ")?;
+    cut_at(rest, b' ')
+}
+
+/// The toxic of a short form.
+fn entry_of(short: &[u8]) -> Option<Entry>
+    ensures { IfSome result (λ entry. IsEntry entry) }
+{
+    let Ok(short) = str::from_utf8(short) else {
+        return None;
+    };
+    let Ok((toxic, toxicity)) = read_short(short) else {
+        return None;
+    };
+    Some(Entry { toxic, toxicity })
+}
+
+/// Whether a toxic is printed so.
+fn is_printed(alloc: Global, entry: &Entry, short: &[u8]) -> Result<bool, AllocError> {
+    let mut buffer = Buffer::new();
+    let mut printed = LogBytes::new(alloc);
+    if print_short(&mut buffer, &mut printed, entry).is_err() {
+        return Err(AllocError);
+    }
+    if buffer.flush(&mut printed).is_err() {
+        return Err(AllocError);
+    }
+    Ok(printed.bytes() == short)
+}

@@ -1,0 +1,318 @@
+//! The judge of a log: what the plan still has to say, beside what the log says.
+ghost use Rattle.std.specs.Prelude.{◌≡◌, ℕ, ◌+◌, ◌≤◌, ◌<◌, ◌^◌, ◌↔◌, Bool, List, [], ◌∷◌, IfOk, OnOk, true, false, Some, None, IsSome, IsTrue};
+ghost use Rattle.tox_time.specs.Time.{IsInstant};
+ghost use Rattle.tox_time.specs.declared.streams.item.Item.{Item as OneItem};
+ghost use Rattle.tox_compile.specs.Meaning.{means};
+ghost use Rattle.tox_link.specs.declared.notes.LinkEvent.{LinkEvent as OneEvent};
+ghost use Rattle.tox_link.specs.link_core.Core.{core_ending, kept_count, remaining_output};
+ghost use Rattle.tox_time.specs.declared.streams.ending.Ending.{Ending as OneEnding};
+ghost use Rattle.tox_time.specs.streams.Table.{final_of};
+ghost use Rattle.tox_link.specs.log.Logged.{IsReached};
+ghost use Rattle.tox_link.specs.Reports.{ReportsAt};
+ghost use Rattle.tox_log.specs.Judging.{IsHeld, Judged, Stays, Hears, Says, part_from, slice_in, source_heard};
+
+use std::alloc::{AllocError, Global};
+use tox_compile::Plan;
+use tox_link::{Act, LinkCore};
+use tox_time::{Ending, MAX_BYTES, Micros, Slice};
+use tox_words::Words;
+
+/// A piece came while 1024 pieces wait.
+#[derive(Clone, Copy, Debug, PartialEq, Eq)]
+pub(crate) struct TooDeep;
+
+/// What the plan of a log still has to say for what was heard.
+///
+/// It keeps at most 1024 pieces, as a live link does.
+#[derive(Drop)]
+pub(crate) struct Judge {
+    pub(crate) core: LinkCore<'static>,
+    /// What is left of the slice that the core gave last.
+    pub(crate) rest: Option<Slice>,
+    /// How many bytes were heard.
+    pub(crate) heard: u64,
+    /// How many bytes were said.
+    pub(crate) said: u64,
+    /// The last reading.
+    pub(crate) latest: Micros,
+    /// Whether the source's end was heard.
+    pub(crate) ended: bool,
+}
+
+/// The judge of a log under this plan. Nothing was heard yet.
+pub(crate) fn begin(alloc: Global, plan: Plan, words: Words) -> Result<Judge, AllocError>
+    ensures held { IfOk result IsHeld }
+    ensures start { IfOk result (λ judge. (judge.heard ≡ 0) × (judge.latest ≡ 0)
+        × (judge.ended ≡ false)) }
+    ensures judged { IfOk result (λ judge. (told : ℕ → Bool)
+        → Judged (means plan words) told judge []) }
+{
+    let core = LinkCore::owning(alloc, plan, words)?;
+    Ok(Judge {
+        core,
+        rest: None,
+        heard: 0,
+        said: 0,
+        latest: Micros::ZERO,
+        ended: false,
+    })
+}
+
+/// Whether a piece may be heard next: a log's reader hands out no other.
+pub(crate) fn takes_piece(judge: &Judge, len: u64, instant: &Micros) -> bool
+    ensures { IsTrue result → (judge.now.latest ≤ instant.now) × IsInstant instant.now × (0 < len)
+        × (judge.now.heard + len ≤ 2 ^ 40) × (judge.now.ended ≡ false) }
+{
+    takes_at(judge, instant)
+        && !judge.ended
+        && 0 < len
+        && len <= MAX_BYTES
+        && judge.heard <= MAX_BYTES - len
+}
+
+/// Whether the clock may be read so next.
+pub(crate) fn takes_at(judge: &Judge, reading: &Micros) -> bool
+    ensures { IsTrue result → (judge.now.latest ≤ reading.now) × IsInstant reading.now }
+{
+    judge.latest.get() <= reading.get()
+}
+
+/// A piece was heard. It is skipped where the plan takes none any more.
+pub(crate) fn hear_piece(judge: &mut Judge, len: u64, instant: &Micros) -> Result<(), TooDeep>
+    requires held { IsHeld judge.old }
+    requires later { judge.old.latest ≤ instant.now }
+    requires fits { IsInstant instant.now × (0 < len) × (judge.old.heard + len ≤ 2 ^ 40) }
+    requires going { judge.old.ended ≡ false }
+    ensures held { IsHeld judge.new }
+    ensures counts { OnOk result ((judge.new.heard ≡ judge.old.heard + len)
+        × (judge.new.latest ≡ instant.now) × (judge.new.ended ≡ judge.old.ended)) }
+    ensures hears { OnOk result (Hears judge.old (OneEvent.Piece len instant.now) judge.new) }
+{
+    make_room(judge, instant);
+    if let Some(_last) = judge.core.ending() {
+        skip_piece(judge, len, instant);
+        return Ok(());
+    }
+    if !judge.core.has_room() {
+        return Err(TooDeep);
+    }
+    take_piece(judge, len, instant);
+    Ok(())
+}
+
+/// Gives up the pieces that bring no further slice, where no room is left.
+fn make_room(judge: &mut Judge, instant: &Micros)
+    requires held { IsHeld judge.old }
+    requires later { judge.old.latest ≤ instant.now }
+    ensures held { IsHeld judge.new }
+    ensures counts { (judge.new.heard ≡ judge.old.heard) × (judge.new.latest ≤ instant.now)
+        × (judge.new.ended ≡ judge.old.ended) × (judge.new.said ≡ judge.old.said) }
+    ensures stays { Stays judge.old judge.new }
+{
+    if !judge.core.has_room() {
+        look(judge, instant);
+    }
+}
+
+/// A piece is heard that the plan doesn't take any more.
+fn skip_piece(judge: &mut Judge, len: u64, instant: &Micros)
+    requires held { IsHeld judge.old }
+    requires later { judge.old.latest ≤ instant.now }
+    requires fits { IsInstant instant.now × (0 < len) × (judge.old.heard + len ≤ 2 ^ 40) }
+    requires going { judge.old.ended ≡ false }
+    requires over { IsSome (core_ending judge.old.core) }
+    requires only { (last : OneEnding) × ((items : List OneItem)
+        → remaining_output judge.old.core items ≡ final_of last ∷ []) }
+    ensures held { IsHeld judge.new }
+    ensures counts { (judge.new.heard ≡ judge.old.heard + len) × (judge.new.latest ≡ instant.now)
+        × (judge.new.ended ≡ judge.old.ended) }
+    ensures hears { Hears judge.old (OneEvent.Piece len instant.now) judge.new }
+{
+    judge.heard += len;
+    judge.latest = *instant;
+}
+
+/// A piece is heard that waits.
+fn take_piece(judge: &mut Judge, len: u64, instant: &Micros)
+    requires held { IsHeld judge.old }
+    requires later { judge.old.latest ≤ instant.now }
+    requires fits { IsInstant instant.now × (0 < len) × (judge.old.heard + len ≤ 2 ^ 40) }
+    requires going { judge.old.ended ≡ false }
+    requires live { core_ending judge.old.core ≡ None }
+    requires room { kept_count judge.old.core < 1024 }
+    ensures held { IsHeld judge.new }
+    ensures counts { (judge.new.heard ≡ judge.old.heard + len) × (judge.new.latest ≡ instant.now)
+        × (judge.new.ended ≡ judge.old.ended) }
+    ensures hears { Hears judge.old (OneEvent.Piece len instant.now) judge.new }
+{
+    let Ok(()) = judge.core.on_piece(len, *instant) else {
+        unreachable!()
+    };
+    judge.heard += len;
+    judge.latest = *instant;
+}
+
+/// The source's end was heard.
+pub(crate) fn hear_end(judge: &mut Judge, instant: &Micros)
+    requires held { IsHeld judge.old }
+    requires later { judge.old.latest ≤ instant.now }
+    requires fits { IsInstant instant.now }
+    requires going { judge.old.ended ≡ false }
+    ensures held { IsHeld judge.new }
+    ensures counts { (judge.new.heard ≡ judge.old.heard) × (judge.new.latest ≡ instant.now)
+        × (judge.new.ended ≡ true) }
+    ensures hears { Hears judge.old (OneEvent.SourceEnd instant.now) judge.new }
+{
+    judge.core.on_end(*instant);
+    judge.ended = true;
+    judge.latest = *instant;
+}
+
+/// A slice was said at a reading. False if the plan doesn't mean it: the judge then stands within that slice.
+pub(crate) fn hear_wrote(judge: &mut Judge, slice: &Slice, reading: &Micros) -> bool
+    requires held { IsHeld judge.old }
+    requires later { judge.old.latest ≤ reading.now }
+    ensures held { IsHeld judge.new }
+    ensures counts { IsTrue result → (judge.new.heard ≡ judge.old.heard)
+        × (judge.new.latest ≡ reading.now) × (judge.new.ended ≡ judge.old.ended) }
+    ensures hears { IsTrue result
+        → Hears judge.old (OneEvent.Wrote slice.now reading.now) judge.new }
+{
+    if slice.span.start != judge.said
+        || slice.span.stop <= slice.span.start
+        || slice.instant > *reading
+    {
+        return false;
+    }
+    judge.latest = *reading;
+    'parts: while judge.said < slice.span.stop {
+        if !say_part(judge, slice, reading) {
+            return false;
+        }
+    }
+    true
+}
+
+/// Says the next part of a slice. False if the plan doesn't mean it.
+fn say_part(judge: &mut Judge, slice: &Slice, reading: &Micros) -> bool
+    requires held { IsHeld judge.old }
+    requires now { judge.old.latest ≡ reading.now }
+    requires left { judge.old.said < slice.now.span.stop }
+    ensures held { IsHeld judge.new }
+    ensures counts { IsTrue result → (judge.new.heard ≡ judge.old.heard)
+        × (judge.new.latest ≡ reading.now) × (judge.new.ended ≡ judge.old.ended) }
+    ensures on { IsTrue result → (judge.old.said < judge.new.said)
+        × (judge.new.said ≤ slice.now.span.stop) }
+    ensures says { IsTrue result → Says judge.old slice.now.instant judge.new }
+{
+    look(judge, reading);
+    let Some(part) = judge.rest else {
+        return false;
+    };
+    if part.instant != slice.instant {
+        return false;
+    }
+    say(judge, &part, slice.span.stop.min(part.span.stop));
+    true
+}
+
+/// Says what is left of the core's slice, up to a position.
+fn say(judge: &mut Judge, part: &Slice, stop: u64)
+    requires held { IsHeld judge.old }
+    requires part { judge.old.rest ≡ Some part.now }
+    requires within { (judge.old.said < stop) × (stop ≤ part.now.span.stop) }
+    ensures held { IsHeld judge.new }
+    ensures counts { (judge.new.heard ≡ judge.old.heard) × (judge.new.latest ≡ judge.old.latest)
+        × (judge.new.ended ≡ judge.old.ended) × (judge.new.said ≡ stop) }
+    ensures says { Says judge.old part.now.instant judge.new }
+{
+    judge.said = stop;
+    judge.rest = part_from(part, stop);
+}
+
+/// Looks for the next slice that is due at a reading, where none is left.
+fn look(judge: &mut Judge, reading: &Micros)
+    requires held { IsHeld judge.old }
+    requires later { judge.old.latest ≤ reading.now }
+    ensures held { IsHeld judge.new }
+    ensures counts { (judge.new.heard ≡ judge.old.heard) × (judge.new.latest ≡ reading.now)
+        × (judge.new.ended ≡ judge.old.ended) × (judge.new.said ≡ judge.old.said) }
+    ensures stays { Stays judge.old judge.new }
+{
+    judge.latest = *reading;
+    if judge.rest.is_none() {
+        ask(judge, reading);
+    }
+}
+
+/// Asks the core for a slice that is due at a reading.
+fn ask(judge: &mut Judge, reading: &Micros)
+    requires held { IsHeld judge.old }
+    requires none { judge.old.rest ≡ None }
+    requires now { judge.old.latest ≡ reading.now }
+    ensures held { IsHeld judge.new }
+    ensures counts { (judge.new.heard ≡ judge.old.heard) × (judge.new.latest ≡ judge.old.latest)
+        × (judge.new.ended ≡ judge.old.ended) × (judge.new.said ≡ judge.old.said) }
+    ensures stays { Stays judge.old judge.new }
+{
+    let act = judge.core.on_clock(*reading);
+    judge.rest = slice_in(&act);
+}
+
+fn slice_in(act: &Act) -> Option<Slice>
+    ensures { result ≡ slice_in act.now }
+{
+    match act {
+        Act::Write(slice) => Some(*slice),
+        _ => None,
+    }
+}
+
+/// Whether the stream ended so at a reading: all was said, the ending is settled and reached, and it is the plan's.
+pub(crate) fn has_ended(judge: &mut Judge, ending: &Ending, reading: &Micros) -> bool
+    requires held { IsHeld judge.old }
+    requires later { judge.old.latest ≤ reading.now }
+    ensures held { IsHeld judge.new }
+    ensures reports { IsTrue result
+        → (means : List OneItem → List OneItem) (told : ℕ → Bool) (log : List OneEvent)
+        → told reading.now ≡ true → Judged means told judge.old log
+        → ReportsAt means (λ t. told t ≡ true) log judge.old.heard judge.old.said ending.now
+        (source_heard judge.old.ended) reading.now }
+{
+    look(judge, reading);
+    let Some(last) = judge.core.ending() else {
+        return false;
+    };
+    is_end(&judge.rest, &last, ending, reading)
+}
+
+/// Whether nothing is left of a slice, and the last ending is this one and reached.
+fn is_end(rest: &Option<Slice>, last: &Ending, ending: &Ending, reading: &Micros) -> bool
+    ensures { IsTrue result → (rest.now ≡ None) × (last.now ≡ ending.now)
+        × IsReached reading.now ending.now }
+{
+    rest.is_none() && *last == *ending && is_reached(ending, reading)
+}
+
+/// What is left of a slice from a position on.
+fn part_from(slice: &Slice, start: u64) -> Option<Slice>
+    ensures { result ≡ part_from slice.now start }
+{
+    if start < slice.span.stop {
+        let mut rest = *slice;
+        rest.span.start = start;
+        Some(rest)
+    } else {
+        None
+    }
+}
+
+/// Whether the ending's instant, if it has one, is reached.
+fn is_reached(ending: &Ending, reading: &Micros) -> bool
+    ensures { IsTrue result ↔ IsReached reading.now ending.now }
+{
+    match ending {
+        Ending::StillOpen => true,
+        Ending::Closed(instant) | Ending::Reset(instant) => *instant <= *reading,
+    }
+}

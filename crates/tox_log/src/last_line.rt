@@ -1,0 +1,98 @@
+//! The last line of a log: how the stream ended, or why it broke off.
+ghost use Rattle.std.specs.Prelude.{◌≡◌, false};
+ghost use Rattle.tox_text.specs.Writing.{Prints};
+ghost use Rattle.tox_log.specs.LastText.{cause_name, last_line};
+
+use tox_text::Buffer;
+use tox_text::Part::{Number, Word};
+use tox_time::{EndFault, Ending, Micros, Sink};
+
+/// Why a stream broke off.
+#[derive(Clone, Copy, Debug, PartialEq, Eq)]
+pub enum BreakCause {
+    /// A write failed, or took nothing.
+    Write,
+    /// Memory was refused.
+    Memory,
+    /// A thread was refused.
+    Thread,
+    /// The upstream wasn't reached.
+    Upstream,
+    /// The program was told to stop.
+    Stopped,
+}
+
+impl BreakCause {
+    /// The name of the cause.
+    pub fn name(self) -> &'static str
+        ensures { result.now ≡ cause_name self }
+    {
+        match self {
+            BreakCause::Write => "write",
+            BreakCause::Memory => "memory",
+            BreakCause::Thread => "thread",
+            BreakCause::Upstream => "upstream",
+            BreakCause::Stopped => "stopped",
+        }
+    }
+}
+
+/// The last line of a log.
+#[derive(Clone, Copy, Debug, PartialEq, Eq)]
+pub enum LastLine {
+    /// At this reading of the clock the stream ended so.
+    Ended(Micros, Ending),
+    /// The stream broke off after so many written bytes.
+    Broken(BreakCause, u64),
+}
+
+/// Prints the last line: `<reading> open`, `<reading> closed <instant>`, `<reading> reset <instant>` or
+/// `broken <cause> <bytes>`.
+pub fn print_last<W: Sink>(
+    buffer: &mut Buffer,
+    writer: &mut W,
+    last: &LastLine,
+) -> Result<(), EndFault>
+    requires { W.failed writer.old ≡ false }
+    ensures { Prints result (W.written writer.old) buffer.old (W.written writer.new) buffer.new
+        (W.failed writer.new) (last_line last.now) }
+{
+    match last {
+        LastLine::Ended(reading, ending) => print_ended(buffer, writer, reading, ending),
+        LastLine::Broken(cause, bytes) => {
+            let parts = [
+                Word("broken "),
+                Word(cause.name()),
+                Word(" "),
+                Number(*bytes),
+                Word("\n"),
+            ];
+            buffer.print(writer, &parts)
+        }
+    }
+}
+
+/// Prints a reading and an ending.
+fn print_ended<W: Sink>(
+    buffer: &mut Buffer,
+    writer: &mut W,
+    reading: &Micros,
+    ending: &Ending,
+) -> Result<(), EndFault>
+    requires { W.failed writer.old ≡ false }
+    ensures { Prints result (W.written writer.old) buffer.old (W.written writer.new) buffer.new
+        (W.failed writer.new) (last_line (LastLine.Ended reading.now ending.now)) }
+{
+    let reading = Number(reading.get());
+    match ending {
+        Ending::StillOpen => buffer.print(writer, &[reading, Word(" open\n")]),
+        Ending::Closed(instant) => {
+            let parts = [reading, Word(" closed "), Number(instant.get()), Word("\n")];
+            buffer.print(writer, &parts)
+        }
+        Ending::Reset(instant) => {
+            let parts = [reading, Word(" reset "), Number(instant.get()), Word("\n")];
+            buffer.print(writer, &parts)
+        }
+    }
+}

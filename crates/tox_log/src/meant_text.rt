@@ -1,0 +1,107 @@
+//! What a plan means for what a log heard, as a text.
+ghost use Rattle.std.specs.Prelude.{◌≡◌, false, true, OnOk};
+
+use crate::event_line::LogLine;
+use crate::heard_text::HeardFault;
+use crate::open_log::OpenLog;
+use std::alloc::Global;
+use tox_compile::compile;
+use tox_defs::Chain;
+use tox_link::LinkEvent;
+use tox_plan::Runner;
+use tox_text::Part::{Number, Word};
+use tox_text::{Buffer, print_ending};
+use tox_time::{EndFault, Ending, Micros, Sink, Slice, Source};
+
+/// Prints what a chain, or without one the log's, means for what is left of a log, under the log's words: a line for each longest run of bytes that came
+/// in one piece and leave at one instant, with their number, and a line for the ending.
+pub fn print_meant<R: Source, W: Sink>(
+    alloc: Global,
+    log: &mut OpenLog,
+    reader: &mut R,
+    writer: &mut W,
+    chain: Option<&Chain>,
+) -> Result<(), HeardFault>
+    requires reads { R.failed reader.old ≡ false }
+    requires works { W.failed writer.old ≡ false }
+    ensures { OnOk result (W.failed writer.new ≡ false) }
+{
+    let words = log.words(alloc)?;
+    let plan = match chain {
+        Some(chain) => compile(chain, &words),
+        None => compile(log.chain(), &words),
+    };
+    let mut runner = Runner::new(plan, &words);
+    let mut buffer = Buffer::new();
+    let mut ending = None;
+    for _ in 0..u64::MAX {
+        let Some(line) = log.next_line(reader)? else {
+            break;
+        };
+        match &line {
+            LogLine::Event(LinkEvent::Piece(len, instant)) => {
+                print_cuts(&mut buffer, writer, &mut runner, *len, instant)?;
+            }
+            LogLine::Event(LinkEvent::SourceEnd(instant)) => {
+                ending = Some(finish(&mut runner, instant));
+            }
+            _ => {}
+        }
+    }
+    let ending = ending.unwrap_or(runner.quiet());
+    print_ending(&mut buffer, writer, &ending)?;
+    buffer.flush(writer)?;
+    Ok(())
+}
+
+/// Finishes at the source's end.
+fn finish(runner: &mut Runner<'_>, end: &Micros) -> Ending
+    requires { runner.old.idle ≡ true }
+    ensures { runner.new.idle ≡ true }
+{
+    let end = runner.latest().later(*end);
+    runner.finish(end)
+}
+
+/// Offers a piece, and prints what then leaves. A piece behind the ending is skipped.
+fn print_cuts<W: Sink>(
+    buffer: &mut Buffer,
+    writer: &mut W,
+    runner: &mut Runner<'_>,
+    len: u64,
+    instant: &Micros,
+) -> Result<(), EndFault>
+    requires works { W.failed writer.old ≡ false }
+    requires idle { runner.old.idle ≡ true }
+    ensures works { OnOk result (W.failed writer.new ≡ false) }
+    ensures idle { OnOk result (runner.new.idle ≡ true) }
+{
+    let Ok(()) = runner.offer(len, *instant) else {
+        return Ok(());
+    };
+    for _ in 0..u64::MAX {
+        let Some(slice) = runner.next_cut() else {
+            return Ok(());
+        };
+        print_cut(buffer, writer, &slice)?;
+    }
+    Err(EndFault)
+}
+
+/// Prints the range, the instant and the length of a slice.
+fn print_cut<W: Sink>(buffer: &mut Buffer, writer: &mut W, slice: &Slice) -> Result<(), EndFault>
+    requires { W.failed writer.old ≡ false }
+    ensures { OnOk result (W.failed writer.new ≡ false) }
+{
+    let parts = [
+        Number(slice.instant.get()),
+        Word(" "),
+        Number(slice.span.start),
+        Word(".."),
+        Number(slice.span.stop),
+        Word(" "),
+        Number(slice.span.stop.saturating_sub(slice.span.start)),
+        Word("\n"),
+    ];
+    buffer.print(writer, &parts)
+}

@@ -1,0 +1,239 @@
+//! What a log says, judged: whether the plan of its header means it, and how late its writes were.
+ghost use Rattle.std.specs.Prelude.{◌≡◌, false, IfOk};
+ghost use Rattle.tox_log.specs.Judging.{IsHeld};
+
+use crate::event_line::LogLine;
+use crate::fault::{LogFault, ReplayFault};
+use crate::heading::Heading;
+use crate::judge::{
+    Judge, begin as begin_judge, has_ended, hear_end, hear_piece as judge_piece,
+    hear_wrote as judge_wrote, takes_at, takes_piece,
+};
+use crate::judged_text::print_judged;
+use crate::last_line::LastLine;
+use crate::lateness::{Lateness, Percentiles};
+use crate::open_log::OpenLog;
+use std::alloc::Global;
+use tox_compile::compile;
+use tox_link::LinkEvent;
+use tox_text::Buffer;
+use tox_time::{Ending, Micros, Sink, Slice, Source};
+
+/// What a log is.
+#[derive(Clone, Copy, Debug, PartialEq, Eq)]
+pub enum Verdict {
+    /// A faithful log of a stream that ended so.
+    Faithful(Ending),
+    /// Faithful as far as it goes: it broke off, or has no last line.
+    Unfinished,
+    /// Up to the line of this number it isn't faithful.
+    Unfaithful(u64),
+}
+
+/// A log that was judged.
+#[derive(Debug, Drop)]
+pub struct JudgedLog {
+    pub heading: Heading,
+    pub verdict: Verdict,
+    /// How many bytes were heard and said, and in how many writes.
+    pub heard: u64,
+    pub said: u64,
+    pub writes: u64,
+    /// How late the writes were, and the ending.
+    pub late: Option<Percentiles>,
+}
+
+/// A log under judgement.
+#[derive(Drop)]
+struct Hearing {
+    judge: Judge,
+    verdict: Verdict,
+    heard: u64,
+    said: u64,
+    writes: u64,
+    late: Lateness,
+}
+
+/// Reads a log to its end, and judges it.
+pub fn judge_log<R: Source>(alloc: Global, reader: &mut R) -> Result<JudgedLog, LogFault>
+    requires { R.failed reader.old ≡ false }
+{
+    let mut log = OpenLog::new(alloc, reader)?;
+    let mut hearing = begin(alloc, &log)?;
+    hear_lines(alloc, &mut log, reader, &mut hearing)?;
+    let late = hearing.late.percentiles();
+    Ok(JudgedLog {
+        verdict: hearing.verdict,
+        heard: hearing.heard,
+        said: hearing.said,
+        writes: hearing.writes,
+        late,
+        heading: log.into_heading(),
+    })
+}
+
+/// Judges the log in the file of this name, and writes its line.
+pub fn write_judged<'a, R: Source, W: Sink>(
+    alloc: Global,
+    name: &'a str,
+    reader: &mut R,
+    writer: &mut W,
+) -> Result<Verdict, ReplayFault<'a>>
+    requires reads { R.failed reader.old ≡ false }
+    requires works { W.failed writer.old ≡ false }
+{
+    let log = match judge_log(alloc, reader) {
+        Ok(log) => log,
+        Err(fault) => return Err(ReplayFault::of(name, &fault)),
+    };
+    let mut buffer = Buffer::new();
+    if print_judged(&mut buffer, writer, &log).is_err() {
+        return Err(ReplayFault::WriteFault);
+    }
+    match buffer.flush(writer) {
+        Ok(()) => Ok(log.verdict),
+        Err(_) => Err(ReplayFault::WriteFault),
+    }
+}
+
+/// The hearing of a log of which only the header is read.
+fn begin(alloc: Global, log: &OpenLog) -> Result<Hearing, LogFault>
+    ensures { IfOk result (λ hearing. IsHeld hearing.judge) }
+{
+    let words = log.words(alloc)?;
+    let plan = compile(log.chain(), &words);
+    Ok(Hearing {
+        judge: begin_judge(alloc, plan, words)?,
+        verdict: Verdict::Unfinished,
+        heard: 0,
+        said: 0,
+        writes: 0,
+        late: Lateness::new(alloc),
+    })
+}
+
+/// Hears the lines behind the header. Once the log is unfaithful, only their form and order count.
+fn hear_lines<R: Source>(
+    alloc: Global,
+    log: &mut OpenLog,
+    reader: &mut R,
+    hearing: &mut Hearing,
+) -> Result<(), LogFault>
+    requires works { R.failed reader.old ≡ false }
+    requires held { IsHeld hearing.old.judge }
+{
+    for _ in 0..u64::MAX {
+        let Some(line) = log.next_line(reader)? else {
+            return Ok(());
+        };
+        if let Verdict::Unfaithful(_) = hearing.verdict {
+            continue;
+        }
+        hear_line(alloc, hearing, &line, log.number())?;
+    }
+    Ok(())
+}
+
+/// Hears a line of this number.
+fn hear_line(
+    alloc: Global,
+    hearing: &mut Hearing,
+    line: &LogLine,
+    number: u64,
+) -> Result<(), LogFault>
+    requires { IsHeld hearing.old.judge }
+    ensures { IsHeld hearing.new.judge }
+{
+    match line {
+        LogLine::Event(LinkEvent::Piece(len, instant)) => {
+            hear_piece(hearing, *len, instant, number)
+        }
+        LogLine::Event(LinkEvent::SourceEnd(instant)) => hear_source_end(hearing, instant, number),
+        LogLine::Event(LinkEvent::Wrote(slice, reading)) => {
+            hear_wrote(alloc, hearing, slice, reading, number)
+        }
+        LogLine::Last(LastLine::Ended(reading, ending)) => {
+            hear_ending(alloc, hearing, ending, reading, number)
+        }
+        LogLine::Last(LastLine::Broken(_, _)) => Ok(()),
+    }
+}
+
+fn hear_piece(
+    hearing: &mut Hearing,
+    len: u64,
+    instant: &Micros,
+    number: u64,
+) -> Result<(), LogFault>
+    requires { IsHeld hearing.old.judge }
+    ensures { IsHeld hearing.new.judge }
+{
+    if !takes_piece(&hearing.judge, len, instant) {
+        return Err(LogFault::BadLine(number));
+    }
+    if judge_piece(&mut hearing.judge, len, instant).is_err() {
+        return Err(LogFault::TooDeep(number));
+    }
+    hearing.heard = hearing.heard.saturating_add(len);
+    Ok(())
+}
+
+fn hear_source_end(hearing: &mut Hearing, instant: &Micros, number: u64) -> Result<(), LogFault>
+    requires { IsHeld hearing.old.judge }
+    ensures { IsHeld hearing.new.judge }
+{
+    if hearing.judge.ended || !takes_at(&hearing.judge, instant) {
+        return Err(LogFault::BadLine(number));
+    }
+    hear_end(&mut hearing.judge, instant);
+    Ok(())
+}
+
+fn hear_wrote(
+    alloc: Global,
+    hearing: &mut Hearing,
+    slice: &Slice,
+    reading: &Micros,
+    number: u64,
+) -> Result<(), LogFault>
+    requires { IsHeld hearing.old.judge }
+    ensures { IsHeld hearing.new.judge }
+{
+    if !takes_at(&hearing.judge, reading) {
+        return Err(LogFault::BadLine(number));
+    }
+    if !judge_wrote(&mut hearing.judge, slice, reading) {
+        hearing.verdict = Verdict::Unfaithful(number);
+        return Ok(());
+    }
+    hearing.said = slice.span.stop;
+    hearing.writes = hearing.writes.saturating_add(1);
+    let late = reading.get().saturating_sub(slice.instant.get());
+    hearing.late.add(alloc, late)?;
+    Ok(())
+}
+
+fn hear_ending(
+    alloc: Global,
+    hearing: &mut Hearing,
+    ending: &Ending,
+    reading: &Micros,
+    number: u64,
+) -> Result<(), LogFault>
+    requires { IsHeld hearing.old.judge }
+    ensures { IsHeld hearing.new.judge }
+{
+    if !takes_at(&hearing.judge, reading) {
+        return Err(LogFault::BadLine(number));
+    }
+    if !has_ended(&mut hearing.judge, ending, reading) {
+        hearing.verdict = Verdict::Unfaithful(number);
+        return Ok(());
+    }
+    hearing.verdict = Verdict::Faithful(*ending);
+    if let Ending::Closed(instant) | Ending::Reset(instant) = ending {
+        let late = reading.get().saturating_sub(instant.get());
+        hearing.late.add(alloc, late)?;
+    }
+    Ok(())
+}
