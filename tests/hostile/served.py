@@ -14,8 +14,21 @@ LINK = r"link {name} (\d+) up (\d+) (\w+) down (\d+) (\w+)"
 TOTAL = r"total {name} (\d+) up (\d+) down (\d+)"
 PIDFD_GETFD = 438
 SEED = 1
-# The threads of a process without links.
-AT_REST = 4
+
+
+class Engine:
+    """What drives the links: threads of their own, or so many workers."""
+
+    workers = None
+
+    @classmethod
+    def arguments(cls):
+        return ["--workers", str(cls.workers)] if cls.workers else []
+
+    @classmethod
+    def threads_at_rest(cls):
+        """The threads of a process without links: the first one, the one that serves, the proxy's, the lines' one, and the workers."""
+        return 4 + (cls.workers or 0)
 
 
 def address(host, port):
@@ -30,7 +43,7 @@ def serve_command(program, folder, proxies, script=""):
         json.dump(proxies, file)
     with open(rules, "w") as file:
         file.write(script)
-    return [program, "serve", "--config", config, "--script", rules, "--seed", str(SEED)]
+    return [program, "serve", "--config", config, "--script", rules, "--seed", str(SEED), *Engine.arguments()]
 
 
 class Served:
@@ -58,10 +71,10 @@ class Served:
         self.output.close()
 
     def start(self):
-        """Waits until it listens. It has four threads then: the first one, the one that serves, the proxy's, and the lines' one."""
+        """Waits until it listens, with the threads of a process without links."""
         wait_until(lambda: self.lines() or self.process.poll() is not None, "the line `listening`")
         check(self.lines(), f"it ended with status {self.process.returncode} before it listened")
-        wait_until(lambda: self.threads() == AT_REST, "the threads of a process without links")
+        wait_until(lambda: self.threads() == Engine.threads_at_rest(), "the threads of a process without links")
         self.port = int(self.lines()[0].rpartition(":")[2])
         self.at_rest = self.descriptors()
         check(self.at_rest == list(range(len(self.at_rest))), f"there are gaps in its descriptors {self.at_rest}")
@@ -136,7 +149,7 @@ class Served:
     def rests(self):
         """Waits until no thread and no descriptor is left of the links that ended."""
         wait_until(
-            lambda: self.threads() == AT_REST and self.descriptors() == self.at_rest,
+            lambda: self.threads() == Engine.threads_at_rest() and self.descriptors() == self.at_rest,
             "every thread and descriptor of the ended links is given back",
         )
 

@@ -40,4 +40,6 @@ pub struct ServeArguments<'a> {
     pub links: Option<u64>,
     /// How many milliseconds a connect may take. None: as many as the system lets it.
     pub connect_timeout: Option<u32>,
+    /// How many threads drive all links. None: each link has threads of its own.
+    pub workers: Option<u32>,
 }

@@ -1,6 +1,7 @@
 //! The command line, as `clap` reads it.
 use crate::arguments::{LinkArguments, PickArguments, ServeArguments};
 use crate::commands::toxi;
+use crate::replay::{ONE_FILE, ReplayArguments, replay_of};
 use clap::error::ErrorKind;
 use clap::{ArgMatches, Error};
 use std::alloc::{AllocError, Global};
@@ -21,12 +22,14 @@ pub enum Task<'a> {
     /// The name of a script file.
     Migrate(&'a str),
     Serve(ServeArguments<'a>),
+    Replay(ReplayArguments<'a>),
 }
 
 /// Reads the command line. An error is `clap`'s own text, help too.
 pub fn read<'a, S: AsStr>(alloc: Global, words: &'a [S]) -> Result<Task<'a>, Error> {
     let matches = toxi(alloc)?.try_get_matches_from(words)?;
     match task_of(alloc, &matches)? {
+        Some(Task::Replay(arguments)) => replay_task(alloc, arguments),
         Some(task) => Ok(task),
         None => Err(toxi(alloc)?.error(
             ErrorKind::MissingRequiredArgument,
@@ -35,12 +38,21 @@ pub fn read<'a, S: AsStr>(alloc: Global, words: &'a [S]) -> Result<Task<'a>, Err
     }
 }
 
+/// The task of `replay`, unless it is given more logs than it takes.
+fn replay_task<'a>(alloc: Global, arguments: ReplayArguments<'a>) -> Result<Task<'a>, Error> {
+    if arguments.lacks_one_file() {
+        return Err(toxi(alloc)?.error(ErrorKind::TooManyValues, ONE_FILE)?);
+    }
+    Ok(Task::Replay(arguments))
+}
+
 /// The task of a command with its options. `clap` has rejected a command line without them.
 fn task_of<'a>(alloc: Global, matches: &ArgMatches<'a>) -> Result<Option<Task<'a>>, AllocError> {
     Ok(match matches.subcommand() {
         Some(("dry", given)) => Some(Task::Dry(link_of(alloc, given)?)),
         Some(("plan", given)) => Some(Task::Plan(link_of(alloc, given)?)),
         Some(("stages", given)) => Some(Task::Stages(cap_of(given), link_of(alloc, given)?)),
+        Some(("replay", given)) => Some(Task::Replay(replay_of(alloc, given)?)),
         Some((name, given)) => files_task(name, given),
         None => None,
     })
@@ -100,14 +112,15 @@ fn serve_of<'a>(given: &ArgMatches<'a>) -> Option<ServeArguments<'a>> {
         script: given.get_str("script")?,
         seed: given.get_one::<u64>("seed")?,
         links: given.get_one::<u64>("links"),
-        connect_timeout: connect_timeout_of(given),
+        connect_timeout: small_number(given, "connect-timeout"),
+        workers: small_number(given, "workers"),
     })
 }
 
-/// How long a connect may take. `clap` has rejected other values.
-fn connect_timeout_of(given: &ArgMatches<'_>) -> Option<u32> {
-    let millis = given.get_one::<u64>("connect-timeout")?;
-    u32::try_from(millis).ok()
+/// The number of an option whose numbers are small. `clap` has rejected other values.
+fn small_number(given: &ArgMatches<'_>, name: &str) -> Option<u32> {
+    let number = given.get_one::<u64>(name)?;
+    u32::try_from(number).ok()
 }
 
 /// The room of each ring. `clap` has rejected other values.

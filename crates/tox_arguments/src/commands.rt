@@ -1,16 +1,20 @@
 //! The commands and their options, as `clap` is told of them.
 use crate::help;
+use crate::replay::replay;
 use clap::builder::ValueParser;
 use clap::{Arg, ArgAction, Command, value_parser};
 use std::alloc::{AllocError, Global};
 use tox_time::MAX_CAP;
 use tox_words::MAX_CONNECTIONS;
 
+/// The most threads that drive all links.
+const MAX_WORKERS: u64 = 64;
+
 /// The longest time that a connect may be given, in milliseconds.
 const MAX_CONNECT_TIMEOUT: u64 = 600_000;
 
 /// The version, and the kit that proves and builds it.
-const VERSION: &str = "0.1.0 (rattle-kit-13b logic dac8208d650f15bf)";
+const VERSION: &str = "0.1.0 (rattle-kit-13f logic dac8208d650f15bf)";
 
 /// The program's command line.
 pub(crate) fn toxi<'a>(alloc: Global) -> Result<Command<'a>, AllocError> {
@@ -32,6 +36,7 @@ fn commands<'a>(alloc: Global) -> Result<Vec<Command<'a>>, AllocError> {
         pick(alloc)?,
         migrate(alloc)?,
         serve(alloc)?,
+        replay(alloc)?,
     ]?)
 }
 
@@ -117,12 +122,20 @@ fn serve<'a>(alloc: Global) -> Result<Command<'a>, AllocError> {
         "How many milliseconds a connect to an upstream may take, 1 to 600000 [default: the system's]",
     )
     .value_parser(ValueParser::unsigned(1, MAX_CONNECT_TIMEOUT));
+    let workers = option(
+        alloc,
+        "workers",
+        "N",
+        "How many threads drive all links, 1 to 64 [default: each link has four of its own]",
+    )
+    .value_parser(ValueParser::unsigned(1, MAX_WORKERS));
     let arguments = vec![in alloc;
         config_argument(alloc),
         script_argument(alloc),
         seed_argument(alloc),
         links,
         connect_timeout,
+        workers,
     ]?;
     Command::new(alloc, "serve")
         .about("Listens for each proxy, and carries its connections under their toxics")
@@ -164,7 +177,7 @@ fn needed<'a>(alloc: Global, name: &'a str, value: &'a str, help: &'a str) -> Ar
 }
 
 /// An option with a value.
-fn option<'a>(alloc: Global, name: &'a str, value: &'a str, help: &'a str) -> Arg<'a> {
+pub(crate) fn option<'a>(alloc: Global, name: &'a str, value: &'a str, help: &'a str) -> Arg<'a> {
     Arg::new(alloc, name)
         .long(name)
         .value_name(value)

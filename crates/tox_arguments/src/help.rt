@@ -151,3 +151,20 @@ Example, with the files of `toxi pick --help` as proxies.json and script.toml, a
 prints, after one connection to the port that it prints first,
   link a 1 up 0 broken down 0 broken
   total a 1 up 0 down 0";
+
+/// Below the options of `toxi replay`.
+pub const REPLAY: &str = "\
+A FILE is the log of one stream of one link. Each log has a line, in the order given:
+
+  faithful <proxy> <link> <stream> in N out N <ending> writes N late median MICROS p99 MICROS max MICROS
+  unfinished <proxy> <link> <stream> in N out N writes N late median MICROS p99 MICROS max MICROS
+  unfaithful <proxy> <link> <stream> line N
+
+A log is faithful if its toxics and random words mean just what it says of the bytes and the ending, and nothing came before its
+time. It is unfinished if it is so as far as it goes, but broke off or has no last line. The lateness is how long after its
+instant a write began, or the end came; ~ marks what may be up to 1 % too high. `late ..` is left out where nothing was timed.
+
+Status 1 if a log can't be judged or is unfaithful. docs/PROFILE.md describes the log.
+
+Example:
+  find logs -name '*.log' | toxi replay -";

@@ -5,6 +5,8 @@ mod arguments;
 mod command_line;
 mod commands;
 mod help;
+mod replay;
 
 pub use arguments::{LinkArguments, PickArguments, ServeArguments};
 pub use command_line::{Task, read};
+pub use replay::{NAMES_ON_INPUT, ReplayArguments, ReplayMode};

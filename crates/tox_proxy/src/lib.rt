@@ -1,7 +1,11 @@
 //! What the program does, as library calls over readers, writers, files, sockets and values: runs, files and picks (tox_runs),
-//! serving (tox_serve), and the texts that a command prints as they stand (tox_text).
+//! serving (tox_serve), logs (tox_log), and the texts that a command prints as they stand (tox_text).
 #![tactic(auto)]
 
+pub use tox_log::{
+    HeardFault, JudgedLog, LogFault, OpenLog, ReplayFault, Verdict, judge_log, print_heard,
+    print_judged, print_meant, print_words, write_judged,
+};
 pub use tox_runs::{
     FileFault, MAX_INPUT, MemoryFiles, NamedFiles, PickFault, PickRequest, RealFiles, Setup,
     SetupFault, StagesFault, ToxicsFault, dry_run, find_proxy, read_chain, read_file, read_setup,

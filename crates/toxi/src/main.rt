@@ -8,6 +8,8 @@ mod migrate;
 mod output;
 mod pick;
 mod plan;
+mod replay;
+mod replay_texts;
 mod serve;
 mod signals;
 mod stages;
@@ -75,6 +77,7 @@ where
         Task::Pick(arguments) => tell(rt, pick::pick(rt, arguments)),
         Task::Migrate(script) => tell(rt, migrate::migrate(rt, script)),
         Task::Serve(arguments) => watch::serve(rt, arguments),
+        Task::Replay(arguments) => replay::replay(rt, arguments),
     }
 }
 

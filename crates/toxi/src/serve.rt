@@ -43,6 +43,7 @@ impl ServeJob {
         let options = ServeOptions {
             links: arguments.links,
             connect_timeout: arguments.connect_timeout,
+            workers: arguments.workers,
         };
         Ok(ServeJob {
             config,

@@ -1,0 +1,137 @@
+//! The command `replay` and its options.
+use crate::commands::option;
+use crate::help;
+use clap::{Arg, ArgAction, ArgMatches, Command};
+use std::alloc::{AllocError, Global};
+
+/// What `replay` prints.
+#[derive(Debug, Drop)]
+pub enum ReplayMode<'a> {
+    /// A line for each log: its verdict.
+    Verdicts,
+    /// What the log heard, as an arrivals text.
+    Arrivals,
+    /// The words of the log.
+    Words,
+    /// What the log's chain means for what was heard, or a chain of these toxics.
+    Result(Vec<&'a str>),
+}
+
+/// What `replay` is given.
+#[derive(Debug, Drop)]
+pub struct ReplayArguments<'a> {
+    pub mode: ReplayMode<'a>,
+    /// The names of the logs, or `-` for names on standard input.
+    pub files: Vec<&'a str>,
+}
+
+/// The name that stands for names on standard input.
+pub const NAMES_ON_INPUT: &str = "-";
+
+/// Why a command line is refused.
+pub(crate) const ONE_FILE: &str = "--arrivals, --words and --result take one FILE";
+
+impl<'a> ReplayArguments<'a> {
+    /// Whether one log is asked for, and it isn't named so.
+    pub(crate) fn lacks_one_file(&self) -> bool {
+        if let ReplayMode::Verdicts = &self.mode {
+            return false;
+        }
+        match self.files.as_slice() {
+            [file] => *file == NAMES_ON_INPUT,
+            _ => true,
+        }
+    }
+}
+
+/// The command.
+pub(crate) fn replay<'a>(alloc: Global) -> Result<Command<'a>, AllocError> {
+    let arguments = vec![in alloc;
+        flag(
+            alloc,
+            "arrivals",
+            "Prints what the log heard as the arrivals of `dry`, its bytes as zeros"
+        )
+        .conflicts_with("words")?
+        .conflicts_with("result")?,
+        flag(
+            alloc,
+            "words",
+            "Prints the log's random words, for `dry --words`"
+        )
+        .conflicts_with("result")?,
+        flag(
+            alloc,
+            "result",
+            "Prints what the toxics mean for what the log heard, with lengths for the bytes"
+        ),
+        as_argument(alloc)?,
+        files_argument(alloc),
+    ]?;
+    Command::new(alloc, "replay")
+        .about("Says of each log of `serve` whether it is faithful, and how late it was")
+        .after_help(help::REPLAY)
+        .args(arguments)
+}
+
+fn flag<'a>(alloc: Global, name: &'a str, help: &'a str) -> Arg<'a> {
+    Arg::new(alloc, name)
+        .long(name)
+        .help(help)
+        .action(ArgAction::SetTrue)
+}
+
+fn as_argument<'a>(alloc: Global) -> Result<Arg<'a>, AllocError> {
+    option(
+        alloc,
+        "as",
+        "TOXIC",
+        "With --result: a toxic in place of the log's; may be repeated",
+    )
+    .action(ArgAction::Append)
+    .requires_arg("result")
+}
+
+fn files_argument<'a>(alloc: Global) -> Arg<'a> {
+    Arg::new(alloc, "files")
+        .value_name("FILE")
+        .help("The logs; - takes their names from standard input, one a line")
+        .required(true)
+        .num_args(1..)
+        .action(ArgAction::Append)
+}
+
+/// What the command is given.
+pub(crate) fn replay_of<'a>(
+    alloc: Global,
+    given: &ArgMatches<'a>,
+) -> Result<ReplayArguments<'a>, AllocError> {
+    Ok(ReplayArguments {
+        mode: mode_of(alloc, given)?,
+        files: strs_of(alloc, given, "files")?,
+    })
+}
+
+fn mode_of<'a>(alloc: Global, given: &ArgMatches<'a>) -> Result<ReplayMode<'a>, AllocError> {
+    if given.get_flag("arrivals") {
+        return Ok(ReplayMode::Arrivals);
+    }
+    if given.get_flag("words") {
+        return Ok(ReplayMode::Words);
+    }
+    if given.get_flag("result") {
+        return Ok(ReplayMode::Result(strs_of(alloc, given, "as")?));
+    }
+    Ok(ReplayMode::Verdicts)
+}
+
+fn strs_of<'a>(
+    alloc: Global,
+    given: &ArgMatches<'a>,
+    name: &str,
+) -> Result<Vec<&'a str>, AllocError> {
+    match given.get_strs(name) {
+        Some(texts) => Vec::from_slice(alloc, texts),
+        None => Ok(Vec::new(alloc)),
+    }
+}
