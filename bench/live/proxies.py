@@ -50,14 +50,14 @@ def direct(upstream):
     return Proxy("no proxy", upstream, None)
 
 
-def toxi(program, folder, upstream, name="toxi", script=""):
+def toxi(program, folder, upstream, name="toxi", script="", options=()):
     config = os.path.join(folder, f"{name}.json")
     rules = os.path.join(folder, f"{name}.toml")
     with open(config, "w") as file:
         json.dump([{"name": "bench", "listen": "127.0.0.1:0", "upstream": f"127.0.0.1:{upstream}"}], file)
     with open(rules, "w") as file:
         file.write(script)
-    command = [program, "serve", "--config", config, "--script", rules, "--seed", "1"]
+    command = [program, "serve", "--config", config, "--script", rules, "--seed", "1", *options]
     lines = open(os.path.join(folder, f"{name}.out"), "w")
     process = subprocess.Popen(command, stdout=lines)
     for _ in range(200):
