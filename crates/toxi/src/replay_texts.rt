@@ -30,7 +30,9 @@ pub fn print_log<'a, R: Print + Files + AllocGlobal>(
     file: &'a str,
 ) -> Result<(), LogTextFault<'a>> {
     if let ReplayMode::Result(toxics) = mode {
-        read_chain(Lanes::ThirtyTwo, toxics).map_err(LogTextFault::Toxics)?;
+        if let Err(fault) = read_chain(Lanes::ThirtyTwo, toxics) {
+            return Err(LogTextFault::Toxics(fault));
+        }
     }
     print_file(rt, rt.alloc(), mode, file, &mut Real::new(io::writer(rt)))
 }
