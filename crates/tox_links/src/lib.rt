@@ -19,7 +19,7 @@ pub use lines::{Gaps, LineChannel, LineQueue, NoGaps, print_listening, write_lin
 pub use link::course::{Course, Courses, courses_of};
 pub use link::end::{Carried, LinkEnd, StreamEnd};
 pub use options::ServeOptions;
-pub use proxy::accepting::{Next, after};
+pub use proxy::accepting::{ACCEPT_REST, Next, after};
 pub use proxy::link_book::LinkBook;
 pub use proxy::links::ProxyLinks;
 pub use proxy::listening::{Listening, listen_all};

@@ -24,7 +24,7 @@ pub(crate) enum State<'r, R> {
 
 /// What a direction that was driven does next.
 #[derive(Clone, Copy, Debug, PartialEq, Eq)]
-pub(crate) enum Next {
+pub(crate) enum LaneProgress {
     /// It waits for an event, or for a timer that is set.
     Waits,
     /// It waits for an event, at most until this instant of the worker's clock, for which no timer is set.
@@ -80,6 +80,13 @@ impl<'r, R: Clock> Lane<'r, R> {
         }
     }
 
+    /// Whether it waits for a timer that is due at an instant.
+    pub(crate) fn is_armed(&self, due: u64) -> bool
+        ensures { result ≡ true ↔ self.now.armed ≡ Some due }
+    {
+        self.armed == Some(due)
+    }
+
     /// A timer of it is over.
     pub(crate) fn disarm(&mut self, due: u64)
         ensures { self.new.stream ≡ self.old.stream }
@@ -97,14 +104,14 @@ impl<'r, R: Clock> Lane<'r, R> {
         sockets: &LinkSockets,
         since: Since,
         scratch: &mut [u8; READ_SIZE],
-    ) -> Next
+    ) -> LaneProgress
         ensures { self.new.stream ≡ self.old.stream }
     {
         let flow = match mem::replace(&mut self.state, State::Driven) {
             State::Going(flow) => flow,
             other => {
                 self.state = other;
-                return Next::Waits;
+                return LaneProgress::Waits;
             }
         };
         let clock = SinceStart::new(rt, sockets, since.start);
@@ -113,29 +120,29 @@ impl<'r, R: Clock> Lane<'r, R> {
                 self.state = State::Going(flow);
                 match until {
                     Some(until) => self.arm(since.worker.saturating_add(until.get())),
-                    None => Next::Waits,
+                    None => LaneProgress::Waits,
                 }
             }
             Driven::Again(flow) => {
                 self.state = State::Going(flow);
-                Next::Again
+                LaneProgress::Again
             }
             Driven::Ended(carried) => {
                 self.state = State::Ended(carried);
-                Next::Ended
+                LaneProgress::Ended
             }
         }
     }
 
     /// It waits until an instant. A timer that is due before serves too: it drives it once more.
-    fn arm(&mut self, due: u64) -> Next
+    fn arm(&mut self, due: u64) -> LaneProgress
         ensures { self.new.stream ≡ self.old.stream }
     {
         if self.armed.is_some_and(|armed| armed <= due) {
-            return Next::Waits;
+            return LaneProgress::Waits;
         }
         self.armed = Some(due);
-        Next::WaitsUntil(due)
+        LaneProgress::WaitsUntil(due)
     }
 
     /// Breaks it off, out of memory.

@@ -5,8 +5,10 @@ ghost use Rattle.slab.specs.Slab.{get};
 use crate::link_key::LinkKey;
 use crate::stage::Stage;
 use crate::subject::MAX_SLOTS;
+use crate::timers::Turn;
 use slab::Slab;
 use std::alloc::Global;
+use std::time::Clock;
 
 /// A slot: the generation of the link that has it, and how far the link is, unless it is being driven.
 #[derive(Drop)]
@@ -23,7 +25,7 @@ pub(crate) struct Links<'r, R> {
     next: u32,
 }
 
-impl<'r, R> Links<'r, R> {
+impl<'r, R: Clock> Links<'r, R> {
     /// No links.
     pub(crate) fn new(alloc: Global) -> Links<'r, R> {
         Links {
@@ -73,6 +75,19 @@ impl<'r, R> Links<'r, R> {
             slot: slot as u32,
             generation,
         })
+    }
+
+    /// Whether a link waits for a timer that is due at an instant.
+    pub(crate) fn is_armed(&self, turn: Turn, due: u64) -> bool {
+        let Turn { key, stream } = turn;
+        match self.places.get(key.slot as usize) {
+            Some(place) if place.generation == key.generation => match &place.stage {
+                Some(Stage::Open(open)) => open.is_armed(stream, due),
+                Some(Stage::Connecting(connecting)) => connecting.deadline == Some(due),
+                _ => false,
+            },
+            _ => false,
+        }
     }
 
     /// Takes a link out of its place, to drive it. None if the key is that of a link that has ended.

@@ -3,7 +3,7 @@ ghost use Rattle.std.specs.Prelude.{◌≡◌, IfSome};
 ghost use Rattle.tox_time.specs.declared.streams.stream.Stream.TheVariants as StreamOf;
 
 use crate::flow::{Flow, READ_SIZE};
-use crate::lane::{Lane, Next};
+use crate::lane::{Lane, LaneProgress};
 use crate::news::News;
 use crate::side::Side;
 use crate::since::Since;
@@ -77,19 +77,21 @@ impl<'r, R: Clock> OpenLink<'r, R> {
         })
     }
 
-    /// The system reported something of a socket. Tells whether the upstream and the downstream direction are to be driven.
+    /// The system reported something of a socket. Tells whether the direction that reads from it and the one that writes to it are
+    /// to be driven.
     pub(crate) fn note(&mut self, side: Side, news: &News) -> (bool, bool) {
-        match side {
-            Side::Client => {
-                let up = self.up.note_source(news);
-                let down = self.down.note_target(news);
-                (up, down)
-            }
-            Side::Server => {
-                let up = self.up.note_target(news);
-                let down = self.down.note_source(news);
-                (up, down)
-            }
+        let (source, target) = match side {
+            Side::Client => (&mut self.up, &mut self.down),
+            Side::Server => (&mut self.down, &mut self.up),
+        };
+        (source.note_source(news), target.note_target(news))
+    }
+
+    /// Whether a direction waits for a timer that is due at an instant.
+    pub(crate) fn is_armed(&self, stream: Stream, due: u64) -> bool {
+        match stream {
+            Stream::Upstream => self.up.is_armed(due),
+            Stream::Downstream => self.down.is_armed(due),
         }
     }
 
@@ -108,7 +110,7 @@ impl<'r, R: Clock> OpenLink<'r, R> {
         alloc: Global,
         stream: Stream,
         scratch: &mut [u8; READ_SIZE],
-    ) -> Next {
+    ) -> LaneProgress {
         let since = self.since;
         match stream {
             Stream::Upstream => self.up.drive(rt, alloc, &self.sockets, since, scratch),

@@ -1,9 +1,15 @@
 //! When which directions of which links are driven, though nothing happens.
 use crate::link_key::LinkKey;
+use crate::links::Links;
 use std::alloc::Global;
 use std::cmp::Reverse;
 use std::collections::BinaryHeap;
+use std::mem;
+use std::time::Clock;
 use tox_time::Stream;
+
+/// How many timers there may be at least before those are looked for that no direction waits for any more.
+const MIN_LIMIT: usize = 1_024;
 
 /// A direction of a link.
 #[derive(Clone, Copy, Debug, PartialEq, Eq)]
@@ -20,16 +26,34 @@ struct Timer {
     down: bool,
 }
 
+impl Timer {
+    /// Whose timer it is.
+    fn turn(&self) -> Turn {
+        let stream = if self.down {
+            Stream::Downstream
+        } else {
+            Stream::Upstream
+        };
+        Turn {
+            key: self.key,
+            stream,
+        }
+    }
+}
+
 /// The timers of a worker.
 #[derive(Drop)]
 pub(crate) struct Timers {
     heap: BinaryHeap<Reverse<Timer>>,
+    /// How many there may be before those are looked for that no direction waits for any more.
+    limit: usize,
 }
 
 impl Timers {
     pub(crate) fn new(alloc: Global) -> Timers {
         Timers {
             heap: BinaryHeap::new(alloc),
+            limit: MIN_LIMIT,
         }
     }
 
@@ -41,6 +65,19 @@ impl Timers {
             down: turn.stream == Stream::Downstream,
         };
         self.heap.push(Reverse(timer)).is_ok()
+    }
+
+    /// Once there are twice as many as were waited for: drops those that no direction waits for any more, such as those of
+    /// links that have ended.
+    pub(crate) fn purge<R: Clock>(&mut self, alloc: Global, links: &Links<'_, R>) {
+        if self.heap.len() < self.limit {
+            return;
+        }
+        let heap = mem::replace(&mut self.heap, BinaryHeap::new(alloc));
+        let mut timers = heap.into_vec();
+        timers.retain(|Reverse(timer)| links.is_armed(timer.turn(), timer.due));
+        self.limit = timers.len().saturating_mul(2).max(MIN_LIMIT);
+        self.heap = BinaryHeap::from(timers);
     }
 
     /// When the next is due.
@@ -59,15 +96,6 @@ impl Timers {
         let Some(Reverse(timer)) = self.heap.pop() else {
             return None;
         };
-        let stream = if timer.down {
-            Stream::Downstream
-        } else {
-            Stream::Upstream
-        };
-        let turn = Turn {
-            key: timer.key,
-            stream,
-        };
-        Some((timer.due, turn))
+        Some((timer.due, timer.turn()))
     }
 }

@@ -4,13 +4,16 @@ ghost use Rattle.std.specs.Prelude.{◌≡◌, ◌/◌, IfSome};
 use std::thread;
 use std::time::{Clock, Duration};
 
+/// How many microseconds a millisecond has.
+pub(crate) const MILLI: u64 = 1_000;
+
 /// The longest rest before an instant that a wait for events can't meet, in microseconds.
 const NAP: u64 = 100;
 
 /// A wait for events lasts whole milliseconds: those of a wait of so many microseconds.
 pub(crate) fn whole_millis(wait: Option<u64>) -> Option<Duration> {
     match wait {
-        Some(micros) => Some(Duration::from_millis(micros / 1_000)),
+        Some(micros) => Some(Duration::from_millis(micros / MILLI)),
         None => None,
     }
 }
@@ -18,7 +21,7 @@ pub(crate) fn whole_millis(wait: Option<u64>) -> Option<Duration> {
 /// Rests where an instant is less than a millisecond away.
 pub(crate) fn nap<R: Clock>(rt: &R, wait: Option<u64>) {
     match wait {
-        Some(micros) if micros > 0 && micros < 1_000 => {
+        Some(micros) if micros > 0 && micros < MILLI => {
             thread::sleep(rt, Duration::from_micros(micros.min(NAP)));
         }
         _ => {}

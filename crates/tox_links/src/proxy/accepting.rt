@@ -13,6 +13,9 @@ const LACKS: [i32; 4] = [24, 23, 105, 63];
 /// a protocol error, no such option, not supported, timed out, and a host that is down.
 const BROKE: [i32; 7] = [1, 64, 71, 92, 95, 110, 112];
 
+/// How long no connection is taken after a momentary lack, in milliseconds.
+pub const ACCEPT_REST: u64 = 10;
+
 /// What to do after a failed `accept`.
 #[derive(Clone, Copy, Debug, PartialEq, Eq)]
 pub enum Next {

@@ -3,10 +3,7 @@ use std::net::{TcpListener, TcpStream};
 use std::sync::Wait;
 use std::thread;
 use std::time::{Clock, Duration};
-use tox_links::{Next, after};
-
-/// How long a listener rests at a momentary lack, in milliseconds.
-const SHORT_REST: u64 = 10;
+use tox_links::{ACCEPT_REST, Next, after};
 
 /// The next connection. None where the listener fails for good.
 pub(crate) fn next_client<R: Wait + Clock>(rt: &R, listener: &TcpListener) -> Option<TcpStream> {
@@ -15,7 +12,7 @@ pub(crate) fn next_client<R: Wait + Clock>(rt: &R, listener: &TcpListener) -> Op
             Ok((client, _)) => return Some(client),
             Err(error) => match after(&error) {
                 Next::TryAgain => {}
-                Next::Rest => thread::sleep(rt, Duration::from_millis(SHORT_REST)),
+                Next::Rest => thread::sleep(rt, Duration::from_millis(ACCEPT_REST)),
                 Next::GiveUp => return None,
             },
         }

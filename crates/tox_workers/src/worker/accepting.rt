@@ -1,14 +1,11 @@
 //! Taking connections.
 use crate::door::Given;
-use crate::waits::earlier;
+use crate::waits::{MILLI, earlier};
 use crate::worker::Worker;
-use tox_links::ServeRuntime;
+use tox_links::{ACCEPT_REST, ServeRuntime};
 
 /// How many connections are taken before the links have their turns.
 const ACCEPTS: usize = 16;
-
-/// How long a worker takes no connections of a proxy for lack of descriptors, in microseconds.
-const REST: u64 = 10_000;
 
 /// Whether a proxy may have more connections.
 #[derive(Clone, Copy, Debug, PartialEq, Eq)]
@@ -80,7 +77,9 @@ impl<'s, R: ServeRuntime> Worker<'s, R> {
             }
             Given::Nobody => None,
             Given::Empty => Some(Accepting::Waits),
-            Given::Lack => Some(Accepting::RestsUntil(self.now().saturating_add(REST))),
+            Given::Lack => Some(Accepting::RestsUntil(
+                self.now().saturating_add(ACCEPT_REST * MILLI),
+            )),
             Given::Closes => {
                 proxy.upstream.close(self.rt);
                 crew.wake_all();

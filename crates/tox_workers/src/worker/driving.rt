@@ -1,6 +1,6 @@
 //! Driving the directions of links: after an event, at a timer, or in their turn.
 use crate::flow::READ_SIZE;
-use crate::lane::Next;
+use crate::lane::LaneProgress;
 use crate::link_key::LinkKey;
 use crate::news::News;
 use crate::open_link::OpenLink;
@@ -46,7 +46,8 @@ impl<'s, R: ServeRuntime> Worker<'s, R> {
         }
     }
 
-    /// Drives the directions of an open link that wait for what the system reported.
+    /// Drives the directions of an open link that wait for what the system reported, and first the one that reads from the socket:
+    /// what its peer said last is carried before a failed write resets both.
     fn on_open(
         &mut self,
         key: LinkKey,
@@ -56,12 +57,13 @@ impl<'s, R: ServeRuntime> Worker<'s, R> {
         scratch: &mut [u8; READ_SIZE],
     ) {
         let mut open = open;
-        let (up, down) = open.note(side, news);
-        if up {
-            self.drive(key, &mut open, Stream::Upstream, scratch);
+        let (source, target) = open.note(side, news);
+        let stream = side.stream();
+        if source {
+            self.drive(key, &mut open, stream, scratch);
         }
-        if down {
-            self.drive(key, &mut open, Stream::Downstream, scratch);
+        if target {
+            self.drive(key, &mut open, other(stream), scratch);
         }
         self.settle(key, open);
     }
@@ -89,10 +91,10 @@ impl<'s, R: ServeRuntime> Worker<'s, R> {
         scratch: &mut [u8; READ_SIZE],
     ) {
         let kept = match open.drive(self.rt, self.run.alloc, stream, scratch) {
-            Next::Waits => true,
-            Next::WaitsUntil(due) => self.timers.set(due, Turn { key, stream }),
-            Next::Again => self.turns.push(Turn { key, stream }).is_ok(),
-            Next::Ended => {
+            LaneProgress::Waits => true,
+            LaneProgress::WaitsUntil(due) => self.timers.set(due, Turn { key, stream }),
+            LaneProgress::Again => self.turns.push(Turn { key, stream }).is_ok(),
+            LaneProgress::Ended => {
                 let stream = other(stream);
                 self.turns.push(Turn { key, stream }).is_ok()
             }
@@ -140,6 +142,7 @@ impl<'s, R: ServeRuntime> Worker<'s, R> {
 
     /// Drives the directions whose timers are due.
     pub(super) fn fire(&mut self, scratch: &mut [u8; READ_SIZE]) {
+        self.timers.purge(self.run.alloc, &self.links);
         let now = self.now();
         for _ in 0..u64::MAX {
             let Some((due, turn)) = self.timers.pop_due(now) else {

@@ -9,6 +9,7 @@ use crate::stage::Stage;
 use crate::subject::{Subject, token_of};
 use crate::timers::Turn;
 use crate::upstream::Addresses;
+use crate::waits::MILLI;
 use crate::worker::Worker;
 use mio::Interest;
 use mio::net::TcpStream as BegunStream;
@@ -22,9 +23,6 @@ use std::sync::Arc;
 use tox_links::{LinkEnd, ServeRuntime, Taken, courses_of};
 use tox_sockets::{LinkSockets, LinkStart, LiveSocket};
 use tox_time::Stream;
-
-/// How many microseconds a millisecond has.
-const MILLI: u64 = 1_000;
 
 impl<'s, R: ServeRuntime> Worker<'s, R> {
     /// Has the poll report all that happens to a link's socket. False if it can't.
@@ -174,8 +172,7 @@ impl<'s, R: ServeRuntime> Worker<'s, R> {
         news: &News,
     ) -> Option<Box<OpenLink<'s, R>>> {
         if side == Side::Client {
-            self.on_waiting_client(key, connecting, news);
-            return None;
+            return self.on_waiting_client(key, connecting, news);
         }
         match connection_of(&connecting.server) {
             Connection::Coming => {
@@ -190,7 +187,17 @@ impl<'s, R: ServeRuntime> Worker<'s, R> {
         }
     }
 
-    fn on_waiting_client(&mut self, key: LinkKey, connecting: Connecting, news: &News) {
+    /// The system reported something of a client whose upstream is being connected. A client that is gone breaks the link,
+    /// unless the upstream is connected by now: what it sent before is carried then.
+    fn on_waiting_client(
+        &mut self,
+        key: LinkKey,
+        connecting: Connecting,
+        news: &News,
+    ) -> Option<Box<OpenLink<'s, R>>> {
+        if news.gone && connection_of(&connecting.server) == Connection::There {
+            return self.open(key, connecting.with_closing());
+        }
         let Connecting {
             client,
             server,
@@ -208,6 +215,7 @@ impl<'s, R: ServeRuntime> Worker<'s, R> {
             };
             self.links.put(key, Stage::Connecting(connecting));
         }
+        None
     }
 
     /// Gives a connect up, and tries the next address.
