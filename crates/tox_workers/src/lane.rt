@@ -81,9 +81,7 @@ impl<'r, R: Clock> Lane<'r, R> {
     }
 
     /// Whether it waits for a timer that is due at an instant.
-    pub(crate) fn is_armed(&self, due: u64) -> bool
-        ensures { result ≡ true ↔ self.now.armed ≡ Some due }
-    {
+    pub(crate) fn is_armed(&self, due: u64) -> bool {
         self.armed == Some(due)
     }
 

@@ -80,11 +80,10 @@ impl<'r, R: Clock> OpenLink<'r, R> {
     /// The system reported something of a socket. Tells whether the direction that reads from it and the one that writes to it are
     /// to be driven.
     pub(crate) fn note(&mut self, side: Side, news: &News) -> (bool, bool) {
-        let (source, target) = match side {
-            Side::Client => (&mut self.up, &mut self.down),
-            Side::Server => (&mut self.down, &mut self.up),
-        };
-        (source.note_source(news), target.note_target(news))
+        match side {
+            Side::Client => (self.up.note_source(news), self.down.note_target(news)),
+            Side::Server => (self.down.note_source(news), self.up.note_target(news)),
+        }
     }
 
     /// Whether a direction waits for a timer that is due at an instant.
