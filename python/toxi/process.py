@@ -19,19 +19,18 @@ class Process:
     """A running program. Its lines are read by threads, so that it never waits for its output to be read."""
 
     def __init__(self, command: Sequence[str]) -> None:
+        if shutil.which(command[0]) is None:
+            raise ToxiError(f"{command[0]} can't be started")
         mask = signal.pthread_sigmask(signal.SIG_BLOCK, STOPPING)
         try:
-            try:
-                self._child = subprocess.Popen(
-                    [*_tied_to_parent(), *command],
-                    stdin=subprocess.DEVNULL,
-                    stdout=subprocess.PIPE,
-                    stderr=subprocess.PIPE,
-                    encoding="utf-8",
-                    errors="replace",
-                )
-            except OSError as error:
-                raise ToxiError(f"{command[0]} can't be started: {error}") from error
+            self._child = subprocess.Popen(
+                [*_tied_to_parent(), *command],
+                stdin=subprocess.DEVNULL,
+                stdout=subprocess.PIPE,
+                stderr=subprocess.PIPE,
+                encoding="utf-8",
+                errors="replace",
+            )
             # Runs at the interpreter's exit too.
             self._kill = weakref.finalize(self, _kill, self._child)
         finally:

@@ -76,14 +76,14 @@ def toxi(request: pytest.FixtureRequest, tmp_path: Path) -> Iterator[Callable[..
 
 @pytest.hookimpl(hookwrapper=True)
 def pytest_runtest_makereport(item: pytest.Item) -> Generator[None, Any, None]:
-    """Adds to the report of a red test what is needed to see the same again."""
+    """Adds to a test's report what is needed to see the same again. pytest shows it of red tests, and of all with `-rP`."""
     outcome = yield
     report = outcome.get_result()
     factory = item.stash.get(FACTORY, None)
-    if factory is None or not report.failed:
+    if factory is None or not (report.failed or report.when == "call"):
         return
     # Links that still live get their lines. A debugger may want them alive.
-    if not item.config.getoption("usepdb", False):
+    if report.failed and not item.config.getoption("usepdb", False):
         factory.stop()
     report.sections.append(("toxi", f"{_command(item, factory.seed)}\n{factory.report()}"))
 
