@@ -15,8 +15,10 @@ PATIENCE = 20
 NOWHERE = {"shop": "127.0.0.1:1"}
 # A test run that starts a proxy, tells its process, and then does what is put in.
 RUN = """
-import os, signal, sys, threading, time
+import os, signal, sys, time
 from toxi import Toxi
+# A script that starts the tests by `&` has SIGINT ignored.
+signal.signal(signal.SIGINT, signal.default_int_handler)
 def run():
     with Toxi({"shop": "127.0.0.1:1"}) as toxi:
         print(toxi._process._child.pid, flush=True)
