@@ -51,13 +51,18 @@ class Process:
         """The status of a process that has ended: negative for a signal. None while it runs."""
         return self._child.poll()
 
+    @property
+    def writes(self) -> bool:
+        """Whether more lines may come."""
+        return self._readers[0].is_alive()
+
     def wait_until(self, holds: Callable[[], bool], timeout: float) -> bool:
         """Waits for what its lines tell. False once they have ended or the time is up, and it doesn't hold."""
         end = time.monotonic() + timeout
         with self._changed:
             while not holds():
                 left = end - time.monotonic()
-                if left <= 0 or not self._readers[0].is_alive():
+                if left <= 0 or not self.writes:
                     return holds()
                 # The end of a reader is looked for, since it can't be notified.
                 self._changed.wait(min(left, 0.05))

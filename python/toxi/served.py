@@ -56,6 +56,7 @@ class Toxi:
                 self._options += [option, str(value)]
         self._own_directory: Optional["tempfile.TemporaryDirectory[str]"] = None
         self._process: Optional[Process] = None
+        self._stopped = False
         self._addresses: Dict[str, Address] = {}
 
     def __enter__(self) -> "Toxi":
@@ -65,7 +66,7 @@ class Toxi:
     def __exit__(
         self, kind: Optional[Type[BaseException]], error: Optional[BaseException], trace: Optional[TracebackType]
     ) -> None:
-        failed = self._running().status not in (None, 0)
+        failed = not self._stopped and self._running().status not in (None, 0)
         self.stop()
         if failed and kind is None:
             raise self._error()
@@ -79,6 +80,8 @@ class Toxi:
         try:
             self._process = process = Process(self.command)
             listens = process.wait_until(lambda: len(self._listening()) >= max(len(names), 1), self._start_timeout)
+            if not listens and process.writes:
+                raise ToxiError(f"toxi doesn't listen within {self._start_timeout} s")
             # Without an enabled proxy it ends at once.
             if not listens and (names or process.wait(self._start_timeout) != 0):
                 process.stop()
@@ -90,6 +93,7 @@ class Toxi:
 
     def stop(self) -> None:
         """Ends the program. Links that still live are broken, and have their lines. A second call does nothing."""
+        self._stopped = True
         if self._process is not None:
             self._process.stop()
         if self._own_directory is not None:

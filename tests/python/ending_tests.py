@@ -98,6 +98,15 @@ class EndingTests(unittest.TestCase):
                 pass
             self.assertEqual(sorted(os.listdir(folder)), ["proxies.json", "script.toml"])
 
+    def test_a_program_that_never_listens(self):
+        with tempfile.TemporaryDirectory() as folder:
+            program = os.path.join(folder, "toxi")
+            with open(program, "w") as file:
+                file.write("#!/bin/sh\nexec sleep 2\n")
+            os.chmod(program, 0o755)
+            with self.assertRaisesRegex(ToxiError, "doesn't listen within 0.2 s"):
+                Toxi(NOWHERE, program=program, start_timeout=0.2).start()
+
     def test_no_program(self):
         with self.assertRaisesRegex(ToxiError, "/nowhere/toxi can't be started"):
             Toxi(NOWHERE, program="/nowhere/toxi").start()
@@ -141,15 +150,16 @@ class FaultTests(unittest.TestCase):
 
 class TextTests(unittest.TestCase):
     def test_names_of_all_kinds(self):
-        for name in ("a b", 'quo"te\\', "new\nline", "ünï\U0001f600", "\x7f", "[[rule]]", "shop 3"):
-            proxies = [Proxy(name, "127.0.0.1:1"), Proxy("other", "127.0.0.1:1", enabled=False)]
-            rule = Rule(name, toxics=[Latency(latency=1, name="slow one", stream="upstream", toxicity="0.25")])
-            with Toxi(proxies, [rule]) as toxi:
-                self.assertEqual(toxi.address(name).host, "127.0.0.1")
-                (toxic,) = toxi.pick(name, 1)
-                self.assertEqual((toxic.name, toxic.stream, toxic.type), ("slow one", "upstream", "latency"))
-                self.assertEqual(toxic.attributes, {"latency": 1, "jitter": 0, "toxicity": 250})
-            self.assertEqual([total.links for total in toxi.totals()], [0])
+        names = ("a b", 'quo"te\\', "new\nline", "ünï\U0001f600", "\x7f", "[[rule]]", "shop 3")
+        proxies = [Proxy(name, "127.0.0.1:1") for name in names] + [Proxy("off", "127.0.0.1:1", enabled=False)]
+        toxic = Latency(latency=1, name="slow one", stream="upstream", toxicity="0.25")
+        with Toxi(proxies, [Rule(name, toxics=[toxic]) for name in names]) as toxi:
+            self.assertEqual(len({toxi.address(name) for name in names}), len(names))
+            for name in names:
+                (picked,) = toxi.pick(name, 1, "upstream")
+                self.assertEqual((picked.name, picked.stream, picked.type), ("slow one", "upstream", "latency"))
+                self.assertEqual(picked.attributes, {"latency": 1, "jitter": 0, "toxicity": 250})
+        self.assertEqual([total.links for total in toxi.totals()], [0] * len(names))
 
     def test_lines(self):
         link = Link("a 1 up 2", 3, 4, "closed", 5, "reset")

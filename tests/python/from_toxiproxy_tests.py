@@ -103,15 +103,20 @@ class FromToxiproxyTests(unittest.TestCase):
         self.assertEqual(self.convert(json.dumps({"shop": {**SHOP, "toxics": toxics}})), (0, []))
         self.assertEqual([line.split()[-1] for line in self.picked()[1:]], list("cab"))
 
+    def check_toxicities(self, pairs):
+        """Converts a toxic with each toxicity, and checks the thousandths that are picked. Returns what was named."""
+        toxics = [self.toxic(name=f"t{place}", toxicity=toxicity) for place, (toxicity, _) in enumerate(pairs)]
+        _, missing = self.convert(json.dumps([{**SHOP, "toxics": toxics}]))
+        picked = [line.split()[2].rpartition("=")[2] for line in self.picked()[1:]]
+        self.assertEqual(picked, [str(thousandths) for _, thousandths in pairs])
+        return missing
+
     def test_toxicities(self):
-        for toxicity, thousandths in ((1, 1000), (1.0, 1000), (0.5, 500), (0.001, 1), (0, 0)):
-            self.assertEqual(self.convert_toxic(toxicity=toxicity), (0, []))
-            self.assertIn(f"toxicity={thousandths} ", self.picked()[1])
-        for toxicity, thousandths in ((0.0004, 0), (0.0016, 2), (2, 1000), (-1, 0)):
-            status, missing = self.convert_toxic(toxicity=toxicity)
-            self.assertEqual(status, 3)
-            self.assertIn(f"{thousandths} are taken", missing[0])
-            self.assertIn(f"toxicity={thousandths} ", self.picked()[1])
+        self.assertEqual(self.check_toxicities([(1, 1000), (1.0, 1000), (0.5, 500), (0.001, 1), (0, 0)]), [])
+        inexact = [(0.0004, 0), (0.0016, 2), (2, 1000), (-1, 0)]
+        for (_, thousandths), named in zip(inexact, self.check_toxicities(inexact)):
+            self.assertIn(f"{thousandths} are taken", named)
+        self.assertEqual(len(self.check_toxicities(inexact)), len(inexact))
 
     def test_what_has_no_counterpart(self):
         for changed in ({"type": "noop"}, {"type": "down"}, {"attributes": {"latency": -1}}, {"attributes": {"latency": 1.5}}):
