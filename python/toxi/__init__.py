@@ -1,0 +1,36 @@
+"""Starts `toxi serve`, a TCP fault proxy, in front of the services of a test.
+
+    with Toxi({"shop": "127.0.0.1:8080"}, [Rule("shop", toxics=[Latency(latency=100)])], seed=7) as toxi:
+        client = connect(toxi.address("shop"))
+
+The manual of toxics, rules and faults is docs/PROFILE.md.
+"""
+from .errors import ToxiEnded, ToxiError, ToxiFault
+from .lines import Address, Link, Total
+from .picks import PickedToxic
+from .proxies import Proxy
+from .rules import Rule, script_text
+from .served import Toxi
+from .toxics import Bandwidth, Latency, LimitData, ResetPeer, Slicer, SlowClose, Timeout, Toxic
+
+__all__ = [
+    "Address",
+    "Bandwidth",
+    "Latency",
+    "LimitData",
+    "Link",
+    "PickedToxic",
+    "Proxy",
+    "ResetPeer",
+    "Rule",
+    "Slicer",
+    "SlowClose",
+    "Timeout",
+    "Total",
+    "Toxi",
+    "ToxiEnded",
+    "ToxiError",
+    "ToxiFault",
+    "Toxic",
+    "script_text",
+]

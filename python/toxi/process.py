@@ -1,0 +1,111 @@
+"""A child process that is read line by line and never outlives the tests."""
+import shutil
+import signal
+import subprocess
+import threading
+import time
+import weakref
+from typing import IO, Callable, List, Optional, Sequence
+
+from .errors import ToxiError
+
+# The program looks for these signals itself when they are blocked, and then ends with its totals.
+STOPPING = {signal.SIGTERM, signal.SIGINT}
+# `serve` ends within 2 seconds of SIGTERM. A busy machine gets more, in seconds.
+STOP_LIMIT = 10
+
+
+class Process:
+    """A running program. Its lines are read by threads, so that it never waits for its output to be read."""
+
+    def __init__(self, command: Sequence[str]) -> None:
+        if shutil.which(command[0]) is None:
+            raise ToxiError(f"{command[0]} can't be started")
+        mask = signal.pthread_sigmask(signal.SIG_BLOCK, STOPPING)
+        try:
+            self._child = subprocess.Popen(
+                [*_tied_to_parent(), *command],
+                stdin=subprocess.DEVNULL,
+                stdout=subprocess.PIPE,
+                stderr=subprocess.PIPE,
+                encoding="utf-8",
+                errors="replace",
+            )
+            # Runs at the interpreter's exit too.
+            self._kill = weakref.finalize(self, _kill, self._child)
+        finally:
+            signal.pthread_sigmask(signal.SIG_SETMASK, mask)
+        self.lines: List[str] = []
+        self.said: List[str] = []
+        self._changed = threading.Condition()
+        self._readers = [self._reader(self._child.stdout, self.lines), self._reader(self._child.stderr, self.said)]
+
+    def _reader(self, stream: Optional[IO[str]], lines: List[str]) -> threading.Thread:
+        assert stream is not None
+        thread = threading.Thread(target=_read, args=(stream, lines, self._changed), daemon=True)
+        thread.start()
+        return thread
+
+    @property
+    def status(self) -> Optional[int]:
+        """The status of a process that has ended: negative for a signal. None while it runs."""
+        return self._child.poll()
+
+    @property
+    def writes(self) -> bool:
+        """Whether more lines may come."""
+        return self._readers[0].is_alive()
+
+    def wait_until(self, holds: Callable[[], bool], timeout: float) -> bool:
+        """Waits for what its lines tell. False once they have ended or the time is up, and it doesn't hold."""
+        end = time.monotonic() + timeout
+        with self._changed:
+            while not holds():
+                left = end - time.monotonic()
+                if left <= 0 or not self.writes:
+                    return holds()
+                # The end of a reader is looked for, since it can't be notified.
+                self._changed.wait(min(left, 0.05))
+            return True
+
+    def wait(self, timeout: float) -> int:
+        """Waits until it ends and its lines are read. Raises `subprocess.TimeoutExpired`."""
+        status = self._child.wait(timeout)
+        for reader in self._readers:
+            reader.join(STOP_LIMIT)
+        return status
+
+    def stop(self) -> int:
+        """Ends it by SIGTERM, and by SIGKILL if that takes too long. Returns its status."""
+        try:
+            self._child.terminate()
+            self.wait(STOP_LIMIT)
+        except subprocess.TimeoutExpired:
+            pass
+        finally:
+            self._kill()
+        return self.wait(STOP_LIMIT)
+
+
+def _read(stream: IO[str], lines: List[str], changed: threading.Condition) -> None:
+    with stream:
+        for line in stream:
+            with changed:
+                lines.append(line.rstrip("\n"))
+                changed.notify_all()
+
+
+def _kill(child: "subprocess.Popen[str]") -> None:
+    child.kill()
+    child.wait()
+
+
+def _tied_to_parent() -> List[str]:
+    """A command before the command, with which the system kills the child when its parent dies.
+
+    The system takes the thread that started the child for its parent, so this is for the main thread alone.
+    """
+    setpriv = shutil.which("setpriv")
+    if setpriv is None or threading.current_thread() is not threading.main_thread():
+        return []
+    return [setpriv, "--pdeathsig", "KILL", "--"]

@@ -1,0 +1,35 @@
+"""Proxies, and the populate file that they are."""
+import json
+from dataclasses import asdict, dataclass
+from typing import Iterable, List, Mapping, Union
+
+
+@dataclass(frozen=True)
+class Proxy:
+    """A proxy before `upstream`. By default the system chooses its port."""
+
+    name: str
+    upstream: str
+    listen: str = "127.0.0.1:0"
+    enabled: bool = True
+
+
+Proxies = Union[str, Mapping[str, str], Iterable[Proxy]]
+
+
+def populate_text(proxies: Proxies) -> str:
+    """The populate file of proxies, of a mapping from names to upstreams, or of a file's own text."""
+    if isinstance(proxies, str):
+        return proxies
+    if isinstance(proxies, Mapping):
+        proxies = [Proxy(name, upstream) for name, upstream in proxies.items()]
+    return json.dumps([asdict(proxy) for proxy in proxies], ensure_ascii=False, indent=1) + "\n"
+
+
+def enabled_names(populate: str) -> List[str]:
+    """The names of the enabled proxies in the order of the file. Empty where the program will refuse the file."""
+    try:
+        proxies = {proxy["name"]: proxy.get("enabled") is not False for proxy in json.loads(populate)}
+    except (ValueError, TypeError, KeyError, AttributeError):
+        return []
+    return [name for name, enabled in proxies.items() if enabled]

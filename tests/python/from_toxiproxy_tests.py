@@ -1,0 +1,140 @@
+"""`examples/from-toxiproxy`: each toxic from each form of a setup, read again by `toxi pick`."""
+import json
+import os
+import shlex
+import subprocess
+import tempfile
+import unittest
+
+ROOT = os.path.dirname(os.path.dirname(os.path.dirname(os.path.abspath(__file__))))
+FROM_TOXIPROXY = os.path.join(ROOT, "examples", "from-toxiproxy")
+# Each toxic with attributes as Toxiproxy's README has them, and its short form under `toxi pick`.
+TOXICS = [
+    ("latency", {"latency": 1000, "jitter": 50}, "latency:latency=1000,jitter=50"),
+    ("bandwidth", {"rate": 30}, "bandwidth:rate=30"),
+    ("slow_close", {"delay": 500}, "slow_close:delay=500"),
+    ("timeout", {"timeout": 0}, "timeout:timeout=0"),
+    ("reset_peer", {"timeout": 2000}, "reset_peer:timeout=2000"),
+    ("slicer", {"average_size": 64, "size_variation": 32, "delay": 10}, "slicer:average_size=64,size_variation=32,delay=10"),
+    ("limit_data", {"bytes": 4096}, "limit_data:bytes=4096"),
+]
+STREAMS = ("upstream", "downstream")
+FIRST = "proxy shop listen 127.0.0.1:26379 upstream 127.0.0.1:6379 "
+SHOP = {"name": "shop", "listen": "127.0.0.1:26379", "upstream": "127.0.0.1:6379", "enabled": True}
+CREATE = "toxiproxy-cli create -l 127.0.0.1:26379 -u 127.0.0.1:6379 shop\n"
+
+
+class FromToxiproxyTests(unittest.TestCase):
+    def setUp(self):
+        folder = tempfile.TemporaryDirectory()
+        self.addCleanup(folder.cleanup)
+        self.folder = folder.name
+
+    def convert(self, text):
+        """The status, and what has no counterpart."""
+        with open(os.path.join(self.folder, "setup"), "w") as file:
+            file.write(text)
+        ran = subprocess.run(
+            [FROM_TOXIPROXY, "setup", "p.json", "s.toml"], cwd=self.folder, capture_output=True, text=True, check=False
+        )
+        self.assertEqual(ran.stdout, "")
+        return ran.returncode, [line[len("from-toxiproxy: ") :] for line in ran.stderr.splitlines()]
+
+    def picked(self, stream="downstream"):
+        """The lines of a connection's pick."""
+        files = ["--config", "p.json", "--script", "s.toml", "--proxy", "shop"]
+        command = [os.environ["TOXI"], "pick", *files, "--conn", "5", "--stream", stream, "--seed", "1"]
+        return subprocess.run(command, cwd=self.folder, capture_output=True, text=True, check=True).stdout.splitlines()
+
+    def toxic(self, **changed):
+        return {"type": "latency", "stream": "downstream", "toxicity": 1, "attributes": {"latency": 5}, **changed}
+
+    def convert_toxic(self, **changed):
+        return self.convert(json.dumps([{**SHOP, "toxics": [self.toxic(**changed)]}]))
+
+    def check_each_toxic(self, stream):
+        shown = [f"{place} applied {short},toxicity=1000 {stream}{place}" for place, (_, _, short) in enumerate(TOXICS)]
+        self.assertEqual(self.picked(stream), [FIRST + "enabled", *shown])
+
+    def test_each_toxic_of_get_proxies(self):
+        toxics = [
+            self.toxic(type=kind, stream=stream, name=f"{stream}{place}", attributes=attributes)
+            for stream in STREAMS
+            for place, (kind, attributes, _) in enumerate(TOXICS)
+        ]
+        self.assertEqual(self.convert(json.dumps({"shop": {**SHOP, "toxics": toxics}})), (0, []))
+        for stream in STREAMS:
+            self.check_each_toxic(stream)
+
+    def test_each_toxic_of_a_shell_script(self):
+        text = CREATE
+        for stream in STREAMS:
+            for place, (kind, attributes, _) in enumerate(TOXICS):
+                pairs = " ".join(f"-a {key}={value}" for key, value in attributes.items())
+                text += f"toxiproxy-cli toxic add -t {kind} {pairs} -n {stream}{place} --{stream} shop\n"
+        self.assertEqual(self.convert(text), (0, []))
+        for stream in STREAMS:
+            self.check_each_toxic(stream)
+
+    def test_a_whole_shell_script(self):
+        text = "#!/bin/sh\n# toxiproxy-cli create nothing\nset -e\n"
+        text += "if ! /usr/bin/toxiproxy-cli -h localhost:8474 create shop --listen=127.0.0.1:26379 \\\n"
+        text += "   --upstream 127.0.0.1:6379 > /dev/null; then exit 1; fi\n"
+        text += "docker exec t toxiproxy-cli toxic add shop -u --type latency --attribute latency=7 --toxicity 0.25 && echo done\n"
+        text += "toxiproxy-cli t a -t latency -a latency=8 -d shop 2>&1; toxiproxy-cli list\n"
+        text += "toxiproxy-cli create -u a:1 a && toxiproxy-cli create -u b:2 b || toxiproxy-cli t a -t timeout b >> log 2>&1\n"
+        self.assertEqual(self.convert(text), (0, []))
+        self.assertIn(self.picked("upstream")[1].split()[1], ("applied", "skipped"))
+        self.assertEqual(self.picked("upstream")[1].split()[2:], ["latency:latency=7,jitter=0,toxicity=250", "latency_upstream"])
+        self.assertEqual(self.picked()[1], "0 applied latency:latency=8,jitter=0,toxicity=1000 latency_downstream")
+        with open(os.path.join(self.folder, "p.json")) as file:
+            self.assertEqual([proxy["name"] for proxy in json.load(file)], ["shop", "a", "b"])
+        with open(os.path.join(self.folder, "s.toml")) as file:
+            self.assertEqual(file.read().count('proxy = "b"'), 1)
+
+    def test_a_populate_file(self):
+        with open(os.path.join(ROOT, "examples", "proxies.json")) as file:
+            status, missing = self.convert(file.read())
+        self.assertEqual((status, len(missing)), (3, 1))
+        self.assertEqual(self.picked(), ["proxy shop listen localhost:18080 upstream localhost:8080 enabled"])
+
+    def test_order_of_toxics(self):
+        toxics = [self.toxic(name=name, attributes={"latency": place}) for place, name in enumerate("cab")]
+        self.assertEqual(self.convert(json.dumps({"shop": {**SHOP, "toxics": toxics}})), (0, []))
+        self.assertEqual([line.split()[-1] for line in self.picked()[1:]], list("cab"))
+
+    def check_toxicities(self, pairs):
+        """Converts a toxic with each toxicity, and checks the thousandths that are picked. Returns what was named."""
+        toxics = [self.toxic(name=f"t{place}", toxicity=toxicity) for place, (toxicity, _) in enumerate(pairs)]
+        _, missing = self.convert(json.dumps([{**SHOP, "toxics": toxics}]))
+        picked = [line.split()[2].rpartition("=")[2] for line in self.picked()[1:]]
+        self.assertEqual(picked, [str(thousandths) for _, thousandths in pairs])
+        return missing
+
+    def test_toxicities(self):
+        self.assertEqual(self.check_toxicities([(1, 1000), (1.0, 1000), (0.5, 500), (0.001, 1), (0, 0)]), [])
+        inexact = [(0.0004, 0), (0.0016, 2), (2, 1000), (-1, 0)]
+        for (_, thousandths), named in zip(inexact, self.check_toxicities(inexact)):
+            self.assertIn(f"{thousandths} are taken", named)
+        self.assertEqual(len(self.check_toxicities(inexact)), len(inexact))
+
+    def test_what_has_no_counterpart(self):
+        for changed in ({"type": "noop"}, {"type": "down"}, {"attributes": {"latency": -1}}, {"attributes": {"latency": 1.5}}):
+            self.assertEqual(self.convert_toxic(**changed)[0], 3)
+            self.assertEqual(self.picked(), [FIRST + "enabled"])
+        self.assertEqual(self.convert_toxic(attributes={"latency": 5, "rate": 1})[0], 3)
+        self.assertEqual(self.convert(json.dumps({"shop": {**SHOP, "enabled": False}}))[0], 3)
+        self.assertEqual(self.picked(), [FIRST + "disabled"])
+
+    def test_commands_that_have_no_counterpart(self):
+        for command in ("toggle shop", "delete shop", "toxic remove -n slow shop", "toxic update -n slow -a latency=1 shop"):
+            status, missing = self.convert(f"{CREATE}toxiproxy-cli {command}\n")
+            self.assertEqual((status, missing[0].split("`")[0]), (3, "line 2: "))
+            self.assertEqual(shlex.split(command)[0], missing[0].split("`")[1].split()[0])
+        for command in ("toxic add -t latency mail", "toxic add shop", "create a", "create -u $HOST a", "create 'a"):
+            self.assertEqual(self.convert(f"{CREATE}toxiproxy-cli {command}\n")[0], 3)
+
+    def test_what_is_no_setup(self):
+        for text in ("", "{", "[1]", "{}", "[]", '{"a": 1}', "echo a", "version = 2"):
+            self.assertEqual(self.convert(text)[0], 1)
+        self.assertEqual(subprocess.run([FROM_TOXIPROXY], stderr=subprocess.DEVNULL, check=False).returncode, 2)

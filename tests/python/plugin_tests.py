@@ -1,0 +1,64 @@
+"""The pytest plugin: a red test's report, and the seeds. A pytest of its own runs small tests."""
+import os
+import re
+import shlex
+import subprocess
+import sys
+
+import pytest
+
+RED = """
+from toxi import Rule, ResetPeer
+import socket
+def test_red(toxi):
+    served = toxi({"shop": "127.0.0.1:1"}, [Rule("shop", toxics=[ResetPeer(timeout=0, toxicity=500)])])
+    socket.create_connection(served.address("shop")).close()
+    served.wait_for_link("shop", 1, 20)
+    assert False
+def test_green(toxi):
+    print("seed", toxi.seed)
+def test_without():
+    assert False
+"""
+PYTEST = [sys.executable, "-B", "-m", "pytest", "-p", "toxi.pytest_plugin", "-p", "no:cacheprovider"]
+
+
+@pytest.fixture
+def run(tmp_path):
+    (tmp_path / "sub").mkdir()
+    (tmp_path / "sub" / "test_red.py").write_text(RED)
+    (tmp_path / "pytest.ini").write_text("[pytest]\n")
+
+    def start(*arguments, folder=tmp_path):
+        command = [*PYTEST, f"--basetemp={tmp_path / 'base'}", *arguments]
+        return subprocess.run(command, cwd=folder, capture_output=True, text=True, check=False).stdout
+
+    return start
+
+
+def test_red_report(run, tmp_path):
+    printed = run("--toxi-seed", "7")
+    assert printed.count(" toxi ") == 1
+    assert "pytest sub/test_red.py::test_red --toxi-seed 7\n" in printed
+    assert re.search(r"^seed 7$", printed, re.M)
+    assert re.search(r"^link shop 1 up 0 broken down 0 broken$", printed, re.M)
+    assert re.search(r"^total shop 1 up 0 down 0$", printed, re.M)
+    command = shlex.split(re.search(r"^\S+ serve .*$", printed, re.M)[0])
+    for option in ("--config", "--script"):
+        assert os.path.isfile(command[command.index(option) + 1])
+
+
+def test_the_shown_command_gives_the_drawn_seed(run, tmp_path):
+    printed = run("-k", "red", folder=tmp_path / "sub")
+    seed = re.search(r"^seed (\d+)$", printed, re.M)[1]
+    shown = re.search(r"^pytest (test_red.py::test_red --toxi-seed \d+)$", printed, re.M)[1]
+    assert re.search(rf"^seed {seed}$", run(*shown.split(), folder=tmp_path / "sub"), re.M)
+
+
+def test_each_test_draws_its_seed(run):
+    seeds = {re.search(r"test_green --toxi-seed (\d+)$", run("-k", "green", "-rP"), re.M)[1] for _ in range(2)}
+    assert len(seeds) == 2
+
+
+def test_program_option(run):
+    assert "/nowhere/toxi can't be started" in run("--toxi-program", "/nowhere/toxi")
