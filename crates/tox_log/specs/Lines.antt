@@ -1,5 +1,5 @@
 -- The lines behind the header.
-use Rattle.std.specs.Prelude.{ℕ, ◌^◌, ◌≤◌, List}
+use Rattle.std.specs.Prelude.{◌≡◌, ◌≢◌, ℕ, ◌^◌, ◌≤◌, List, Option, MatchOption}
 use Rattle.tox_time.specs.Time.{IsInstant}
 use Rattle.tox_time.specs.declared.streams.span.Span.{Span}
 use Rattle.tox_time.specs.declared.streams.ending.Ending.{Ending}
@@ -41,3 +41,11 @@ IsWritableLast (Broken cause bytes) = bytes ≤ 2 ^ 40
 abbrev pub IsWritable : LogLine → Type 0
 IsWritable (Event event) = IsWritableEvent event
 IsWritable (Last last) = IsWritableLast last
+
+-- a text is no line that a log may have
+abbrev pub IsNoLine : List ℕ → Type 0
+IsNoLine text = (line : LogLine) → IsWritable line → text ≢ line_words line
+
+-- what a text is read as: the line that prints so, or none where it is no line
+abbrev pub ReadsLine : Option LogLine → List ℕ → Type 0
+ReadsLine read text = MatchOption read (IsNoLine text) (λ line. (text ≡ line_words line) × IsWritable line)

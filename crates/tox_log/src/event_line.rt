@@ -1,8 +1,11 @@
 //! A line behind the header: an event, or the last line.
-ghost use Rattle.std.specs.Prelude.{◌≡◌, ◌++◌, ◌∷◌, [], codes, decimal, IfSome};
+ghost use Rattle.std.specs.Prelude.{◌≡◌, ◌≢◌, ◌++◌, ◌∷◌, [], codes, decimal, MatchOption};
 ghost use Rattle.tox_time.specs.Time.{IsInstant};
-ghost use Rattle.tox_log.specs.Lines.{line_words, IsWritable, IsWritableSpan};
+ghost use Rattle.tox_time.specs.declared.streams.span.Span.{Span as OneSpan};
+ghost use Rattle.tox_log.specs.declared.last_line.BreakCause.{BreakCause as OneCause};
+ghost use Rattle.tox_log.specs.Lines.{IsWritableSpan, ReadsLine};
 ghost use Rattle.tox_log.specs.LastText.{cause_name};
+ghost use Rattle.tox_log.specs.Numbers.{Lacks};
 
 use crate::last_line::{BreakCause, LastLine};
 use crate::numbers::{cut_at, instant_of, number_of};
@@ -18,7 +21,7 @@ pub enum LogLine {
 
 /// What a line behind the header says, without its line feed. None if it isn't of the form.
 pub fn read_line(text: &[u8]) -> Option<LogLine>
-    ensures { IfSome result (λ line. (text.now ≡ line_words line) × IsWritable line) }
+    ensures { ReadsLine result text.now }
 {
     let (first, rest) = cut_at(text, b' ')?;
     if first == b"broken".as_slice() {
@@ -31,8 +34,7 @@ pub fn read_line(text: &[u8]) -> Option<LogLine>
 /// What the words behind a reading say.
 fn words_of(reading: &Micros, words: &[u8]) -> Option<LogLine>
     requires { IsInstant reading.now }
-    ensures { IfSome result (λ line.
-        (decimal reading.now ++ 32 ∷ words.now ≡ line_words line) × IsWritable line) }
+    ensures { ReadsLine result (decimal reading.now ++ 32 ∷ words.now) }
 {
     if words == b"end".as_slice() {
         return Some(LogLine::Event(LinkEvent::SourceEnd(*reading)));
@@ -53,9 +55,7 @@ fn words_of(reading: &Micros, words: &[u8]) -> Option<LogLine>
 /// The event of a piece of so many bytes.
 fn piece_of(reading: &Micros, bytes: &[u8]) -> Option<LogLine>
     requires { IsInstant reading.now }
-    ensures { IfSome result (λ line.
-        (decimal reading.now ++ codes " piece " ++ bytes.now ≡ line_words line)
-        × IsWritable line) }
+    ensures { ReadsLine result (decimal reading.now ++ codes " piece " ++ bytes.now) }
 {
     let len = number_of(bytes, MAX_BYTES)?;
     Some(LogLine::Event(LinkEvent::Piece(len, *reading)))
@@ -64,9 +64,7 @@ fn piece_of(reading: &Micros, bytes: &[u8]) -> Option<LogLine>
 /// The event of a slice: its range and its instant.
 fn wrote_of(reading: &Micros, words: &[u8]) -> Option<LogLine>
     requires { IsInstant reading.now }
-    ensures { IfSome result (λ line.
-        (decimal reading.now ++ codes " wrote " ++ words.now ≡ line_words line)
-        × IsWritable line) }
+    ensures { ReadsLine result (decimal reading.now ++ codes " wrote " ++ words.now) }
 {
     let (range, due) = cut_at(words, b' ')?;
     let span = span_of(range)?;
@@ -76,8 +74,10 @@ fn wrote_of(reading: &Micros, words: &[u8]) -> Option<LogLine>
 
 /// A range of positions, `<start>..<stop>`.
 fn span_of(text: &[u8]) -> Option<Span>
-    ensures { IfSome result (λ span.
-        (text.now ≡ decimal span.start ++ codes ".." ++ decimal span.stop)
+    ensures { MatchOption result
+        ((span : OneSpan) → IsWritableSpan span
+        → text.now ≢ decimal span.start ++ codes ".." ++ decimal span.stop)
+        (λ span. (text.now ≡ decimal span.start ++ codes ".." ++ decimal span.stop)
         × IsWritableSpan span) }
 {
     let (start, rest) = cut_at(text, b'.')?;
@@ -89,10 +89,10 @@ fn span_of(text: &[u8]) -> Option<Span>
 
 /// A timed ending: its name and its instant.
 fn ending_of(reading: &Micros, name: &[u8], instant: &[u8]) -> Option<LogLine>
-    requires { IsInstant reading.now }
-    ensures { IfSome result (λ line.
-        (decimal reading.now ++ codes " " ++ name.now ++ codes " " ++ instant.now ≡ line_words line)
-        × IsWritable line) }
+    requires reading { IsInstant reading.now }
+    requires one_word { Lacks 32 name.now }
+    requires no_event { (name.now ≢ codes "piece") × (name.now ≢ codes "wrote") }
+    ensures { ReadsLine result (decimal reading.now ++ codes " " ++ name.now ++ codes " " ++ instant.now) }
 {
     let instant = instant_of(instant)?;
     if name == b"closed".as_slice() {
@@ -106,8 +106,7 @@ fn ending_of(reading: &Micros, name: &[u8], instant: &[u8]) -> Option<LogLine>
 
 /// Why a stream broke off, and after how many bytes.
 fn broken_of(words: &[u8]) -> Option<LogLine>
-    ensures { IfSome result (λ line.
-        (codes "broken " ++ words.now ≡ line_words line) × IsWritable line) }
+    ensures { ReadsLine result (codes "broken " ++ words.now) }
 {
     let (name, bytes) = cut_at(words, b' ')?;
     let cause = cause_of(name)?;
@@ -117,7 +116,8 @@ fn broken_of(words: &[u8]) -> Option<LogLine>
 
 /// The cause of this name.
 fn cause_of(name: &[u8]) -> Option<BreakCause>
-    ensures { IfSome result (λ cause. name.now ≡ cause_name cause) }
+    ensures { MatchOption result ((cause : OneCause) → name.now ≢ cause_name cause)
+        (λ cause. name.now ≡ cause_name cause) }
 {
     if name == b"write".as_slice() {
         return Some(BreakCause::Write);

@@ -1,5 +1,5 @@
 //! Bytes of a log that wait for its file.
-ghost use Rattle.std.specs.Prelude.{◌≡◌, [], Some, false};
+ghost use Rattle.std.specs.Prelude.{◌≡◌, [], Some, false, take};
 
 use std::alloc::Global;
 use std::marker::Model;
@@ -38,11 +38,19 @@ impl LogBytes {
         &self.bytes
     }
 
-    /// Drops the bytes that wait, and keeps their room.
-    pub fn clear(&mut self)
-        ensures { self.new ≡ ([], self.old.1) }
+    /// Whether it has failed.
+    pub fn has_failed(&self) -> bool
+        ensures { result ≡ self.now.1 }
     {
-        self.bytes.clear();
+        self.failed
+    }
+
+    /// Drops what stands behind the first bytes: a line that isn't whole, or has no room. More may be written then.
+    pub fn cut(&mut self, len: usize)
+        ensures { self.new ≡ (take len self.old.0, false) }
+    {
+        self.bytes.truncate(len);
+        self.failed = false;
     }
 }
 
