@@ -30,10 +30,12 @@ class Factory:
         self._started: List[Toxi] = []
 
     def __call__(self, proxies: Proxies, rules: Union[str, Iterable[Rule]] = (), **options: Any) -> Toxi:
-        """Starts a `Toxi` that ends with the test. The options are those of `Toxi`."""
+        """Starts a `Toxi` that ends with the test, with its logs beside its files. The options are those of `Toxi`."""
+        folder = self._folder / f"toxi-{len(self._started) + 1}"
         options.setdefault("seed", self.seed)
         options.setdefault("program", self._program)
-        options.setdefault("directory", self._folder / f"toxi-{len(self._started) + 1}")
+        options.setdefault("directory", folder)
+        options.setdefault("log", folder / "logs")
         served = Toxi(proxies, rules, **options)
         served.start()
         self._started.append(served)

@@ -28,7 +28,8 @@ class Toxi:
 
     `program` is the path of the program, else `$TOXI`, else `toxi` on the PATH. The files are written into `directory`,
     or into a new one that goes away at the end. `links`, `workers` and `connect_timeout` (milliseconds) are the options
-    of `serve`. The program has `start_timeout` seconds until it listens.
+    of `serve`. With `log` each stream of each link is logged in that folder, which is made or must be empty. The program has
+    `start_timeout` seconds until it listens: a clone's ./toxi compiles itself first.
     """
 
     def __init__(
@@ -42,7 +43,8 @@ class Toxi:
         links: Optional[int] = None,
         workers: Optional[int] = None,
         connect_timeout: Optional[int] = None,
-        start_timeout: float = 30,
+        log: Union[str, "os.PathLike[str]", None] = None,
+        start_timeout: float = 300,
     ) -> None:
         self._populate = populate_text(proxies)
         self._rules: Union[str, Sequence[Rule]] = rules if isinstance(rules, str) else list(rules)
@@ -50,8 +52,10 @@ class Toxi:
         self._program = program
         self._directory = directory
         self._start_timeout = start_timeout
+        self._log = None if log is None else Path(log)
         self._options: List[str] = []
-        for option, value in (("--links", links), ("--workers", workers), ("--connect-timeout", connect_timeout)):
+        numbers = (("--links", links), ("--workers", workers), ("--connect-timeout", connect_timeout))
+        for option, value in (*numbers, ("--log", self._log)):
             if value is not None:
                 self._options += [option, str(value)]
         self._own_directory: Optional["tempfile.TemporaryDirectory[str]"] = None
@@ -160,9 +164,17 @@ class Toxi:
             toxics += picked(each, ran.stdout)
         return toxics
 
+    def logs(self) -> List[Path]:
+        """The log of each stream of a link so far, which `toxi replay` judges. None without `log`."""
+        return [] if self._log is None else sorted(self._log.glob("*.log"))
+
     def report(self) -> str:
-        """What a person needs after a failed test: the seed, the command, and the line of each link."""
-        return "\n".join([f"seed {self.seed}", shlex.join(self.command), *self.lines(), *self._running().said])
+        """What a person needs after a failed test: the seed, the command, the line of each link, and how its logs are judged."""
+        judged = [] if self._log is None else [self._replay_line(self._log)]
+        return "\n".join([f"seed {self.seed}", shlex.join(self.command), *self.lines(), *self._running().said, *judged])
+
+    def _replay_line(self, folder: Path) -> str:
+        return f"find {shlex.quote(str(folder))} -name '*.log' | {shlex.quote(self._program_path())} replay -"
 
     def _running(self) -> Process:
         if self._process is None:

@@ -1,4 +1,5 @@
 """Options of `serve`, and an output that nobody reads: it holds up no link, and what it loses is told."""
+import os
 import re
 import socket
 import subprocess
@@ -13,6 +14,8 @@ LINKS = 3_000
 NAME = "shop" + "p" * 200
 # What memory may grow by while the lines wait, in KB.
 GROWTH = 1_024
+# The C library keeps memory for each thread, and what one allocates another may free. With one store for all, growth is the program's own.
+ONE_STORE = {**os.environ, "MALLOC_ARENA_MAX": "1"}
 
 
 def resident(process):
@@ -37,7 +40,8 @@ def nobody_reads_the_lines(program, folder):
         upstream.settimeout(LIMIT)
         proxy = {"name": NAME, "listen": "127.0.0.1:0", "upstream": f"127.0.0.1:{upstream.getsockname()[1]}"}
         command = [*serve_command(program, folder, [proxy]), "--links", str(LINKS)]
-        with subprocess.Popen(command, stdout=subprocess.PIPE, stderr=subprocess.PIPE, text=True) as process:
+        pipe = subprocess.PIPE
+        with subprocess.Popen(command, env=ONE_STORE, stdout=pipe, stderr=pipe, text=True) as process:
             port = int(process.stdout.readline().rpartition(":")[2])
             carry(port, upstream, LINKS // 2)
             before = resident(process)

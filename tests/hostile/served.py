@@ -7,6 +7,7 @@ import re
 import resource
 import socket
 import subprocess
+import tempfile
 
 from waiting import LIMIT, Failed, check, wait_until
 
@@ -17,25 +18,30 @@ SEED = 1
 
 
 class Engine:
-    """What drives the links: threads of their own, or so many workers."""
+    """What drives the links: threads of their own, or so many workers. And whether they are logged."""
 
     workers = None
+    logs = False
 
     @classmethod
-    def arguments(cls):
-        return ["--workers", str(cls.workers)] if cls.workers else []
+    def arguments(cls, folder, logs):
+        """The options. A folder of logs that isn't given is a new one in this folder."""
+        if cls.logs and logs is None:
+            logs = tempfile.mkdtemp(prefix="logs", dir=folder)
+        return (["--workers", str(cls.workers)] if cls.workers else []) + (["--log", logs] if logs else [])
 
     @classmethod
     def threads_at_rest(cls):
-        """The threads of a process without links: the first one, the one that serves, the proxy's, the lines' one, and the workers."""
-        return 4 + (cls.workers or 0)
+        """The threads of a process without links: the first one, the one that serves, the proxy's, the lines' one, the logs' one, and
+        the workers."""
+        return 4 + cls.logs + (cls.workers or 0)
 
 
 def address(host, port):
     return f"[{host}]:{port}" if ":" in host else f"{host}:{port}"
 
 
-def serve_command(program, folder, proxies, script=""):
+def serve_command(program, folder, proxies, script="", logs=None):
     """The command that serves these proxies, whose files are written into the folder."""
     config = os.path.join(folder, "proxies.json")
     rules = os.path.join(folder, "script.toml")
@@ -43,7 +49,7 @@ def serve_command(program, folder, proxies, script=""):
         json.dump(proxies, file)
     with open(rules, "w") as file:
         file.write(script)
-    return [program, "serve", "--config", config, "--script", rules, "--seed", str(SEED), *Engine.arguments()]
+    return [program, "serve", "--config", config, "--script", rules, "--seed", str(SEED), *Engine.arguments(folder, logs)]
 
 
 class Served:
@@ -52,6 +58,9 @@ class Served:
     def __init__(self, program, folder, upstream, links, script, name):
         proxy = {"name": name, "listen": address(upstream.host, 0), "upstream": address(upstream.host, upstream.port)}
         command = [*serve_command(program, folder, [proxy], script), "--links", str(links)]
+        self.logs = command[command.index("--log") + 1] if Engine.logs else None
+        # Whether a log may have lacked a descriptor.
+        self.may_be_cut = False
         printed = re.escape(name.replace("\n", r"\x0a"))
         self.link_line = re.compile(LINK.format(name=printed))
         self.total_line = re.compile(TOTAL.format(name=printed))
@@ -94,6 +103,7 @@ class Served:
 
     def allow_descriptors(self, more):
         """Sets the soft limit to so many descriptors more than it has at rest. Without a number it is lifted."""
+        self.may_be_cut = True
         _, hard = resource.prlimit(self.process.pid, resource.RLIMIT_NOFILE)
         soft = hard if more is None else len(self.at_rest) + more
         resource.prlimit(self.process.pid, resource.RLIMIT_NOFILE, (soft, hard))

@@ -68,12 +68,12 @@ def status_of(process):
 class Stopped:
     """A `toxi serve` started by its launcher, with one proxy before an upstream, until a signal ends it."""
 
-    def __init__(self, program, folder, script="", name="shop", queue=4096, listen="127.0.0.1:0", before=(), **setting):
+    def __init__(self, program, folder, script="", name="shop", queue=4096, listen="127.0.0.1:0", before=(), logs=None, **setting):
         self.upstream = socket.create_server(("127.0.0.1", 0), backlog=queue)
         self.upstream.settimeout(LIMIT)
         upstream = f"127.0.0.1:{self.upstream.getsockname()[1]}"
         proxy = {"name": name, "listen": listen, "upstream": upstream}
-        command = serve_command(launcher(program, folder), folder, [proxy], script)
+        command = serve_command(launcher(program, folder), folder, [proxy], script, logs)
         self.process = subprocess.Popen(
             [*before, *command], stdin=subprocess.DEVNULL, stdout=subprocess.PIPE, stderr=subprocess.PIPE, **setting
         )

@@ -46,6 +46,9 @@ def test_red_report(run, tmp_path):
     command = shlex.split(re.search(r"^\S+ serve .*$", printed, re.M)[0])
     for option in ("--config", "--script"):
         assert os.path.isfile(command[command.index(option) + 1])
+    assert sorted(os.listdir(command[command.index("--log") + 1])) == ["shop-1-downstream.log", "shop-1-upstream.log"]
+    judge = re.search(r"^find \S+ -name '\*\.log' \| \S+ replay -$", printed, re.M)[0]
+    assert subprocess.run(judge, shell=True, capture_output=True, text=True, check=True).stdout.count("unfinished shop 1 ") == 2
 
 
 def test_the_shown_command_gives_the_drawn_seed(run, tmp_path):

@@ -40,8 +40,8 @@ class WithToxiTests(unittest.TestCase):
     def proxies(self, names, upstream="127.0.0.1:1"):
         self.write("p.json", json.dumps([{"name": n, "upstream": upstream, "listen": "127.0.0.1:0"} for n in names]))
 
-    def command(self, *command, script="empty.toml", seed="7"):
-        return [WITH_TOXI, "p.json", script, seed, "--", *command]
+    def command(self, *command, script="empty.toml", seed="7", log=()):
+        return [WITH_TOXI, "p.json", script, seed, *log, "--", *command]
 
     def run_it(self, *command, **options):
         return subprocess.run(
@@ -62,6 +62,20 @@ class WithToxiTests(unittest.TestCase):
         self.assertRegex(ran.stderr, r"\nseed 7\n")
         self.assertRegex(ran.stderr, r"\nlink my-shop.1 1 up \d+ \w+ down 5 closed\n")
         self.assertRegex(ran.stderr, r"\ntotal my-shop.1 1 up \d+ down 5\n")
+
+    def test_logs(self):
+        with http_service() as upstream:
+            self.proxies(["my-shop.1"], upstream)
+            ran = self.run_it("python3", "-c", FETCH.format("MY_SHOP_1"), script="cut.toml", log=("--log", "logs"))
+        self.assertRegex(ran.stderr, r"\nfind logs -name '\*\.log' \| \S+ replay -\n")
+        self.assertEqual(sorted(os.listdir(os.path.join(self.folder, "logs"))), ["@0-1-downstream.log", "@0-1-upstream.log"])
+        with open(os.path.join(self.folder, "logs", "@0-1-downstream.log")) as log:
+            self.assertRegex(log.read(), r"\Atoxi log 1\nlink my-shop\.1 1 downstream\n[^$]*wrote 0\.\.5 \d+\n(\d+ (piece \d+|end)\n)*\d+ closed \d+\n\Z")
+
+    def test_usage(self):
+        for given in ([], ["p.json", "empty.toml", "7"], ["p.json", "empty.toml", "7", "--"], ["p.json", "7", "--", "true"]):
+            self.assertEqual(subprocess.run([WITH_TOXI, *given], cwd=self.folder, capture_output=True, check=False).returncode, 2)
+        self.assertEqual(self.run_it("true", log=("--log",)).returncode, 2)
 
     def test_many_proxies_and_spaces(self):
         self.proxies([f"a{number}" for number in range(64)])

@@ -8,7 +8,7 @@ use std::thread::Threads;
 use std::time::Clock;
 use tests_support::{Refusals, Scarcity, Tried, try_each, with_stacks};
 use tox_config::{ProxyDef, read_populate};
-use tox_proxy::{NoGaps, ServeFault, ServeOptions, Stop, serve_with};
+use tox_proxy::{NoGaps, NoLogs, ServeFault, ServeOptions, Stop, serve_with};
 use tox_script::{Script, read_script};
 
 /// Room for all lines.
@@ -59,7 +59,7 @@ fn serve_with_pages<
     let options = ServeOptions::default();
     scarcity.leave_pages(alloc, pages)?;
     let answer = serve_with(
-        rt, alloc, proxies, script, 1, &out, &NoGaps, &stop, &options,
+        rt, alloc, proxies, script, 1, &out, &NoGaps, &stop, &NoLogs, &options,
     );
     scarcity.end();
     let lines = out.into_inner();

@@ -9,7 +9,7 @@ use std::thread::Threads;
 use std::time::{Clock, Duration};
 use std::{io, thread};
 use tox_config::{ProxyDef, read_populate};
-use tox_proxy::{NoGaps, ServeFault, ServeOptions, Stop, serve, serve_with};
+use tox_proxy::{NoGaps, NoLogs, ServeFault, ServeOptions, Stop, serve, serve_with};
 use tox_script::{Script, read_script};
 
 /// Three bytes pass downstream.
@@ -192,7 +192,7 @@ fn stopped<
     thread::scope(thread::scope_env(), rt, |scope| -> io::Result<()> {
         let server = scope.spawn(move || {
             serve_with(
-                rt, alloc, proxies, script, 1, lines, &NoGaps, told, &options,
+                rt, alloc, proxies, script, 1, lines, &NoGaps, told, &NoLogs, &options,
             )
             .is_ok()
         });

@@ -18,6 +18,7 @@ pub use fault::ServeFault;
 pub use lines::{Gaps, LineChannel, LineQueue, NoGaps, print_listening, write_lines};
 pub use link::course::{Course, Courses, courses_of};
 pub use link::end::{Carried, LinkEnd, StreamEnd};
+pub use link::logs::{broken_link, notes_of, unless_stopped};
 pub use options::ServeOptions;
 pub use proxy::accepting::{ACCEPT_REST, Next, after};
 pub use proxy::link_book::LinkBook;

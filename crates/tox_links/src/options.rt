@@ -1,4 +1,5 @@
 //! What `serve_with` may be told beyond what it serves.
+use tox_log_files::LogLimits;
 
 /// Options of [`serve_with`](crate::serve_with). Without any, `serve` does as it always did.
 #[derive(Clone, Copy, Debug, Default, PartialEq, Eq)]
@@ -9,4 +10,6 @@ pub struct ServeOptions {
     pub connect_timeout: Option<u32>,
     /// How many threads drive all links, 1 to 64. None: each link has threads of its own.
     pub workers: Option<u32>,
+    /// How much of the links is logged. None: nothing is.
+    pub logs: Option<LogLimits>,
 }

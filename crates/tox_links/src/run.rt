@@ -5,6 +5,7 @@ use crate::stop::Stop;
 use std::alloc::Global;
 use std::sync::Arc;
 use std::sync::atomic::AtomicU64;
+use tox_log_files::RunLogs;
 use tox_script::Script;
 use tox_sockets::LiveSockets;
 use tox_time::OpenGate;
@@ -16,6 +17,8 @@ pub struct ServeRun<'a> {
     pub script: &'a Script,
     pub seed: u64,
     pub options: ServeOptions,
+    /// Where logs go, if any are kept.
+    pub logs: &'a Option<RunLogs>,
     /// Where lines go.
     pub lines: &'a LineChannel,
     pub gate: Arc<OpenGate, Global>,

@@ -17,6 +17,7 @@ use tox_links::{
     Gaps, LineChannel, LineQueue, Listening, NoGaps, ServeFault, ServeOptions, ServeRun,
     ServeRuntime, Stop, listen_all, print_listening, write_lines,
 };
+use tox_log_files::{LogFiles, NoLogs, RunLogs, write_logs};
 use tox_script::Script;
 use tox_sockets::LiveSockets;
 use tox_time::OpenGate;
@@ -50,6 +51,7 @@ pub fn serve<
         links,
         connect_timeout: None,
         workers: None,
+        logs: None,
     };
     serve_with(
         rt,
@@ -60,6 +62,7 @@ pub fn serve<
         out,
         &NoGaps,
         &Stop::new(),
+        &NoLogs,
         &options,
     )
 }
@@ -71,6 +74,9 @@ pub fn serve<
 /// One thread writes the lines, so a writer that waits holds up no link. At most 65,536 bytes of lines wait for it. A link's
 /// line that finds no room is dropped, and the gap is told once the lines before it are written. The other lines wait for room.
 /// Lines that the writer fails to take are dropped without a word, and later ones are tried again.
+///
+/// With `options.logs` one more thread brings the log of each link's streams to its file. A log that its file can't follow ends
+/// early, which is told once: it holds up no link either.
 ///
 /// Returns once no proxy listens any more, all links have ended, and each line was written or dropped. A fault comes before any
 /// connection is taken.
@@ -90,6 +96,7 @@ pub fn serve_with<
         + 'static,
     W: Write + Send,
     G: Gaps + Sync,
+    L: LogFiles + Sync,
 >(
     rt: &R,
     alloc: Global,
@@ -99,6 +106,7 @@ pub fn serve_with<
     out: &Mutex<W>,
     gaps: &G,
     stop: &Stop,
+    files: &L,
     options: &ServeOptions,
 ) -> Result<(), ServeFault<'a>>
     ensures nothing { All (λ proxy. proxy.enabled ≡ false) proxies.now → result ≡ Ok tt }
@@ -118,32 +126,44 @@ pub fn serve_with<
     let Ok(empty) = LineQueue::new(alloc) else {
         return Err(ServeFault::OutOfMemory);
     };
+    let logs = logs_of(alloc, options);
     let run = ServeRun {
         alloc,
         script,
         seed,
         options: *options,
+        logs: &logs,
         lines: &lines,
         gate,
         stop,
         live: &live,
         proxies: AtomicU64::new(listening.len() as u64),
     };
-    if serve_and_write(rt, &run, listening, empty, out, gaps) {
+    if serve_and_write(rt, &run, listening, empty, out, gaps, files) {
         Ok(())
     } else {
         Err(ServeFault::SpawnRefused)
     }
 }
 
-/// Serves the proxies beside a thread that writes the lines. False if a thread is refused: then no connection is taken.
-fn serve_and_write<R: ServeRuntime, W: Write + Send, G: Gaps + Sync>(
+/// The logs of a run, if its options want them.
+fn logs_of(alloc: Global, options: &ServeOptions) -> Option<RunLogs> {
+    match options.logs {
+        Some(limits) => Some(RunLogs::new(alloc, limits)),
+        None => None,
+    }
+}
+
+/// Serves the proxies beside a thread that writes the lines, and one that writes the logs if any are kept. False if a thread is
+/// refused: then no connection is taken.
+fn serve_and_write<R: ServeRuntime, W: Write + Send, G: Gaps + Sync, L: LogFiles + Sync>(
     rt: &R,
     run: &ServeRun<'_>,
     listening: Vec<Listening<'_>>,
     empty: LineQueue,
     out: &Mutex<W>,
     gaps: &G,
+    files: &L,
 ) -> bool
     requires { empty ≡ no_lines }
 {
@@ -162,11 +182,29 @@ fn serve_and_write<R: ServeRuntime, W: Write + Send, G: Gaps + Sync>(
             if writer.is_err() {
                 return false;
             }
-            let served = serve_all(rt, run, listening);
+            let served = start_log_writer(rt, run, scope, files) && serve_all(rt, run, listening);
+            if let Some(logs) = run.logs {
+                logs.close(rt);
+            }
             lines.close(rt);
             served
         },
     )
+}
+
+/// Starts the thread that writes the logs, if any are kept. False if it is refused.
+fn start_log_writer<'s, E: 's, R: ServeRuntime, L: LogFiles + Sync>(
+    rt: &'s R,
+    run: &'s ServeRun<'s>,
+    scope: &'s Scope<'s, E>,
+    files: &'s L,
+) -> bool {
+    match run.logs {
+        Some(logs) => scope
+            .spawn(move || write_logs(rt, run.alloc, logs, files))
+            .is_ok(),
+        None => true,
+    }
 }
 
 /// Serves the proxies, by workers or with threads for each link. False if a thread is refused: then no connection is taken.

@@ -30,13 +30,6 @@ pub(crate) struct Connecting {
 }
 
 impl Connecting {
-    /// Its client was reported to send no more.
-    pub(crate) fn with_closing(self) -> Connecting {
-        let mut connecting = self;
-        connecting.client.closing = true;
-        connecting
-    }
-
     /// Gives the connect up.
     pub(crate) fn into_client(self) -> Client {
         let Connecting {

@@ -13,11 +13,12 @@ ghost use Rattle.tox_link.specs.link_core.Core.{remaining_output};
 use crate::news::News;
 use std::alloc::Global;
 use std::boxed::Box;
-use std::sync::Arc;
+use std::sync::{Arc, Wait};
 use std::time::Clock;
 use tox_compile::Plan;
-use tox_link::{Hangup, NoNotes, PollSink, PollSource, PolledLink, Progress, drive, finish};
+use tox_link::{Hangup, LinkFault, PollSink, PollSource, PolledLink, Progress, drive, finish};
 use tox_links::{Carried, Course};
+use tox_log_files::StreamNotes;
 use tox_sockets::{LinkSockets, LinkStart, ReadySink, ReadySource, SinceStart};
 use tox_time::{Ending, Micros, Stream};
 use tox_words::Words;
@@ -32,6 +33,7 @@ pub(crate) struct Flow<'r, R> {
     pub(crate) link: Box<PolledLink>,
     pub(crate) source: ReadySource,
     pub(crate) sink: ReadySink<'r, R>,
+    pub(crate) notes: StreamNotes<'r, R>,
     pub(crate) ghost held: { IsHeld link.value } by { IsHeld-prop link.value },
     pub(crate) ghost readable: { link.value.ended ≡ false → source.failed ≡ false },
     pub(crate) ghost failed: { link.value.source ≡ AtFault → source.failed ≡ true } by { Prim.hlevel props },
@@ -49,10 +51,10 @@ pub(crate) enum Driven<'r, R> {
     Ended(Carried),
 }
 
-impl<'r, R: Clock> Flow<'r, R> {
+impl<'r, R: Clock + Wait> Flow<'r, R> {
     ghost use Rattle.tox_workers.specs.Driven.{IsDrivenOf};
 
-    /// A direction of a course, at which nothing has come. `closing` tells whether the source's peer was reported to send no
+    /// A direction of a course, at which nothing has come and which isn't logged. `closing` tells whether the source's peer was reported to send no
     /// more. None if out of memory.
     pub(crate) fn new(
         rt: &'r R,
@@ -81,6 +83,7 @@ impl<'r, R: Clock> Flow<'r, R> {
             link,
             source,
             sink,
+            notes: StreamNotes::none(rt),
         })
     }
 
@@ -100,13 +103,13 @@ impl<'r, R: Clock> Flow<'r, R> {
             mut link,
             mut source,
             mut sink,
+            mut notes,
         } = self;
-        let notes = &mut NoNotes;
         match drive(
             &mut link,
             alloc,
             clock,
-            notes,
+            &mut notes,
             &mut source,
             &mut sink,
             scratch,
@@ -117,6 +120,7 @@ impl<'r, R: Clock> Flow<'r, R> {
                     link,
                     source,
                     sink,
+                    notes,
                 };
                 Driven::Waits(flow, until)
             }
@@ -125,13 +129,14 @@ impl<'r, R: Clock> Flow<'r, R> {
                 link,
                 source,
                 sink,
+                notes,
             }),
             Ok(Progress::Ended(ending)) => {
-                Driven::Ended(end(link, clock, sockets, stream, &ending))
+                Driven::Ended(end(link, clock, sockets, stream, &ending, &notes))
             }
             Err(fault) => {
                 sockets.ends_of(stream).reset();
-                Driven::Ended(Carried::until_fault(stream, &fault))
+                Driven::Ended(break_off(stream, &fault, &notes))
             }
         }
     }
@@ -151,13 +156,27 @@ fn link_of(alloc: Global, plan: Plan, words: Words) -> Option<PolledLink>
     }
 }
 
-/// Hangs a direction up that has ended, and tells what it carried.
-fn end<R: Clock>(
+/// Tells what a direction carried before a fault, in its log too.
+pub(crate) fn break_off<R: Wait>(
+    stream: Stream,
+    fault: &LinkFault,
+    notes: &StreamNotes<'_, R>,
+) -> Carried
+    ensures { result.stream ≡ stream }
+{
+    let carried = Carried::until_fault(stream, fault);
+    notes.end(&carried.last_line(Micros::ZERO));
+    carried
+}
+
+/// Hangs a direction up that has ended, and tells what it carried, in its log too.
+fn end<R: Clock + Wait>(
     link: Box<PolledLink>,
     clock: &SinceStart<'_, R>,
     sockets: &LinkSockets,
     stream: Stream,
     ending: &Ending,
+    notes: &StreamNotes<'_, R>,
 ) -> Carried
     requires held { IsHeld link.value }
     requires ended { IsAtEnd (λ _. Unit {0}) link.value ending.now }
@@ -169,7 +188,11 @@ fn end<R: Clock>(
     let link = Box::into_inner(link);
     let driven = Ok(*ending);
     match finish(link, clock, driven, ()) {
-        Ok(timed) => Carried::until_end(stream, &timed.report, was_stopped),
-        Err(fault) => Carried::until_fault(stream, &fault),
+        Ok(timed) => {
+            let carried = Carried::until_end(stream, &timed.report, was_stopped);
+            notes.end(&carried.last_line(timed.reading));
+            carried
+        }
+        Err(fault) => break_off(stream, &fault, notes),
     }
 }

@@ -2,14 +2,16 @@
 ghost use Rattle.std.specs.Prelude.{◌≡◌, IfSome};
 ghost use Rattle.tox_workers.specs.Lanes.{IsOf, IsOf-prop};
 
-use crate::flow::{Driven, Flow, READ_SIZE};
+use crate::flow::{Driven, Flow, READ_SIZE, break_off};
 use crate::news::News;
 use crate::since::Since;
 use std::alloc::Global;
 use std::mem;
+use std::sync::Wait;
 use std::time::Clock;
 use tox_link::LinkFault;
 use tox_links::Carried;
+use tox_log_files::StreamNotes;
 use tox_sockets::{LinkSockets, SinceStart};
 use tox_time::Stream;
 
@@ -45,7 +47,7 @@ pub(crate) struct Lane<'r, R> {
     ghost of_stream: { IsOf stream state } by { IsOf-prop stream state },
 }
 
-impl<'r, R: Clock> Lane<'r, R> {
+impl<'r, R: Clock + Wait> Lane<'r, R> {
     /// A direction that goes on.
     pub(crate) fn new(flow: Flow<'r, R>) -> Lane<'r, R>
         ensures { result.stream ≡ flow.entry.stream }
@@ -54,6 +56,15 @@ impl<'r, R: Clock> Lane<'r, R> {
             stream: flow.stream,
             state: State::Going(flow),
             armed: None,
+        }
+    }
+
+    /// From now on it is noted so, unless it has ended.
+    pub(crate) fn log(&mut self, notes: StreamNotes<'r, R>)
+        ensures { self.new.stream ≡ self.old.stream }
+    {
+        if let State::Going(flow) = &mut self.state {
+            flow.notes = notes;
         }
     }
 
@@ -149,7 +160,7 @@ impl<'r, R: Clock> Lane<'r, R> {
     {
         if let State::Going(flow) = &self.state {
             let fault = LinkFault::OutOfMemory(flow.link.written());
-            self.state = State::Ended(Carried::until_fault(self.stream, &fault));
+            self.state = State::Ended(break_off(self.stream, &fault, &flow.notes));
         }
     }
 

@@ -8,6 +8,7 @@ use crate::subject::MAX_SLOTS;
 use crate::timers::Turn;
 use slab::Slab;
 use std::alloc::Global;
+use std::sync::Wait;
 use std::time::Clock;
 
 /// A slot: the generation of the link that has it, and how far the link is, unless it is being driven.
@@ -25,7 +26,7 @@ pub(crate) struct Links<'r, R> {
     next: u32,
 }
 
-impl<'r, R: Clock> Links<'r, R> {
+impl<'r, R: Clock + Wait> Links<'r, R> {
     /// No links.
     pub(crate) fn new(alloc: Global) -> Links<'r, R> {
         Links {

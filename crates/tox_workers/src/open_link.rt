@@ -8,9 +8,10 @@ use crate::news::News;
 use crate::side::Side;
 use crate::since::Since;
 use std::alloc::Global;
-use std::sync::Arc;
+use std::sync::{Arc, Wait};
 use std::time::Clock;
 use tox_links::{Courses, LinkEnd};
+use tox_log_files::StreamNotes;
 use tox_sockets::LinkSockets;
 use tox_time::Stream;
 
@@ -42,8 +43,8 @@ pub(crate) struct Opening {
     pub(crate) closing: bool,
 }
 
-impl<'r, R: Clock> OpenLink<'r, R> {
-    /// A link of these courses, at which nothing has come. None if out of memory.
+impl<'r, R: Clock + Wait> OpenLink<'r, R> {
+    /// A link of these courses, at which nothing has come and which isn't logged. None if out of memory.
     pub(crate) fn new(
         rt: &'r R,
         alloc: Global,
@@ -75,6 +76,12 @@ impl<'r, R: Clock> OpenLink<'r, R> {
             up: Lane::new(up),
             down: Lane::new(down),
         })
+    }
+
+    /// From now on its streams are noted so.
+    pub(crate) fn log(&mut self, up: StreamNotes<'r, R>, down: StreamNotes<'r, R>) {
+        self.up.log(up);
+        self.down.log(down);
     }
 
     /// The system reported something of a socket. Tells whether the direction that reads from it and the one that writes to it are

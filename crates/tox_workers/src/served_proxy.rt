@@ -17,6 +17,7 @@ impl<'a> ServedProxy<'a> {
     pub(crate) fn new(alloc: Global, listening: Listening<'a>) -> Option<ServedProxy<'a>> {
         let Listening {
             proxy,
+            place,
             listener,
             key,
             address: _,
@@ -24,7 +25,7 @@ impl<'a> ServedProxy<'a> {
         let upstream = Upstream::new(alloc, &proxy.upstream)?;
         let door = Door::new(listener, key).ok()?;
         Some(ServedProxy {
-            links: ProxyLinks::new(alloc, proxy),
+            links: ProxyLinks::new(alloc, proxy, place),
             door,
             upstream,
         })

@@ -5,6 +5,7 @@ use std::alloc::Global;
 use std::cmp::Reverse;
 use std::collections::BinaryHeap;
 use std::mem;
+use std::sync::Wait;
 use std::time::Clock;
 use tox_time::Stream;
 
@@ -69,7 +70,7 @@ impl Timers {
 
     /// Once there are twice as many as were waited for: drops those that no direction waits for any more, such as those of
     /// links that have ended.
-    pub(crate) fn purge<R: Clock>(&mut self, alloc: Global, links: &Links<'_, R>) {
+    pub(crate) fn purge<R: Clock + Wait>(&mut self, alloc: Global, links: &Links<'_, R>) {
         if self.heap.len() < self.limit {
             return;
         }

@@ -10,7 +10,11 @@ use Rattle.tox_link.specs.declared.link_fault.LinkFault.{LinkFault}
 use Rattle.tox_link.specs.declared.link_fault.LinkFault.TheVariants.{OutOfMemory, SpawnRefused, WriteFault}
 use Rattle.tox_book.specs.Links.{changed, with_bytes, with_end}
 use Rattle.tox_links.specs.declared.link.end.StreamEnd.{StreamEnd}
-use Rattle.tox_links.specs.declared.link.end.StreamEnd.TheVariants.{Ended, Failed, Refused, Stopped}
+use Rattle.tox_links.specs.declared.link.end.StreamEnd.TheVariants.{Ended, Broken}
+use Rattle.tox_log.specs.declared.last_line.BreakCause.{BreakCause}
+use Rattle.tox_log.specs.declared.last_line.BreakCause.TheVariants as CauseOf
+use Rattle.tox_log.specs.declared.last_line.LastLine.{LastLine}
+use Rattle.tox_log.specs.declared.last_line.LastLine.TheVariants as LastOf
 use Rattle.tox_links.specs.declared.link.end.Carried.{Carried}
 use Rattle.tox_links.specs.declared.link.end.SideEnd.{SideEnd}
 use Rattle.tox_links.specs.declared.link.end.LinkEnd.{LinkEnd}
@@ -18,30 +22,39 @@ use Rattle.tox_links.specs.declared.link.end.LinkEnd.{LinkEnd}
 -- what a stream carried before a fault
 abbrev pub carried_before : Stream → LinkFault → Carried
 carried_before stream (OutOfMemory written) =
-    record { stream = stream; bytes = written; end = Refused }
+    record { stream = stream; bytes = written; end = Broken CauseOf.Memory }
 carried_before stream (SpawnRefused written) =
-    record { stream = stream; bytes = written; end = Refused }
+    record { stream = stream; bytes = written; end = Broken CauseOf.Thread }
 carried_before stream (WriteFault written) =
-    record { stream = stream; bytes = written; end = Failed }
+    record { stream = stream; bytes = written; end = Broken CauseOf.Write }
+
+-- a lack of memory or threads, and nothing that the link met
+abbrev pub is_lack : BreakCause → Bool
+is_lack CauseOf.Write = false
+is_lack CauseOf.Memory = true
+is_lack CauseOf.Thread = true
+is_lack CauseOf.Upstream = false
+is_lack CauseOf.Stopped = false
 
 -- memory or a thread was refused
 abbrev pub is_refused : StreamEnd → Bool
 is_refused (Ended ending) = false
-is_refused Failed = false
-is_refused Refused = true
-is_refused Stopped = false
+is_refused (Broken cause) = is_lack cause
 
 -- how a direction ended, unless a fault broke it
 abbrev pub ending_of : StreamEnd → Option Ending
 ending_of (Ended ending) = Some ending
-ending_of Failed = None
-ending_of Refused = None
-ending_of Stopped = None
+ending_of (Broken cause) = None
 
 -- how a stream ended that ended so by its plan: a stop of its link before that breaks it
 abbrev pub end_before_stop : Bool → Ending → StreamEnd
-end_before_stop true ending = Stopped
+end_before_stop true ending = Broken CauseOf.Stopped
 end_before_stop false ending = Ended ending
+
+-- the last line of a log whose stream ended so after so many bytes, at a reading of its clock
+abbrev pub last_at : ℕ → ℕ → StreamEnd → LastLine
+last_at reading bytes (Ended ending) = LastOf.Ended reading ending
+last_at reading bytes (Broken cause) = LastOf.Broken cause bytes
 
 abbrev pub broken_side : Carried → SideEnd
 broken_side carried = record { bytes = carried.bytes; ending = None }

@@ -1,22 +1,18 @@
 //! How a served link ended, and what the book keeps of it.
 ghost use Rattle.std.specs.Prelude.{◌≡◌};
 ghost use Rattle.tox_time.specs.declared.streams.stream.Stream.TheVariants as StreamOf;
-ghost use Rattle.tox_links.specs.link.LinkEnds.{broken_link, broken_side, carried_before, end_before_stop, ending_of, is_refused, link_end, nothing_carried, settled, side_end};
+ghost use Rattle.tox_links.specs.link.LinkEnds.{broken_link, broken_side, carried_before, end_before_stop, ending_of, is_refused, last_at, link_end, nothing_carried, settled, side_end};
 
 use tox_book::Book;
 use tox_link::{LinkFault, LinkReport};
-use tox_time::{Ending, Stream};
+use tox_log::{BreakCause, LastLine};
+use tox_time::{Ending, Micros, Stream};
 
 /// How one direction ended.
 #[derive(Clone, Copy, Debug, PartialEq, Eq)]
 pub enum StreamEnd {
     Ended(Ending),
-    /// A write failed.
-    Failed,
-    /// Memory or a thread was refused.
-    Refused,
-    /// The run was told to stop before.
-    Stopped,
+    Broken(BreakCause),
 }
 
 /// What one direction carried.
@@ -52,7 +48,7 @@ impl Carried {
         } }
     {
         let end = if was_stopped {
-            StreamEnd::Stopped
+            StreamEnd::Broken(BreakCause::Stopped)
         } else {
             StreamEnd::Ended(report.ending)
         };
@@ -67,14 +63,15 @@ impl Carried {
     pub fn until_fault(stream: Stream, fault: &LinkFault) -> Carried
         ensures { result ≡ carried_before stream fault.now }
     {
-        let end = match fault {
-            LinkFault::WriteFault(_) => StreamEnd::Failed,
-            LinkFault::SpawnRefused(_) | LinkFault::OutOfMemory(_) => StreamEnd::Refused,
+        let cause = match fault {
+            LinkFault::WriteFault(_) => BreakCause::Write,
+            LinkFault::SpawnRefused(_) => BreakCause::Thread,
+            LinkFault::OutOfMemory(_) => BreakCause::Memory,
         };
         Carried {
             stream,
             bytes: fault.written(),
-            end,
+            end: StreamEnd::Broken(cause),
         }
     }
 
@@ -82,8 +79,8 @@ impl Carried {
         ensures { result ≡ is_refused self.now.end }
     {
         match self.end {
-            StreamEnd::Refused => true,
-            StreamEnd::Ended(_) | StreamEnd::Failed | StreamEnd::Stopped => false,
+            StreamEnd::Broken(BreakCause::Memory | BreakCause::Thread) => true,
+            StreamEnd::Ended(_) | StreamEnd::Broken(_) => false,
         }
     }
 
@@ -92,7 +89,17 @@ impl Carried {
     {
         match self.end {
             StreamEnd::Ended(ending) => Some(ending),
-            StreamEnd::Failed | StreamEnd::Refused | StreamEnd::Stopped => None,
+            StreamEnd::Broken(_) => None,
+        }
+    }
+
+    /// The last line of the stream's log: at this reading of its clock it ended, or else it broke off.
+    pub fn last_line(&self, reading: Micros) -> LastLine
+        ensures { result ≡ last_at reading self.now.bytes self.now.end }
+    {
+        match self.end {
+            StreamEnd::Ended(ending) => LastLine::Ended(reading, ending),
+            StreamEnd::Broken(cause) => LastLine::Broken(cause, self.bytes),
         }
     }
 

@@ -19,6 +19,8 @@ const STOPPING_TURNS: u64 = 15;
 #[derive(Drop)]
 pub struct ProxyLinks<'a> {
     pub proxy: &'a ProxyDef,
+    /// Its place among all proxies, from 0.
+    pub place: usize,
     book: Mutex<LinkBook>,
     /// Told when a link has ended.
     ended: Condvar,
@@ -26,9 +28,10 @@ pub struct ProxyLinks<'a> {
 
 impl<'a> ProxyLinks<'a> {
     /// A proxy without links.
-    pub fn new(alloc: Global, proxy: &'a ProxyDef) -> ProxyLinks<'a> {
+    pub fn new(alloc: Global, proxy: &'a ProxyDef, place: usize) -> ProxyLinks<'a> {
         ProxyLinks {
             proxy,
+            place,
             book: Mutex::new(LinkBook::new(alloc)),
             ended: Condvar::new(),
         }

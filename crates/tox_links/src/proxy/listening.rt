@@ -14,6 +14,8 @@ use tox_sockets::{LiveSocket, LiveSockets, lengthen_queue};
 #[derive(Drop)]
 pub struct Listening<'a> {
     pub proxy: &'a ProxyDef,
+    /// Its place among all proxies, from 0.
+    pub place: usize,
     pub listener: Arc<TcpListener, Global>,
     /// Its key among the live sockets.
     pub key: usize,
@@ -35,7 +37,7 @@ pub fn listen_all<'a, R: Net<Listener = TcpListener, Stream = TcpStream> + Wait>
     let mut listening = Vec::new(alloc);
     for proxy in proxies {
         if proxy.enabled {
-            let bound = listen(rt, alloc, live, proxy)?;
+            let bound = listen(rt, alloc, live, proxies, proxy)?;
             if listening.push(bound).is_err() {
                 return Err(ServeFault::OutOfMemory);
             }
@@ -49,6 +51,7 @@ fn listen<'a, R: Net<Listener = TcpListener, Stream = TcpStream> + Wait>(
     rt: &R,
     alloc: Global,
     live: &LiveSockets,
+    proxies: &[ProxyDef],
     proxy: &'a ProxyDef,
 ) -> Result<Listening<'a>, ServeFault<'a>>
     ensures proxy { IfOk result (λ bound. bound.proxy.now ≡ proxy.now) }
@@ -80,8 +83,16 @@ fn listen<'a, R: Net<Listener = TcpListener, Stream = TcpStream> + Wait>(
     };
     Ok(Listening {
         proxy,
+        place: place_of(proxies, proxy),
         listener,
         key,
         address,
     })
+}
+
+/// The place of a proxy among all, from 0. No two have one name.
+fn place_of(proxies: &[ProxyDef], proxy: &ProxyDef) -> usize {
+    let name = proxy.name.as_str();
+    let place = proxies.iter().position(|other| other.name.as_str() == name);
+    place.unwrap_or(0)
 }

@@ -13,7 +13,7 @@ const BLOCK: usize = 65_536;
 
 /// Why an input was not read whole.
 #[derive(Clone, Copy, Debug, PartialEq, Eq)]
-pub(crate) enum InputFault {
+pub enum InputFault {
     OutOfMemory,
     /// It has more than [`MAX_INPUT`] bytes.
     TooLong,
@@ -22,7 +22,7 @@ pub(crate) enum InputFault {
 }
 
 /// All the bytes that a reader has still to give. At most one more than [`MAX_INPUT`] are taken.
-pub(crate) fn read_input<R: Source>(alloc: Global, reader: &mut R) -> Result<Vec<u8>, InputFault>
+pub fn read_input<R: Source>(alloc: Global, reader: &mut R) -> Result<Vec<u8>, InputFault>
     requires { R.failed reader.old ≡ false }
     ensures ok { IfOk result
         (λ text. ReadsWhole (R.remaining reader.old) (R.remaining reader.new) text.items) }

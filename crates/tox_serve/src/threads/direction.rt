@@ -6,10 +6,10 @@ ghost use Rattle.tox_sockets.specs.Streams.{target_of};
 
 use std::alloc::Global;
 use std::sync::Arc;
-use tox_link::{Ends, NoNotes, carry};
-use tox_links::{Carried, Course, ServeRuntime};
+use tox_link::{Clock, Ends, Hangup, carry};
+use tox_links::{Carried, Course, ProxyLinks, ServeRun, ServeRuntime, notes_of};
 use tox_sockets::{LinkSockets, LinkStart, SinceStart, UntilCut, UntilDue};
-use tox_time::{MAX_BYTES, OpenGate, Real};
+use tox_time::{Ending, MAX_BYTES, Micros, Real};
 
 /// One direction of a link, before it is carried.
 #[derive(Drop)]
@@ -45,23 +45,47 @@ fn writer_of<'a, 'r, R: ServeRuntime>(
     UntilDue::new(rt, target, clock, course.plan.ops())
 }
 
-/// Carries one direction to its end. After a fault both sockets are reset, so that the other direction ends too.
+/// What ends a stream's connections, and when it did by the link's clock.
+#[derive(Drop)]
+struct TimedHangup<'r, H, R> {
+    hangup: H,
+    clock: SinceStart<'r, R>,
+    reading: Micros,
+}
+
+impl<'r, H: Hangup, R: ServeRuntime> Hangup for TimedHangup<'r, H, R> {
+    ghost calls = { λ timed. H.calls timed.hangup };
+
+    fn hang_up(&mut self, ending: Ending, source_ended: bool) {
+        self.reading = self.clock.now();
+        self.hangup.hang_up(ending, source_ended);
+    }
+}
+
+/// Carries one direction to its end, which its log tells too. After a fault both sockets are reset, so that the other direction
+/// ends too.
 pub(crate) fn carry_stream<R: ServeRuntime>(
     rt: &R,
-    alloc: Global,
+    run: &ServeRun<'_>,
+    links: &ProxyLinks<'_>,
+    number: u64,
     link: &LinkSockets,
     direction: Direction,
     start: LinkStart,
-    gate: &Arc<OpenGate, Global>,
 ) -> Carried
     ensures { result.stream ≡ direction.course.stream }
 {
     let Direction { course, reader } = direction;
     let clock = SinceStart::new(rt, link, start);
     let sockets = link.ends_of(course.stream);
+    let mut notes = notes_of(rt, run, links, number, course.stream);
     let mut ends = Ends {
         writer: Real::new(writer_of(rt, link, &course, clock)),
-        hangup: sockets,
+        hangup: TimedHangup {
+            hangup: sockets,
+            clock,
+            reading: Micros::ZERO,
+        },
     };
     let Course {
         stream,
@@ -70,21 +94,23 @@ pub(crate) fn carry_stream<R: ServeRuntime>(
     } = course;
     let done = carry(
         rt,
-        alloc,
+        run.alloc,
         Real::new(reader),
         &mut ends,
         &clock,
         plan,
         &words,
         MAX_BYTES,
-        &mut NoNotes,
-        gate,
+        &mut notes,
+        &run.gate,
     );
-    match done {
-        Ok(report) => Carried::until_end(stream, &report, ends.hangup.was_stopped),
+    let carried = match done {
+        Ok(report) => Carried::until_end(stream, &report, ends.hangup.hangup.was_stopped),
         Err(fault) => {
             sockets.reset();
             Carried::until_fault(stream, &fault)
         }
-    }
+    };
+    notes.end(&carried.last_line(ends.hangup.reading));
+    carried
 }

@@ -1,5 +1,5 @@
 //! One served link: both its directions, what the book keeps of it, and its line.
-ghost use Rattle.std.specs.Prelude.{◌≡◌};
+ghost use Rattle.std.specs.Prelude.{◌≡◌, IfOk};
 ghost use Rattle.tox_time.specs.declared.streams.stream.Stream.TheVariants as StreamOf;
 
 use crate::threads::connecting::connect;
@@ -7,18 +7,26 @@ use crate::threads::direction::{Direction, carry_stream};
 use std::alloc::Global;
 use std::sync::Arc;
 use std::thread;
-use std::thread::Promise;
-use tox_config::ProxyDef;
-use tox_links::{Carried, Courses, LinkEnd, ProxyLinks, ServeRun, ServeRuntime, Taken, courses_of};
+use tox_links::{
+    Carried, Courses, LinkEnd, ProxyLinks, ServeRun, ServeRuntime, Taken, broken_link, courses_of,
+    unless_stopped,
+};
+use tox_log::BreakCause;
 use tox_sockets::{LinkSockets, LinkStart, LiveSocket};
-use tox_time::Stream;
 
-/// What a direction's thread promises: that it carries this stream.
-#[derive(Clone, Copy)]
-struct Carries(Stream);
+/// What the downstream direction carried.
+#[derive(Drop)]
+struct CarriedDown {
+    carried: Carried,
+    ghost downstream: { carried.stream ≡ StreamOf.Downstream },
+}
 
-impl Promise<Carried> for Carries {
-    ghost kept_by = { λ promise carried. carried.stream ≡ promise.0 };
+/// What both directions carried.
+#[derive(Drop)]
+struct CarriedBoth {
+    up: Carried,
+    down: CarriedDown,
+    ghost upstream: { up.stream ≡ StreamOf.Upstream },
 }
 
 /// Serves a link to its end.
@@ -28,95 +36,108 @@ pub(crate) fn serve_link<R: ServeRuntime>(
     links: &ProxyLinks<'_>,
     taken: Taken,
 ) {
-    let end = carry_link(rt, run, links.proxy, taken);
+    let number = taken.number;
+    let end = match carry_link(rt, run, &*links, taken) {
+        Ok(end) => end,
+        Err(cause) => broken_link(&*rt, &*run, links, number, cause),
+    };
     links.end_link(rt, run, &end);
 }
 
-/// Connects a link's upstream, and carries both directions to their ends. Both sockets are dropped then.
+/// Connects a link's upstream, and carries both directions to their ends. Both sockets are dropped then. An error where nothing
+/// could be carried.
 fn carry_link<R: ServeRuntime>(
     rt: &R,
     run: &ServeRun<'_>,
-    proxy: &ProxyDef,
+    links: &ProxyLinks<'_>,
     taken: Taken,
-) -> LinkEnd
-    ensures { result.number ≡ taken.number }
+) -> Result<LinkEnd, BreakCause>
+    ensures { IfOk result (λ end. end.number ≡ taken.number) }
 {
+    let proxy = links.proxy;
     let start = LinkStart::now(rt);
     let Some(server) = connect(rt, run, &proxy.upstream) else {
-        return LinkEnd::broken(taken.number);
+        return Err(unless_stopped(rt, run, BreakCause::Upstream));
     };
     let Some(courses) = courses_of(run, &proxy.name, taken.number) else {
-        return LinkEnd::broken(taken.number);
+        return Err(BreakCause::Memory);
     };
     let Taken { client, number } = taken;
     let Some(link) = LinkSockets::new(run.alloc, client, server) else {
-        return LinkEnd::broken(number);
+        return Err(BreakCause::Memory);
     };
-    carry_live(rt, run, number, &link, start, courses)
+    carry_live(rt, run, links, number, &link, start, courses)
 }
 
 /// Carries both directions, among the live sockets of the run.
 fn carry_live<R: ServeRuntime>(
     rt: &R,
     run: &ServeRun<'_>,
+    links: &ProxyLinks<'_>,
     number: u64,
     link: &Arc<LinkSockets, Global>,
     start: LinkStart,
     courses: Courses,
-) -> LinkEnd
+) -> Result<LinkEnd, BreakCause>
     requires up { courses.up.stream ≡ StreamOf.Upstream }
     requires down { courses.down.stream ≡ StreamOf.Downstream }
-    ensures { result.number ≡ number }
+    ensures { IfOk result (λ end. end.number ≡ number) }
 {
     let Ok(shared) = link.clone() else {
-        return LinkEnd::broken(number);
+        return Err(BreakCause::Memory);
     };
     let Ok(key) = run.live.add(rt, LiveSocket::Link(shared)) else {
-        return LinkEnd::broken(number);
+        return Err(unless_stopped(rt, run, BreakCause::Memory));
     };
-    let end = carry_both(rt, run, number, link, start, courses);
+    let end = carry_both(&*rt, &*run, &*links, number, &*link, start, courses);
     run.live.remove(rt, key);
     end
 }
 
 /// Carries both directions, one of them in a thread of its own.
-fn carry_both<R: ServeRuntime>(
-    rt: &R,
-    run: &ServeRun<'_>,
+fn carry_both<'a, R: ServeRuntime>(
+    rt: &'a R,
+    run: &'a ServeRun<'a>,
+    links: &'a ProxyLinks<'a>,
     number: u64,
-    link: &Arc<LinkSockets, Global>,
+    link: &'a Arc<LinkSockets, Global>,
     start: LinkStart,
     courses: Courses,
-) -> LinkEnd
+) -> Result<LinkEnd, BreakCause>
     requires up { courses.up.stream ≡ StreamOf.Upstream }
     requires down { courses.down.stream ≡ StreamOf.Downstream }
-    ensures { result.number ≡ number }
+    ensures { IfOk result (λ end. end.number ≡ number) }
 {
     let Courses { up, down } = courses;
     let (Some(up), Some(down)) = (Direction::new(link, up), Direction::new(link, down)) else {
-        return LinkEnd::broken(number);
+        return Err(BreakCause::Memory);
     };
-    let (alloc, gate) = (run.alloc, &run.gate);
-    thread::scope(
+    let carried = thread::scope(
         thread::scope_env(),
         rt,
-        |scope| -> LinkEnd
+        |scope| -> Option<CarriedBoth>
             requires up { up.course.stream ≡ StreamOf.Upstream }
             requires down { down.course.stream ≡ StreamOf.Downstream }
-            ensures { result.number ≡ number }
         {
-            let answers = scope.spawn_with(
-                Carries(Stream::Downstream),
-                move || -> Carried
+            let answers = scope.spawn(
+                move || -> CarriedDown
                     requires { down.course.stream ≡ StreamOf.Downstream }
-                    ensures { result.stream ≡ StreamOf.Downstream }
-                { carry_stream(rt, alloc, link, down, start, gate) },
+                {
+                    CarriedDown {
+                        carried: carry_stream(rt, run, links, number, link, down, start),
+                    }
+                },
             );
             let Ok(answers) = answers else {
-                return LinkEnd::broken(number);
+                return None;
             };
-            let upstream = carry_stream(rt, alloc, link, up, start, gate);
-            LinkEnd::of(number, &upstream, &answers.join(rt))
+            let up = carry_stream(rt, run, links, number, link, up, start);
+            let down = answers.join(rt);
+            Some(CarriedBoth { up, down })
         },
-    )
+    );
+    match carried {
+        Some(CarriedBoth { up, down }) => Ok(LinkEnd::of(number, &up, &down.carried)),
+        None => Err(BreakCause::Thread),
+    }
 }

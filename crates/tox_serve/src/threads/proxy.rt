@@ -5,18 +5,20 @@ use std::net::TcpListener;
 use std::thread;
 use std::thread::Scope;
 use tox_links::{
-    LinkEnd, Listening, ProxyLinks, ServeRun, ServeRuntime, Taken, is_enough, number_link,
+    Listening, ProxyLinks, ServeRun, ServeRuntime, Taken, broken_link, is_enough, number_link,
 };
+use tox_log::BreakCause;
 
 /// Serves a proxy until it stops listening and all its links have ended.
 pub(crate) fn serve_proxy<R: ServeRuntime>(rt: &R, run: &ServeRun<'_>, listening: Listening<'_>) {
     let Listening {
         proxy,
+        place,
         listener,
         key,
         address: _,
     } = listening;
-    let links = ProxyLinks::new(run.alloc, proxy);
+    let links = ProxyLinks::new(run.alloc, proxy, place);
     let shared = &links;
     thread::scope(thread::scope_env(), rt, |scope| {
         take_links(rt, run, shared, scope, &listener);
@@ -59,6 +61,7 @@ fn start_link<'s, E: 's, R: ServeRuntime>(
     let number = taken.number;
     let started = scope.spawn(move || serve_link(rt, run, links, taken));
     if started.is_err() {
-        links.end_link(rt, run, &LinkEnd::broken(number));
+        let end = broken_link(rt, run, links, number, BreakCause::Thread);
+        links.end_link(rt, run, &end);
     }
 }

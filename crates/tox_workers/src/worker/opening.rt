@@ -20,7 +20,8 @@ use std::mem;
 use std::net::{SocketAddr, TcpStream};
 use std::os::fd::AsRawFd;
 use std::sync::Arc;
-use tox_links::{LinkEnd, ServeRuntime, Taken, courses_of};
+use tox_links::{LinkEnd, ServeRuntime, Taken, broken_link, courses_of, notes_of, unless_stopped};
+use tox_log::BreakCause;
 use tox_sockets::{LinkSockets, LinkStart, LiveSocket};
 use tox_time::Stream;
 
@@ -179,7 +180,7 @@ impl<'s, R: ServeRuntime> Worker<'s, R> {
                 self.links.put(key, Stage::Connecting(connecting));
                 None
             }
-            Connection::There => self.open(key, connecting),
+            Connection::There => self.open(key, connecting, side, news),
             Connection::Refused => {
                 self.connect_next(key, connecting);
                 None
@@ -196,7 +197,7 @@ impl<'s, R: ServeRuntime> Worker<'s, R> {
         news: &News,
     ) -> Option<Box<OpenLink<'s, R>>> {
         if news.gone && connection_of(&connecting.server) == Connection::There {
-            return self.open(key, connecting.with_closing());
+            return self.open(key, connecting, Side::Client, news);
         }
         let Connecting {
             client,
@@ -240,8 +241,15 @@ impl<'s, R: ServeRuntime> Worker<'s, R> {
         }
     }
 
-    /// The link of an upstream that is connected. None if out of memory or the run is stopping: the link is broken then.
-    fn open(&mut self, key: LinkKey, connecting: Connecting) -> Option<Box<OpenLink<'s, R>>> {
+    /// The link of an upstream that is connected, as a report of one of its sockets has shown. None if out of memory or the run is
+    /// stopping: the link is broken then.
+    fn open(
+        &mut self,
+        key: LinkKey,
+        connecting: Connecting,
+        side: Side,
+        news: &News,
+    ) -> Option<Box<OpenLink<'s, R>>> {
         let Connecting {
             client,
             server,
@@ -250,18 +258,20 @@ impl<'s, R: ServeRuntime> Worker<'s, R> {
             deadline: _,
         } = connecting;
         let (number, place) = (client.taken.number, client.proxy);
-        let open = self.make(client, server);
-        if open.is_none() {
+        let Some(mut open) = self.make(client, server) else {
             self.links.close(key);
-            self.end_link(place, &LinkEnd::broken(number));
-        }
-        open
+            self.break_link(place, number, BreakCause::Memory);
+            return None;
+        };
+        // The report may also say that the peer sends no more, which isn't reported again.
+        open.note(side, news);
+        Some(open)
     }
 
     fn make(&mut self, client: Client, server: TcpStream) -> Option<Box<OpenLink<'s, R>>> {
         let (run, rt) = (self.run, self.rt);
-        let proxy = self.crew.proxies.get(client.proxy)?;
-        let served = proxy.links.proxy;
+        let links = &self.crew.proxies.get(client.proxy)?.links;
+        let served = links.proxy;
         let courses = courses_of(run, &served.name, client.taken.number)?;
         let Client {
             taken,
@@ -282,11 +292,15 @@ impl<'s, R: ServeRuntime> Worker<'s, R> {
             closing,
         };
         let open = OpenLink::new(rt, run.alloc, opening, courses);
-        let open = open.and_then(|open| Box::new(run.alloc, open).ok());
-        if open.is_none() {
+        let Some(mut open) = open.and_then(|open| Box::new(run.alloc, open).ok()) else {
             run.live.remove(rt, live);
-        }
-        open
+            return None;
+        };
+        // The logs are begun once nothing can fail any more: a link that is broken before has logs that tell just that.
+        let up = notes_of(rt, run, links, number, Stream::Upstream);
+        let down = notes_of(rt, run, links, number, Stream::Downstream);
+        open.log(up, down);
+        Some(open)
     }
 
     /// Breaks a link whose upstream isn't connected. Its client is closed.
@@ -298,7 +312,17 @@ impl<'s, R: ServeRuntime> Worker<'s, R> {
     fn end_broken(&mut self, client: Client) {
         let (number, place) = (client.taken.number, client.proxy);
         drop(client);
-        self.end_link(place, &LinkEnd::broken(number));
+        self.break_link(place, number, BreakCause::Upstream);
+    }
+
+    /// Settles a link of the proxy at a place that carried nothing, for this cause unless the run was told to stop.
+    fn break_link(&self, place: usize, number: u64, cause: BreakCause) {
+        let (rt, run) = (self.rt, self.run);
+        if let Some(proxy) = self.crew.proxies.get(place) {
+            let cause = unless_stopped(rt, run, cause);
+            let end = broken_link(rt, run, &proxy.links, number, cause);
+            self.end_link(place, &end);
+        }
     }
 
     /// Settles a link of the proxy at a place.

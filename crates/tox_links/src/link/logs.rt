@@ -1,0 +1,61 @@
+//! The logs of a link's streams.
+ghost use Rattle.std.specs.Prelude.{◌≡◌};
+ghost use Rattle.tox_links.specs.link.LinkEnds.{broken_link};
+
+use crate::link::end::LinkEnd;
+use crate::proxy::links::ProxyLinks;
+use crate::run::ServeRun;
+use std::sync::Wait;
+use tox_log::{BreakCause, LastLine, LoggedLink};
+use tox_log_files::StreamNotes;
+use tox_time::Stream;
+
+/// The notes of a stream of a link: its log, with its header, where the run keeps one.
+pub fn notes_of<'r, R: Wait>(
+    rt: &'r R,
+    run: &'r ServeRun<'_>,
+    links: &ProxyLinks<'_>,
+    number: u64,
+    stream: Stream,
+) -> StreamNotes<'r, R> {
+    let Some(logs) = run.logs else {
+        return StreamNotes::none(rt);
+    };
+    let proxy = links.proxy;
+    let proxy = proxy.name.as_str();
+    let link = LoggedLink {
+        proxy,
+        number,
+        stream,
+        seed: run.seed,
+    };
+    let chain = run.script.chain(proxy, number, stream);
+    let names = run.script.names(proxy, number, stream);
+    logs.open(rt, run.alloc, links.place, &link, chain, names)
+}
+
+/// The end of a link that carried nothing, as the logs of its streams tell it.
+pub fn broken_link<'r, R: Wait>(
+    rt: &'r R,
+    run: &'r ServeRun<'_>,
+    links: &ProxyLinks<'_>,
+    number: u64,
+    cause: BreakCause,
+) -> LinkEnd
+    ensures { result ≡ broken_link number }
+{
+    let last = LastLine::Broken(cause, 0);
+    for stream in [Stream::Upstream, Stream::Downstream] {
+        notes_of(rt, run, links, number, stream).end(&last);
+    }
+    LinkEnd::broken(number)
+}
+
+/// Why a link broke before anything was carried: for this cause, unless the run was told to stop.
+pub fn unless_stopped<R: Wait>(rt: &R, run: &ServeRun<'_>, cause: BreakCause) -> BreakCause {
+    if run.live.is_stopping(rt) {
+        BreakCause::Stopped
+    } else {
+        cause
+    }
+}

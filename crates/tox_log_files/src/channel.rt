@@ -1,0 +1,92 @@
+//! The logs whose lines wait for their files.
+use crate::stream_log::StreamLog;
+use crate::waiting_bytes::WaitingBytes;
+use std::alloc::Global;
+use std::mem;
+use std::sync::{Arc, Condvar, Mutex, MutexGuard, Wait};
+use std::time::{Clock, Duration};
+
+/// How long the writer lets lines gather, in milliseconds.
+const GATHERS: u64 = 50;
+
+/// What the lock keeps.
+#[derive(Drop)]
+struct Waiting {
+    logs: Vec<Arc<StreamLog, Global>>,
+    /// Whether no more come.
+    closed: bool,
+}
+
+/// The logs whose lines wait for their files.
+#[derive(Drop)]
+pub(crate) struct LogChannel {
+    waiting: Mutex<Waiting>,
+    /// How many bytes of the logs wait.
+    pub(crate) bytes: WaitingBytes,
+    /// Told when a log was added, and when no more come.
+    added: Condvar,
+    /// Told when no more come.
+    closed: Condvar,
+}
+
+impl LogChannel {
+    /// No log waits.
+    pub(crate) fn new(alloc: Global) -> LogChannel {
+        LogChannel {
+            waiting: Mutex::new(Waiting {
+                logs: Vec::new(alloc),
+                closed: false,
+            }),
+            bytes: WaitingBytes::new(),
+            added: Condvar::new(),
+            closed: Condvar::new(),
+        }
+    }
+
+    /// Adds a log. False if out of memory.
+    pub(crate) fn push<R: Wait>(&self, rt: &R, log: Arc<StreamLog, Global>) -> bool {
+        let pushed = self.waiting.lock(rt).logs.push(log).is_ok();
+        self.added.notify_one();
+        pushed
+    }
+
+    /// No more come.
+    pub(crate) fn close<R: Wait>(&self, rt: &R) {
+        self.waiting.lock(rt).closed = true;
+        self.added.notify_all();
+        self.closed.notify_all();
+    }
+
+    /// Exchanges the logs that wait for an empty vector, a while after the first came. False once no more come.
+    pub(crate) fn receive<R: Wait + Clock>(
+        &self,
+        rt: &R,
+        empty: &mut Vec<Arc<StreamLog, Global>>,
+    ) -> bool {
+        let Some(mut waiting) = self.filled(rt) else {
+            return false;
+        };
+        if !waiting.closed {
+            let gathers = Duration::from_millis(GATHERS);
+            let (gathered, _) = self.closed.wait_timeout(rt, waiting, gathers);
+            waiting = gathered;
+        }
+        mem::swap(&mut waiting.logs, empty);
+        true
+    }
+
+    /// The lock, once a log waits. None once no more come.
+    fn filled<R: Wait>(&self, rt: &R) -> Option<MutexGuard<'_, Waiting>> {
+        let mut waiting = self.waiting.lock(rt);
+        for _ in rt.forever() {
+            if !waiting.logs.is_empty() {
+                return Some(waiting);
+            }
+            if waiting.closed {
+                return None;
+            }
+            waiting = self.added.wait(rt, waiting);
+        }
+        unreachable!()
+    }
+}

@@ -1,0 +1,17 @@
+//! The logs of served links: what directions note, and the thread that brings it to files.
+#![tactic(auto)]
+
+mod channel;
+mod file_name;
+mod log_files;
+mod log_text;
+mod log_writer;
+mod run_logs;
+mod stream_log;
+mod stream_notes;
+mod waiting_bytes;
+
+pub use log_files::{LogFiles, NoLogs};
+pub use log_writer::write_logs;
+pub use run_logs::{LogLimits, RunLogs};
+pub use stream_notes::StreamNotes;

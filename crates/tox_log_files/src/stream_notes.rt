@@ -1,0 +1,78 @@
+//! What a direction of a served link notes.
+ghost use Rattle.std.specs.Prelude.{None};
+
+use crate::channel::LogChannel;
+use crate::log_text::Entry;
+use crate::stream_log::StreamLog;
+use std::alloc::{AllocError, Global};
+use std::sync::{Arc, Wait};
+use tox_link::{LinkEvent, Notes};
+use tox_log::LastLine;
+
+/// The log of a stream, and where its writer is called.
+#[derive(Drop)]
+struct KeptLog<'r> {
+    channel: &'r LogChannel,
+    log: Arc<StreamLog, Global>,
+}
+
+/// The notes of a direction of a served link: the log of its stream, or nothing. A log that fails holds up no link.
+#[derive(Drop)]
+pub struct StreamNotes<'r, R> {
+    rt: &'r R,
+    kept: Option<KeptLog<'r>>,
+}
+
+impl<'r, R: Wait> StreamNotes<'r, R> {
+    /// Notes that keep nothing.
+    pub fn none(rt: &'r R) -> StreamNotes<'r, R> {
+        StreamNotes { rt, kept: None }
+    }
+
+    /// Notes that go to a log, if there is one.
+    pub(crate) fn of(
+        rt: &'r R,
+        channel: &'r LogChannel,
+        log: Option<Arc<StreamLog, Global>>,
+    ) -> StreamNotes<'r, R> {
+        let kept = match log {
+            Some(log) => Some(KeptLog { channel, log }),
+            None => None,
+        };
+        StreamNotes { rt, kept }
+    }
+
+    /// Adds an entry to the log, and calls its writer if that is due. Without memory for the call the next entry makes it.
+    pub(crate) fn add(&self, entry: &Entry<'_>) {
+        let Some(kept) = &self.kept else {
+            return;
+        };
+        if kept.log.add(self.rt, &kept.channel.bytes, entry) && !kept.call_writer(self.rt) {
+            kept.log.call_again(self.rt);
+        }
+    }
+
+    /// The stream has ended, or broke off: its log gets its last line.
+    pub fn end(&self, last: &LastLine) {
+        self.add(&Entry::Last(last));
+    }
+}
+
+impl<'r> KeptLog<'r> {
+    /// Calls the writer. False if out of memory.
+    fn call_writer<R: Wait>(&self, rt: &R) -> bool {
+        match self.log.clone() {
+            Ok(log) => self.channel.push(rt, log),
+            Err(_) => false,
+        }
+    }
+}
+
+impl<'r, R: Wait> Notes for StreamNotes<'r, R> {
+    ghost events = { λ notes. None };
+
+    fn note(&mut self, event: LinkEvent) -> Result<(), AllocError> {
+        self.add(&Entry::Event(&event));
+        Ok(())
+    }
+}
