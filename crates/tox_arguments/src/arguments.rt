@@ -11,6 +11,15 @@ pub struct LinkArguments<'a> {
     pub toxics: Vec<&'a str>,
 }
 
+/// What `draw` is given.
+#[derive(Debug, Drop)]
+pub enum DrawArguments<'a> {
+    /// A link whose arrivals are on standard input.
+    Link(LinkArguments<'a>),
+    /// The name of a log.
+    Log(&'a str),
+}
+
 /// What `pick` is given.
 #[derive(Clone, Copy, Debug)]
 pub struct PickArguments<'a> {
@@ -42,4 +51,17 @@ pub struct ServeArguments<'a> {
     pub connect_timeout: Option<u32>,
     /// How many threads drive all links. None: each link has threads of its own.
     pub workers: Option<u32>,
+    /// What is logged. None: nothing is.
+    pub logs: Option<LogArguments<'a>>,
+}
+
+/// What `serve` logs.
+#[derive(Clone, Copy, Debug)]
+pub struct LogArguments<'a> {
+    /// The folder of the logs.
+    pub folder: &'a str,
+    /// How many links of each proxy are logged.
+    pub links: u64,
+    /// How many bytes a log has at most.
+    pub bytes: u64,
 }

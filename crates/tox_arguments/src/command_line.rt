@@ -1,5 +1,5 @@
 //! The command line, as `clap` reads it.
-use crate::arguments::{LinkArguments, PickArguments, ServeArguments};
+use crate::arguments::{DrawArguments, LinkArguments, LogArguments, PickArguments, ServeArguments};
 use crate::commands::toxi;
 use crate::replay::{ONE_FILE, ReplayArguments, replay_of};
 use clap::error::ErrorKind;
@@ -16,6 +16,7 @@ const DEFAULT_CAP: usize = 4;
 #[derive(Debug, Drop)]
 pub enum Task<'a> {
     Dry(LinkArguments<'a>),
+    Draw(DrawArguments<'a>),
     Plan(LinkArguments<'a>),
     Stages(Cap, LinkArguments<'a>),
     Pick(PickArguments<'a>),
@@ -50,6 +51,7 @@ fn replay_task<'a>(alloc: Global, arguments: ReplayArguments<'a>) -> Result<Task
 fn task_of<'a>(alloc: Global, matches: &ArgMatches<'a>) -> Result<Option<Task<'a>>, AllocError> {
     Ok(match matches.subcommand() {
         Some(("dry", given)) => Some(Task::Dry(link_of(alloc, given)?)),
+        Some(("draw", given)) => Some(Task::Draw(draw_of(alloc, given)?)),
         Some(("plan", given)) => Some(Task::Plan(link_of(alloc, given)?)),
         Some(("stages", given)) => Some(Task::Stages(cap_of(given), link_of(alloc, given)?)),
         Some(("replay", given)) => Some(Task::Replay(replay_of(alloc, given)?)),
@@ -65,6 +67,14 @@ fn files_task<'a>(name: &str, given: &ArgMatches<'a>) -> Option<Task<'a>> {
         "migrate" => Some(Task::Migrate(given.get_str("script")?)),
         "serve" => Some(Task::Serve(serve_of(given)?)),
         _ => None,
+    }
+}
+
+/// What `draw` is given: a log, or a link. `clap` has rejected both.
+fn draw_of<'a>(alloc: Global, given: &ArgMatches<'a>) -> Result<DrawArguments<'a>, AllocError> {
+    match given.get_str("log") {
+        Some(log) => Ok(DrawArguments::Log(log)),
+        None => Ok(DrawArguments::Link(link_of(alloc, given)?)),
     }
 }
 
@@ -105,6 +115,12 @@ fn pick_of<'a>(given: &ArgMatches<'a>) -> Option<PickArguments<'a>> {
     })
 }
 
+/// How many links of each proxy are logged unless `--log-links` tells.
+const DEFAULT_LOG_LINKS: u64 = 10_000;
+
+/// How many bytes a log has at most unless `--log-bytes` tells.
+const DEFAULT_LOG_BYTES: u64 = 67_108_864;
+
 /// What `serve` is given, where each option that it needs is there.
 fn serve_of<'a>(given: &ArgMatches<'a>) -> Option<ServeArguments<'a>> {
     Some(ServeArguments {
@@ -114,6 +130,20 @@ fn serve_of<'a>(given: &ArgMatches<'a>) -> Option<ServeArguments<'a>> {
         links: given.get_one::<u64>("links"),
         connect_timeout: small_number(given, "connect-timeout"),
         workers: small_number(given, "workers"),
+        logs: logs_of(given),
+    })
+}
+
+/// What `serve` logs.
+fn logs_of<'a>(given: &ArgMatches<'a>) -> Option<LogArguments<'a>> {
+    Some(LogArguments {
+        folder: given.get_str("log")?,
+        links: given
+            .get_one::<u64>("log-links")
+            .unwrap_or(DEFAULT_LOG_LINKS),
+        bytes: given
+            .get_one::<u64>("log-bytes")
+            .unwrap_or(DEFAULT_LOG_BYTES),
     })
 }
 

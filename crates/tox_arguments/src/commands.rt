@@ -13,8 +13,11 @@ const MAX_WORKERS: u64 = 64;
 /// The longest time that a connect may be given, in milliseconds.
 const MAX_CONNECT_TIMEOUT: u64 = 600_000;
 
+/// The most bytes that a log may be given.
+const MAX_LOG_BYTES: u64 = 1 << 40;
+
 /// The version, and the kit that proves and builds it.
-const VERSION: &str = "0.1.0 (rattle-kit-13f logic dac8208d650f15bf)";
+const VERSION: &str = "0.2.0 (rattle-kit-13f logic dac8208d650f15bf)";
 
 /// The program's command line.
 pub(crate) fn toxi<'a>(alloc: Global) -> Result<Command<'a>, AllocError> {
@@ -31,6 +34,7 @@ pub(crate) fn toxi<'a>(alloc: Global) -> Result<Command<'a>, AllocError> {
 fn commands<'a>(alloc: Global) -> Result<Vec<Command<'a>>, AllocError> {
     Ok(vec![in alloc;
         dry(alloc)?,
+        draw(alloc)?,
         plan(alloc)?,
         stages(alloc)?,
         pick(alloc)?,
@@ -45,6 +49,23 @@ fn dry<'a>(alloc: Global) -> Result<Command<'a>, AllocError> {
         .about("Prints when each byte would leave, and how the link would end")
         .after_help(help::DRY);
     with_link(alloc, dry)
+}
+
+fn draw<'a>(alloc: Global) -> Result<Command<'a>, AllocError> {
+    let log = option(
+        alloc,
+        "log",
+        "FILE",
+        "Draws the log of a stream of `serve` instead: what was due beside what was written",
+    )
+    .conflicts_with("lanes")?
+    .conflicts_with("words")?
+    .conflicts_with("toxics")?;
+    let draw = Command::new(alloc, "draw")
+        .about("Prints a picture of what arrives, what leaves and what is held between")
+        .after_help(help::DRAW)
+        .arg(log)?;
+    with_link(alloc, draw)
 }
 
 fn plan<'a>(alloc: Global) -> Result<Command<'a>, AllocError> {
@@ -129,6 +150,12 @@ fn serve<'a>(alloc: Global) -> Result<Command<'a>, AllocError> {
         "How many threads drive all links, 1 to 64 [default: each link has four of its own]",
     )
     .value_parser(ValueParser::unsigned(1, MAX_WORKERS));
+    let log = option(
+        alloc,
+        "log",
+        "DIR",
+        "The folder that gets a log of each stream; it is made, or must be empty",
+    );
     let arguments = vec![in alloc;
         config_argument(alloc),
         script_argument(alloc),
@@ -136,11 +163,36 @@ fn serve<'a>(alloc: Global) -> Result<Command<'a>, AllocError> {
         links,
         connect_timeout,
         workers,
+        log,
+        log_links_argument(alloc)?,
+        log_bytes_argument(alloc)?,
     ]?;
     Command::new(alloc, "serve")
         .about("Listens for each proxy, and carries its connections under their toxics")
         .after_help(help::SERVE)
         .args(arguments)
+}
+
+fn log_links_argument<'a>(alloc: Global) -> Result<Arg<'a>, AllocError> {
+    option(
+        alloc,
+        "log-links",
+        "N",
+        "How many links of each proxy are logged, 1 to 1000000 [default: 10000]",
+    )
+    .value_parser(ValueParser::unsigned(1, MAX_CONNECTIONS))
+    .requires_arg("log")
+}
+
+fn log_bytes_argument<'a>(alloc: Global) -> Result<Arg<'a>, AllocError> {
+    option(
+        alloc,
+        "log-bytes",
+        "N",
+        "How many bytes a log has at most, 1 to 2^40 [default: 67108864]",
+    )
+    .value_parser(ValueParser::unsigned(1, MAX_LOG_BYTES))
+    .requires_arg("log")
 }
 
 fn config_argument<'a>(alloc: Global) -> Arg<'a> {

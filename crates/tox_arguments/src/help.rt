@@ -43,6 +43,18 @@ prints
   100000 0..2 6162
   closed 100000";
 
+/// Below the options of `toxi draw`.
+pub const DRAW: &str = "\
+A TOXIC and the input are those of `toxi dry`; see `toxi dry --help`.
+
+The output is one SVG. Time goes across, bytes go up. A thin line tells how many bytes had arrived, a thick one how many had
+left, and the area between them is what was held. A vertical line with a mark and a word is the ending.
+
+With --log nothing is read from standard input. The log is judged as `toxi replay` does, and drawn unless it is unfaithful.
+
+Example:
+  printf '0 data 6162\\n50 eof\\n' | toxi draw latency:latency=100 > link.svg";
+
 /// Below the options of `toxi plan`.
 pub const PLAN: &str = "\
 The output has a line for each operation that the toxics come to, in order, or `pass` where there is none:
@@ -145,6 +157,8 @@ proxy ends once it stopped listening and all its links ended:
 The bytes are those written upstream and downstream. An end is open, closed, reset or broken: a write failed, the
 upstream wasn't reached, or memory or a thread was refused. Each line is flushed as it is written. While the output isn't
 read, lines of links past 65,536 bytes are dropped, and how many is told on standard error.
+
+With --log each stream of a link has a file <proxy>-<number>-<stream>.log in DIR, which `toxi replay` judges.
 
 Example, with the files of `toxi pick --help` as proxies.json and script.toml, and port 1 of localhost closed:
   toxi serve --config proxies.json --script script.toml --seed 1 --links 1

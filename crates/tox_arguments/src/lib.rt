@@ -7,6 +7,6 @@ mod commands;
 mod help;
 mod replay;
 
-pub use arguments::{LinkArguments, PickArguments, ServeArguments};
+pub use arguments::{DrawArguments, LinkArguments, LogArguments, PickArguments, ServeArguments};
 pub use command_line::{Task, read};
 pub use replay::{NAMES_ON_INPUT, ReplayArguments, ReplayMode};

@@ -1,11 +1,13 @@
 //! What the program does, as library calls over readers, writers, files, sockets and values: runs, files and picks (tox_runs),
-//! serving (tox_serve), logs (tox_log), and the texts that a command prints as they stand (tox_text).
+//! serving (tox_serve), logs (tox_log, tox_log_files), pictures (tox_draw), and the texts that a command prints as they stand (tox_text).
 #![tactic(auto)]
 
+pub use tox_draw::{draw_log, draw_run};
 pub use tox_log::{
     HeardFault, JudgedLog, LogFault, OpenLog, ReplayFault, Verdict, judge_log, print_heard,
     print_judged, print_meant, print_words, write_judged,
 };
+pub use tox_log_files::{LogFiles, LogLimits, NoLogs};
 pub use tox_runs::{
     FileFault, MAX_INPUT, MemoryFiles, NamedFiles, PickFault, PickRequest, RealFiles, Setup,
     SetupFault, StagesFault, ToxicsFault, dry_run, find_proxy, read_chain, read_file, read_setup,
@@ -16,6 +18,6 @@ pub use tox_serve::{
     tells_to_stop,
 };
 pub use tox_text::{
-    DryFault, PrintMigratedFault, PrintPickFault, WriteFault, print_migrated, print_pick,
-    print_plan,
+    DryFault, PrintMigratedFault, PrintPickFault, VisibleName, WriteFault, print_migrated,
+    print_pick, print_plan,
 };

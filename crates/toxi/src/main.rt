@@ -1,9 +1,11 @@
 //! The program `toxi`: a TCP proxy that adds scripted faults.
 #![tactic(auto)]
 
+mod draw;
 mod dry;
 mod fault;
 mod link;
+mod log_folder;
 mod migrate;
 mod output;
 mod pick;
@@ -72,6 +74,7 @@ where
 {
     match task {
         Task::Dry(link) => tell(rt, dry::dry(rt, link)),
+        Task::Draw(arguments) => tell(rt, draw::draw(rt, arguments)),
         Task::Plan(link) => tell(rt, plan::plan(rt, link)),
         Task::Stages(cap, link) => tell(rt, stages::stages(rt, cap, link)),
         Task::Pick(arguments) => tell(rt, pick::pick(rt, arguments)),

@@ -1,5 +1,6 @@
 //! `toxi serve`: proxies that listen. Each line is on standard output as it comes.
 use crate::fail;
+use crate::log_folder::{LogFolder, make_folder};
 use crate::output::PatientOutput;
 use std::alloc::{AllocError, Global};
 use std::fmt::Display;
@@ -8,8 +9,8 @@ use std::rt::Files;
 use std::sync::{Mutex, Wait};
 use tox_arguments::ServeArguments;
 use tox_proxy::{
-    Gaps, RealFiles, Room, ServeFault, ServeOptions, ServeRuntime, Setup, SetupFault, Stop,
-    read_setup, serve_with,
+    Gaps, LogLimits, RealFiles, Room, ServeFault, ServeOptions, ServeRuntime, Setup, SetupFault,
+    Stop, read_setup, serve_with,
 };
 
 /// A file that gives and takes nothing.
@@ -32,6 +33,8 @@ pub struct ServeJob {
     /// The name of the script file.
     script: String,
     seed: u64,
+    /// The folder of logs.
+    folder: Option<String>,
     options: ServeOptions,
 }
 
@@ -44,26 +47,61 @@ impl ServeJob {
             links: arguments.links,
             connect_timeout: arguments.connect_timeout,
             workers: arguments.workers,
+            logs: limits_of(arguments),
+        };
+        let folder = match &arguments.logs {
+            Some(logs) => Some(logs.folder.to_string(alloc)?),
+            None => None,
         };
         Ok(ServeJob {
             config,
             script,
             seed: arguments.seed,
+            folder,
             options,
         })
     }
+
+    /// The folder of logs.
+    fn folder(&self) -> Option<&str> {
+        match &self.folder {
+            Some(folder) => Some(folder.as_str()),
+            None => None,
+        }
+    }
 }
 
-/// Reads the files, and serves what they set up. Returns the status of the program.
+/// How much is logged.
+fn limits_of(arguments: &ServeArguments<'_>) -> Option<LogLimits> {
+    match &arguments.logs {
+        Some(logs) => Some(LogLimits {
+            links: logs.links,
+            bytes: logs.bytes,
+        }),
+        None => None,
+    }
+}
+
+/// Reads the files, makes the folder of logs, and serves what the files set up. Returns the status of the program.
 pub fn serve_job<R: Print + Eprint + Files + AllocGlobal + ServeRuntime>(
     rt: &R,
     job: &ServeJob,
     stop: &Stop,
-) -> u8 {
-    match set_up(rt, job) {
-        Ok(setup) => status_of(rt, serve_proxies(rt, &setup, job, stop)),
-        Err(fault) => status_of(rt, Err(fault)),
+) -> u8
+where
+    R::File: Send + 'static,
+    R::Dir: Send + 'static,
+{
+    let setup = match set_up(rt, job) {
+        Ok(setup) => setup,
+        Err(fault) => return status_of(rt, Err(fault)),
+    };
+    if let Some(folder) = job.folder() {
+        if let Err(fault) = make_folder(rt, folder) {
+            return status_of(rt, Err(fault));
+        }
     }
+    status_of(rt, serve_proxies(rt, &setup, job, stop))
 }
 
 fn status_of<F: Display + Drop>(rt: &impl Eprint, done: Result<(), F>) -> u8 {
@@ -105,15 +143,24 @@ impl<'a, R: Eprint + Wait> Gaps for ToldGaps<'a, R> {
 }
 
 /// Serves the proxies of the files.
-fn serve_proxies<'a, R: Print + Eprint + AllocGlobal + ServeRuntime>(
+fn serve_proxies<'a, R: Print + Eprint + Files + AllocGlobal + ServeRuntime>(
     rt: &R,
     setup: &'a Setup,
     job: &ServeJob,
     stop: &Stop,
-) -> Result<(), ServeFault<'a>> {
+) -> Result<(), ServeFault<'a>>
+where
+    R::File: Send + 'static,
+    R::Dir: Send + 'static,
+{
     let out = Mutex::new(PatientOutput::new(rt, stop));
     let gaps = ToldGaps {
         rt,
+        room: Room::new(rt, stop, ERRORS),
+    };
+    let files = LogFolder {
+        rt,
+        folder: job.folder(),
         room: Room::new(rt, stop, ERRORS),
     };
     serve_with(
@@ -125,6 +172,7 @@ fn serve_proxies<'a, R: Print + Eprint + AllocGlobal + ServeRuntime>(
         &out,
         &gaps,
         stop,
+        &files,
         &job.options,
     )
 }

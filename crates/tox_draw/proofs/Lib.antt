@@ -1,0 +1,5 @@
+mod AxisSteps
+mod Firsts
+mod Growing
+mod LineCounts
+mod DrawnTexts

@@ -1,0 +1,14 @@
+-- The tag, the title, and the tag's end.
+use Rattle.std.proofs.Common.{◌++◌, codes}
+use Rattle.tox_draw.specs.Headings.{texts_of}
+use Rattle.tox_draw.specs.Pictures.{title_line}
+use Rattle.tox_draw.specs.Sentences.{title}
+use Rattle.tox_draw.proofs.Growing.{adds_then}
+use Rattle.tox_draw.proofs.front.push_title_line.Goals as goal
+
+pub returns : goal.returns
+unfolding title_line
+returns c =
+    let forms = title (texts_of c.args.forms.now) in
+    adds_then _ _ _ _ (codes "<title id=\"toxi-title\">") (forms ++ codes "</title>\n") c.in_ok-push_word.ensures
+    (adds_then _ _ _ _ forms (codes "</title>\n") c.in_ok-push_title.ensures c.push_word-2.ensures)

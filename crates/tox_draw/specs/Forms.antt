@@ -1,0 +1,37 @@
+-- Short forms.
+use Rattle.std.specs.Prelude.{ℕ, ◌==◌, Bool, List, [], ◌∷◌, ◌++◌, codes, decimal, take, if◌then◌else◌}
+use Rattle.std.specs.List.{zip}
+use Rattle.tox_defs.specs.Toxic.{attributes_of, name_of, values_of}
+use Rattle.tox_defs.specs.declared.chain.Entry.{Entry}
+
+-- a pair behind a mark, unless its value is the default
+abbrev pub pair : List ℕ → List ℕ → ℕ → ℕ → List ℕ
+pair mark key value default =
+    if value == default then [] else mark ++ key ++ codes "=" ++ decimal value
+
+-- what stands before the next pair: a comma behind one that is there
+abbrev pub next_mark : List ℕ → ℕ → ℕ → List ℕ
+next_mark mark value default = if value == default then mark else codes ","
+
+-- the pairs of attributes and of the toxicity, behind a mark
+abbrev pub pairs : List ℕ → List (List ℕ × ℕ) → ℕ → List ℕ
+pairs mark [] toxicity = pair mark (codes "toxicity") toxicity 1000
+pairs mark (first ∷ others) toxicity =
+    pair mark first.0 first.1 0 ++ pairs (next_mark mark first.1 0) others toxicity
+
+-- the short form of a toxic without parentheses
+unfoldable pub bare : Entry → List ℕ
+bare entry =
+    name_of entry.toxic
+    ++ pairs (codes ":") (zip (attributes_of entry.toxic) (values_of entry.toxic)) entry.toxicity
+
+unfoldable pub in_parentheses : Entry → List ℕ
+in_parentheses entry = codes "(" ++ (bare entry ++ codes ")")
+
+-- the short form of a toxic
+abbrev pub form : Entry → Bool → List ℕ
+form entry applied = if applied then bare entry else in_parentheses entry
+
+-- a form of more than 94 characters, as the heading shows it
+abbrev pub cut : List ℕ → List ℕ
+cut form = take 91 form ++ codes "..."

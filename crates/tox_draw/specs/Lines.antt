@@ -1,0 +1,32 @@
+-- Lines: how many bytes passed by each column. A table has an instant for each byte that passed, in order.
+use Rattle.std.specs.Prelude.{◌≡◌, ℕ, ◌+◌, ◌<◌, ◌==◌, List, count_by, fold, length, nat_lt, slice_index, Some}
+use Rattle.tox_draw.specs.declared.curve.Curve.{Curve}
+use Rattle.tox_draw.specs.declared.frame.Frame.{Frame}
+use Rattle.tox_draw.specs.declared.strand.Strand.{Strand}
+use Rattle.tox_draw.specs.Frames.{column_of, y_of}
+
+-- how many bytes are in a column
+abbrev pub in_column : Frame → List ℕ → ℕ → ℕ
+in_column frame table column = count_by (λ t. column_of frame (Some t) == column) table
+
+-- how many bytes are in the first so many columns
+abbrev pub in_first : Frame → List ℕ → ℕ → ℕ
+in_first frame table columns = count_by (λ t. nat_lt (column_of frame (Some t)) columns) table
+
+-- the instant of the last byte, or 0
+abbrev pub last_of : List ℕ → ℕ
+last_of table = fold (λ before t. t) 0 table
+
+-- what is kept of the bytes that passed
+pub record IsStrand (frame : Frame) (table : List ℕ) (strand : Strand) : Type 0 where
+  pub total : strand.total ≡ length table
+  pub last : strand.last ≡ last_of table
+  pub counts : (column : ℕ) → column < 751
+      → slice_index strand.counts.items column ≡ in_column frame table column
+
+-- the line of the bytes that passed, with their number and the last instant
+pub record IsCurve (frame : Frame) (table : List ℕ) (curve : Curve) : Type 0 where
+  pub total : curve.total ≡ length table
+  pub last : curve.last ≡ last_of table
+  pub ys : (column : ℕ) → column < 751
+      → slice_index curve.ys.items column ≡ y_of frame (in_first frame table (column + 1))

@@ -1,0 +1,41 @@
+-- What a picture says to those who don't see it.
+use Rattle.std.specs.Prelude.{ℕ, ◌==◌, List, [], ◌∷◌, ◌++◌, flat_map, Option, Some, None, codes, decimal, if◌then◌else◌}
+use Rattle.tox_draw.specs.declared.link_end.LinkEnd.{LinkEnd}
+use Rattle.tox_draw.specs.LinkEnds.{end_instant, end_word}
+
+-- the title: the forms in order
+abbrev pub title : List (List ℕ) → List ℕ
+title [] = codes "no toxics"
+title (form ∷ forms) = form ++ flat_map (λ next. codes ", then " ++ next) forms
+
+-- how many bytes passed
+unfoldable pub count : List ℕ → ℕ → List ℕ
+count word total = codes " " ++ word ++ codes " " ++ decimal total ++ codes " B"
+
+-- when the last byte passed
+unfoldable pub last_at : ℕ → List ℕ
+last_at t = codes ", the last at " ++ decimal t ++ codes " us."
+
+-- bytes that passed a point of the link, the last at an instant
+unfoldable pub some_passed : List ℕ → ℕ → ℕ → List ℕ
+some_passed word total last =
+    count word total ++ last_at last
+
+-- what passed a point of the link
+abbrev pub passed : List ℕ → ℕ → ℕ → List ℕ
+passed word total last =
+    if total == 0 then codes " " ++ word ++ codes " 0 B." else some_passed word total last
+
+-- when the source ended
+abbrev pub source_ended : Option ℕ → List ℕ
+source_ended (Some t) = codes " The source ended at " ++ decimal t ++ codes " us."
+source_ended None = codes " The source stayed quiet."
+
+-- an end with an instant, if it has one
+abbrev pub ended_at : List ℕ → Option ℕ → List ℕ
+ended_at word (Some t) = codes " The link ended " ++ word ++ codes " at " ++ decimal t ++ codes " us."
+ended_at word None = codes " The link stayed open."
+
+-- how the link ended
+abbrev pub ended : LinkEnd → List ℕ
+ended end = ended_at (end_word end) (end_instant end)

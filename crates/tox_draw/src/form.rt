@@ -1,0 +1,129 @@
+//! Toxics as short forms without what is as it is by default.
+ghost use Rattle.std.specs.Prelude.{◌≡◌, ◌≤◌, ◌<◌, codes, length, map, string_bytes, IfOk, OnOk};
+ghost use Rattle.std.specs.List.{zip};
+ghost use Rattle.std.specs.Str.{IsCharBoundary};
+ghost use Rattle.tox_draw.specs.Adding.{Adds};
+ghost use Rattle.tox_draw.specs.Forms.{bare, cut, form, in_parentheses, next_mark, pair, pairs};
+
+use crate::parts::push_word;
+use std::alloc::{AllocError, Global};
+use tox_defs::{Chain, Entry};
+use tox_words::{Drawing, Words};
+
+/// The longest form that the heading shows whole.
+const LONGEST: usize = 94;
+
+/// How many characters of a longer one it shows.
+const CUT: usize = 91;
+
+/// The toxicity that every link meets.
+const WHOLE: u64 = 1_000;
+
+/// The short forms of a chain's toxics under these words, in order.
+pub(crate) fn forms_of(
+    alloc: Global,
+    chain: &Chain,
+    words: &Words,
+) -> Result<Vec<String>, AllocError> {
+    let drawing = Drawing::new(chain.lanes(), words);
+    let mut forms = Vec::new(alloc);
+    for (place, entry) in chain.entries().iter().enumerate() {
+        let mut form = String::new(alloc);
+        push_form(&mut form, entry, entry.is_applied(place, &drawing))?;
+        forms.push(form)?;
+    }
+    Ok(forms)
+}
+
+/// The forms as the heading shows them: one of more than 94 characters is cut.
+pub(crate) fn cut_forms(alloc: Global, forms: &[String]) -> Result<Vec<String>, AllocError> {
+    let mut shown = Vec::new(alloc);
+    for form in forms {
+        shown.push(cut_form(alloc, form.as_str())?)?;
+    }
+    Ok(shown)
+}
+
+/// A form as the heading shows it. One that has no character's edge at the cut stays whole; a toxic's form has one.
+fn cut_form(alloc: Global, form: &str) -> Result<String, AllocError>
+    ensures short { length form.now ≤ 94
+        → IfOk result (λ shown. string_bytes shown ≡ form.now) }
+    ensures long { 94 < length form.now → IsCharBoundary form.now 91
+        → IfOk result (λ shown. string_bytes shown ≡ cut form.now) }
+{
+    if form.len() <= LONGEST {
+        return String::from_str(alloc, form);
+    }
+    match form.split_at_checked(CUT) {
+        Some((front, _)) => format!(in alloc; "{front}..."),
+        None => String::from_str(alloc, form),
+    }
+}
+
+/// Adds the short form of a toxic. One that isn't applied stands in parentheses.
+pub(crate) fn push_form(text: &mut String, entry: &Entry, applied: bool) -> Result<(), AllocError>
+    ensures { OnOk result (Adds text.old text.new (form entry.now applied)) }
+{
+    if applied {
+        push_bare(text, entry)
+    } else {
+        push_in_parentheses(text, entry)
+    }
+}
+
+#[tactic(auto, using(crate::proofs::Growing::adds_then), unfolding(crate::specs::Forms::in_parentheses))]
+fn push_in_parentheses(text: &mut String, entry: &Entry) -> Result<(), AllocError>
+    ensures { OnOk result (Adds text.old text.new (in_parentheses entry.now)) }
+{
+    push_word(text, "(")?;
+    push_bare(text, entry)?;
+    push_word(text, ")")
+}
+
+/// Adds the short form of a toxic without parentheses.
+#[tactic(auto, using(crate::proofs::Growing::adds_then), unfolding(crate::specs::Forms::bare))]
+fn push_bare(text: &mut String, entry: &Entry) -> Result<(), AllocError>
+    ensures { OnOk result (Adds text.old text.new (bare entry.now)) }
+{
+    push_word(text, entry.toxic.name())?;
+    let values = entry.toxic.values();
+    let toxicity = u64::from(entry.toxicity);
+    push_pairs(text, entry.toxic.attributes(), &values, toxicity)
+}
+
+/// Adds a colon and the pairs whose values aren't the default, separated by commas.
+fn push_pairs(
+    text: &mut String,
+    keys: &[&str],
+    values: &[u64],
+    toxicity: u64,
+) -> Result<(), AllocError>
+    requires { length keys.now ≡ length values.now }
+    ensures { OnOk result (Adds text.old text.new
+        (pairs (codes ":") (zip (map (λ key. key.now) keys.now) values.now) toxicity)) }
+{
+    let mut mark = ":";
+    for (place, key) in keys.iter().enumerate() {
+        mark = push_pair(text, mark, key, values[place], 0)?;
+    }
+    push_pair(text, mark, "toxicity", toxicity, WHOLE)?;
+    Ok(())
+}
+
+/// Adds a pair behind a mark, unless its value is the default. Returns what stands before the next pair.
+fn push_pair(
+    text: &mut String,
+    mark: &'static str,
+    key: &str,
+    value: u64,
+    default: u64,
+) -> Result<&'static str, AllocError>
+    ensures adds { OnOk result (Adds text.old text.new (pair mark.now key.now value default)) }
+    ensures next { IfOk result (λ next. next.now ≡ next_mark mark.now value default) }
+{
+    if value == default {
+        return Ok(mark);
+    }
+    write!(text, "{mark}{key}={value}")?;
+    Ok(",")
+}

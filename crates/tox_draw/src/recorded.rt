@@ -1,0 +1,221 @@
+//! `draw --log`: the picture of a recorded link, with what was due beside what was written.
+ghost use Rattle.std.specs.Prelude.{◌≡◌, false, true, OnOk};
+ghost use Rattle.tox_draw.specs.Frames.{IsFrame};
+
+use crate::course::{Course, ending_of};
+use crate::form::{cut_forms, forms_of};
+use crate::frame::Frame;
+use crate::heading::push_heading;
+use crate::link_end::LinkEnd;
+use crate::picture::{Picture, picture_text};
+use crate::strand::Strand;
+use std::alloc::{AllocError, Global};
+use tox_compile::compile;
+use tox_link::LinkEvent;
+use tox_log::{LastLine, LogFault, LogLine, OpenLog, ReplayFault};
+use tox_plan::Runner;
+use tox_text::Part::Word;
+use tox_text::write_parts;
+use tox_time::{Ending, Micros, Sink, Source};
+
+/// What a log says of its stream.
+#[derive(Drop)]
+struct Record {
+    /// The short forms of the toxics.
+    forms: Vec<String>,
+    course: Course,
+    /// How the plan ends the link.
+    due_end: Ending,
+    written: Strand,
+    end: LinkEnd,
+}
+
+/// What a log said so far, with its last reading.
+#[derive(Drop)]
+struct Hearing {
+    course: Course,
+    written: Strand,
+    end: LinkEnd,
+    latest: Micros,
+}
+
+/// Draws the log in the file of this name. Both readers give that log: the first for the greatest values, the second for the
+/// lines. Nothing is written after a fault, except after a failed write: then a prefix of the picture is.
+pub fn draw_log<'a, R: Source, W: Sink>(
+    alloc: Global,
+    name: &'a str,
+    first: &mut R,
+    second: &mut R,
+    writer: &mut W,
+) -> Result<(), ReplayFault<'a>>
+    requires first { R.failed first.old ≡ false }
+    requires second { R.failed second.old ≡ false }
+    requires works { W.failed writer.old ≡ false }
+{
+    let drawn = match drawn(alloc, first, second) {
+        Ok(drawn) => drawn,
+        Err(fault) => return Err(ReplayFault::of(name, &fault)),
+    };
+    if write_parts(writer, &[Word(drawn.as_str())]).is_err() {
+        return Err(ReplayFault::WriteFault);
+    }
+    Ok(())
+}
+
+/// The picture of a log.
+fn drawn<R: Source>(alloc: Global, first: &mut R, second: &mut R) -> Result<String, LogFault>
+    requires first { R.failed first.old ≡ false }
+    requires second { R.failed second.old ≡ false }
+{
+    let totals = record_of(alloc, first, &Frame::widest())?;
+    let mut heading = String::new(alloc);
+    let lines = push_heading(&mut heading, &cut_forms(alloc, &totals.forms)?)?;
+    let frame = Frame::new(lines, &latest(&totals), totals.course.arrived.total);
+    let record = record_of(alloc, second, &frame)?;
+    Ok(picture_of(alloc, record, heading, frame)?)
+}
+
+/// The text of a record's picture.
+fn picture_of(
+    alloc: Global,
+    record: Record,
+    heading: String,
+    frame: Frame,
+) -> Result<String, AllocError>
+    requires { IsFrame frame }
+{
+    let Record {
+        forms,
+        course,
+        due_end,
+        written,
+        end,
+    } = record;
+    let arrived = course.arrived.curve(alloc, &frame)?;
+    let planned = course.planned.curve(alloc, &frame)?;
+    let written = written.curve(alloc, &frame)?;
+    let picture = Picture {
+        forms,
+        heading,
+        frame,
+        source_end: course.source_end,
+        arrived,
+        planned,
+        planned_end: LinkEnd::of(&due_end),
+        written: Some(written),
+        end,
+    };
+    picture_text(alloc, &picture)
+}
+
+/// The greatest instant of a record.
+fn latest(record: &Record) -> Micros {
+    let due = LinkEnd::of(&record.due_end).instant();
+    let ended = record.end.instant().unwrap_or(Micros::ZERO);
+    record
+        .course
+        .latest(&due)
+        .later(record.written.last)
+        .later(ended)
+}
+
+/// Reads a log to its end.
+fn record_of<R: Source>(alloc: Global, reader: &mut R, frame: &Frame) -> Result<Record, LogFault>
+    requires works { R.failed reader.old ≡ false }
+    requires frame { IsFrame frame.now }
+{
+    let mut log = OpenLog::new(alloc, reader)?;
+    let words = log.words(alloc)?;
+    let forms = forms_of(alloc, log.chain(), &words)?;
+    let mut runner = Runner::new(compile(log.chain(), &words), &words);
+    let mut hearing = Hearing {
+        course: Course::new(alloc)?,
+        written: Strand::new(alloc)?,
+        end: LinkEnd::Missing(Micros::ZERO),
+        latest: Micros::ZERO,
+    };
+    hear_lines(&mut log, reader, &mut runner, &mut hearing, frame)?;
+    Ok(Record {
+        forms,
+        course: hearing.course,
+        due_end: ending_of(&mut runner),
+        written: hearing.written,
+        end: hearing.end,
+    })
+}
+
+/// Hears the lines behind the header.
+fn hear_lines<R: Source>(
+    log: &mut OpenLog,
+    reader: &mut R,
+    runner: &mut Runner<'_>,
+    hearing: &mut Hearing,
+    frame: &Frame,
+) -> Result<(), LogFault>
+    requires works { R.failed reader.old ≡ false }
+    requires idle { runner.old.idle ≡ true }
+    requires frame { IsFrame frame.now }
+    ensures { OnOk result (runner.new.idle ≡ true) }
+{
+    for _ in 0..u64::MAX {
+        let Some(line) = log.next_line(reader)? else {
+            break;
+        };
+        hear_line(hearing, runner, frame, &line);
+    }
+    Ok(())
+}
+
+/// Hears a line. Up to the last line the end is missing, at the last reading.
+fn hear_line(hearing: &mut Hearing, runner: &mut Runner<'_>, frame: &Frame, line: &LogLine)
+    requires idle { runner.old.idle ≡ true }
+    requires frame { IsFrame frame.now }
+    ensures { runner.new.idle ≡ true }
+{
+    match line {
+        LogLine::Event(event) => hear_event(hearing, runner, frame, event),
+        LogLine::Last(LastLine::Ended(reading, ending)) => {
+            hearing.end = end_at(ending, reading);
+        }
+        LogLine::Last(LastLine::Broken(_, _)) => hearing.end = LinkEnd::Broken(hearing.latest),
+    }
+}
+
+/// Hears an event.
+fn hear_event(hearing: &mut Hearing, runner: &mut Runner<'_>, frame: &Frame, event: &LinkEvent)
+    requires idle { runner.old.idle ≡ true }
+    requires frame { IsFrame frame.now }
+    ensures { runner.new.idle ≡ true }
+{
+    match event {
+        LinkEvent::Piece(len, instant) => {
+            hearing.course.take_piece(runner, frame, *len, instant);
+            read_at(hearing, instant);
+        }
+        LinkEvent::SourceEnd(instant) => {
+            hearing.course.take_end(runner, instant);
+            read_at(hearing, instant);
+        }
+        LinkEvent::Wrote(slice, reading) => {
+            let span = slice.span;
+            let len = span.stop.saturating_sub(span.start);
+            hearing.written.add(frame, len, reading);
+            read_at(hearing, reading);
+        }
+    }
+}
+
+/// The clock was read.
+fn read_at(hearing: &mut Hearing, reading: &Micros) {
+    hearing.latest = *reading;
+    hearing.end = LinkEnd::Missing(*reading);
+}
+
+/// An ending that came at a reading.
+fn end_at(ending: &Ending, reading: &Micros) -> LinkEnd {
+    match ending {
+        Ending::StillOpen => LinkEnd::Open,
+        Ending::Closed(_) => LinkEnd::Closed(*reading),
+        Ending::Reset(_) => LinkEnd::Reset(*reading),
+    }
+}

@@ -1,0 +1,14 @@
+//! What passed a point of a link.
+ghost use Rattle.std.specs.Prelude.{◌≤◌, ◌≡◌, length};
+
+use tox_time::Micros;
+
+/// What passed a point of a link: how many bytes, the last instant, and how many bytes at the instants of each column.
+#[derive(Debug, Drop)]
+pub(crate) struct Strand {
+    pub(crate) total: u64,
+    pub(crate) last: Micros,
+    pub(crate) counts: Vec<u64>,
+    pub(crate) ghost few: { total ≤ 1_099_511_627_776 },
+    pub(crate) ghost columns: { length counts.items ≡ 751 },
+}

@@ -1,0 +1,90 @@
+//! The folder of `toxi serve --log`.
+use std::fs::OpenOptions;
+use std::io::Write;
+use std::rt::Files;
+use std::sync::Wait;
+use std::{fs, io};
+use thiserror::Error;
+use tox_proxy::{LogFiles, Room, VisibleName};
+
+/// The folder of logs can't be made, or isn't empty.
+#[derive(Clone, Copy, Debug, Error)]
+#[error("P6 LogRefused {}", VisibleName(.0))]
+pub struct LogRefused<'a>(pub &'a str);
+
+/// Makes a folder, and its parents, unless it is there and empty.
+pub fn make_folder<'a, R: Files + AllocGlobal + Copy>(
+    rt: &R,
+    folder: &'a str,
+) -> Result<(), LogRefused<'a>> {
+    if fs::create_dir_all(rt, folder).is_ok() && is_empty(rt, folder) {
+        Ok(())
+    } else {
+        Err(LogRefused(folder))
+    }
+}
+
+fn is_empty<R: Files + AllocGlobal + Copy>(rt: &R, folder: &str) -> bool {
+    match fs::read_dir(rt, folder) {
+        Ok(mut entries) => entries.next().is_none(),
+        Err(_) => false,
+    }
+}
+
+/// The logs in a folder. None where no folder is named: then no log is kept.
+#[derive(Drop)]
+pub struct LogFolder<'a, R> {
+    pub rt: &'a R,
+    pub folder: Option<&'a str>,
+    /// The room of standard error.
+    pub room: Room<'a, R>,
+}
+
+impl<'a, R: Files + AllocGlobal + Eprint + Wait> LogFolder<'a, R> {
+    /// Opens the file of a log to append to it.
+    fn open(&self, name: &str) -> io::Result<R::File> {
+        let folder = self.folder.unwrap_or(".");
+        let path = format!(in self.rt.alloc(); "{folder}/{name}")?;
+        let mut options = OpenOptions::new();
+        options.append(true);
+        options.create(true);
+        options.open(self.rt, path.as_str())
+    }
+}
+
+impl<'a, R: Files + AllocGlobal + Eprint + Wait> LogFiles for LogFolder<'a, R> {
+    fn append(&self, name: &str, bytes: &[u8]) -> usize {
+        match self.open(name) {
+            Ok(file) => {
+                let mut file = file;
+                write_counted(&mut file, bytes)
+            }
+            Err(_) => 0,
+        }
+    }
+
+    fn ended(&self, name: &str, lines: u64) {
+        if !self.room.wait() {
+            return;
+        }
+        let rt = self.rt;
+        let _ = eprintln!(rt; "toxi: log {name} ends at line {lines}");
+    }
+}
+
+/// Writes bytes, and tells how many the file took.
+fn write_counted<W: Write>(file: &mut W, bytes: &[u8]) -> usize {
+    let mut done = 0;
+    for _ in 0..bytes.len() {
+        let Some(rest) = bytes.get(done..) else {
+            return done;
+        };
+        match file.write(rest) {
+            Ok(0) => return done,
+            Ok(count) => done = done.saturating_add(count),
+            Err(error) if error.kind() == io::ErrorKind::Interrupted => {}
+            Err(_) => return done,
+        }
+    }
+    done
+}
