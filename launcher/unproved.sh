@@ -1,0 +1,146 @@
+# Sourced by ../toxi where ./build has made no program: the kit's unproved program of the same source, compiled once and kept in out/unproved. It is named by
+# the sum of its source, so that it is compiled again when a source has changed.
+kept="$root/out/unproved"
+scratch=
+try=
+
+# keep_unproved: sets `program` to it, and compiles it if need be. Fails where none can be kept; ends where it doesn't compile.
+keep_unproved() {
+    begun="$(date +%s)"
+    program="$kept/toxi-$(sum_of_source)"
+    if [ ! -x "$program" ]; then
+        can_keep && share_compile || return
+    fi
+    echo "toxi: unproved; \`./build\` makes the proved program" >&2
+}
+
+sum_of_source() {
+    (cd "$root" && find crates.txt crates/tox*/src -type f -exec sha256sum {} +) | LC_ALL=C sort | sha256sum | cut -c 1-16
+}
+
+can_keep() {
+    if ! command -v rt >/dev/null; then
+        echo "toxi: no program was built, and the kit's \`rt\` isn't on the PATH" >&2
+        exit 1
+    fi
+    command -v flock >/dev/null && mkdir -p "$kept" 2>/dev/null && (: >>"$kept/lock") 2>/dev/null
+}
+
+# Compiles it under a lock, or waits for the call that does.
+share_compile() {
+    exec 9>>"$kept/lock"
+    for signal in HUP INT TERM; do
+        trap "leave $signal" "$signal"
+    done
+    [ -t 2 ] || echo "toxi: compiling without proofs, a minute or two" >&2
+    until [ -x "$program" ]; do
+        flock -n 9
+        case $? in
+        0) compile || break ;;
+        1) tick ;;
+        *) break ;;
+        esac
+    done
+    trap - HUP INT TERM
+    # Else what runs from here on would hold the lock.
+    exec 9>&-
+    [ ! -t 2 ] || echo >&2
+    [ -x "$program" ]
+}
+
+# Compiles it once. What `rt try` makes goes away when its program has ended, so that program is given a pipe to read which nobody writes, and is copied
+# meanwhile. Fails where no program is seen.
+compile() {
+    # The call that held the lock may have made it.
+    program="$kept/toxi-$(sum_of_source)"
+    [ ! -x "$program" ] || return 0
+    # Of a compile that was killed.
+    rm -rf "$kept"/scratch.*
+    if ! { scratch="$(mktemp -d "$kept/scratch.XXXXXX")" && mkfifo "$scratch/script"; }; then
+        stop
+        return 1
+    fi
+    start_try
+    seen=
+    while [ -z "$seen" ] && kill -0 "$try" 2>/dev/null; do
+        tick
+        for found in "$scratch"/*/*/program; do
+            [ ! -x "$found" ] || seen="$found"
+        done
+    done
+    [ -n "$seen" ] || grep '^run=' "$scratch/said" | grep -qv '^run=none' || fail
+    take "$seen"
+    taken=$?
+    stop
+    return "$taken"
+}
+
+start_try() {
+    # It ends with this shell, even if that is killed.
+    tied=
+    ! command -v setpriv >/dev/null || tied="setpriv --pdeathsig HUP --"
+    (
+        cd "$root/crates/toxi" || exit
+        export TMPDIR="$scratch"
+        exec $tied rt try -- migrate --script "$scratch/script"
+    ) </dev/null >"$scratch/said" 2>&1 9>&- &
+    try=$!
+}
+
+# take PROGRAM: keeps a copy of it in place of earlier ones, if it runs. If the source has changed meanwhile, it is to be compiled again.
+take() {
+    [ -n "$1" ] && cp "$1" "$scratch/toxi" && "$scratch/toxi" --version </dev/null >/dev/null 2>&1 || return
+    sum="$(sum_of_source)"
+    if [ "$program" = "$kept/toxi-$sum" ]; then
+        rm -f "$kept"/toxi-*
+        mv "$scratch/toxi" "$program"
+    fi
+    program="$kept/toxi-$sum"
+}
+
+# Waits a moment, and counts the seconds on a terminal.
+tick() {
+    [ ! -t 2 ] || printf '\rtoxi: compiling without proofs, %d s' $(($(date +%s) - begun)) >&2
+    sleep 0.2
+    ! told_to_end || leave TERM
+}
+
+# Whether SIGINT or SIGTERM (bits 1 and 14) waits and isn't ignored. A caller may have blocked them for the program, which looks for them itself.
+told_to_end() {
+    [ -r "/proc/$$/status" ] || return
+    while read -r name value; do
+        case "$name" in
+        ShdPnd:) pending="${value#????????????}" ;;
+        SigIgn:) ignored="${value#????????????}" ;;
+        esac
+    done <"/proc/$$/status"
+    [ $((0x$pending & ~0x$ignored & 0x4002)) -ne 0 ]
+}
+
+# Ends the compile, and leaves nothing of it. The caller may have blocked SIGTERM.
+stop() {
+    if [ -n "$try" ]; then
+        kill -s HUP "$try" 2>/dev/null
+        wait "$try" 2>/dev/null
+    fi
+    [ -z "$scratch" ] || rm -rf "$scratch"
+    try=
+    scratch=
+}
+
+# leave SIGNAL: ends as the signal wants it.
+leave() {
+    stop
+    trap - HUP INT TERM
+    kill -s "$1" $$
+    # The signal is blocked.
+    exit 1
+}
+
+# Shows why it doesn't compile, and ends.
+fail() {
+    [ ! -t 2 ] || echo >&2
+    cat "$scratch/said" >&2
+    stop
+    exit 1
+}
