@@ -1,7 +1,8 @@
-"""What docs/PROFILE.md says of populate files, scripts and picks, as a plain reading of it."""
+"""What docs/PROFILE.md says of populate files, scripts, picks and forecasts, as a plain reading of it."""
 import json
 import re
 import tomllib
+from collections import Counter
 
 from manual import TYPES, Fault, check_values, is_applied, words_of_seed
 
@@ -94,7 +95,7 @@ def read_toxicity(value, version):
     return value if is_number(value, 0, 1000) else None
 
 
-def read_toxic(table, settings, rule, number, chains, names):
+def read_toxic(table, settings, rule, number, chains, names, order):
     version, lanes = settings
     tests = {
         "name": is_name,
@@ -122,11 +123,13 @@ def read_toxic(table, settings, rule, number, chains, names):
     if len(chains[stream]) == lanes:
         fault("S9")
     names.add(name)
+    order.append((stream, len(chains[stream])))
     chains[stream].append((name, (kind, values, toxicity)))
 
 
 def read_rule(table, settings, number):
-    """A rule as its proxy, its first and last connection, and a chain for each stream."""
+    """A rule as its proxy, its first and last connection, a chain for each stream, and the stream and place of each toxic in the
+    file's order."""
     first = table.get("first")
     tests = {
         "proxy": lambda value: is_text(value, 255),
@@ -135,10 +138,10 @@ def read_rule(table, settings, number):
         "toxic": lambda value: value is None or is_tables(value),
     }
     check_fields(table, tests, number, 0)
-    chains, names = {stream: [] for stream in STREAMS}, set()
+    chains, names, order = {stream: [] for stream in STREAMS}, set(), []
     for place, toxic in enumerate(table.get("toxic", []), 1):
-        read_toxic(toxic, settings, number, place, chains, names)
-    return table["proxy"], first, table.get("last", 1_000_000), chains
+        read_toxic(toxic, settings, number, place, chains, names, order)
+    return table["proxy"], first, table.get("last", 1_000_000), chains, order
 
 
 def check_integers(value):
@@ -198,4 +201,30 @@ def pick_text(config, script, proxy, conn, stream, seed):
     for place, (name, toxic) in enumerate(chain):
         applied = "applied" if is_applied(words, place, toxic[2]) else "skipped"
         lines.append(f"{place} {applied} {short_form(*toxic)} {shown(name)}")
+    return "".join(line + "\n" for line in lines)
+
+
+def forecast_text(config, script, proxy, links, seed, stream=None, named=None):
+    """What `forecast` prints."""
+    if stream not in (None, *STREAMS):
+        raise Fault("P5")
+    proxies = read_populate(config)
+    _, _, rules = read_script(script)
+    if proxy not in proxies:
+        raise Fault("P3", shown(proxy))
+    lines, met, applied = [], Counter(), Counter()
+    for conn in range(1, links + 1):
+        number = next((number for number, rule in enumerate(rules, 1) if rule[0] == proxy and rule[1] <= conn <= rule[2]), 0)
+        met[number] += 1
+        for side in STREAMS:
+            chain = rules[number - 1][3][side] if number else []
+            words = words_of_seed(seed, conn, side) if chain else []
+            places = [place for place, (_, toxic) in enumerate(chain) if is_applied(words, place, toxic[2])]
+            applied.update((number, side, place) for place in places)
+            if stream in (None, side) and (named is None or named in [chain[place][0] for place in places]):
+                lines.append(f"{conn} {side} rule {number} applied" + "".join(f" {place}" for place in places))
+    for number, rule in enumerate(rules, 1):
+        for toxic, (side, place) in enumerate(rule[4] if met[number] else [], 1):
+            name = rule[3][side][place][0]
+            lines.append(f"rule {number} toxic {toxic} applied {applied[number, side, place]} of {met[number]} {name}")
     return "".join(line + "\n" for line in lines)

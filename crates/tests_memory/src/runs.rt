@@ -1,11 +1,12 @@
-//! Runs and picks, from text to text, with too little memory.
+//! Runs, picks and forecasts, from text to text, with too little memory.
 use std::alloc::Global;
 use std::test::Fail;
 use tests_support::{MAX_TRIES, Scarcity, Tried, answer_of, chain_of, try_each};
 use tox_config::{ProxyDef, read_populate};
 use tox_defs::Chain;
 use tox_proxy::{
-    DryFault, PrintMigratedFault, PrintPickFault, dry_run, find_proxy, print_migrated, print_pick,
+    DryFault, PrintMigratedFault, PrintPickFault, Question, dry_run, find_proxy, print_forecast,
+    print_migrated, print_pick,
 };
 use tox_script::{Script, ScriptFault, read_script};
 use tox_time::{MemorySink, MemorySource, Stream};
@@ -30,6 +31,14 @@ attributes = { latency = 100 }
 const PICK: &str = "\
 proxy a listen localhost:0 upstream h:1 enabled
 0 applied latency:latency=100,jitter=0,toxicity=1000 latency_downstream
+";
+
+const FORECAST: &str = "\
+1 upstream rule 1 applied
+1 downstream rule 1 applied 0
+2 upstream rule 1 applied
+2 downstream rule 1 applied 0
+rule 1 toxic 1 applied 2 of 2 latency_downstream
 ";
 
 const MIGRATED: &str = "\
@@ -103,6 +112,40 @@ fn a_pick_is_refused_memory(rt: HostRuntime) -> Result<(), Fail> {
     let mut scarcity = Scarcity::new(alloc)?;
     let refusals = try_each(&mut scarcity, MAX_TRIES, |scarcity, nth| {
         pick(scarcity, alloc, nth, proxy, &script)
+    })?;
+    eprintln!(rt; "{refusals:?}")?;
+    assert!(rt; refusals.is_answered && 0 < refusals.memory);
+    Ok(())
+}
+
+/// A forecast with little memory.
+fn forecast(
+    scarcity: &mut Scarcity,
+    alloc: Global,
+    sixteens: usize,
+    script: &Script,
+) -> Result<Tried, Fail> {
+    let question = Question {
+        links: 2,
+        seed: 1,
+        stream: None,
+        named: None,
+    };
+    let mut writer = MemorySink::new(alloc, 200, 64, None)?;
+    scarcity.leave(alloc, sixteens)?;
+    let answer = print_forecast(alloc, &mut writer, "a", script, &question);
+    scarcity.end();
+    let tried = answer_of(&answer, &PrintPickFault::OutOfMemory);
+    Ok(tried.writing(writer.bytes(), FORECAST))
+}
+
+#[test]
+fn a_forecast_is_refused_memory(rt: HostRuntime) -> Result<(), Fail> {
+    let alloc = rt.alloc();
+    let script = read_script(alloc, SCRIPT.as_bytes())?;
+    let mut scarcity = Scarcity::new(alloc)?;
+    let refusals = try_each(&mut scarcity, MAX_TRIES, |scarcity, nth| {
+        forecast(scarcity, alloc, nth, &script)
     })?;
     eprintln!(rt; "{refusals:?}")?;
     assert!(rt; refusals.is_answered && 0 < refusals.memory);

@@ -1,6 +1,7 @@
 //! The command line, as `clap` reads it.
 use crate::arguments::{DrawArguments, LinkArguments, LogArguments, PickArguments, ServeArguments};
 use crate::commands::toxi;
+use crate::forecast::{ForecastArguments, forecast_of};
 use crate::replay::{ONE_FILE, ReplayArguments, replay_of};
 use clap::error::ErrorKind;
 use clap::{ArgMatches, Error};
@@ -20,6 +21,7 @@ pub enum Task<'a> {
     Plan(LinkArguments<'a>),
     Stages(Cap, LinkArguments<'a>),
     Pick(PickArguments<'a>),
+    Forecast(ForecastArguments<'a>),
     /// The name of a script file.
     Migrate(&'a str),
     Serve(ServeArguments<'a>),
@@ -64,6 +66,7 @@ fn task_of<'a>(alloc: Global, matches: &ArgMatches<'a>) -> Result<Option<Task<'a
 fn files_task<'a>(name: &str, given: &ArgMatches<'a>) -> Option<Task<'a>> {
     match name {
         "pick" => Some(Task::Pick(pick_of(given)?)),
+        "forecast" => Some(Task::Forecast(forecast_of(given)?)),
         "migrate" => Some(Task::Migrate(given.get_str("script")?)),
         "serve" => Some(Task::Serve(serve_of(given)?)),
         _ => None,

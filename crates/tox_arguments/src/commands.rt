@@ -1,4 +1,5 @@
 //! The commands and their options, as `clap` is told of them.
+use crate::forecast::forecast;
 use crate::help;
 use crate::replay::replay;
 use clap::builder::ValueParser;
@@ -38,6 +39,7 @@ fn commands<'a>(alloc: Global) -> Result<Vec<Command<'a>>, AllocError> {
         plan(alloc)?,
         stages(alloc)?,
         pick(alloc)?,
+        forecast(alloc)?,
         migrate(alloc)?,
         serve(alloc)?,
         replay(alloc)?,
@@ -106,7 +108,7 @@ fn pick<'a>(alloc: Global) -> Result<Command<'a>, AllocError> {
         "N",
         "The number of the connection, 1 to 1000000",
     )
-    .value_parser(ValueParser::unsigned(1, MAX_CONNECTIONS));
+    .value_parser(connections());
     let arguments = vec![in alloc;
         config_argument(alloc),
         script_argument(alloc),
@@ -135,7 +137,7 @@ fn serve<'a>(alloc: Global) -> Result<Command<'a>, AllocError> {
         "N",
         "After how many connections each proxy stops listening, 1 to 1000000 [default: it goes on]",
     )
-    .value_parser(ValueParser::unsigned(1, MAX_CONNECTIONS));
+    .value_parser(connections());
     let connect_timeout = option(
         alloc,
         "connect-timeout",
@@ -195,7 +197,7 @@ fn log_bytes_argument<'a>(alloc: Global) -> Result<Arg<'a>, AllocError> {
     .requires_arg("log")
 }
 
-fn config_argument<'a>(alloc: Global) -> Arg<'a> {
+pub(crate) fn config_argument<'a>(alloc: Global) -> Arg<'a> {
     needed(
         alloc,
         "config",
@@ -204,7 +206,7 @@ fn config_argument<'a>(alloc: Global) -> Arg<'a> {
     )
 }
 
-fn script_argument<'a>(alloc: Global) -> Arg<'a> {
+pub(crate) fn script_argument<'a>(alloc: Global) -> Arg<'a> {
     needed(
         alloc,
         "script",
@@ -213,7 +215,7 @@ fn script_argument<'a>(alloc: Global) -> Arg<'a> {
     )
 }
 
-fn seed_argument<'a>(alloc: Global) -> Arg<'a> {
+pub(crate) fn seed_argument<'a>(alloc: Global) -> Arg<'a> {
     needed(
         alloc,
         "seed",
@@ -224,7 +226,7 @@ fn seed_argument<'a>(alloc: Global) -> Arg<'a> {
 }
 
 /// An option that must be given.
-fn needed<'a>(alloc: Global, name: &'a str, value: &'a str, help: &'a str) -> Arg<'a> {
+pub(crate) fn needed<'a>(alloc: Global, name: &'a str, value: &'a str, help: &'a str) -> Arg<'a> {
     option(alloc, name, value, help).required(true)
 }
 
@@ -234,6 +236,11 @@ pub(crate) fn option<'a>(alloc: Global, name: &'a str, value: &'a str, help: &'a
         .long(name)
         .value_name(value)
         .help(help)
+}
+
+/// What reads a number of connections.
+pub(crate) fn connections<'a>() -> ValueParser<'a> {
+    ValueParser::unsigned(1, MAX_CONNECTIONS)
 }
 
 fn lanes_argument<'a>(alloc: Global) -> Arg<'a> {

@@ -120,6 +120,27 @@ prints
   proxy a listen localhost:0 upstream localhost:1 enabled
   0 applied latency:latency=100,jitter=0,toxicity=1000 latency_downstream";
 
+/// Below the options of `toxi forecast`.
+pub const FORECAST: &str = "\
+The files are those of `toxi pick`; see `toxi pick --help`.
+
+The output has a line for each stream of each connection, in order: the rule that the connection meets, or 0 for none, and the
+places of the toxics that are applied under the words of the seed. Behind them a line for each toxic of each rule that was met
+tells on how many connections it is applied:
+
+  <connection> upstream|downstream rule <rule> applied <place> ..
+  rule <rule> toxic <number> applied <count> of <connections> <name>
+
+Rules and toxics count from 1, places from 0. --stream and --where leave lines out, and no total.
+
+Example, with the files of `toxi pick --help` as proxies.json and script.toml:
+  toxi forecast --config proxies.json --script script.toml --proxy a --links 3 --seed 1 --stream downstream
+prints
+  1 downstream rule 0 applied
+  2 downstream rule 1 applied 0
+  3 downstream rule 1 applied 0
+  rule 1 toxic 1 applied 2 of 2 latency_downstream";
+
 /// Below the options of `toxi migrate`.
 pub const MIGRATE: &str = "\
 The script is one of version 1; see `toxi pick --help`. What is printed has version 2 and 16 lanes, and gives each connection

@@ -1,8 +1,9 @@
 //! What the program does, as library calls over readers, writers, files, sockets and values: runs, files and picks (tox_runs),
-//! serving (tox_serve), logs (tox_log, tox_log_files), pictures (tox_draw), and the texts that a command prints as they stand (tox_text).
+//! forecasts (tox_forecast), serving (tox_serve), logs (tox_log, tox_log_files), pictures (tox_draw), and the texts that a command prints as they stand (tox_text).
 #![tactic(auto)]
 
 pub use tox_draw::{draw_log, draw_run};
+pub use tox_forecast::{ForecastRequest, Question, print_forecast};
 pub use tox_log::{
     HeardFault, JudgedLog, LogFault, OpenLog, ReplayFault, Verdict, judge_log, print_heard,
     print_judged, print_meant, print_words, write_judged,

@@ -9,7 +9,7 @@ use Rattle.tox_script.specs.fields.Fields.{all_tables, has_only, is_between, nat
 use Rattle.tox_script.specs.Rule.{Rule, RuleFields, first_field, last_field, proxy_field, rule_fields, rule_of}
 use Rattle.tox_script.specs.Script.{rules_from}
 use Rattle.tox_script.specs.chains.Toxic.{NamedToxic}
-use Rattle.tox_script.specs.chains.Toxics.{behind, chains_of, read_chains, toxic_at, toxics_from}
+use Rattle.tox_script.specs.chains.Toxics.{behind, read_toxics, toxic_at, toxics_from, toxics_of}
 use Rattle.tox_script.specs.declared.fault.Field.{Field}
 use Rattle.tox_script.specs.declared.fault.Field.TheVariants as field
 use Rattle.tox_script.specs.declared.fault.Location.{Location}
@@ -102,10 +102,10 @@ rule_shallow settings number (table ms) rule is sorted =
     let d : Data = table ms in
     let at : Location = record { rule = number; toxic = 0 } in
     let (fields, was_read, was_rule) = bind_ok (map_err (fault.Field at) (rule_fields d))
-    (λ (fields : RuleFields). read_chains settings number fields.toxics >>= (λ chains. Ok (record { proxy = fields.proxy; first = fields.first; last = fields.last; chains = chains }))) rule is in
+    (λ (fields : RuleFields). read_toxics settings number fields.toxics >>= (λ made. Ok (record { proxy = fields.proxy; first = fields.first; last = fields.last; chains = made.chains; order = made.order }))) rule is in
     let read = AreRuleFields-read d (proxy_field d) (first_field d) fields refl refl (map_err_ok (fault.Field at) (rule_fields d) fields was_read) in
-    let (chains, was_chains, done) = bind_ok (read_chains settings number fields.toxics) (λ chains. Ok (record { proxy = fields.proxy; first = fields.first; last = fields.last; chains = chains })) rule was_rule in
-    let (toxics, was_toxics, joined) = bind_ok (toxics_from settings number [] fields.toxics) (λ toxics. Ok (chains_of settings.lanes toxics)) chains was_chains in
+    let (made, was_made, done) = bind_ok (read_toxics settings number fields.toxics) (λ made. Ok (record { proxy = fields.proxy; first = fields.first; last = fields.last; chains = made.chains; order = made.order })) rule was_rule in
+    let (toxics, was_toxics, joined) = bind_ok (toxics_from settings number [] fields.toxics) (λ toxics. Ok (toxics_of settings.lanes toxics)) made was_made in
     let proxy : IsFound 3 ms (codes "proxy") = λ e found here.
     IsShallow-scalar 3 e (sized_scalar 255 e fields.proxy (needed_read field.Proxy (sized_text 255) (get (codes "proxy") d) e fields.proxy found read.proxy)) in
     let first : IsFound 3 ms (codes "first") = λ e found here.

@@ -114,11 +114,15 @@ module _ (lanes : Lanes) where
       cases false true = refl
       cases false false = refl
 
-  -- a toxic that stands behind the earlier ones is one more
-  pub length-behind : (at : Location) (earlier : List NamedToxic) (toxic : NamedToxic) (toxics : List NamedToxic) → behind lanes at earlier toxic ≡ Ok toxics → length toxics ≡ length earlier + 1
-  length-behind at earlier toxic toxics = cases (list_any (λ other. bytes_eq other.name toxic.name) earlier) (leb (lane_count lanes) (count_by (is_on toxic.stream) earlier))
+  -- a toxic that stands behind the earlier ones is the last
+  pub toxics-behind : (at : Location) (earlier : List NamedToxic) (toxic : NamedToxic) (toxics : List NamedToxic) → behind lanes at earlier toxic ≡ Ok toxics → toxics ≡ earlier ++ toxic ∷ []
+  toxics-behind at earlier toxic toxics = cases (list_any (λ other. bytes_eq other.name toxic.name) earlier) (leb (lane_count lanes) (count_by (is_on toxic.stream) earlier))
     where
-      cases : (named full : Bool) → cond named (Err (DoubleName at)) (cond full (Err (TooManyToxics at)) (Ok (earlier ++ toxic ∷ []))) ≡ Ok toxics → length toxics ≡ length earlier + 1
+      cases : (named full : Bool) → cond named (Err (DoubleName at)) (cond full (Err (TooManyToxics at)) (Ok (earlier ++ toxic ∷ []))) ≡ Ok toxics → toxics ≡ earlier ++ toxic ∷ []
       cases true full is = absurd (cc)
       cases false true is = absurd (cc)
-      cases false false is = let same : earlier ++ toxic ∷ [] ≡ toxics = cc in rw (← same) (length-append earlier (toxic ∷ []))
+      cases false false is = cc
+
+  -- a toxic that stands behind the earlier ones is one more
+  pub length-behind : (at : Location) (earlier : List NamedToxic) (toxic : NamedToxic) (toxics : List NamedToxic) → behind lanes at earlier toxic ≡ Ok toxics → length toxics ≡ length earlier + 1
+  length-behind at earlier toxic toxics is = ap length (toxics-behind at earlier toxic toxics is) ∙ length-append earlier (toxic ∷ [])

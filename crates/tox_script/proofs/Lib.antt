@@ -11,3 +11,6 @@ pub mod Tables
 pub mod Texts
 pub mod ToxicTurns
 pub mod AttributeValues
+pub mod Overlays
+pub mod Latest
+pub mod Indexing

@@ -11,8 +11,7 @@ use Rattle.tox_script.specs.Script.{rules_from}
 use Rattle.tox_script.specs.chains.Toxic.{NamedToxic, named_toxic}
 use Rattle.tox_script.specs.fields.ToxicFields.{ToxicFields, toxic_fields}
 use Rattle.tox_script.specs.fields.Toxicity.{told_toxicity, toxicity_in}
-use Rattle.tox_script.specs.chains.Toxics.{behind, chains_of, read_chains, toxic_at, toxics_from}
-use Rattle.tox_script.specs.declared.chains.Chains.{Chains}
+use Rattle.tox_script.specs.chains.Toxics.{RuleToxics, behind, read_toxics, toxic_at, toxics_from, toxics_of}
 use Rattle.tox_script.specs.declared.fault.Location.{Location}
 use Rattle.tox_script.specs.declared.fault.ScriptFault.TheVariants as fault
 use Rattle.tox_script.specs.declared.settings.Settings.{Settings}
@@ -62,22 +61,22 @@ module _ (lanes : Lanes) where
       (bind_from (toxic_at Two at d) (behind lanes at earlier) toxic next (toxic_two at d toxic was_toxic) stands)
       (toxics_two rule next ds toxics rest)
 
-  chains_two : (rule : ℕ) (ds : Items) (chains : Chains) → read_chains (in_version One) rule ds ≡ Ok chains → read_chains (in_version Two) rule ds ≡ Ok chains
-  chains_two rule ds chains is =
-      let (toxics, was, joined) = bind_ok (toxics_from (in_version One) rule [] ds) (λ toxics. Ok (chains_of lanes toxics)) chains is in
-      bind_from (toxics_from (in_version Two) rule [] ds) (λ toxics. Ok (chains_of lanes toxics)) toxics chains (toxics_two rule [] ds toxics was) joined
+  read_two : (rule : ℕ) (ds : Items) (made : RuleToxics) → read_toxics (in_version One) rule ds ≡ Ok made → read_toxics (in_version Two) rule ds ≡ Ok made
+  read_two rule ds made is =
+      let (toxics, was, joined) = bind_ok (toxics_from (in_version One) rule [] ds) (λ toxics. Ok (toxics_of lanes toxics)) made is in
+      bind_from (toxics_from (in_version Two) rule [] ds) (λ toxics. Ok (toxics_of lanes toxics)) toxics made (toxics_two rule [] ds toxics was) joined
 
-  -- the rule of some fields with these chains
-  abbrev rule_with : RuleFields → Chains → Rule
-  rule_with fields chains = record { proxy = fields.proxy; first = fields.first; last = fields.last; chains = chains }
+  -- the rule of some fields with these toxics
+  abbrev rule_with : RuleFields → RuleToxics → Rule
+  rule_with fields toxics = record { proxy = fields.proxy; first = fields.first; last = fields.last; chains = toxics.chains; order = toxics.order }
 
   rule_two : (number : ℕ) (d : Data) (rule : Rule) → rule_of (in_version One) number d ≡ Ok rule → rule_of (in_version Two) number d ≡ Ok rule
   rule_two number d rule is =
       let at : Location = record { rule = number; toxic = 0 } in
-      let (fields, read, was) = bind_ok (map_err (fault.Field at) (rule_fields d)) (λ (fields : RuleFields). read_chains (in_version One) number fields.toxics >>= (λ chains. Ok (rule_with fields chains))) rule is in
-      let (chains, was_chains, made) = bind_ok (read_chains (in_version One) number fields.toxics) (λ chains. Ok (rule_with fields chains)) rule was in
-      bind_from (map_err (fault.Field at) (rule_fields d)) (λ (fields : RuleFields). read_chains (in_version Two) number fields.toxics >>= (λ chains. Ok (rule_with fields chains))) fields rule read
-      (bind_from (read_chains (in_version Two) number fields.toxics) (λ chains. Ok (rule_with fields chains)) chains rule (chains_two number fields.toxics chains was_chains) made)
+      let (fields, read, was) = bind_ok (map_err (fault.Field at) (rule_fields d)) (λ (fields : RuleFields). read_toxics (in_version One) number fields.toxics >>= (λ made. Ok (rule_with fields made))) rule is in
+      let (toxics, was_toxics, made) = bind_ok (read_toxics (in_version One) number fields.toxics) (λ made. Ok (rule_with fields made)) rule was in
+      bind_from (map_err (fault.Field at) (rule_fields d)) (λ (fields : RuleFields). read_toxics (in_version Two) number fields.toxics >>= (λ made. Ok (rule_with fields made))) fields rule read
+      (bind_from (read_toxics (in_version Two) number fields.toxics) (λ made. Ok (rule_with fields made)) toxics rule (read_two number fields.toxics toxics was_toxics) made)
 
   -- tables that are accepted in version 1 are the same rules in version 2
   pub rules_two : (earlier : List Rule) (ds : Items) (rules : List Rule) → rules_from (in_version One) earlier ds ≡ Ok rules → rules_from (in_version Two) earlier ds ≡ Ok rules

@@ -3,7 +3,8 @@ use Rattle.std.specs.Prelude.{ℕ, List, [], ◌∷◌, codes, Option, Result, O
 use Rattle.toml.specs.Data.{Data, Items, get}
 use Rattle.tox_script.specs.fields.Fields.{needed, optional, sized_text, tables_of, unless_unknown, whole_between}
 use Rattle.tox_time.specs.Steps.{◌>>=◌, map_err}
-use Rattle.tox_script.specs.chains.Toxics.{read_chains}
+use Rattle.tox_time.specs.declared.streams.stream.Stream.{Stream}
+use Rattle.tox_script.specs.chains.Toxics.{read_toxics}
 use Rattle.tox_script.specs.declared.chains.Chains.{Chains}
 use Rattle.tox_script.specs.declared.fault.Field.{Field}
 use Rattle.tox_script.specs.declared.fault.Field.TheVariants as field
@@ -41,12 +42,14 @@ rule_fields d = do
       (codes "proxy" ∷ codes "first" ∷ codes "last" ∷ codes "toxic" ∷ []) d
       (record { proxy = proxy; first = first; last = last; toxics = toxics })
 
--- a rule: its proxy's name, its first and its last connection, and the toxics of each stream
+-- a rule: its proxy's name, its first and its last connection, the toxics of each stream, and the stream of each
+-- toxic in the file's order
 pub record Rule : Type 0 where
   pub proxy : List ℕ
   pub first : ℕ
   pub last : Option ℕ
   pub chains : Chains
+  pub order : List Stream
 
 -- what a script is seen as: its settings, and its rules in the file's order
 pub record Rules : Type 0 where
@@ -57,5 +60,11 @@ pub record Rules : Type 0 where
 abbrev pub rule_of : Settings → ℕ → Data → Result Rule ScriptFault
 rule_of settings number d = do
   fields ← map_err (fault.Field (record { rule = number; toxic = 0 })) (rule_fields d)
-  chains ← read_chains settings number fields.toxics
-  Ok (record { proxy = fields.proxy; first = fields.first; last = fields.last; chains = chains })
+  toxics ← read_toxics settings number fields.toxics
+  Ok (record {
+    proxy = fields.proxy;
+    first = fields.first;
+    last = fields.last;
+    chains = toxics.chains;
+    order = toxics.order;
+  })

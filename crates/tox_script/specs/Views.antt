@@ -1,13 +1,13 @@
 -- What the reader's structs stand for.
 use Rattle.std.specs.declared.alloc.Global.{Global}
-use Rattle.std.specs.Prelude.{Box, Option, Some, None, option_map, string_bytes, unwrap_or}
+use Rattle.std.specs.Prelude.{Box, [], Option, Some, None, option_map, string_bytes, unwrap_or}
 use Rattle.toml.specs.View.{items_view, view}
-use Rattle.tox_script.specs.chains.Chains.{no_chains}
+use Rattle.tox_script.specs.chains.Toxics.{RuleToxics, toxics_of}
 use Rattle.tox_script.specs.fields.Document.{DocumentFields}
 use Rattle.tox_script.specs.Rule.{Rule, RuleFields}
 use Rattle.tox_script.specs.chains.Toxic.{NamedToxic, default_name}
 use Rattle.tox_script.specs.fields.ToxicFields.{ToxicFields}
-use Rattle.tox_script.specs.declared.chains.Chains.{Chains}
+use Rattle.tox_script.specs.declared.chains.rule_toxics.RuleToxics.{RuleToxics as OwnedToxics}
 use Rattle.tox_script.specs.declared.fields.document.DocumentFields.{DocumentFields as LentDocumentFields}
 use Rattle.tox_script.specs.declared.chains.named_toxic.NamedToxic.{NamedToxic as LentToxic}
 use Rattle.tox_script.specs.declared.rule.Rule.{Rule as OwnedRule}
@@ -48,10 +48,14 @@ rule_fields_view fields = record {
   toxics = items_view fields.toxics.now;
 }
 
--- the chains that a rule of so many lanes holds: it holds none where it has no toxic
-abbrev pub held_chains : Lanes → Option (Box Chains Global) → Chains
-held_chains lanes None = no_chains lanes
-held_chains lanes (Some chains) = chains.value
+-- the toxics that owned ones stand for
+abbrev pub toxics_view : OwnedToxics → RuleToxics
+toxics_view toxics = record { chains = toxics.chains; order = toxics.order.items }
+
+-- the toxics that a rule of so many lanes holds: it holds nothing where it has no toxic
+abbrev pub held_toxics : Lanes → Option (Box OwnedToxics Global) → RuleToxics
+held_toxics lanes None = toxics_of lanes []
+held_toxics lanes (Some toxics) = toxics_view toxics.value
 
 -- the rule that one with a text of its own stands for: its chains have so many lanes
 abbrev pub rule_view : Lanes → OwnedRule → Rule
@@ -59,5 +63,6 @@ rule_view lanes rule = record {
   proxy = string_bytes rule.proxy;
   first = rule.first;
   last = rule.last;
-  chains = held_chains lanes rule.chains;
+  chains = (held_toxics lanes rule.toxics).chains;
+  order = (held_toxics lanes rule.toxics).order;
 }

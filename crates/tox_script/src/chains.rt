@@ -1,29 +1,24 @@
 //! The chains of a rule, one for each stream.
-ghost use Rattle.std.specs.Prelude.{◌≡◌, false, string_bytes, OnOk, IfOk, IfErr, Ok, Err};
-ghost use Rattle.toml.specs.View.{items_view, view};
+ghost use Rattle.std.specs.Prelude.{◌≡◌, false, string_bytes, OnOk, IfErr, Ok, Err};
 ghost use Rattle.tox_defs.specs.chain.Chain.{IsEntry, is_full};
 ghost use Rattle.tox_script.specs.chains.Chains.{has_name, no_chains, on, pushed, put_toxic};
-ghost use Rattle.tox_script.specs.chains.Toxics.{read_chains, toxic_at};
 ghost use Rattle.tox_script.specs.ScriptFaults.{IsScriptFault};
 ghost use Rattle.tox_script.specs.Views.{toxic_view};
 
 pub(crate) mod named_chain;
 pub(crate) mod named_toxic;
+pub(crate) mod rule_toxics;
 
 use crate::chains::named_chain::NamedChain;
 use crate::chains::named_toxic::NamedToxic;
 use crate::fault::{Location, ScriptFault};
-use crate::fields::toxic_fields::ToxicFields;
-use crate::settings::Settings;
-use crate::version::Version;
 use std::alloc::{AllocError, Global};
-use toml::Value;
 use tox_defs::{Entry, Lanes};
 use tox_time::Stream;
 
 /// The toxics of a rule by their streams.
 #[derive(Drop)]
-pub(crate) struct Chains {
+pub struct Chains {
     upstream: NamedChain,
     downstream: NamedChain,
 }
@@ -39,32 +34,8 @@ impl Chains {
         }
     }
 
-    /// The toxics of the tables of rule number `rule`, or their first fault.
-    pub(crate) fn read(
-        alloc: Global,
-        settings: Settings,
-        tables: &[Value],
-        rule: usize,
-    ) -> Result<Chains, ScriptFault>
-        ensures ok { IfOk result
-            (λ chains. read_chains settings rule (items_view tables.now) ≡ Ok chains) }
-        ensures err { IfErr result
-            (IsScriptFault (read_chains settings rule (items_view tables.now))) }
-    {
-        let mut chains = Chains::new(alloc, settings.lanes);
-        for (index, table) in tables.iter().enumerate() {
-            let at = Location {
-                rule,
-                toxic: index + 1,
-            };
-            let toxic = read_toxic(settings.version, table, at)?;
-            chains.put(alloc, &toxic, at)?;
-        }
-        Ok(chains)
-    }
-
     /// The toxics of a stream.
-    pub(crate) fn on(&self, stream: Stream) -> &NamedChain
+    pub fn on(&self, stream: Stream) -> &NamedChain
         ensures { result.now ≡ on stream self.now }
     {
         match stream {
@@ -74,7 +45,7 @@ impl Chains {
     }
 
     /// Adds the toxic at a location behind the others of its stream.
-    fn put(
+    pub(crate) fn put(
         &mut self,
         alloc: Global,
         toxic: &NamedToxic<'_>,
@@ -113,16 +84,4 @@ impl Chains {
             Stream::Downstream => self.downstream.push(entry, name),
         }
     }
-}
-
-/// The toxic of a table at a location.
-fn read_toxic(version: Version, table: &Value, at: Location) -> Result<NamedToxic<'_>, ScriptFault>
-    ensures ok { IfOk result
-        (λ toxic. toxic_at version at (view table.now) ≡ Ok (toxic_view toxic)) }
-    ensures err { IfErr result (λ fault. toxic_at version at (view table.now) ≡ Err fault) }
-    ensures fits { IfOk result (λ toxic. IsEntry toxic.entry) }
-{
-    let fields = ToxicFields::read(table).map_err(|field| ScriptFault::Field(at, field))?;
-    let toxic = NamedToxic::of(version, &fields).map_err(|fault| ScriptFault::Toxic(at, fault))?;
-    Ok(toxic)
 }

@@ -1,21 +1,25 @@
 //! A rule of a script.
-ghost use Rattle.std.specs.Prelude.{◌≡◌, IfOk, IfErr, Ok, Err, option_map, unwrap_or};
+ghost use Rattle.std.specs.Prelude.{◌≡◌, ◌<◌, ◌^◌, ℕ, true, nat_lt, IfOk, IfErr, Ok, Err, Some, None, MatchOption, option_map, unwrap_or, if◌then◌else◌};
 ghost use Rattle.toml.specs.View.{items_view, view};
 ghost use Rattle.tox_script.specs.chains.Chains.{no_chains};
 ghost use Rattle.tox_script.specs.Covering.{covers, is_up_to};
 ghost use Rattle.tox_script.specs.Rule.{rule_of};
-ghost use Rattle.tox_script.specs.chains.Toxics.{read_chains};
+ghost use Rattle.tox_script.specs.index.Steps.{Descends, rule_at};
+ghost use Rattle.tox_script.specs.chains.Toxics.{read_toxics};
 ghost use Rattle.tox_script.specs.ScriptFaults.{IsScriptFault};
-ghost use Rattle.tox_script.specs.Views.{held_chains, rule_view};
+ghost use Rattle.tox_script.specs.Views.{held_toxics, rule_view};
 ghost use Rattle.tox_words.specs.declared.lanes.Lanes.{Lanes};
 ghost use Rattle.tox_words.specs.declared.lanes.Lanes.TheVariants.{Sixteen};
 
 use crate::chains::Chains;
+use crate::chains::rule_toxics::RuleToxics;
 use crate::fault::{Location, ScriptFault};
 use crate::fields::rule_fields::RuleFields;
+use crate::index::step::Step;
 use crate::settings::Settings;
-use std::alloc::Global;
+use std::alloc::{AllocError, Global};
 use toml::Value;
+use tox_time::Stream;
 
 /// The toxics that some connections of a proxy meet: those from `first` to `last`, or all from `first` on.
 #[derive(Drop)]
@@ -23,7 +27,7 @@ pub(crate) struct Rule {
     proxy: String,
     first: u64,
     last: Option<u64>,
-    chains: Option<Box<Chains>>,
+    toxics: Option<Box<RuleToxics>>,
 }
 
 impl Rule {
@@ -43,12 +47,12 @@ impl Rule {
             toxic: 0,
         };
         let fields = RuleFields::read(table).map_err(|field| ScriptFault::Field(at, field))?;
-        let chains = read_chains(alloc, settings, fields.toxics, number)?;
+        let toxics = read_toxics(alloc, settings, fields.toxics, number)?;
         Ok(Rule {
             proxy: String::from_str(alloc, fields.proxy)?,
             first: fields.first,
             last: fields.last,
-            chains,
+            toxics,
         })
     }
 
@@ -70,29 +74,82 @@ impl Rule {
         }
     }
 
+    /// The steps at which connections of a proxy begin and cease to be the rule's, which has this number.
+    pub(crate) fn steps(
+        &self,
+        alloc: Global,
+        proxy: &str,
+        number: usize,
+    ) -> Result<Vec<Step>, AllocError>
+        ensures found { IfOk result (λ steps. (conn : ℕ) → conn < 2 ^ 64 → rule_at conn steps.items
+            ≡ (if covers proxy.now conn (rule_view Sixteen self.now) then Some number else None)) }
+        ensures descends { IfOk result (λ steps. Descends (2 ^ 64) steps.items) }
+    {
+        let mut steps = Vec::new(alloc);
+        if self.proxy.as_str() != proxy || !self.is_up_to(self.first) {
+            return Ok(steps);
+        }
+        if let Some(after) = self.after() {
+            steps.push(Step {
+                first: after,
+                rule: None,
+            })?;
+        }
+        steps.push(Step {
+            first: self.first,
+            rule: Some(number),
+        })?;
+        Ok(steps)
+    }
+
+    /// The connection behind the last one.
+    fn after(&self) -> Option<u64>
+        ensures { MatchOption result
+            ((conn : ℕ) → conn < 2 ^ 64 → is_up_to conn self.now.last ≡ true)
+            (λ after. (conn : ℕ) → is_up_to conn self.now.last ≡ nat_lt conn after) }
+    {
+        match self.last {
+            None => None,
+            Some(last) => last.checked_add(1),
+        }
+    }
+
     /// The toxics, where there are any.
     pub(crate) fn chains(&self) -> Option<&Chains>
         ensures { (lanes : Lanes) → (rule_view lanes self.now).chains
             ≡ unwrap_or (option_map (λ chains. chains.now) result) (no_chains lanes) }
     {
-        self.chains.as_deref()
+        match &self.toxics {
+            Some(toxics) => Some(&toxics.chains),
+            None => None,
+        }
+    }
+
+    /// The stream of each toxic, in the file's order.
+    pub(crate) fn order(&self) -> &[Stream]
+        ensures { (lanes : Lanes) → result.now ≡ (rule_view lanes self.now).order }
+    {
+        match &self.toxics {
+            Some(toxics) => &toxics.order,
+            None => &[],
+        }
     }
 }
 
 /// The toxics of the tables of a rule, whose number is told. A rule without toxics takes no memory for chains.
-fn read_chains(
+fn read_toxics(
     alloc: Global,
     settings: Settings,
     tables: &[Value],
     rule: usize,
-) -> Result<Option<Box<Chains>>, ScriptFault>
-    ensures ok { IfOk result (λ chains. read_chains settings rule (items_view tables.now)
-        ≡ Ok (held_chains settings.lanes chains)) }
-    ensures err { IfErr result (IsScriptFault (read_chains settings rule (items_view tables.now))) }
+) -> Result<Option<Box<RuleToxics>>, ScriptFault>
+    ensures ok { IfOk result (λ toxics. read_toxics settings rule (items_view tables.now)
+        ≡ Ok (held_toxics settings.lanes toxics)) }
+    ensures err { IfErr result (IsScriptFault (read_toxics settings rule (items_view tables.now))) }
 {
     if tables.is_empty() {
         return Ok(None);
     }
-    let chains = Chains::read(alloc, settings, tables, rule)?;
-    Ok(Some(Box::new(alloc, chains)?))
+    let toxics = RuleToxics::read(alloc, settings, tables, rule)?;
+    Ok(Some(Box::new(alloc, toxics)?))
 }

@@ -1,5 +1,5 @@
 //! A whole script.
-ghost use Rattle.std.specs.Prelude.{◌≡◌, ◌≢◌, [], length, map, string_bytes, option_map, IsTrue, IfOk, IfErr, Some, None, Ok, Err};
+ghost use Rattle.std.specs.Prelude.{◌≡◌, ◌≢◌, [], length, map, slice_get, string_bytes, option_and_then, option_map, IsTrue, IfOk, IfErr, Some, None, Ok, Err};
 ghost use Rattle.std.specs.Str.{is_utf8};
 ghost use Rattle.toml.specs.View.{items_view, view};
 ghost use Rattle.tox_script.specs.ScriptFaults.{IsScriptFault};
@@ -10,10 +10,11 @@ ghost use Rattle.tox_script.specs.declared.fault.ScriptFault.TheVariants.{NotTom
 use crate::chains::Chains;
 use crate::fault::{Location, ScriptFault};
 use crate::fields::document::DocumentFields;
+use crate::index::rule_index::RuleIndex;
 use crate::rule::Rule;
 use crate::settings::Settings;
 use crate::version::Version;
-use std::alloc::Global;
+use std::alloc::{AllocError, Global};
 use std::marker::Model;
 use toml::Value;
 use tox_defs::Chain;
@@ -40,7 +41,8 @@ impl Model for Script {
 }
 
 impl Script {
-    ghost use Rattle.tox_script.specs.Covering.{chains_for, covering, toxics_for};
+    ghost use Rattle.tox_script.specs.Covering.{chains_for, chains_in, covering, toxics_for};
+    ghost use Rattle.tox_script.specs.index.Numbered.{IsIndex, chains_numbered, order_numbered};
 
     /// The document's version: 1 if absent.
     pub fn version(&self) -> Version
@@ -66,10 +68,56 @@ impl Script {
         self.chains(proxy, conn).on(stream).names()
     }
 
+    /// The number of rules.
+    pub fn rule_count(&self) -> usize
+        ensures { result ≡ length self.now.rules }
+    {
+        self.rules.len()
+    }
+
+    /// The index of the rules that connections of a proxy meet.
+    pub fn index(&self, alloc: Global, proxy: &str) -> Result<RuleIndex, AllocError>
+        ensures { IfOk result (IsIndex proxy.now self.now) }
+    {
+        RuleIndex::of(alloc, &self.rules, proxy)
+    }
+
+    /// The toxics of the rule of a number from 0; none without a rule.
+    pub fn rule_chains(&self, rule: Option<usize>) -> &Chains
+        ensures { result.now ≡ chains_numbered rule self.now }
+    {
+        self.chains_in(self.numbered(rule))
+    }
+
+    /// The stream of each toxic of the rule of a number from 0, in the file's order; none without a rule.
+    pub fn order(&self, rule: usize) -> &[Stream]
+        ensures { result.now ≡ order_numbered rule self.now }
+    {
+        match self.numbered(Some(rule)) {
+            Some(rule) => rule.order(),
+            None => &[],
+        }
+    }
+
+    fn numbered(&self, rule: Option<usize>) -> Option<&Rule>
+        ensures { option_map (λ rule. rule_view self.now.settings.lanes rule.now) result
+            ≡ option_and_then (slice_get self.now.rules) rule }
+    {
+        self.rules.get(rule?)
+    }
+
     fn chains(&self, proxy: &str, conn: u64) -> &Chains
         ensures { result.now ≡ chains_for proxy.now conn self.now }
     {
-        match self.covering(proxy, conn) {
+        self.chains_in(self.covering(proxy, conn))
+    }
+
+    /// The chains of a rule; no toxic without one.
+    fn chains_in<'s>(&'s self, rule: Option<&'s Rule>) -> &'s Chains
+        ensures { result.now ≡ chains_in self.now.settings.lanes
+            (option_map (λ rule. rule_view self.now.settings.lanes rule.now) rule.entry) }
+    {
+        match rule {
             Some(rule) => rule.chains().unwrap_or(&self.nothing),
             None => &self.nothing,
         }

@@ -76,7 +76,7 @@ IsAt-pair keys values i key value below_keys below_values =
     subst (λ k. IsAt (zip (map (λ k. k.now) keys) values) i (k, get_or values i value)) same (IsAt-zip (map (λ k. k.now) keys) values i key.now value below below_values)
 
 -- an element stands beside its index
-IsAt-enumerate : {X : Type 0} (xs : List X) (i : ℕ) (x : X) → IsAt xs i x → IsAt (enumerate_from 0 xs) i (i, x)
+pub IsAt-enumerate : {X : Type 0} (xs : List X) (i : ℕ) (x : X) → IsAt xs i x → IsAt (enumerate_from 0 xs) i (i, x)
 IsAt-enumerate {X} xs i x here = record {
   below = omega (arith, length-enumerate_from 0 xs, here.below);
   default = (0, here.default);

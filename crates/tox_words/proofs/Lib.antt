@@ -1,4 +1,5 @@
 pub mod LaneCounts
+pub mod FirstDraws
 mod Turns
 mod Outputs
 mod Texts

@@ -15,7 +15,11 @@ abbrev pub number_of : Stream → ℕ
 number_of Upstream = 0
 number_of Downstream = 1
 
+-- the generator of a connection's stream
+abbrev pub started_at : ℕ → ℕ → Stream → Lcg
+started_at seed conn stream =
+    started 64 multiplier_64 seed (increment_of 64 (2 * conn + number_of stream))
+
 -- the words of a connection's stream
 unfoldable pub seeded_words : ℕ → ℕ → Stream → List ℕ
-seeded_words seed conn stream =
-    outputs 1024 (started 64 multiplier_64 seed (increment_of 64 (2 * conn + number_of stream)))
+seeded_words seed conn stream = outputs 1024 (started_at seed conn stream)

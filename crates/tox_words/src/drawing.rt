@@ -1,8 +1,9 @@
 //! A table of words with the lanes that share it.
 ghost use Rattle.std.specs.Prelude.{◌≡◌, ◌<◌, ◌≤◌, ◌+◌, ◌*◌, ◌%◌};
 ghost use Rattle.tox_words.specs.Draw.{draws_of, lane_count};
-ghost use Rattle.tox_words.specs.Table.{max_words};
+ghost use Rattle.tox_words.specs.Table.{IsWordTable, max_words};
 
+use crate::first_words::FirstWords;
 use crate::lanes::{Lanes, MAX_LANES};
 use crate::word_table::WordTable;
 use crate::words::Words;
@@ -33,9 +34,23 @@ impl<'w> Drawing<'w> {
     pub fn new(lanes: Lanes, words: &'w Words) -> Drawing<'w>
         ensures { result ≡ record { lanes = lanes; words = words.now } }
     {
+        Drawing::lent(lanes, words.as_slice())
+    }
+
+    /// The first words, one for each lane. At turn 0 it draws what the whole table does.
+    pub fn first(lanes: Lanes, first: &'w FirstWords) -> Drawing<'w>
+        ensures { result ≡ record { lanes = lanes; words = first.now } }
+    {
+        Drawing::lent(lanes, first.as_slice())
+    }
+
+    fn lent(lanes: Lanes, words: &'w [u32]) -> Drawing<'w>
+        requires { IsWordTable words.now }
+        ensures { result ≡ record { lanes = lanes; words = words.now } }
+    {
         Drawing {
             lanes,
-            words: WordTable::Lent(words.as_slice()),
+            words: WordTable::Lent(words),
         }
     }
 

@@ -3,6 +3,7 @@
 
 mod drawing;
 mod fault;
+mod first_words;
 mod lanes;
 mod seed;
 mod text;
@@ -11,5 +12,6 @@ mod words;
 
 pub use drawing::Drawing;
 pub use fault::WordsFault;
+pub use first_words::FirstWords;
 pub use lanes::{Lanes, MAX_LANES};
 pub use words::{MAX_CONNECTIONS, MAX_WORDS, Words};

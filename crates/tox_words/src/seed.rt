@@ -1,6 +1,6 @@
 //! Words made from a seed.
 ghost use Rattle.std.specs.Prelude.{◌≡◌, ◌≤◌, IfOk};
-ghost use Rattle.tox_words.specs.Seeded.{number_of, seeded_words};
+ghost use Rattle.tox_words.specs.Seeded.{number_of, seeded_words, started_at};
 
 use rand_pcg::Lcg64Xsh32;
 use rand_pcg::rand_core::utils::NextWord;
@@ -20,12 +20,20 @@ pub(crate) fn seeded_words(
     requires { conn ≤ 1_000_000 }
     ensures { IfOk result (λ words. words.items ≡ seeded_words seed conn stream) }
 {
-    let mut generator = Lcg64Xsh32::new(seed, 2 * conn + number_of(stream));
+    let mut generator = generator_of(seed, conn, stream);
     let mut words = Vec::with_capacity(alloc, SEEDED_WORDS)?;
     for _ in 0..SEEDED_WORDS {
         words.push(generator.next_word())?;
     }
     Ok(words)
+}
+
+/// What gives the words of a connection's stream, one after the other.
+pub(crate) fn generator_of(seed: u64, conn: u64, stream: Stream) -> Lcg64Xsh32
+    requires { conn ≤ 1_000_000 }
+    ensures { result ≡ started_at seed conn stream }
+{
+    Lcg64Xsh32::new(seed, 2 * conn + number_of(stream))
 }
 
 fn number_of(stream: Stream) -> u64

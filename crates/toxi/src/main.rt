@@ -4,6 +4,7 @@
 mod draw;
 mod dry;
 mod fault;
+mod forecast;
 mod link;
 mod log_folder;
 mod migrate;
@@ -78,6 +79,7 @@ where
         Task::Plan(link) => tell(rt, plan::plan(rt, link)),
         Task::Stages(cap, link) => tell(rt, stages::stages(rt, cap, link)),
         Task::Pick(arguments) => tell(rt, pick::pick(rt, arguments)),
+        Task::Forecast(arguments) => tell(rt, forecast::forecast(rt, arguments)),
         Task::Migrate(script) => tell(rt, migrate::migrate(rt, script)),
         Task::Serve(arguments) => watch::serve(rt, arguments),
         Task::Replay(arguments) => replay::replay(rt, arguments),

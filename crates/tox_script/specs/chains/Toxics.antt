@@ -71,8 +71,18 @@ chains_of lanes toxics = record {
   downstream = chain_on lanes Downstream toxics;
 }
 
--- the chains of the toxics of a rule's tables
-abbrev pub read_chains : Settings → ℕ → Items → Result Chains ScriptFault
-read_chains settings rule tables = do
+-- the toxics of a rule: their chains, and the stream of each in the file's order
+pub record RuleToxics : Type 0 where
+  pub chains : Chains
+  pub order : List Stream
+
+-- what some toxics make
+abbrev pub toxics_of : Lanes → List NamedToxic → RuleToxics
+toxics_of lanes toxics =
+    record { chains = chains_of lanes toxics; order = map (λ toxic. toxic.stream) toxics }
+
+-- the toxics of a rule's tables
+abbrev pub read_toxics : Settings → ℕ → Items → Result RuleToxics ScriptFault
+read_toxics settings rule tables = do
   toxics ← toxics_from settings rule [] tables
-  Ok (chains_of settings.lanes toxics)
+  Ok (toxics_of settings.lanes toxics)

@@ -9,7 +9,7 @@ use tox_defs::{Chain, Entry, Lanes};
 
 /// The toxics of one stream of a rule in the file's order, each with its name.
 #[derive(Drop)]
-pub(crate) struct NamedChain {
+pub struct NamedChain {
     chain: Chain,
     names: Vec<String>,
 }
@@ -39,14 +39,14 @@ impl NamedChain {
         }
     }
 
-    pub(crate) fn chain(&self) -> &Chain
+    pub fn chain(&self) -> &Chain
         ensures { result.now ≡ self.now.chain }
     {
         &self.chain
     }
 
     /// The toxics' names, in the chain's order.
-    pub(crate) fn names(&self) -> &[String]
+    pub fn names(&self) -> &[String]
         ensures value { map string_bytes result.now ≡ self.now.names }
         ensures one_each { length result.now ≡ length self.now.chain.entries }
     {

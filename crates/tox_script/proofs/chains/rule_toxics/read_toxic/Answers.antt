@@ -7,7 +7,7 @@ use Rattle.tox_script.specs.fields.ToxicFields.{toxic_fields}
 use Rattle.tox_script.specs.Views.{fields_view, toxic_view}
 use Rattle.tox_script.specs.declared.fault.ScriptFault.TheVariants.{Toxic}
 use Rattle.tox_script.proofs.Renamed.{ok_before, err_before}
-use Rattle.tox_script.proofs.chains.read_toxic.Goals as goal
+use Rattle.tox_script.proofs.chains.rule_toxics.read_toxic.Goals as goal
 
 pub returns-in_err-toxic-clause-err : goal.returns-in_err-toxic-clause-err
 returns-in_err-toxic-clause-err c =

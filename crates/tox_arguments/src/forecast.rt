@@ -1,0 +1,84 @@
+//! The command `forecast` and its options.
+ghost use Rattle.std.specs.Prelude.{◌≤◌};
+
+use crate::commands::{
+    config_argument, connections, needed, option, script_argument, seed_argument,
+};
+use crate::help;
+use clap::{ArgMatches, Command};
+use std::alloc::{AllocError, Global};
+use tox_words::MAX_CONNECTIONS;
+
+/// What `forecast` is given.
+#[derive(Clone, Copy, Debug)]
+pub struct ForecastArguments<'a> {
+    /// The name of the populate file.
+    pub config: &'a str,
+    /// The name of the script file.
+    pub script: &'a str,
+    /// The name of the proxy.
+    pub proxy: &'a str,
+    /// The number of connections, 1 to 1,000,000.
+    pub links: u64,
+    /// The name of the stream whose lines are wanted. None: both.
+    pub stream: Option<&'a str>,
+    /// The name of an applied toxic that a wanted line has. None: any line.
+    pub named: Option<&'a str>,
+    pub seed: u64,
+    pub ghost numbered: { (1 ≤ links) × (links ≤ 1_000_000) },
+}
+
+/// The command.
+pub(crate) fn forecast<'a>(alloc: Global) -> Result<Command<'a>, AllocError> {
+    let links = needed(
+        alloc,
+        "links",
+        "N",
+        "The number of connections, 1 to 1000000",
+    )
+    .value_parser(connections());
+    let stream = option(
+        alloc,
+        "stream",
+        "STREAM",
+        "Only lines of this stream: upstream or downstream",
+    );
+    let named = option(
+        alloc,
+        "where",
+        "NAME",
+        "Only lines with an applied toxic of this name",
+    );
+    let arguments = vec![in alloc;
+        config_argument(alloc),
+        script_argument(alloc),
+        needed(alloc, "proxy", "NAME", "The proxy's name"),
+        links,
+        seed_argument(alloc),
+        stream,
+        named,
+    ]?;
+    Command::new(alloc, "forecast")
+        .about(
+            "Prints what the connections of a proxy will meet, and how often each toxic is applied",
+        )
+        .after_help(help::FORECAST)
+        .args(arguments)
+}
+
+/// What the command is asked, where each option that it needs is there.
+pub(crate) fn forecast_of<'a>(given: &ArgMatches<'a>) -> Option<ForecastArguments<'a>> {
+    let links = given.get_one::<u64>("links")?;
+    if links < 1 || MAX_CONNECTIONS < links {
+        return None;
+    }
+    Some(ForecastArguments {
+        config: given.get_str("config")?,
+        script: given.get_str("script")?,
+        proxy: given.get_str("proxy")?,
+        links,
+        stream: given.get_str("stream"),
+        named: given.get_str("where"),
+        seed: given.get_one::<u64>("seed")?,
+    })
+}

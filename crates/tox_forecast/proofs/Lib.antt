@@ -1,0 +1,6 @@
+pub mod NumbersFrom
+pub mod FirstFlags
+pub mod TallySteps
+pub mod LinkTexts
+pub mod FlagTurns
+pub mod TotalParts

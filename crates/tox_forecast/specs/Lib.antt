@@ -1,0 +1,9 @@
+pub mod Applied
+pub mod Counted
+pub mod Totals
+pub mod ForecastText
+pub mod Tally
+pub mod Tallied
+pub mod LinkFlags
+pub mod Asked
+pub mod Forecasting
