@@ -1,5 +1,5 @@
 -- Lines of the header, in the parts in which they are printed.
-use Rattle.std.proofs.Common.{◌≡◌, ℕ, ◌<◌, List, [], ◌++◌, codes, decimal, length, map, get_or, ap, sym, ◌∙◌, append-nil, append_assoc, arith}
+use Rattle.std.proofs.Common.{◌≡◌, ℕ, ◌<◌, List, [], ◌∷◌, ◌++◌, codes, decimal, length, map, get_or, ap, sym, ◌∙◌, append-nil, append_assoc, arith}
 use Rattle.std.specs.List.{zip}
 use Rattle.std.proofs.lemmas.List.{get_or-map, length-map}
 use Rattle.std.proofs.lemmas.Slice.Zip.{get_or-zip, length-zip}
@@ -10,7 +10,7 @@ use Rattle.tox_time.specs.declared.streams.stream.Stream.{Stream}
 use Rattle.tox_time.specs.streams.StreamName.{stream_name}
 use Rattle.tox_words.specs.declared.lanes.Lanes.{Lanes}
 use Rattle.tox_words.specs.Draw.{lane_count}
-use Rattle.tox_log.specs.HeaderText.{heading_lines, toxic_line}
+use Rattle.tox_log.specs.HeaderText.{heading_lines, seed_line, toxic_line}
 
 three-lines : (title a name b number c word d e count f seed g : List ℕ)
     → title ++ (a ++ (name ++ (b ++ (number ++ (c ++ (word ++ (d ++ (e ++ (count ++ (f ++ (seed ++ (g ++ []))))))))))))
@@ -39,3 +39,17 @@ IsAt-named text xs names i x name one_each below is =
       default = (x, text name);
       is = sym (get_or-zip xs (map text names) i (x, text name) below named ∙ ap (λ t. (get_or xs i x, t)) same);
     }
+
+seed-words : (lanes count seed digits feed : List ℕ) → (lanes ++ (count ++ 32 ∷ (seed ++ digits))) ++ feed ≡ lanes ++ count ++ (32 ∷ seed) ++ digits ++ feed
+seed-words lanes count seed digits feed = simp append_assoc
+
+-- the third line, as it is read
+pub seed-read : (line rest count more digits : List ℕ) (lanes : Lanes) (seed : ℕ) → line ≡ codes "lanes " ++ rest → rest ≡ count ++ 32 ∷ more → more ≡ codes "seed " ++ digits
+    → count ≡ decimal (lane_count lanes) → digits ≡ decimal seed → line ++ 10 ∷ [] ≡ seed_line lanes seed
+seed-read line rest count more digits lanes seed is_line is_rest is_more is_count is_digits =
+    rw (is_line, is_rest, is_more, is_count, is_digits) (seed-words (codes "lanes ") (decimal (lane_count lanes)) (codes "seed ") (decimal seed) (codes "\n"))
+
+-- the line of a toxic, as it is read
+pub toxic-read : (line short name : List ℕ) (entry : Entry) → line ≡ codes "toxic " ++ short ++ 32 ∷ name → short ≡ printed_short entry.toxic entry.toxicity
+    → line ++ 10 ∷ [] ≡ toxic_line entry name
+toxic-read line short name entry is_line is_short = rw (is_line, is_short) (simp append_assoc)

@@ -1,6 +1,11 @@
+pub mod Blocks
 pub mod Cuts
 pub mod Decimals
 pub mod HeaderParts
+pub mod Hearing
 pub mod LineParts
+pub mod Lines
 pub mod NoLines
+pub mod Opening
+pub mod ReadsBack
 pub mod Judging

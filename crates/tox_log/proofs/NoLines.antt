@@ -1,5 +1,5 @@
 -- A text that is cut at its first space is the line that has these parts, and no other.
-use Rattle.std.proofs.Common.{◌≡◌, ℕ, ◌^◌, ◌<◌, ◌≤◌, Bool, true, false, List, [], ◌∷◌, ◌++◌, Option, Some, None, MatchOption, codes, get_or, refl, ap, sym, ◌∙◌, subst, append_assoc, arith}
+use Rattle.std.proofs.Common.{◌≡◌, ℕ, ◌^◌, ◌<◌, ◌≤◌, true, false, List, [], ◌∷◌, ◌++◌, Option, None, MatchOption, codes, get_or, refl, ap, sym, ◌∙◌, subst, append_assoc, arith}
 use Rattle.std.specs.Prelude.{◌≢◌, not, nat_eq}
 use Rattle.std.specs.Fmt.{decimal}
 use Rattle.std.specs.List.{list_all}
@@ -58,14 +58,14 @@ rest_words (Event (Wrote slice reading)) = codes "wrote" ++ 32 ∷ ((decimal sli
 rest_words (Last (Ended reading ending)) = ending_words ending
 rest_words (Last (Broken cause bytes)) = cause_name cause ++ 32 ∷ decimal bytes
 
-line-parts : (line : LogLine) → line_words line ≡ first_words line ++ 32 ∷ rest_words line
+pub line-parts : (line : LogLine) → line_words line ≡ first_words line ++ 32 ∷ rest_words line
 line-parts (Event (Piece len instant)) = simp append_assoc
 line-parts (Event (SourceEnd instant)) = refl
 line-parts (Event (Wrote slice reading)) = simp append_assoc
 line-parts (Last (Ended reading ending)) = simp append_assoc
 line-parts (Last (Broken cause bytes)) = simp append_assoc
 
-first-lacks : (line : LogLine) → IsWritable line → Lacks 32 (first_words line)
+pub first-lacks : (line : LogLine) → IsWritable line → Lacks 32 (first_words line)
 first-lacks (Event (Piece len instant)) writable = number-lacks 32 instant (omega arith) (omega (arith, writable.0))
 first-lacks (Event (SourceEnd instant)) writable = number-lacks 32 instant (omega arith) (omega (arith, writable))
 first-lacks (Event (Wrote slice reading)) writable = number-lacks 32 reading (omega arith) (omega (arith, writable.0))
@@ -78,7 +78,7 @@ pub line-cut : (first rest : List ℕ) → Lacks 32 first → (line : LogLine) �
 line-cut first rest lacks line writable same = cut-once 32 first rest (first_words line) (rest_words line) lacks (first-lacks line writable) (same ∙ line-parts line)
 
 -- no number is printed so
-no-word : (n : ℕ) → n < 2 ^ 64 → decimal n ≡ codes "broken" → ⊥
+pub no-word : (n : ℕ) → n < 2 ^ 64 → decimal n ≡ codes "broken" → ⊥
 no-word n fits same =
     let digits : false ≡ true = ap (list_all is_ascii_digit) (sym same) ∙ digits_decimal ascii_digits n fits in cc
 
@@ -110,7 +110,7 @@ behind-broken words line writable same = by line writable (line-cut (codes "brok
     by (Last (Ended reading ending)) writable parts = absurd (no-word reading (omega (arith, writable.0)) (sym parts.0))
     by (Last (Broken cause bytes)) writable parts = (cause, bytes, writable, parts.1)
 
-cause-lacks : (cause : BreakCause) → Lacks 32 (cause_name cause)
+pub cause-lacks : (cause : BreakCause) → Lacks 32 (cause_name cause)
 cause-lacks Write = lacks-by 32 (cause_name Write) refl
 cause-lacks Memory = lacks-by 32 (cause_name Memory) refl
 cause-lacks Thread = lacks-by 32 (cause_name Thread) refl

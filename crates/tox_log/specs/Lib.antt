@@ -2,5 +2,8 @@ pub mod EventText
 pub mod LastText
 pub mod HeaderText
 pub mod Judging
+pub mod Hearing
 pub mod Lines
 pub mod Numbers
+pub mod Opening
+pub mod Reading

@@ -1,9 +1,10 @@
 //! A line behind the header: an event, or the last line.
-ghost use Rattle.std.specs.Prelude.{◌≡◌, ◌≢◌, ◌++◌, ◌∷◌, [], codes, decimal, MatchOption};
+ghost use Rattle.std.specs.Prelude.{◌≡◌, ◌≢◌, ◌++◌, ◌∷◌, [], codes, decimal, MatchOption, Some};
 ghost use Rattle.tox_time.specs.Time.{IsInstant};
 ghost use Rattle.tox_time.specs.declared.streams.span.Span.{Span as OneSpan};
+ghost use Rattle.tox_log.specs.declared.event_line.LogLine.{LogLine as OneLine};
 ghost use Rattle.tox_log.specs.declared.last_line.BreakCause.{BreakCause as OneCause};
-ghost use Rattle.tox_log.specs.Lines.{IsWritableSpan, ReadsLine};
+ghost use Rattle.tox_log.specs.Lines.{IsWritable, IsWritableSpan, ReadsLine, line_words};
 ghost use Rattle.tox_log.specs.LastText.{cause_name};
 ghost use Rattle.tox_log.specs.Numbers.{Lacks};
 
@@ -21,6 +22,14 @@ pub enum LogLine {
 
 /// What a line behind the header says, without its line feed. None if it isn't of the form.
 pub fn read_line(text: &[u8]) -> Option<LogLine>
+    ensures reads { ReadsLine result text.now }
+    ensures back { (line : OneLine) → IsWritable line → text.now ≡ line_words line
+        → result ≡ Some line }
+{
+    line_of(text)
+}
+
+fn line_of(text: &[u8]) -> Option<LogLine>
     ensures { ReadsLine result text.now }
 {
     let (first, rest) = cut_at(text, b' ')?;

@@ -1,5 +1,9 @@
 //! The header of a log, line by line.
-ghost use Rattle.std.specs.Prelude.{◌≡◌, ◌++◌, ◌≤◌, codes, decimal, IfSome, IfOk, IsTrue, ◌↔◌};
+ghost use Rattle.std.specs.Prelude.{◌≡◌, ◌++◌, ◌∷◌, [], ◌≤◌, ℕ, List, codes, decimal, IfSome, IfOk, IsTrue, ◌↔◌};
+ghost use Rattle.tox_defs.specs.short.Printed.{printed_short};
+ghost use Rattle.tox_time.specs.streams.StreamName.{stream_name};
+ghost use Rattle.tox_words.specs.Draw.{lane_count};
+ghost use Rattle.tox_log.specs.HeaderText.{title_line, link_line, seed_line, toxic_line};
 ghost use Rattle.tox_defs.specs.chain.Chain.{IsEntry};
 
 use crate::log_bytes::LogBytes;
@@ -33,13 +37,17 @@ pub(crate) struct LinkWords<'a> {
 }
 
 /// Whether this is the first line.
-pub(crate) fn is_title(line: &[u8]) -> bool {
+pub(crate) fn is_title(line: &[u8]) -> bool
+    ensures { IsTrue result → line.now ++ 10 ∷ [] ≡ title_line }
+{
     line == b"toxi log 1".as_slice()
 }
 
 /// What the second line says: `link <name> <number> <stream>`.
 pub(crate) fn read_link(line: &[u8]) -> Option<LinkWords<'_>>
-    ensures { IfSome result (λ link. (1 ≤ link.number) × (link.number ≤ 1_000_000)) }
+    ensures numbered { IfSome result (λ link. (1 ≤ link.number) × (link.number ≤ 1_000_000)) }
+    ensures line { IfSome result
+        (λ link. line.now ++ 10 ∷ [] ≡ link_line link.proxy.now link.number link.stream) }
 {
     let rest = line.strip_prefix(b"link ")?;
     let (rest, stream) = cut_at_last(rest, b' ')?;
@@ -57,7 +65,9 @@ pub(crate) fn read_link(line: &[u8]) -> Option<LinkWords<'_>>
     })
 }
 
-fn stream_of(name: &[u8]) -> Option<Stream> {
+fn stream_of(name: &[u8]) -> Option<Stream>
+    ensures { IfSome result (λ stream. name.now ≡ stream_name stream) }
+{
     let Ok(name) = str::from_utf8(name) else {
         return None;
     };
@@ -65,7 +75,9 @@ fn stream_of(name: &[u8]) -> Option<Stream> {
 }
 
 /// The name that a text is: not empty, and without control characters.
-fn name_of(text: &[u8]) -> Option<&str> {
+fn name_of(text: &[u8]) -> Option<&str>
+    ensures { IfSome result (λ name. name.now ≡ text.now) }
+{
     if text.is_empty() || text.iter().any(|byte| byte.is_ascii_control()) {
         return None;
     }
@@ -76,7 +88,9 @@ fn name_of(text: &[u8]) -> Option<&str> {
 }
 
 /// What the third line says: `lanes <lanes> seed <seed>`.
-pub(crate) fn read_seed(line: &[u8]) -> Option<(Lanes, u64)> {
+pub(crate) fn read_seed(line: &[u8]) -> Option<(Lanes, u64)>
+    ensures { IfSome result (λ read. line.now ++ 10 ∷ [] ≡ seed_line read.0 read.1) }
+{
     let rest = line.strip_prefix(b"lanes ")?;
     let (count, rest) = cut_at(rest, b' ')?;
     let lanes = lanes_of(count)?;
@@ -85,14 +99,14 @@ pub(crate) fn read_seed(line: &[u8]) -> Option<(Lanes, u64)> {
     Some((lanes, seed))
 }
 
-fn lanes_of(count: &[u8]) -> Option<Lanes> {
-    if count == b"16".as_slice() {
-        return Some(Lanes::Sixteen);
+fn lanes_of(count: &[u8]) -> Option<Lanes>
+    ensures { IfSome result (λ lanes. count.now ≡ decimal (lane_count lanes)) }
+{
+    match number_of(count, 32)? {
+        16 => Some(Lanes::Sixteen),
+        32 => Some(Lanes::ThirtyTwo),
+        _ => None,
     }
-    if count == b"32".as_slice() {
-        return Some(Lanes::ThirtyTwo);
-    }
-    None
 }
 
 /// Whether a line is to be a toxic's.
@@ -102,7 +116,9 @@ pub(crate) fn is_toxic(line: &[u8]) -> bool {
 
 /// The toxic of a line: `toxic <short form> <name>`, with the short form as it is printed.
 pub(crate) fn read_toxic(alloc: Global, line: &[u8]) -> Result<Option<Entry>, AllocError>
-    ensures { IfOk result (λ read. IfSome read (λ entry. IsEntry entry)) }
+    ensures entry { IfOk result (λ read. IfSome read (λ entry. IsEntry entry)) }
+    ensures line { IfOk result (λ read. IfSome read (λ entry. (name : List ℕ)
+        × (line.now ++ 10 ∷ [] ≡ toxic_line entry name))) }
 {
     let Some((short, name)) = toxic_words(line) else {
         return Ok(None);
@@ -121,7 +137,10 @@ pub(crate) fn read_toxic(alloc: Global, line: &[u8]) -> Result<Option<Entry>, Al
 }
 
 /// The short form and the name of a toxic's line.
-fn toxic_words(line: &[u8]) -> Option<(&[u8], &[u8])> {
+fn toxic_words(line: &[u8]) -> Option<(&[u8], &[u8])>
+    ensures { IfSome result
+        (λ words. line.now ≡ codes "toxic " ++ words.0.now ++ 32 ∷ words.1.now) }
+{
     let rest = line.strip_prefix(b"toxic ")?;
     cut_at(rest, b' ')
 }
@@ -140,7 +159,10 @@ fn entry_of(short: &[u8]) -> Option<Entry>
 }
 
 /// Whether a toxic is printed so.
-fn is_printed(alloc: Global, entry: &Entry, short: &[u8]) -> Result<bool, AllocError> {
+fn is_printed(alloc: Global, entry: &Entry, short: &[u8]) -> Result<bool, AllocError>
+    ensures { IfOk result (λ same. IsTrue same
+        → short.now ≡ printed_short entry.now.toxic entry.now.toxicity) }
+{
     let mut buffer = Buffer::new();
     let mut printed = LogBytes::new(alloc);
     if print_short(&mut buffer, &mut printed, entry).is_err() {

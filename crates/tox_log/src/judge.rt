@@ -273,6 +273,7 @@ pub(crate) fn has_ended(judge: &mut Judge, ending: &Ending, reading: &Micros) ->
     requires held { IsHeld judge.old }
     requires later { judge.old.latest ≤ reading.now }
     ensures held { IsHeld judge.new }
+    ensures counts { (judge.new.heard ≡ judge.old.heard) × (judge.new.said ≡ judge.old.said) }
     ensures reports { IsTrue result
         → (means : List OneItem → List OneItem) (told : ℕ → Bool) (log : List OneEvent)
         → told reading.now ≡ true → Judged means told judge.old log

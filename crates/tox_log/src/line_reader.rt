@@ -1,5 +1,6 @@
 //! The lines of a log, one at a time.
-ghost use Rattle.std.specs.Prelude.{◌≡◌, ◌≤◌, ◌<◌, length, false, OnOk, IfOk};
+ghost use Rattle.std.specs.Prelude.{◌≡◌, ◌≤◌, ◌<◌, ◌++◌, ◌∷◌, [], List, ℕ, length, false, true, if◌then◌else◌, IfOk, IsFalse, IsTrue, OnOk, MatchOption};
+ghost use Rattle.std.specs.Io.KnownBytes.{IsAtEnd};
 
 use arrayvec::ArrayVec;
 use memchr::memchr;
@@ -20,11 +21,15 @@ pub(crate) struct LineReader {
     stop: usize,
     line: ArrayVec<u8, MAX_LINE>,
     long: bool,
-    ghost within: { (start ≤ stop) × (stop ≤ length block.items) },
+    ghost within: { (start ≤ stop) × (stop ≤ length block.items) × (0 < length block.items) },
 }
 
 impl LineReader {
-    pub(crate) fn new(alloc: Global) -> Result<LineReader, AllocError> {
+    ghost use Rattle.tox_log.specs.Reading.{HasLine, TakesLine, TakesRest, to_take, waiting};
+
+    pub(crate) fn new(alloc: Global) -> Result<LineReader, AllocError>
+        ensures { IfOk result (λ lines. waiting lines ≡ []) }
+    {
         Ok(LineReader {
             block: vec![in alloc; 0; BLOCK]?,
             start: 0,
@@ -37,23 +42,30 @@ impl LineReader {
     /// Goes to the next line that a line feed ends. False where there is none: what stands behind the last line feed is no line.
     pub(crate) fn advance<R: Source>(&mut self, reader: &mut R) -> Result<bool, EndFault>
         requires { R.failed reader.old ≡ false }
-        ensures { OnOk result (R.failed reader.new ≡ false) }
+        ensures working { OnOk result (R.failed reader.new ≡ false) }
+        ensures line { IfOk result (λ came. IsTrue came
+            → TakesLine self.old self.new (R.remaining reader.old) (R.remaining reader.new)) }
+        ensures end { IfOk result (λ came. IsFalse came
+            → TakesRest self.old self.new (R.remaining reader.old) (R.remaining reader.new)) }
     {
         self.line.clear();
         self.long = false;
-        for _ in 0..u64::MAX {
-            if self.start == self.stop && !self.fill(reader)? {
+        'lines: for _ in 0..u64::MAX {
+            if !self.fill(reader)? {
                 return Ok(false);
             }
             if self.take() {
                 return Ok(true);
             }
         }
-        Ok(false)
+        Err(EndFault)
     }
 
     /// The line, without its line feed. None if it is longer than any line of the form.
-    pub(crate) fn line(&self) -> Option<&[u8]> {
+    pub(crate) fn line(&self) -> Option<&[u8]>
+        ensures { MatchOption result (self.now.long ≡ true) (λ line. HasLine self.now line.now
+            × (self.now.long ≡ false)) }
+    {
         if self.long {
             None
         } else {
@@ -61,11 +73,19 @@ impl LineReader {
         }
     }
 
-    /// Reads the next block. False at the end.
+    /// Reads the next block, if none of the bytes are left. False at the end.
     fn fill<R: Source>(&mut self, reader: &mut R) -> Result<bool, EndFault>
         requires { R.failed reader.old ≡ false }
-        ensures { OnOk result (R.failed reader.new ≡ false) }
+        ensures working { OnOk result (R.failed reader.new ≡ false) }
+        ensures given { OnOk result (to_take self.old (R.remaining reader.old)
+            ≡ to_take self.new (R.remaining reader.new)) }
+        ensures line { (self.new.line ≡ self.old.line) × (self.new.long ≡ self.old.long) }
+        ensures end { IfOk result (λ more. IsFalse more
+            → IsAtEnd (to_take self.new (R.remaining reader.new))) }
     {
+        if self.start < self.stop {
+            return Ok(true);
+        }
         let count = reader.read(&mut self.block)?;
         self.start = 0;
         self.stop = count;
@@ -73,16 +93,32 @@ impl LineReader {
     }
 
     /// Takes the bytes up to the next line feed onto the line, or the rest of the block. Whether a line feed came.
-    fn take(&mut self) -> bool {
+    fn take(&mut self) -> bool
+        ensures { (part : List ℕ) × (waiting self.old ≡ part ++ (if result then 10 ∷ waiting self.new else waiting self.new))
+            × ((text : List ℕ) → HasLine self.old text → HasLine self.new (text ++ part)) }
+    {
         let waiting = &self.block[self.start..self.stop];
-        let (part, found) = match memchr(b'\n', waiting) {
-            Some(place) => (&waiting[..place], true),
-            None => (waiting, false),
-        };
-        self.start += part.len() + usize::from(found);
-        if self.line.try_extend_from_slice(part).is_err() {
-            self.long = true;
+        match memchr(b'\n', waiting) {
+            Some(place) => {
+                add(&mut self.line, &mut self.long, &waiting[..place]);
+                self.start += place + 1;
+                true
+            }
+            None => {
+                add(&mut self.line, &mut self.long, waiting);
+                self.start = self.stop;
+                false
+            }
         }
-        found
+    }
+}
+
+/// Adds a part to a line, if it fits.
+fn add(line: &mut ArrayVec<u8, MAX_LINE>, long: &mut bool, part: &[u8])
+    ensures { (text : List ℕ) → (long.old ≡ false → line.old.items ≡ text) → long.new ≡ false
+        → line.new.items ≡ text ++ part.now }
+{
+    if line.try_extend_from_slice(part).is_err() {
+        *long = true;
     }
 }

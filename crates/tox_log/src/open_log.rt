@@ -1,5 +1,11 @@
 //! A log that is being read: its header, and then line by line.
-ghost use Rattle.std.specs.Prelude.{◌≡◌, ◌≤◌, false, OnOk, IfOk};
+ghost use Rattle.std.specs.Prelude.{◌≡◌, ◌≤◌, false, OnOk, OnSome, IfOk, IfSome, IsFalse, IsTrue, MatchOption, string_bytes};
+ghost use Rattle.tox_log.specs.Lines.{IsWritable, line_words};
+ghost use Rattle.std.specs.Io.KnownBytes.{prepend_known};
+ghost use Rattle.tox_words.specs.Seeded.{seeded_words};
+ghost use Rattle.tox_log.specs.HeaderText.{heading_lines, link_line, seed_line, title_line};
+ghost use Rattle.tox_log.specs.Opening.{AddsToxic, Opens, ReadsToxics, SameHeading};
+ghost use Rattle.tox_log.specs.Reading.{Hands, HasLine, TakesLine, TakesRest, is_last, to_take};
 
 use crate::event_line::{LogLine, read_line};
 use crate::fault::LogFault;
@@ -32,7 +38,8 @@ impl OpenLog {
     /// Reads the header of a log.
     pub fn new<R: Source>(alloc: Global, reader: &mut R) -> Result<OpenLog, LogFault>
         requires { R.failed reader.old ≡ false }
-        ensures { OnOk result (R.failed reader.new ≡ false) }
+        ensures working { OnOk result (R.failed reader.new ≡ false) }
+        ensures opens { IfOk result (Opens (R.remaining reader.old) (R.remaining reader.new)) }
     {
         let mut lines = LineReader::new(alloc)?;
         let heading = read_heading(alloc, &mut lines, reader)?;
@@ -51,22 +58,31 @@ impl OpenLog {
     }
 
     /// What the first three lines say.
-    pub fn heading(&self) -> &Heading {
+    pub fn heading(&self) -> &Heading
+        ensures { result.now ≡ self.now.heading }
+    {
         &self.heading
     }
 
     /// Keeps what the first three lines say.
-    pub fn into_heading(self) -> Heading {
+    pub fn into_heading(self) -> Heading
+        ensures { result ≡ self.heading }
+    {
         self.heading
     }
 
     /// The chain of the stream.
-    pub fn chain(&self) -> &Chain {
+    pub fn chain(&self) -> &Chain
+        ensures { result.now ≡ self.now.chain }
+    {
         &self.chain
     }
 
     /// The words of the stream.
-    pub fn words(&self, alloc: Global) -> Result<Words, LogFault> {
+    pub fn words(&self, alloc: Global) -> Result<Words, LogFault>
+        ensures { IfOk result (λ words. words ≡ seeded_words self.now.heading.seed
+            self.now.heading.number self.now.heading.stream) }
+    {
         let heading = &self.heading;
         match Words::from_seed(alloc, heading.seed, heading.number, heading.stream) {
             Ok(words) => Ok(words),
@@ -82,7 +98,10 @@ impl OpenLog {
     /// The next line behind the header. None behind the last line feed.
     pub fn next_line<R: Source>(&mut self, reader: &mut R) -> Result<Option<LogLine>, LogFault>
         requires { R.failed reader.old ≡ false }
-        ensures { OnOk result (R.failed reader.new ≡ false) }
+        ensures working { OnOk result (R.failed reader.new ≡ false) }
+        ensures same { OnOk result (self.new.heading ≡ self.old.heading) }
+        ensures hands { IfOk result (λ handed. MatchOption handed (self.new.over ≡ self.old.over)
+            (λ line. Hands self.old self.new (R.remaining reader.old) (R.remaining reader.new) line)) }
     {
         if self.waits {
             self.waits = false;
@@ -97,10 +116,14 @@ impl OpenLog {
 
     /// Reads the lines of the toxics, and the line behind them.
     fn read_toxics<R: Source>(&mut self, alloc: Global, reader: &mut R) -> Result<(), LogFault>
-        requires { R.failed reader.old ≡ false }
-        ensures { OnOk result (R.failed reader.new ≡ false) }
+        requires works { R.failed reader.old ≡ false }
+        requires first { self.old.waits ≡ false }
+        ensures working { OnOk result (R.failed reader.new ≡ false) }
+        ensures same { OnOk result (SameHeading self.old self.new) }
+        ensures toxics { OnOk result
+            (ReadsToxics self.old self.new (R.remaining reader.old) (R.remaining reader.new)) }
     {
-        for _ in 0..u64::MAX {
+        'toxics: for _ in 0..u64::MAX {
             if !self.advance(reader)? {
                 return Ok(());
             }
@@ -113,7 +136,13 @@ impl OpenLog {
     }
 
     /// Adds the toxic of the line that was read. False if it is no toxic's line.
-    fn add_toxic(&mut self, alloc: Global) -> Result<bool, LogFault> {
+    fn add_toxic(&mut self, alloc: Global) -> Result<bool, LogFault>
+        ensures same { OnOk result (SameHeading self.old self.new
+            × (self.new.lines ≡ self.old.lines) × (self.new.waits ≡ self.old.waits)) }
+        ensures added { IfOk result (λ added. IsTrue added → AddsToxic self.old self.new) }
+        ensures other { IfOk result (λ added. IsFalse added
+            → (self.new.chain ≡ self.old.chain) × (self.old.lines.long ≡ false)) }
+    {
         let Some(line) = self.lines.line() else {
             return Err(LogFault::BadLine(self.number));
         };
@@ -132,7 +161,13 @@ impl OpenLog {
     /// Goes to the next line. False where there is none.
     fn advance<R: Source>(&mut self, reader: &mut R) -> Result<bool, LogFault>
         requires { R.failed reader.old ≡ false }
-        ensures { OnOk result (R.failed reader.new ≡ false) }
+        ensures working { OnOk result (R.failed reader.new ≡ false) }
+        ensures line { IfOk result (λ came. IsTrue came → TakesLine self.old.lines self.new.lines
+            (R.remaining reader.old) (R.remaining reader.new)) }
+        ensures end { IfOk result (λ came. IsFalse came → TakesRest self.old.lines self.new.lines
+            (R.remaining reader.old) (R.remaining reader.new)) }
+        ensures kept { (self.new.waits ≡ self.old.waits) × SameHeading self.old self.new
+            × (self.new.chain ≡ self.old.chain) }
     {
         if !self.lines.advance(reader)? {
             return Ok(false);
@@ -142,50 +177,67 @@ impl OpenLog {
     }
 
     /// What the line that was read says, if it is of the form and may come next.
-    fn line_in_order(&mut self) -> Option<LogLine> {
+    fn line_in_order(&mut self) -> Option<LogLine>
+        ensures kept { OnSome result ((self.new.lines ≡ self.old.lines)
+            × (self.new.waits ≡ self.old.waits) × (self.new.heading ≡ self.old.heading)) }
+        ensures reads { IfSome result (λ line. HasLine self.old.lines (line_words line)
+            × (self.old.lines.long ≡ false) × IsWritable line) }
+        ensures order { IfSome result (λ line. (self.old.over ≡ false)
+            × (self.new.over ≡ is_last line)) }
+    {
         let line = read_line(self.lines.line()?)?;
-        if self.over {
+        if self.over || !comes_next(&mut self.heard, &line) {
             return None;
         }
-        match &line {
-            LogLine::Event(LinkEvent::Piece(len, instant)) => self.hear_piece(*len, instant)?,
-            LogLine::Event(LinkEvent::SourceEnd(instant)) => self.hear_end(instant)?,
-            LogLine::Event(LinkEvent::Wrote(_, reading)) => self.read_at(reading)?,
-            LogLine::Last(LastLine::Ended(reading, _)) => self.end_at(reading)?,
-            LogLine::Last(LastLine::Broken(_, _)) => self.over = true,
-        }
+        self.over = is_last(&line);
         Some(line)
     }
+}
 
-    fn hear_piece(&mut self, len: u64, instant: &Micros) -> Option<()> {
-        if self.heard.with_piece(len, *instant).is_err() {
-            return None;
-        }
-        self.heard.position += len;
-        self.read_at(instant)
+fn is_last(line: &LogLine) -> bool
+    ensures { result ≡ is_last line.now }
+{
+    match line {
+        LogLine::Event(_) => false,
+        LogLine::Last(_) => true,
     }
+}
 
-    fn hear_end(&mut self, instant: &Micros) -> Option<()> {
-        if self.heard.ended {
-            return None;
-        }
-        self.heard.ended = true;
-        self.read_at(instant)
+/// Whether a line may come next, behind what was heard: readings never fall, positions stay within 2^40, and nothing comes behind
+/// the source's end.
+fn comes_next(heard: &mut StreamPosition, line: &LogLine) -> bool {
+    match line {
+        LogLine::Event(LinkEvent::Piece(len, instant)) => hear_piece(heard, *len, instant),
+        LogLine::Event(LinkEvent::SourceEnd(instant)) => hear_end(heard, instant),
+        LogLine::Event(LinkEvent::Wrote(_, reading)) | LogLine::Last(LastLine::Ended(reading, _)) =>
+            read_at(heard, reading),
+        LogLine::Last(LastLine::Broken(_, _)) => true,
     }
+}
 
-    fn end_at(&mut self, reading: &Micros) -> Option<()> {
-        self.over = true;
-        self.read_at(reading)
+fn hear_piece(heard: &mut StreamPosition, len: u64, instant: &Micros) -> bool {
+    if heard.with_piece(len, *instant).is_err() {
+        return false;
     }
+    heard.position += len;
+    read_at(heard, instant)
+}
 
-    /// The clock was read. Readings never fall.
-    fn read_at(&mut self, reading: &Micros) -> Option<()> {
-        if *reading < self.heard.latest {
-            return None;
-        }
-        self.heard.latest = *reading;
-        Some(())
+fn hear_end(heard: &mut StreamPosition, instant: &Micros) -> bool {
+    if heard.ended {
+        return false;
     }
+    heard.ended = true;
+    read_at(heard, instant)
+}
+
+/// The clock was read. Readings never fall.
+fn read_at(heard: &mut StreamPosition, reading: &Micros) -> bool {
+    if *reading < heard.latest {
+        return false;
+    }
+    heard.latest = *reading;
+    true
 }
 
 /// Reads the first three lines.
@@ -195,7 +247,10 @@ fn read_heading<R: Source>(
     reader: &mut R,
 ) -> Result<Heading, LogFault>
     requires { R.failed reader.old ≡ false }
-    ensures { OnOk result (R.failed reader.new ≡ false) }
+    ensures working { OnOk result (R.failed reader.new ≡ false) }
+    ensures lines { IfOk result (λ heading. to_take lines.old (R.remaining reader.old)
+        ≡ prepend_known (heading_lines (string_bytes heading.proxy) heading.number heading.stream
+        heading.lanes heading.seed) (to_take lines.new (R.remaining reader.new))) }
 {
     read_title(lines, reader)?;
     let (proxy, number, stream) = read_link_line(alloc, lines, reader)?;
@@ -212,7 +267,9 @@ fn read_heading<R: Source>(
 /// Reads the first line.
 fn read_title<R: Source>(lines: &mut LineReader, reader: &mut R) -> Result<(), LogFault>
     requires { R.failed reader.old ≡ false }
-    ensures { OnOk result (R.failed reader.new ≡ false) }
+    ensures working { OnOk result (R.failed reader.new ≡ false) }
+    ensures line { OnOk result (to_take lines.old (R.remaining reader.old)
+        ≡ prepend_known title_line (to_take lines.new (R.remaining reader.new))) }
 {
     if !lines.advance(reader)? {
         return Err(LogFault::BadLine(1));
@@ -232,6 +289,9 @@ fn read_link_line<R: Source>(
     requires { R.failed reader.old ≡ false }
     ensures working { OnOk result (R.failed reader.new ≡ false) }
     ensures numbered { IfOk result (λ link. (1 ≤ link.1) × (link.1 ≤ 1_000_000)) }
+    ensures line { IfOk result (λ link. to_take lines.old (R.remaining reader.old)
+        ≡ prepend_known (link_line (string_bytes link.0) link.1 link.2)
+        (to_take lines.new (R.remaining reader.new))) }
 {
     if !lines.advance(reader)? {
         return Err(LogFault::BadLine(2));
@@ -248,7 +308,9 @@ fn read_seed_line<R: Source>(
     reader: &mut R,
 ) -> Result<(Lanes, u64), LogFault>
     requires { R.failed reader.old ≡ false }
-    ensures { OnOk result (R.failed reader.new ≡ false) }
+    ensures working { OnOk result (R.failed reader.new ≡ false) }
+    ensures line { IfOk result (λ read. to_take lines.old (R.remaining reader.old)
+        ≡ prepend_known (seed_line read.0 read.1) (to_take lines.new (R.remaining reader.new))) }
 {
     if !lines.advance(reader)? {
         return Err(LogFault::BadLine(3));

@@ -1,6 +1,16 @@
 //! What a log says, judged: whether the plan of its header means it, and how late its writes were.
-ghost use Rattle.std.specs.Prelude.{◌≡◌, false, IfOk};
+ghost use Rattle.std.specs.Prelude.{◌≡◌, ℕ, ◌++◌, List, [], Option, false, IfOk, OnOk};
+ghost use Rattle.std.specs.Io.KnownBytes.{prepend_known};
+ghost use Rattle.tox_compile.specs.Meaning.{means};
+ghost use Rattle.tox_time.specs.declared.streams.item.Item.{Item as OneItem};
+ghost use Rattle.tox_log.specs.Hearing.{Begins, HasHeard, HearsLine, IsFaithfulText, SaysSo};
+ghost use Rattle.tox_time.specs.declared.streams.ending.Ending.{Ending as OneEnding};
 ghost use Rattle.tox_log.specs.Judging.{IsHeld};
+ghost use Rattle.tox_log.specs.Reading.{to_hand};
+ghost use Rattle.tox_log.specs.declared.replay.Verdict.TheVariants as TheVerdict;
+ghost use Rattle.tox_log.specs.declared.event_line.LogLine.TheVariants as OneLine;
+ghost use Rattle.tox_log.specs.declared.last_line.LastLine.TheVariants as TheLast;
+ghost use Rattle.tox_link.specs.declared.notes.LinkEvent.TheVariants as OneEvent;
 
 use crate::event_line::LogLine;
 use crate::fault::{LogFault, ReplayFault};
@@ -48,8 +58,6 @@ pub struct JudgedLog {
 struct Hearing {
     judge: Judge,
     verdict: Verdict,
-    heard: u64,
-    said: u64,
     writes: u64,
     late: Lateness,
 }
@@ -57,6 +65,9 @@ struct Hearing {
 /// Reads a log to its end, and judges it.
 pub fn judge_log<R: Source>(alloc: Global, reader: &mut R) -> Result<JudgedLog, LogFault>
     requires { R.failed reader.old ≡ false }
+    ensures { IfOk result (λ judged. (ending : OneEnding)
+        → judged.verdict ≡ TheVerdict.Faithful ending
+        → IsFaithfulText (R.remaining reader.old) judged ending) }
 {
     let mut log = OpenLog::new(alloc, reader)?;
     let mut hearing = begin(alloc, &log)?;
@@ -64,8 +75,8 @@ pub fn judge_log<R: Source>(alloc: Global, reader: &mut R) -> Result<JudgedLog, 
     let late = hearing.late.percentiles();
     Ok(JudgedLog {
         verdict: hearing.verdict,
-        heard: hearing.heard,
-        said: hearing.said,
+        heard: hearing.judge.heard,
+        said: hearing.judge.said,
         writes: hearing.writes,
         late,
         heading: log.into_heading(),
@@ -98,15 +109,14 @@ pub fn write_judged<'a, R: Source, W: Sink>(
 
 /// The hearing of a log of which only the header is read.
 fn begin(alloc: Global, log: &OpenLog) -> Result<Hearing, LogFault>
-    ensures { IfOk result (λ hearing. IsHeld hearing.judge) }
+    ensures held { IfOk result (λ hearing. IsHeld hearing.judge) }
+    ensures begins { IfOk result (Begins log.now.heading log.now.chain) }
 {
     let words = log.words(alloc)?;
     let plan = compile(log.chain(), &words);
     Ok(Hearing {
         judge: begin_judge(alloc, plan, words)?,
         verdict: Verdict::Unfinished,
-        heard: 0,
-        said: 0,
         writes: 0,
         late: Lateness::new(alloc),
     })
@@ -121,12 +131,18 @@ fn hear_lines<R: Source>(
 ) -> Result<(), LogFault>
     requires works { R.failed reader.old ≡ false }
     requires held { IsHeld hearing.old.judge }
+    requires first { (hearing.old.verdict ≡ TheVerdict.Unfinished) × (log.old.over ≡ false) }
+    ensures { OnOk result ((text : List ℕ) × (left : Option (List ℕ))
+        × (to_hand log.old (R.remaining reader.old) ≡ prepend_known text left)
+        × ((means : List OneItem → List OneItem) → HasHeard means [] hearing.old.judge
+        → SaysSo means text log.new.over hearing.new.judge hearing.new.verdict)
+        × (log.new.heading ≡ log.old.heading)) }
 {
-    for _ in 0..u64::MAX {
+    'lines: for _ in 0..u64::MAX {
         let Some(line) = log.next_line(reader)? else {
             return Ok(());
         };
-        if let Verdict::Unfaithful(_) = hearing.verdict {
+        if hearing.verdict != Verdict::Unfinished {
             continue;
         }
         hear_line(alloc, hearing, &line, log.number())?;
@@ -141,8 +157,10 @@ fn hear_line(
     line: &LogLine,
     number: u64,
 ) -> Result<(), LogFault>
-    requires { IsHeld hearing.old.judge }
-    ensures { IsHeld hearing.new.judge }
+    requires held { IsHeld hearing.old.judge }
+    requires going { hearing.old.verdict ≡ TheVerdict.Unfinished }
+    ensures held { IsHeld hearing.new.judge }
+    ensures hears { OnOk result (HearsLine hearing.old line.now hearing.new) }
 {
     match line {
         LogLine::Event(LinkEvent::Piece(len, instant)) => {
@@ -165,22 +183,27 @@ fn hear_piece(
     instant: &Micros,
     number: u64,
 ) -> Result<(), LogFault>
-    requires { IsHeld hearing.old.judge }
-    ensures { IsHeld hearing.new.judge }
+    requires held { IsHeld hearing.old.judge }
+    requires going { hearing.old.verdict ≡ TheVerdict.Unfinished }
+    ensures held { IsHeld hearing.new.judge }
+    ensures hears { OnOk result (HearsLine hearing.old
+        (OneLine.Event (OneEvent.Piece len instant.now)) hearing.new) }
 {
     if !takes_piece(&hearing.judge, len, instant) {
         return Err(LogFault::BadLine(number));
     }
-    if judge_piece(&mut hearing.judge, len, instant).is_err() {
+    let Ok(()) = judge_piece(&mut hearing.judge, len, instant) else {
         return Err(LogFault::TooDeep(number));
-    }
-    hearing.heard = hearing.heard.saturating_add(len);
+    };
     Ok(())
 }
 
 fn hear_source_end(hearing: &mut Hearing, instant: &Micros, number: u64) -> Result<(), LogFault>
-    requires { IsHeld hearing.old.judge }
-    ensures { IsHeld hearing.new.judge }
+    requires held { IsHeld hearing.old.judge }
+    requires going { hearing.old.verdict ≡ TheVerdict.Unfinished }
+    ensures held { IsHeld hearing.new.judge }
+    ensures hears { OnOk result (HearsLine hearing.old
+        (OneLine.Event (OneEvent.SourceEnd instant.now)) hearing.new) }
 {
     if hearing.judge.ended || !takes_at(&hearing.judge, instant) {
         return Err(LogFault::BadLine(number));
@@ -196,8 +219,11 @@ fn hear_wrote(
     reading: &Micros,
     number: u64,
 ) -> Result<(), LogFault>
-    requires { IsHeld hearing.old.judge }
-    ensures { IsHeld hearing.new.judge }
+    requires held { IsHeld hearing.old.judge }
+    requires going { hearing.old.verdict ≡ TheVerdict.Unfinished }
+    ensures held { IsHeld hearing.new.judge }
+    ensures hears { OnOk result (HearsLine hearing.old
+        (OneLine.Event (OneEvent.Wrote slice.now reading.now)) hearing.new) }
 {
     if !takes_at(&hearing.judge, reading) {
         return Err(LogFault::BadLine(number));
@@ -206,7 +232,6 @@ fn hear_wrote(
         hearing.verdict = Verdict::Unfaithful(number);
         return Ok(());
     }
-    hearing.said = slice.span.stop;
     hearing.writes = hearing.writes.saturating_add(1);
     let late = reading.get().saturating_sub(slice.instant.get());
     hearing.late.add(alloc, late)?;
@@ -220,8 +245,11 @@ fn hear_ending(
     reading: &Micros,
     number: u64,
 ) -> Result<(), LogFault>
-    requires { IsHeld hearing.old.judge }
-    ensures { IsHeld hearing.new.judge }
+    requires held { IsHeld hearing.old.judge }
+    requires going { hearing.old.verdict ≡ TheVerdict.Unfinished }
+    ensures held { IsHeld hearing.new.judge }
+    ensures hears { OnOk result (HearsLine hearing.old
+        (OneLine.Last (TheLast.Ended reading.now ending.now)) hearing.new) }
 {
     if !takes_at(&hearing.judge, reading) {
         return Err(LogFault::BadLine(number));

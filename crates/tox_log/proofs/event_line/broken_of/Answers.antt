@@ -1,5 +1,5 @@
 -- Behind `broken` come a cause and a number, or it is no line.
-use Rattle.std.proofs.Common.{◌++◌, sym, ◌∙◌, subst, decimal}
+use Rattle.std.proofs.Common.{sym, ◌∙◌, subst, decimal}
 use Rattle.tox_log.specs.LastText.{cause_name}
 use Rattle.tox_log.specs.Numbers.{Lacks}
 use Rattle.tox_log.proofs.Cuts.{stands}

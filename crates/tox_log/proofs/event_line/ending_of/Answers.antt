@@ -1,5 +1,5 @@
 -- The name and the instant are as they are printed, or it is no line.
-use Rattle.std.proofs.Common.{rules, sym, ◌∙◌, ◌∷◌, ◌++◌, codes, decimal, append_assoc}
+use Rattle.std.proofs.Common.{rules, sym, ◌∙◌, codes, decimal, append_assoc}
 use Rattle.std.specs.Cmp.Lexicographic.{other_text}
 use Rattle.tox_log.proofs.LineParts.{ending-parts}
 use Rattle.tox_log.proofs.NoLines.{no_ending, reads-same, unread}

@@ -1,5 +1,5 @@
 -- The number is as it is printed.
-use Rattle.std.proofs.Common.{ap, ◌++◌, ◌∙◌, codes, decimal, append_assoc}
+use Rattle.std.proofs.Common.{ap, ◌++◌, codes, decimal, append_assoc}
 use Rattle.tox_log.proofs.NoLines.{no_piece, reads-same, unread}
 use Rattle.tox_log.proofs.event_line.piece_of.Goals as goal
 

@@ -1,8 +1,8 @@
 -- A range has two numbers and two points between them, or it is none.
-use Rattle.std.proofs.Common.{[], take, drop, ap, ◌∷◌, ◌++◌, sym, ◌∙◌, subst, codes, decimal, append_assoc, arith}
+use Rattle.std.proofs.Common.{[], take, drop, ap, ◌∷◌, sym, ◌∙◌, subst, decimal, append_assoc}
 use Rattle.std.specs.Cmp.Lexicographic.{other_text}
 use Rattle.tox_log.specs.Numbers.{Lacks}
-use Rattle.tox_log.proofs.Cuts.{cut-once, number-lacks, stands}
+use Rattle.tox_log.proofs.Cuts.{stands}
 use Rattle.tox_log.proofs.NoLines.{none-read, span-cut}
 use Rattle.tox_log.proofs.event_line.span_of.Goals as goal
 

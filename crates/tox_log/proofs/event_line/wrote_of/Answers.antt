@@ -1,5 +1,5 @@
 -- The range and the instant are as they are printed, or it is no line.
-use Rattle.std.proofs.Common.{ap, ◌∷◌, ◌++◌, sym, ◌∙◌, subst, codes, decimal, append_assoc}
+use Rattle.std.proofs.Common.{ap, ◌++◌, sym, ◌∙◌, subst, codes, decimal, append_assoc}
 use Rattle.tox_log.specs.Numbers.{Lacks}
 use Rattle.tox_log.proofs.Cuts.{cut-once, stands}
 use Rattle.tox_log.proofs.LineParts.{wrote-parts}

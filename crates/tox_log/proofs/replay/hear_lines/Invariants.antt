@@ -1,7 +1,18 @@
--- The reader works, and the judge is held.
-use Rattle.std.proofs.Common.{◌≡◌, false}
+-- The reader works, the judge is held, and what was read so far is what the verdict is of.
+use Rattle.std.proofs.Common.{◌≡◌, ℕ, List, [], false}
+use Rattle.std.specs.Io.KnownBytes.{prepend_known}
+use Rattle.tox_time.specs.declared.streams.item.Item.{Item}
+use Rattle.tox_log.specs.Hearing.{HasHeard, SaysSo}
 use Rattle.tox_log.specs.Judging.{IsHeld}
+use Rattle.tox_log.specs.Reading.{to_hand}
 use Rattle.tox_log.proofs.replay.hear_lines.Given as goal
 
-abbrev pub invariant-loop : goal.invariant-loop
-invariant-loop g l = (g.R.Source.failed l.reader ≡ false) × IsHeld l.hearing.judge
+abbrev pub invariant-lines : goal.invariant-lines
+invariant-lines g l = record {
+  working : g.R.Source.failed l.reader ≡ false;
+  held : IsHeld l.hearing.judge;
+  same : l.log.heading ≡ l.fn.log.heading;
+  text : (text : List ℕ)
+      × (to_hand l.fn.log (g.R.Source.remaining l.fn.reader) ≡ prepend_known text (to_hand l.log (g.R.Source.remaining l.reader)))
+      × ((means : List Item → List Item) → HasHeard means [] l.fn.hearing.judge → SaysSo means text l.log.over l.hearing.judge l.hearing.verdict);
+}

@@ -1,6 +1,13 @@
--- The ends work.
+-- The reader works, and the lines of the chain's toxics were read.
 use Rattle.std.proofs.Common.{◌≡◌, false}
+use Rattle.tox_log.specs.Opening.{SameHeading}
+use Rattle.tox_log.proofs.Opening.{HasRead}
 use Rattle.tox_log.proofs.open_log.OpenLog.read_toxics.Given as goal
 
-abbrev pub invariant-loop : goal.invariant-loop
-invariant-loop g l = g.R.Source.failed l.reader ≡ false
+abbrev pub invariant-toxics : goal.invariant-toxics
+invariant-toxics g l = record {
+  working : g.R.Source.failed l.reader ≡ false;
+  going : l.self.waits ≡ false;
+  same : SameHeading l.fn.self l.self;
+  read : HasRead l.fn.self l.self (g.R.Source.remaining l.fn.reader) (g.R.Source.remaining l.reader);
+}

@@ -1,0 +1,30 @@
+-- The line feed is cut off.
+use Rattle.std.proofs.Common.{false, ◌≡◌, ◌<◌, ◌+◌, ◌++◌, ◌∷◌, List, ℕ, length, take, slice_range, get_or, ap, sym, ◌∙◌, append-nil, arith, subst}
+use Rattle.std.proofs.lemmas.Bool.Decides.{nat_tests}
+use Rattle.tox_log.specs.Reading.{waiting}
+use Rattle.tox_log.proofs.Blocks.{parts-at, range-rest, range-within, range-none}
+use Rattle.tox_log.proofs.line_reader.LineReader.take.Goals as goal
+
+pub returns-in-Some : goal.returns-in-Some
+returns-in-Some c =
+    let lines = c.args.self.now in
+    let block : List ℕ = c.deref.result.now in
+    let w : List ℕ = slice_range block lines.start lines.stop in
+    let place : ℕ = c.in-Some.place in
+    let below : place < length w = c.in-Some.ensures.0.high in
+    let feed : get_or w place 0 ≡ 10 = grind (arith, nat_tests, c.in-Some.ensures.1) in
+    let given = c.deref.ensures.value in
+    let rest = range-rest block lines.start lines.stop (place + 1) (range-within block lines.start lines.stop place below) in (
+      take place w,
+      ap (λ b. slice_range b lines.start lines.stop) (sym given) ∙ parts-at w place 10 below feed
+          ∙ ap (λ rest. take place w ++ 10 ∷ rest) (sym rest ∙ ap (λ b. slice_range b (lines.start + (place + 1)) lines.stop) given),
+      c.add.ensures,
+    )
+
+pub returns-in-None : goal.returns-in-None
+returns-in-None c =
+    let lines = c.args.self.now in (
+      waiting lines,
+      sym (append-nil (waiting lines)) ∙ ap (λ rest. waiting lines ++ rest) (sym (range-none lines.block.items lines.stop)),
+      subst (λ b. (text : List ℕ) → (lines.long ≡ false → lines.line.items ≡ text) → c.add-in-None.new.long ≡ false → c.add-in-None.new.line.items ≡ text ++ slice_range b lines.start lines.stop) c.deref.ensures.value c.add-in-None.ensures,
+    )

@@ -1,0 +1,15 @@
+-- The plan of the chain, with the words of the stream.
+use Rattle.std.proofs.Common.{[], refl, ◌∙◌, ap}
+use Rattle.tox_compile.specs.Meaning.{means}
+use Rattle.tox_defs.specs.Flow.{chain_flow}
+use Rattle.tox_log.proofs.replay.begin.Goals as goal
+
+pub returns-clause-begins : goal.returns-clause-begins
+returns-clause-begins c = record {
+  means = means c.compile-plan.result c.in_ok-words.words;
+  meaning = λ items stream. c.compile-plan.ensures.means items stream
+      ∙ ap (λ chain. chain_flow chain c.in_ok-words.words items) c.chain.ensures
+      ∙ ap (λ words. chain_flow c.args.log.now.chain words items) c.in_ok-words.ensures;
+  heard = record { events = []; lines = refl; judged = λ told all. c.in_ok-begin.ensures.judged told };
+  unfinished = refl;
+}

@@ -1,0 +1,11 @@
+-- The stream ended so.
+use Rattle.std.proofs.Common.{refl}
+use Rattle.std.proofs.Common.{rules}
+use Rattle.tox_log.proofs.Hearing.{hears-last}
+use Rattle.tox_log.proofs.replay.hear_ending.Goals as goal
+
+pub returns-in_default-clause-hears : goal.returns-in_default-clause-hears
+returns-in_default-clause-hears c = λ means text heard. (refl, hears-last means text c.args.hearing.now.judge c.has_ended.new.judge c.args.reading.now c.args.ending.now heard c.has_ended.ensures.counts (c.has_ended.ensures.reports (search rules)))
+
+pub returns-in_ok-add-clause-hears : goal.returns-in_ok-add-clause-hears
+returns-in_ok-add-clause-hears c = λ means text heard. (refl, hears-last means text c.args.hearing.now.judge c.has_ended.new.judge c.args.reading.now c.args.ending.now heard c.has_ended.ensures.counts (c.has_ended.ensures.reports (search rules)))

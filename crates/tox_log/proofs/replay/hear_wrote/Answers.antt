@@ -1,0 +1,8 @@
+-- The event is heard.
+use Rattle.tox_link.specs.declared.notes.LinkEvent.TheVariants.{Wrote}
+use Rattle.std.proofs.Common.{rules}
+use Rattle.tox_log.proofs.Hearing.{says-event}
+use Rattle.tox_log.proofs.replay.hear_wrote.Goals as goal
+
+pub returns-clause-hears : goal.returns-clause-hears
+returns-clause-hears c = λ means text heard. says-event means text c.args.hearing.now.judge c.hear_wrote.new.judge (Wrote c.args.slice.now c.args.reading.now) c.args.hearing.now.verdict c.requires.going (c.hear_wrote.ensures.hears (search rules)) heard

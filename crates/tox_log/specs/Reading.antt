@@ -1,0 +1,51 @@
+-- The lines that are read of a log, beside the bytes that they come from.
+use Rattle.std.specs.Prelude.{◌≡◌, ℕ, Bool, true, false, if◌then◌else◌, List, [], ◌∷◌, ◌++◌, slice_range, Option}
+use Rattle.std.specs.Io.KnownBytes.{IsAtEnd, prepend_known}
+use Rattle.tox_log.specs.declared.line_reader.LineReader.{LineReader}
+use Rattle.tox_log.specs.declared.open_log.OpenLog.{OpenLog}
+use Rattle.tox_log.specs.declared.event_line.LogLine.{LogLine}
+use Rattle.tox_log.specs.declared.event_line.LogLine.TheVariants.{Event, Last}
+use Rattle.tox_log.specs.Lines.{IsWritable, line_words}
+
+-- the bytes of the block that were not taken yet
+abbrev pub waiting : LineReader → List ℕ
+waiting lines = slice_range lines.block.items lines.start lines.stop
+
+-- the bytes that lines come from: those of the block, and then the reader's
+abbrev pub to_take : LineReader → Option (List ℕ) → Option (List ℕ)
+to_take lines remaining = prepend_known (waiting lines) remaining
+
+-- the line has these bytes, unless it is too long
+abbrev pub HasLine : LineReader → List ℕ → Type 0
+HasLine lines text = lines.long ≡ false → lines.line.items ≡ text
+
+-- bytes were taken, and the line has them
+pub record Takes (old new : LineReader) (before after : Option (List ℕ)) (text taken : List ℕ) : Type 0 where
+  pub given : to_take old before ≡ prepend_known taken (to_take new after)
+  pub line : HasLine new text
+
+-- a line was taken with its line feed
+abbrev pub TakesLine : LineReader → LineReader → Option (List ℕ) → Option (List ℕ) → Type 0
+TakesLine old new before after = (text : List ℕ) × Takes old new before after text (text ++ 10 ∷ [])
+
+-- no further line came: what was left has no line feed, and the reader is at its end
+pub record TakesRest (old new : LineReader) (before after : Option (List ℕ)) : Type 0 where
+  pub torn : List ℕ
+  pub given : to_take old before ≡ prepend_known torn (to_take new after)
+  pub ended : IsAtEnd (to_take new after)
+
+-- the bytes of the lines that are still to be handed out
+abbrev pub to_hand : OpenLog → Option (List ℕ) → Option (List ℕ)
+to_hand log remaining =
+    if log.waits then prepend_known (log.lines.line.items ++ 10 ∷ []) (to_take log.lines remaining) else to_take log.lines remaining
+
+abbrev pub is_last : LogLine → Bool
+is_last (Event event) = false
+is_last (Last last) = true
+
+-- a line was handed out: the bytes are its text and a line feed, and none came behind the last one
+pub record Hands (old new : OpenLog) (before after : Option (List ℕ)) (line : LogLine) : Type 0 where
+  pub given : to_hand old before ≡ prepend_known (line_words line ++ 10 ∷ []) (to_hand new after)
+  pub writable : IsWritable line
+  pub going : old.over ≡ false
+  pub over : new.over ≡ is_last line
