@@ -1,11 +1,15 @@
 """Proxies on 127.0.0.1 before one upstream, and what a process costs."""
 import json
 import os
+import resource
 import signal
 import socket
 import subprocess
 import time
 
+TOXI = os.path.join(os.path.dirname(os.path.abspath(__file__)), "..", "..", "crates", "toxi", "out", "toxi")
+# The ways in which `toxi serve` drives links.
+ENGINES = {"threads": [], "workers": ["--workers", "2"]}
 TICKS = os.sysconf("SC_CLK_TCK")
 PAGE = os.sysconf("SC_PAGE_SIZE")
 
@@ -14,6 +18,11 @@ def rule(kind, attributes, stream="downstream"):
     """The script of one toxic on each link."""
     toxic = f'[[rule.toxic]]\ntype = "{kind}"\nstream = "{stream}"\nattributes = {{ {attributes} }}\n'
     return f'[[rule]]\nproxy = "bench"\nfirst = 1\n{toxic}'
+
+
+def most_links():
+    """10,000, or as many as the limit of descriptors allows at two for each."""
+    return min(10_000, resource.getrlimit(resource.RLIMIT_NOFILE)[0] // 2 - 100)
 
 
 def free_port():
@@ -50,14 +59,16 @@ def direct(upstream):
     return Proxy("no proxy", upstream, None)
 
 
-def toxi(program, folder, upstream, name="toxi", script="", options=()):
+def toxi(folder, upstream, engine, script="", options=(), name=None):
+    """A proxy of Toxi's that drives links in one of its ways."""
+    name = name or engine
     config = os.path.join(folder, f"{name}.json")
     rules = os.path.join(folder, f"{name}.toml")
     with open(config, "w") as file:
         json.dump([{"name": "bench", "listen": "127.0.0.1:0", "upstream": f"127.0.0.1:{upstream}"}], file)
     with open(rules, "w") as file:
         file.write(script)
-    command = [program, "serve", "--config", config, "--script", rules, "--seed", "1", *options]
+    command = [TOXI, "serve", "--config", config, "--script", rules, "--seed", "1", *ENGINES[engine], *options]
     lines = open(os.path.join(folder, f"{name}.out"), "w")
     process = subprocess.Popen(command, stdout=lines)
     for _ in range(200):
@@ -69,9 +80,9 @@ def toxi(program, folder, upstream, name="toxi", script="", options=()):
     raise SystemExit("toxi doesn't listen")
 
 
-def toxi_latency(program, folder, upstream):
+def toxi_latency(folder, upstream):
     both = rule("latency", "latency = 0") + rule("latency", "latency = 0", "upstream").split("first = 1\n")[1]
-    return toxi(program, folder, upstream, "toxi, latency 0", both)
+    return toxi(folder, upstream, "threads", both, name="threads, latency 0")
 
 
 def socat(folder, upstream):
@@ -87,7 +98,7 @@ def haproxy(folder, upstream):
     config = os.path.join(folder, "haproxy.cfg")
     with open(config, "w") as file:
         file.write(
-            "global\n nbthread 2\n maxconn 9000\n"
+            f"global\n nbthread 2\n maxconn {most_links()}\n"
             "defaults\n mode tcp\n timeout connect 5s\n timeout client 300s\n timeout server 300s\n"
             f"listen bench\n bind 127.0.0.1:{port}\n server one 127.0.0.1:{upstream}\n"
         )

@@ -3,6 +3,8 @@ import select
 import socket
 import time
 
+import proxies
+
 # How long the upstream waits for one more of them, in seconds.
 PATIENCE = 8
 
@@ -65,7 +67,7 @@ class Burst:
         elif event & select.EPOLLIN and end.recv(1) == b"a":
             self.count_one()
 
-    def run(self, count):
+    def reach(self, count):
         """How many have reached the upstream, and the seconds until the last one had."""
         while self.reached < count:
             told = self.waiting.poll(PATIENCE)
@@ -76,7 +78,29 @@ class Burst:
                     self.accept()
                 else:
                     self.hear(self.ends[descriptor], event)
+        return self.reached, self.last - self.begun
+
+    def close(self):
         for end in self.ends.values():
             end.close()
         self.waiting.close()
-        return self.reached, self.last - self.begun
+
+
+def measure(_, folder):
+    """Clients that connect at the same moment, and say a byte at once or nothing."""
+    print("clients at once: how many reach the upstream, and the seconds until the last one does")
+    for count, talks in ((500, True), (1000, True), (1000, False), (2000, True), (4000, True), (proxies.most_links(), True)):
+        print(f"  {count} that {'say a byte' if talks else 'are quiet'}")
+        with listen() as listener:
+            port = listener.getsockname()[1]
+            # Threads or a process for each of so many are more than most machines are set for.
+            many = count > 4000
+            rivals = [proxies.toxi(folder, port, name) for name in proxies.ENGINES if not many or name == "workers"]
+            rivals += [proxies.haproxy(folder, port)] if many else [proxies.socat(folder, port), proxies.haproxy(folder, port)]
+            for proxy in rivals:
+                time.sleep(0.5)
+                burst = Burst(proxy.port, listener, count, talks)
+                reached, seconds = burst.reach(count)
+                burst.close()
+                print(f"    {proxy.name:<10} {reached} of {count}, {seconds:.2f} s", flush=True)
+                proxy.stop()

@@ -1,25 +1,15 @@
-#!/usr/bin/env python3
-"""Measures both ways in which `toxi serve` drives links, with clients that people use, beside haproxy with as many threads, in one run.
-
-    ./build
-    apt-get install haproxy wrk nginx-light redis-server redis-tools iperf3
-    bench/live/services [PROGRAM]
-
-A figure is the best of three turns, in which the proxies take turns. Behind it stands its ratio to haproxy's.
-"""
+"""Loads by clients that people use, through each proxy. A figure is the best of three turns, in which the proxies take turns; behind it stands its ratio to haproxy's."""
+import glob
 import json
 import os
 import re
+import shutil
 import subprocess
-import sys
 import tempfile
 import time
 
 import proxies
 
-HERE = os.path.dirname(os.path.abspath(__file__))
-TOXI = sys.argv[1] if len(sys.argv) > 1 else os.path.join(HERE, "..", "..", "crates", "toxi", "out", "toxi")
-WORKERS = "2"
 TURNS = 3
 SECONDS = 3
 
@@ -28,9 +18,15 @@ def contenders(folder, port):
     return [
         proxies.direct(port),
         proxies.haproxy(folder, port),
-        proxies.toxi(TOXI, folder, port, "threads"),
-        proxies.toxi(TOXI, folder, port, "workers", options=["--workers", WORKERS]),
+        *(proxies.toxi(folder, port, name) for name in proxies.ENGINES),
+        *(logged(folder, port, name) for name in proxies.ENGINES),
     ]
+
+
+def logged(folder, port, engine):
+    """A proxy that logs its links."""
+    logs = tempfile.mkdtemp(dir=folder)
+    return proxies.toxi(folder, port, engine, options=["--log", logs], name=f"{engine} that log")
 
 
 def said_by(*command):
@@ -58,7 +54,7 @@ def iperf(streams, *options):
     return rate
 
 
-def measure(folder, port, what, rate, unit):
+def compare(folder, port, what, rate, unit):
     """One load through each proxy."""
     rivals = contenders(folder, port)
     best = {proxy.name: 0.0 for proxy in rivals}
@@ -92,7 +88,7 @@ def nginx(folder):
 def over_http(folder):
     server, port = nginx(folder)
     for path, links in (("small", 16), ("small", 400), ("large", 16)):
-        measure(folder, port, f"wrk, {path} answers, {links} links", wrk(path, links), "requests/s")
+        compare(folder, port, f"wrk, {path} answers, {links} links", wrk(path, links), "requests/s")
     server.terminate()
     server.wait()
 
@@ -103,26 +99,54 @@ def over_redis(folder):
     server = subprocess.Popen(command, stdout=subprocess.DEVNULL)
     proxies.wait_for(port)
     for pipeline in (1, 16):
-        measure(folder, port, f"redis-benchmark GET, 50 links, pipeline {pipeline}", redis(50, pipeline), "requests/s")
+        compare(folder, port, f"redis-benchmark GET, 50 links, pipeline {pipeline}", redis(50, pipeline), "requests/s")
     server.terminate()
     server.wait()
 
 
 def over_iperf(folder):
     port = proxies.free_port()
-    server = subprocess.Popen(["iperf3", "-s", "-p", str(port)], stdout=subprocess.DEVNULL)
+    server = subprocess.Popen(["iperf3", "-s", "-p", str(port)], stdout=subprocess.DEVNULL, stderr=subprocess.DEVNULL)
     time.sleep(0.5)
     for what, load in (("up", iperf(1)), ("down", iperf(1, "-R")), ("8 streams up", iperf(8))):
-        measure(folder, port, f"iperf3, {what}", load, "Gbit/s")
+        compare(folder, port, f"iperf3, {what}", load, "Gbit/s")
     server.terminate()
     server.wait()
 
 
-def main():
-    with tempfile.TemporaryDirectory() as folder:
-        over_http(folder)
-        over_redis(folder)
-        over_iperf(folder)
+def start_postgres(folder):
+    """PostgreSQL as its own user, which it insists on."""
+    programs = sorted(glob.glob("/usr/lib/postgresql/*/bin"))[-1]
+    data, port = os.path.join(folder, "postgres"), proxies.free_port()
+    os.makedirs(data)
+    shutil.chown(data, "postgres")
+    as_user = ["runuser", "-u", "postgres", "--"]
+    quiet = {"check": True, "stdout": subprocess.DEVNULL, "stderr": subprocess.DEVNULL}
+    subprocess.run([*as_user, f"{programs}/initdb", "-D", data, "-A", "trust"], **quiet)
+    command = [f"{programs}/postgres", "-D", data, "-p", str(port), "-k", "", "-c", "max_connections=200", "-c", "fsync=off"]
+    server = subprocess.Popen([*as_user, *command], stdout=subprocess.DEVNULL, stderr=subprocess.DEVNULL)
+    proxies.wait_for(port)
+    while subprocess.run(["pgbench", "-h", "127.0.0.1", "-p", str(port), "-U", "postgres", "-i", "postgres"], stdout=subprocess.DEVNULL, stderr=subprocess.DEVNULL).returncode:
+        time.sleep(0.2)
+    return server, port
 
 
-main()
+def pgbench(links):
+    def rate(port):
+        said = said_by("pgbench", "-h", "127.0.0.1", "-p", str(port), "-U", "postgres", "-S", "-n", "-c", str(links), "-j", "2", "-T", str(SECONDS), "postgres")
+        return float(re.search(r"tps = ([\d.]+)", said)[1])
+    return rate
+
+
+def over_postgres(folder):
+    server, port = start_postgres(folder)
+    compare(folder, port, "pgbench -S, 32 links", pgbench(32), "transactions/s")
+    server.terminate()
+    server.wait()
+
+
+def measure(_, folder):
+    over_http(folder)
+    over_redis(folder)
+    over_iperf(folder)
+    over_postgres(folder)
