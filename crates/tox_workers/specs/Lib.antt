@@ -1,4 +1,5 @@
 pub mod Driven
 pub mod Lanes
 pub mod Tokens
+pub mod Places
 pub mod Ready

@@ -1,6 +1,7 @@
 //! The links of a worker, in slots that are used again.
 ghost use Rattle.std.specs.Prelude.{◌≡◌, ◌<◌, ◌^◌, IfSome, None, Some};
-ghost use Rattle.slab.specs.Slab.{get};
+ghost use Rattle.slab.specs.Slab.{Updates, get};
+ghost use Rattle.tox_workers.specs.Places.{freed, stage_of, with_stage};
 
 use crate::link_key::LinkKey;
 use crate::stage::Stage;
@@ -58,7 +59,10 @@ impl<'r, R: Clock + Wait> Links<'r, R> {
 
     /// A place for one more link. None if out of memory.
     pub(crate) fn open(&mut self) -> Option<LinkKey>
-        ensures { IfSome result (λ key. key.slot < 2 ^ 30) }
+        ensures fits { IfSome result (λ key. key.slot < 2 ^ 30) }
+        ensures free { IfSome result (λ key. get self.old.places key.slot ≡ None) }
+        ensures opens { IfSome result (λ key. Updates self.old.places self.new.places key.slot
+            (Some (record { generation = key.generation; stage = None }))) }
     {
         let generation = self.next;
         self.next = generation.wrapping_add(1);
@@ -93,8 +97,9 @@ impl<'r, R: Clock + Wait> Links<'r, R> {
 
     /// Takes a link out of its place, to drive it. None if the key is that of a link that has ended.
     pub(crate) fn take(&mut self, key: LinkKey) -> Option<Stage<'r, R>>
-        ensures { IfSome result (λ stage. (place : _) × (get self.old.places key.slot ≡ Some place)
-            × (place.generation ≡ key.generation) × (place.stage ≡ Some stage)) }
+        ensures takes { result ≡ stage_of key.generation (get self.old.places key.slot) }
+        ensures leaves { Updates self.old.places self.new.places key.slot
+            (with_stage key.generation None (get self.old.places key.slot)) }
     {
         let place = self.places.get_mut(key.slot as usize)?;
         if place.generation != key.generation {
@@ -104,15 +109,24 @@ impl<'r, R: Clock + Wait> Links<'r, R> {
     }
 
     /// Puts a link back into its place.
-    pub(crate) fn put(&mut self, key: LinkKey, stage: Stage<'r, R>) {
-        match self.places.get_mut(key.slot as usize) {
-            Some(place) if place.generation == key.generation => place.stage = Some(stage),
-            _ => {}
+    pub(crate) fn put(&mut self, key: LinkKey, stage: Stage<'r, R>)
+        ensures { Updates self.old.places self.new.places key.slot
+            (with_stage key.generation (Some stage.entry) (get self.old.places key.slot)) }
+    {
+        let Some(place) = self.places.get_mut(key.slot as usize) else {
+            return;
+        };
+        if place.generation == key.generation {
+            let before = place.stage.replace(stage);
+            drop(before);
         }
     }
 
     /// Frees the place of a link that was taken out. Its key names no link from now on.
-    pub(crate) fn close(&mut self, key: LinkKey) {
+    pub(crate) fn close(&mut self, key: LinkKey)
+        ensures { Updates self.old.places self.new.places key.slot
+            (freed key.generation (get self.old.places key.slot)) }
+    {
         let slot = key.slot as usize;
         match self.places.get(slot) {
             Some(place) if place.generation == key.generation => {}
