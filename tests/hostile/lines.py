@@ -10,7 +10,7 @@ from served import serve_command
 from waiting import LIMIT, check, check_in_time
 
 # So many links in turn, whose lines take far more than the output and the queue before it hold.
-LINKS = 3_000
+LINKS = 4_500
 NAME = "shop" + "p" * 200
 # What memory may grow by while the lines wait, in KB.
 GROWTH = 1_024
@@ -22,6 +22,12 @@ def resident(process):
     """The memory of a process, in KB."""
     with open(f"/proc/{process.pid}/status") as file:
         return int(re.search(r"VmRSS:\s+(\d+)", file.read())[1])
+
+
+def settled(process):
+    """Its memory once nothing waits for the writer of logs."""
+    time.sleep(1)
+    return resident(process)
 
 
 def carry(port, upstream, links):
@@ -43,10 +49,10 @@ def nobody_reads_the_lines(program, folder):
         pipe = subprocess.PIPE
         with subprocess.Popen(command, env=ONE_STORE, stdout=pipe, stderr=pipe, text=True) as process:
             port = int(process.stdout.readline().rpartition(":")[2])
-            carry(port, upstream, LINKS // 2)
-            before = resident(process)
-            carry(port, upstream, LINKS // 2)
-            grown = resident(process) - before
+            carry(port, upstream, LINKS * 2 // 3)
+            before = settled(process)
+            carry(port, upstream, LINKS // 3)
+            grown = settled(process) - before
             output, errors = process.communicate(timeout=LIMIT)
     lines = output.splitlines()
     numbers = [int(re.fullmatch(rf"link {NAME} (\d+) up 0 \w+ down 0 \w+", line)[1]) for line in lines[:-1]]
