@@ -1,0 +1,4 @@
+pub mod Silencing
+pub mod SamePlan
+pub mod SlicedLast
+pub mod Unchanged

@@ -1,0 +1,79 @@
+-- Toxics that change nothing.
+use Rattle.std.specs.Prelude.{ℕ, zero, suc, ◌==◌, ◌&&◌, ◌||◌, Bool, true, false, List, [], ◌∷◌, drop, length, nat_le, slice_get, take, Option, None, Some, if◌then◌else◌}
+use Rattle.std.specs.List.{list_any}
+use Rattle.tox_time.specs.declared.streams.item.Item.{Item}
+use Rattle.tox_time.specs.streams.Stream.{IsStream}
+use Rattle.tox_time.specs.streams.Table.{SameResult}
+use Rattle.tox_defs.specs.declared.chain.Entry.{Entry}
+use Rattle.tox_defs.specs.declared.toxic.Toxic.{Toxic}
+use Rattle.tox_defs.specs.declared.toxic.Toxic.TheVariants.{Latency, Bandwidth, SlowClose, Timeout, Slicer}
+use Rattle.tox_defs.specs.chain.Chain.{Toxics}
+use Rattle.tox_defs.specs.Flow.{chain_flow}
+use Rattle.tox_idle.specs.declared.idleness.Idleness.{Idleness}
+use Rattle.tox_idle.specs.declared.idleness.Idleness.TheVariants.{DoesNothing, Lost, CutsLast}
+
+-- the entries with the toxicity 0 at a place
+abbrev pub silenced : ℕ → List Entry → List Entry
+silenced place [] = []
+silenced zero (entry ∷ entries) = record { toxic = entry.toxic; toxicity = 0 } ∷ entries
+silenced (suc place) (entry ∷ entries) = entry ∷ silenced place entries
+
+-- with the toxicity 0 at a place a chain gives the same table and ending, whatever the words and the arrivals
+abbrev pub ChangesNothing : ℕ → Toxics → Type 0
+ChangesNothing place chain =
+    (words : List ℕ) (items : List Item) → IsStream items
+    → SameResult (chain_flow chain words items)
+    (chain_flow (record { lanes = chain.lanes; entries = silenced place chain.entries }) words items)
+
+-- whether a toxic does nothing: a latency of 0 without jitter, or a slow_close of 0
+abbrev pub does_nothing : Toxic → Bool
+does_nothing (Latency latency jitter until) = latency == 0 && (jitter == 0)
+does_nothing (SlowClose delay) = delay == 0
+does_nothing other = false
+
+-- whether a toxic works on data alone: a bandwidth, or a slicer
+abbrev pub needs_data : Toxic → Bool
+needs_data (Bandwidth rate until) = true
+needs_data (Slicer average variation delay until) = true
+needs_data other = false
+
+-- whether a toxic is a timeout, which drops all data
+abbrev pub is_timeout : Toxic → Bool
+is_timeout (Timeout timeout) = true
+is_timeout other = false
+
+-- whether a toxic drops all data on each link: a timeout that is always applied
+abbrev pub drops_all : Entry → Bool
+drops_all entry = is_timeout entry.toxic && (entry.toxicity == 1000)
+
+-- whether the toxic at a place has no data to work on, or its work is lost: a toxic before it, or one behind it, drops all
+abbrev pub is_lost : ℕ → Toxic → List Entry → Bool
+is_lost place toxic entries =
+    (needs_data toxic && list_any drops_all (take place entries))
+    || list_any drops_all (drop (suc place) entries)
+
+-- whether a toxic cuts chunks and holds none: a slicer without delay
+abbrev pub only_cuts : Toxic → Bool
+only_cuts (Slicer average variation delay until) = delay == 0
+only_cuts other = false
+
+-- whether the toxic at a place cuts chunks for none behind it
+abbrev pub cuts_last : ℕ → Toxic → List Entry → Bool
+cuts_last place toxic entries = only_cuts toxic && nat_le (length entries) (suc place)
+
+-- why the toxic at a place changes nothing, if it is known to
+abbrev pub reason : ℕ → Toxic → List Entry → Option Idleness
+reason place toxic entries =
+    if does_nothing toxic then Some DoesNothing
+    else if is_lost place toxic entries then Some Lost
+    else if cuts_last place toxic entries then Some CutsLast
+    else None
+
+-- the reason of an entry, if there is one
+abbrev pub reason_of : ℕ → List Entry → Option Entry → Option Idleness
+reason_of place entries None = None
+reason_of place entries (Some entry) = reason place entry.toxic entries
+
+-- why the toxic at a place changes nothing, if one stands there and is known to
+abbrev pub idleness_at : ℕ → List Entry → Option Idleness
+idleness_at place entries = reason_of place entries (slice_get entries place)
