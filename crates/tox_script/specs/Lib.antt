@@ -5,6 +5,7 @@ pub mod chains
 pub mod Rule
 pub mod Script
 pub mod Covering
+pub mod Scopes
 pub mod index
 pub mod Migrated
 pub mod Views

@@ -5,6 +5,7 @@ ghost use Rattle.tox_script.specs.chains.Chains.{no_chains};
 ghost use Rattle.tox_script.specs.Covering.{covers, is_up_to};
 ghost use Rattle.tox_script.specs.Rule.{rule_of};
 ghost use Rattle.tox_script.specs.index.Steps.{Descends, rule_at};
+ghost use Rattle.tox_script.specs.Scopes.{scope_of, scope_view};
 ghost use Rattle.tox_script.specs.chains.Toxics.{read_toxics};
 ghost use Rattle.tox_script.specs.ScriptFaults.{IsScriptFault};
 ghost use Rattle.tox_script.specs.Views.{held_toxics, rule_view};
@@ -16,6 +17,7 @@ use crate::chains::rule_toxics::RuleToxics;
 use crate::fault::{Location, ScriptFault};
 use crate::fields::rule_fields::RuleFields;
 use crate::index::step::Step;
+use crate::scope::Scope;
 use crate::settings::Settings;
 use std::alloc::{AllocError, Global};
 use toml::Value;
@@ -111,6 +113,17 @@ impl Rule {
         match self.last {
             None => None,
             Some(last) => last.checked_add(1),
+        }
+    }
+
+    /// The connections that the rule is for.
+    pub(crate) fn scope(&self) -> Scope<'_>
+        ensures { (lanes : Lanes) → scope_view result ≡ scope_of (rule_view lanes self.now) }
+    {
+        Scope {
+            proxy: &self.proxy,
+            first: self.first,
+            last: self.last,
         }
     }
 

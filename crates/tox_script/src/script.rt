@@ -4,6 +4,7 @@ ghost use Rattle.std.specs.Str.{is_utf8};
 ghost use Rattle.toml.specs.View.{items_view, view};
 ghost use Rattle.tox_script.specs.ScriptFaults.{IsScriptFault};
 ghost use Rattle.tox_script.specs.Views.{rule_view};
+ghost use Rattle.tox_script.specs.Scopes.{scope_of, scope_view};
 ghost use Rattle.tox_script.specs.Script.{rules_from, script_in, script_of, toml_of};
 ghost use Rattle.tox_script.specs.declared.fault.ScriptFault.TheVariants.{NotToml, OutOfMemory};
 
@@ -12,6 +13,7 @@ use crate::fault::{Location, ScriptFault};
 use crate::fields::document::DocumentFields;
 use crate::index::rule_index::RuleIndex;
 use crate::rule::Rule;
+use crate::scope::Scope;
 use crate::settings::Settings;
 use crate::version::Version;
 use std::alloc::{AllocError, Global};
@@ -97,6 +99,17 @@ impl Script {
             Some(rule) => rule.order(),
             None => &[],
         }
+    }
+
+    /// The connections that the rule of a number from 0 is for.
+    pub fn scope(&self, rule: usize) -> Option<Scope<'_>>
+        ensures { option_map scope_view result
+            ≡ option_map scope_of (slice_get self.now.rules rule) }
+    {
+        let Some(found) = self.numbered(Some(rule)) else {
+            return None;
+        };
+        Some(found.scope())
     }
 
     fn numbered(&self, rule: Option<usize>) -> Option<&Rule>

@@ -4,6 +4,8 @@ pub mod ResultText
 pub mod PlanText
 pub mod ShortForm
 pub mod Names
+pub mod Json
+pub mod JsonLine
 pub mod Parts
 pub mod PickText
 pub mod PrintingPick

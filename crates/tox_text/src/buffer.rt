@@ -93,7 +93,11 @@ impl Buffer {
         Ok(())
     }
 
-    fn put_number<W: Sink>(&mut self, writer: &mut W, number: u64) -> Result<(), EndFault>
+    pub(crate) fn put_number<W: Sink>(
+        &mut self,
+        writer: &mut W,
+        number: u64,
+    ) -> Result<(), EndFault>
         requires { W.failed writer.old ≡ false }
         ensures { Prints result (W.written writer.old) self.old (W.written writer.new) self.new
             (W.failed writer.new) (decimal number) }

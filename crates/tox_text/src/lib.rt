@@ -4,6 +4,8 @@
 mod arrivals;
 mod buffer;
 mod fault;
+mod json;
+mod json_line;
 mod migrated_text;
 mod names;
 mod parts;
@@ -19,6 +21,8 @@ pub use arrivals::list::list_arrivals;
 pub use arrivals::text_lines::first_line;
 pub use buffer::{Buffer, write_parts};
 pub use fault::{DryFault, WriteFault};
+pub use json::{JsonItem, JsonValue, print_quoted};
+pub use json_line::{JsonField, print_event, print_fields, print_object, write_object};
 pub use migrated_text::{PrintMigratedFault, print_migrated};
 pub use names::VisibleName;
 pub use parts::Part;

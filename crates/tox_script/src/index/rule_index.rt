@@ -32,6 +32,8 @@ impl Model for RuleIndex {
 }
 
 impl RuleIndex {
+    ghost use Rattle.tox_script.specs.index.Steps.{Descends};
+
     /// The index of some rules.
     pub(crate) fn of(alloc: Global, rules: &[Rule], proxy: &str) -> Result<RuleIndex, AllocError>
         ensures { IfOk result (λ index. (conn : ℕ) → conn < 2 ^ 64 → rule_at conn index
@@ -51,6 +53,14 @@ impl RuleIndex {
         } else {
             None
         }
+    }
+
+    /// The steps of the index, the latest first.
+    pub fn steps(&self) -> &[Step]
+        ensures found { result.now ≡ self.now }
+        ensures descends { Descends (2 ^ 64) result.now }
+    {
+        &self.steps
     }
 
     /// How many steps begin behind a connection. They are the first ones.
