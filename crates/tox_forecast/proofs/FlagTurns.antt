@@ -8,7 +8,8 @@ use Rattle.tox_defs.specs.declared.chain.Entry.{Entry}
 use Rattle.tox_text.proofs.Listed.{IsAt, IsAt-enumerate, IsAt-read}
 use Rattle.tox_forecast.specs.Applied.{applied_flags}
 
-take-more_at : {X : Type 0} (xs : List X) (i : ℕ) (x : X) → IsAt xs i x → take (i + 1) xs ≡ take i xs ++ x ∷ []
+-- the first elements and one more
+pub take-more_at : {X : Type 0} (xs : List X) (i : ℕ) (x : X) → IsAt xs i x → take (i + 1) xs ≡ take i xs ++ x ∷ []
 take-more_at xs i x here = take_more xs i here.default here.below ∙ ap (λ y. take i xs ++ y ∷ []) (sym here.is)
 
 IsAt-map : {X Y : Type 0} (f : X → Y) (xs : List X) (i : ℕ) (x : X) → IsAt xs i x → IsAt (map f xs) i (f x)

@@ -4,3 +4,4 @@ pub mod TallySteps
 pub mod LinkTexts
 pub mod FlagTurns
 pub mod TotalParts
+pub mod ObjectFields

@@ -20,12 +20,12 @@ chains_found proxy script conn rule chains met is = is ∙ ap (λ r. chains_numb
 pub link_text-found : (question : Question) (proxy : List ℕ) (script : Rules) (conn : ℕ) (rule : Option ℕ) (chains : Chains) (up down : List Bool)
     → rule ≡ covering_number proxy conn script → chains ≡ chains_for proxy conn script
     → up ≡ flags_for proxy script question.seed conn Upstream → down ≡ flags_for proxy script question.seed conn Downstream
-    → wanted_line question conn Upstream rule chains.upstream.names up ++ wanted_line question conn Downstream rule chains.downstream.names down ≡ link_text question proxy script conn
+    → wanted_line question proxy conn Upstream rule chains.upstream.names up ++ wanted_line question proxy conn Downstream rule chains.downstream.names down ≡ link_text question proxy script conn
 link_text-found question proxy script conn rule chains up down met is ups downs =
-    ap (λ r. wanted_line question conn Upstream r chains.upstream.names up ++ wanted_line question conn Downstream r chains.downstream.names down) met
-    ∙ ap (λ (cs : Chains). wanted_line question conn Upstream (covering_number proxy conn script) cs.upstream.names up ++ wanted_line question conn Downstream (covering_number proxy conn script) cs.downstream.names down) is
-    ∙ ap (λ fs. wanted_line question conn Upstream (covering_number proxy conn script) (chains_for proxy conn script).upstream.names fs ++ wanted_line question conn Downstream (covering_number proxy conn script) (chains_for proxy conn script).downstream.names down) ups
-    ∙ ap (λ fs. wanted_line question conn Upstream (covering_number proxy conn script) (chains_for proxy conn script).upstream.names (flags_for proxy script question.seed conn Upstream) ++ wanted_line question conn Downstream (covering_number proxy conn script) (chains_for proxy conn script).downstream.names fs) downs
+    ap (λ r. wanted_line question proxy conn Upstream r chains.upstream.names up ++ wanted_line question proxy conn Downstream r chains.downstream.names down) met
+    ∙ ap (λ (cs : Chains). wanted_line question proxy conn Upstream (covering_number proxy conn script) cs.upstream.names up ++ wanted_line question proxy conn Downstream (covering_number proxy conn script) cs.downstream.names down) is
+    ∙ ap (λ fs. wanted_line question proxy conn Upstream (covering_number proxy conn script) (chains_for proxy conn script).upstream.names fs ++ wanted_line question proxy conn Downstream (covering_number proxy conn script) (chains_for proxy conn script).downstream.names down) ups
+    ∙ ap (λ fs. wanted_line question proxy conn Upstream (covering_number proxy conn script) (chains_for proxy conn script).upstream.names (flags_for proxy script question.seed conn Upstream) ++ wanted_line question proxy conn Downstream (covering_number proxy conn script) (chains_for proxy conn script).downstream.names fs) downs
 
 -- the flags
 pub flags_found : (proxy : List ℕ) (script : Rules) (seed conn : ℕ) (chains : Chains) → chains ≡ chains_for proxy conn script

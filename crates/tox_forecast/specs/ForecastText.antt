@@ -1,6 +1,6 @@
 -- The forecast text: a line for each stream of each connection of a proxy, and then a line for each toxic of each rule
 -- that was met.
-use Rattle.std.specs.Prelude.{ℕ, ◌+◌, ◌&&◌, Bool, true, false, List, [], ◌++◌, codes, decimal, flat_map, length, Option, None, Some, if◌then◌else◌}
+use Rattle.std.specs.Prelude.{ℕ, ◌&&◌, Bool, true, false, List, [], ◌++◌, codes, decimal, flat_map, length, Option, None, Some, if◌then◌else◌}
 use Rattle.std.specs.Borrow.{Bor}
 use Rattle.std.specs.List.{enumerate_from}
 use Rattle.tox_time.specs.declared.streams.stream.Stream.{Stream}
@@ -11,13 +11,9 @@ use Rattle.tox_script.specs.Rule.{Rules}
 use Rattle.tox_script.specs.index.Numbered.{chains_numbered, covering_number, order_numbered}
 use Rattle.tox_forecast.specs.Applied.{flags_for, meets_name}
 use Rattle.tox_forecast.specs.Counted.{numbers_from}
+use Rattle.tox_forecast.specs.Objects.{number_of, stream_object}
 use Rattle.tox_forecast.specs.Totals.{rule_totals, totals_of}
 use Rattle.tox_forecast.specs.declared.question.Question.{Question}
-
--- the number of a rule from 1, or 0 for none
-abbrev pub number_of : Option ℕ → ℕ
-number_of None = 0
-number_of (Some rule) = rule + 1
 
 -- the place of a toxic, where it is applied
 abbrev pub place_text : ℕ → Bool → List ℕ
@@ -38,6 +34,13 @@ line_head conn stream rule =
 abbrev pub stream_line : ℕ → Stream → Option ℕ → List Bool → List ℕ
 stream_line conn stream rule flags = line_head conn stream rule ++ (places_text flags ++ codes "\n")
 
+-- the line of a connection's stream, in words or as an object of JSON
+abbrev pub line_in : Bool → List ℕ → ℕ → Stream → Option ℕ → List Bool → List ℕ
+line_in json proxy conn stream rule flags =
+    if json
+    then stream_object proxy conn stream rule flags
+    else stream_line conn stream rule flags
+
 -- whether lines of a stream are wanted
 abbrev pub is_asked : Option Stream → Stream → Bool
 is_asked None of = true
@@ -49,16 +52,16 @@ has_wanted None names flags = true
 has_wanted (Some name) names flags = meets_name name.now names flags
 
 -- the line of a connection's stream, if it is wanted
-abbrev pub wanted_line : Question → ℕ → Stream → Option ℕ → List (List ℕ) → List Bool → List ℕ
-wanted_line question conn stream rule names flags =
+abbrev pub wanted_line : Question → List ℕ → ℕ → Stream → Option ℕ → List (List ℕ) → List Bool → List ℕ
+wanted_line question proxy conn stream rule names flags =
     if is_asked question.stream stream && has_wanted question.named names flags
-    then stream_line conn stream rule flags
+    then line_in question.json proxy conn stream rule flags
     else []
 
 -- what the forecast says of a connection's stream
 abbrev pub stream_text : Question → List ℕ → Rules → ℕ → Stream → List ℕ
 stream_text question proxy script conn stream =
-    wanted_line question conn stream (covering_number proxy conn script)
+    wanted_line question proxy conn stream (covering_number proxy conn script)
     (toxics_for proxy conn stream script).names (flags_for proxy script question.seed conn stream)
 
 -- what it says of a connection
@@ -76,7 +79,7 @@ links_text question proxy script =
 abbrev pub totals_text : Question → List ℕ → Rules → List ℕ
 totals_text question proxy script =
     flat_map (λ rule.
-    rule_totals rule
+    rule_totals question.json proxy rule
     (totals_of proxy script question.seed rule (numbers_from 1 question.links))
     (chains_numbered (Some rule) script) (order_numbered rule script))
     (numbers_from 0 (length script.rules))

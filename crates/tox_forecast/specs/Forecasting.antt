@@ -24,6 +24,7 @@ question_of request stream = record {
   seed = request.seed;
   stream = stream;
   named = request.named;
+  json = request.json;
 }
 
 -- the two files were read, and by them this text answers a question

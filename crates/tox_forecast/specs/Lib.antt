@@ -1,5 +1,6 @@
 pub mod Applied
 pub mod Counted
+pub mod Objects
 pub mod Totals
 pub mod ForecastText
 pub mod Tally

@@ -7,6 +7,7 @@ use Rattle.tox_script.specs.chains.Chains.{on}
 use Rattle.tox_script.specs.declared.chains.Chains.{Chains}
 use Rattle.tox_script.specs.index.Numbered.{covering_number}
 use Rattle.tox_forecast.specs.Applied.{flag_at, flags_for}
+use Rattle.tox_forecast.specs.Objects.{total_object}
 use Rattle.tox_forecast.specs.declared.totals.places.Places.{Places}
 
 -- how many connections met a rule, and by stream and place how many of them meet a toxic
@@ -62,20 +63,27 @@ total_line rule number applied met name =
     codes "rule " ++ decimal rule ++ codes " toxic " ++ decimal number ++ codes " applied "
     ++ decimal applied ++ codes " of " ++ decimal met ++ codes " " ++ name ++ codes "\n"
 
+-- the line of a toxic, in words or as an object of JSON
+abbrev pub total_in : Bool → List ℕ → ℕ → ℕ → ℕ → ℕ → List ℕ → List ℕ
+total_in json proxy rule number applied met name =
+    if json
+    then total_object proxy rule number applied met name
+    else total_line rule number applied met name
+
 -- the line of a placed toxic
-abbrev pub toxic_total : ℕ → Totals → Chains → PlacedToxic → List ℕ
-toxic_total rule totals chains placed =
-    total_line (rule + 1) placed.number (totals.applied placed.stream placed.place) totals.met
+abbrev pub toxic_total : Bool → List ℕ → ℕ → Totals → Chains → PlacedToxic → List ℕ
+toxic_total json proxy rule totals chains placed =
+    total_in json proxy (rule + 1) placed.number (totals.applied placed.stream placed.place) totals.met
     (slice_index_or (on placed.stream chains).names placed.place [])
 
 -- the lines of toxics on these streams, of which the first has these places
-abbrev pub toxic_totals : ℕ → Totals → Chains → Places → List Stream → List ℕ
-toxic_totals rule totals chains at order =
-    flat_map (toxic_total rule totals chains) (placed_from at order)
+abbrev pub toxic_totals : Bool → List ℕ → ℕ → Totals → Chains → Places → List Stream → List ℕ
+toxic_totals json proxy rule totals chains at order =
+    flat_map (toxic_total json proxy rule totals chains) (placed_from at order)
 
 -- the lines of a rule's toxics in the file's order, if the rule was met
-abbrev pub rule_totals : ℕ → Totals → Chains → List Stream → List ℕ
-rule_totals rule totals chains order =
+abbrev pub rule_totals : Bool → List ℕ → ℕ → Totals → Chains → List Stream → List ℕ
+rule_totals json proxy rule totals chains order =
     if totals.met == 0
     then []
-    else toxic_totals rule totals chains (record { number = 1; upstream = 0; downstream = 0 }) order
+    else toxic_totals json proxy rule totals chains (record { number = 1; upstream = 0; downstream = 0 }) order

@@ -119,6 +119,7 @@ impl<'a> Forecast<'a> {
             (IsTallied self.now.proxy.now self.now.script.now self.now.question.now.seed
             self.now.question.now.links tallies.new) }
     {
+        let proxy = self.proxy;
         let script = self.script;
         let index = self.index;
         let question = self.question;
@@ -127,7 +128,8 @@ impl<'a> Forecast<'a> {
             let rule = index.rule(conn);
             let chains = script.rule_chains(rule);
             let flags = link_flags(chains, question.seed, conn);
-            print_link(buffer, writer, question, Met { conn, rule }, chains, &flags)?;
+            let met = Met { proxy, conn, rule };
+            print_link(buffer, writer, question, &met, chains, &flags)?;
             count_link(tallies, rule, &flags);
         }
         Ok(())
@@ -148,10 +150,14 @@ impl<'a> Forecast<'a> {
             (W.failed writer.new)
             (totals_text self.now.question.now self.now.proxy.now self.now.script.now) }
     {
+        let json = self.question.json;
+        let proxy = self.proxy;
         let script = self.script;
         for (rule, tally) in tallies.iter().enumerate() {
             let chains = script.rule_chains(Some(rule));
             let counted = CountedRule {
+                json,
+                proxy,
                 rule,
                 tally,
                 chains,

@@ -4,6 +4,7 @@
 mod flags;
 mod forecast;
 mod line;
+mod object;
 mod question;
 mod request;
 mod tally;
@@ -12,3 +13,4 @@ mod totals;
 pub use forecast::print_forecast;
 pub use question::Question;
 pub use request::ForecastRequest;
+pub use totals::places::Places;

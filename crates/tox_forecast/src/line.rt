@@ -1,20 +1,23 @@
 //! The lines of a link.
-ghost use Rattle.std.specs.Prelude.{◌≡◌, ◌+◌, ◌<◌, ◌^◌, ◌++◌, false, map, string_bytes};
+ghost use Rattle.std.specs.Prelude.{◌≡◌, ◌+◌, ◌<◌, ◌^◌, ◌≤◌, ◌++◌, false, length, map, string_bytes};
 ghost use Rattle.std.specs.Option.{ForSome};
 ghost use Rattle.tox_time.specs.declared.streams.stream.Stream.TheVariants.{Upstream as Up, Downstream as Down};
 ghost use Rattle.tox_text.specs.Writing.{Prints};
-ghost use Rattle.tox_forecast.specs.ForecastText.{has_wanted, is_asked, line_head, number_of, place_text, places_text, stream_line, wanted_line};
+ghost use Rattle.tox_forecast.specs.ForecastText.{has_wanted, is_asked, line_head, line_in, place_text, places_text, stream_line, wanted_line};
+ghost use Rattle.tox_forecast.specs.Objects.{number_of};
 
 use crate::flags::{LinkFlags, meets_name};
+use crate::object::print_stream_object;
 use crate::question::Question;
 use tox_script::{Chains, NamedChain};
 use tox_text::Buffer;
 use tox_text::Part::{Number, Word};
 use tox_time::{EndFault, Sink, Stream};
 
-/// A connection, and the rule that it meets, by its number from 0.
+/// A connection of a proxy, and the rule that it meets, by its number from 0.
 #[derive(Clone, Copy, Debug)]
-pub(crate) struct Met {
+pub(crate) struct Met<'a> {
+    pub(crate) proxy: &'a str,
     pub(crate) conn: u64,
     pub(crate) rule: Option<usize>,
     pub(crate) ghost numbered: { ForSome rule (λ number. number + 1 < 2 ^ 64) },
@@ -25,16 +28,18 @@ pub(crate) fn print_link<W: Sink>(
     buffer: &mut Buffer,
     writer: &mut W,
     question: &Question<'_>,
-    met: Met,
+    met: &Met<'_>,
     chains: &Chains,
     flags: &LinkFlags,
 ) -> Result<(), EndFault>
-    requires { W.failed writer.old ≡ false }
+    requires working { W.failed writer.old ≡ false }
+    requires upstream { length flags.now.upstream.items ≤ 32 }
+    requires downstream { length flags.now.downstream.items ≤ 32 }
     ensures { Prints result (W.written writer.old) buffer.old (W.written writer.new) buffer.new
         (W.failed writer.new)
-        (wanted_line question.now met.conn Up met.rule chains.now.upstream.names
+        (wanted_line question.now met.now.proxy.now met.now.conn Up met.now.rule chains.now.upstream.names
         flags.now.upstream.items
-        ++ wanted_line question.now met.conn Down met.rule chains.now.downstream.names
+        ++ wanted_line question.now met.now.proxy.now met.now.conn Down met.now.rule chains.now.downstream.names
         flags.now.downstream.items) }
 {
     let up = Stream::Upstream;
@@ -64,18 +69,19 @@ fn print_wanted<W: Sink>(
     buffer: &mut Buffer,
     writer: &mut W,
     question: &Question<'_>,
-    met: Met,
+    met: &Met<'_>,
     stream: Stream,
     toxics: &NamedChain,
     flags: &[bool],
 ) -> Result<(), EndFault>
-    requires { W.failed writer.old ≡ false }
+    requires working { W.failed writer.old ≡ false }
+    requires few { length flags.now ≤ 32 }
     ensures { Prints result (W.written writer.old) buffer.old (W.written writer.new) buffer.new
         (W.failed writer.new)
-        (wanted_line question.now met.conn stream met.rule toxics.now.names flags.now) }
+        (wanted_line question.now met.now.proxy.now met.now.conn stream met.now.rule toxics.now.names flags.now) }
 {
     if is_asked(question.stream, stream) && has_wanted(question.named, toxics.names(), flags) {
-        print_line(buffer, writer, met, stream, flags)
+        print_line(buffer, writer, question.json, met, stream, flags)
     } else {
         Ok(())
     }
@@ -101,17 +107,38 @@ fn has_wanted(named: Option<&str>, names: &[String], flags: &[bool]) -> bool
     }
 }
 
-/// Prints the line of a connection's stream.
+/// Prints the line of a connection's stream, in words or as an object of JSON.
 fn print_line<W: Sink>(
     buffer: &mut Buffer,
     writer: &mut W,
-    met: Met,
+    json: bool,
+    met: &Met<'_>,
+    stream: Stream,
+    flags: &[bool],
+) -> Result<(), EndFault>
+    requires working { W.failed writer.old ≡ false }
+    requires few { length flags.now ≤ 32 }
+    ensures { Prints result (W.written writer.old) buffer.old (W.written writer.new) buffer.new
+        (W.failed writer.new) (line_in json met.now.proxy.now met.now.conn stream met.now.rule flags.now) }
+{
+    if json {
+        print_stream_object(buffer, writer, met, stream, flags)
+    } else {
+        print_words(buffer, writer, met, stream, flags)
+    }
+}
+
+/// Prints the line of a connection's stream in words.
+fn print_words<W: Sink>(
+    buffer: &mut Buffer,
+    writer: &mut W,
+    met: &Met<'_>,
     stream: Stream,
     flags: &[bool],
 ) -> Result<(), EndFault>
     requires { W.failed writer.old ≡ false }
     ensures { Prints result (W.written writer.old) buffer.old (W.written writer.new) buffer.new
-        (W.failed writer.new) (stream_line met.conn stream met.rule flags.now) }
+        (W.failed writer.new) (stream_line met.now.conn stream met.now.rule flags.now) }
 {
     print_head(buffer, writer, met, stream)?;
     print_places(buffer, writer, flags)?;
@@ -122,12 +149,12 @@ fn print_line<W: Sink>(
 fn print_head<W: Sink>(
     buffer: &mut Buffer,
     writer: &mut W,
-    met: Met,
+    met: &Met<'_>,
     stream: Stream,
 ) -> Result<(), EndFault>
     requires { W.failed writer.old ≡ false }
     ensures { Prints result (W.written writer.old) buffer.old (W.written writer.new) buffer.new
-        (W.failed writer.new) (line_head met.conn stream met.rule) }
+        (W.failed writer.new) (line_head met.now.conn stream met.now.rule) }
 {
     let parts = [
         Number(met.conn),
@@ -141,7 +168,7 @@ fn print_head<W: Sink>(
 }
 
 /// The number of a rule from 1, or 0 for none.
-fn number_of(rule: Option<usize>) -> u64
+pub(crate) fn number_of(rule: Option<usize>) -> u64
     requires { ForSome rule (λ number. number + 1 < 2 ^ 64) }
     ensures { result ≡ number_of rule }
 {

@@ -11,4 +11,6 @@ pub struct Question<'a> {
     pub stream: Option<Stream>,
     /// The name that an applied toxic of a wanted line has, or None for any line.
     pub named: Option<&'a str>,
+    /// Whether each line is an object of JSON.
+    pub json: bool,
 }

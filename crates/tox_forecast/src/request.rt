@@ -25,13 +25,15 @@ pub struct ForecastRequest<'a> {
     /// The name that an applied toxic of a wanted line has, or None for any line.
     pub named: Option<&'a str>,
     pub seed: u64,
+    /// Whether each line is an object of JSON.
+    pub json: bool,
     pub ghost numbered: { (1 ≤ links) × (links ≤ 1_000_000) },
 }
 
 impl<'a> ForecastRequest<'a> {
     ghost use Rattle.tox_forecast.specs.Forecasting.{HasForecastCause, WritesForecast};
 
-    /// Writes the answer as a forecast text.
+    /// Writes the answer as a forecast text, in words or in objects of JSON.
     ///
     /// The faults are those of [`PickRequest::answer`](tox_runs::PickRequest), in the same order. Nothing is written after a
     /// fault, except after a failed write: then a prefix of the text is.
@@ -62,6 +64,7 @@ impl<'a> ForecastRequest<'a> {
             seed: self.seed,
             stream,
             named: self.named,
+            json: self.json,
         };
         print_forecast(alloc, writer, &proxy.name, &setup.script, &question)?;
         Ok(())

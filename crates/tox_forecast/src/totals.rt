@@ -2,10 +2,11 @@
 ghost use Rattle.std.specs.Prelude.{◌≡◌, ◌+◌, ◌<◌, ◌≤◌, ◌^◌, [], false, length, slice_index_or};
 ghost use Rattle.tox_text.specs.Writing.{Prints};
 ghost use Rattle.tox_forecast.specs.Tally.{totals_in};
-ghost use Rattle.tox_forecast.specs.Totals.{place_on, rule_totals, total_line, toxic_total, toxic_totals};
+ghost use Rattle.tox_forecast.specs.Totals.{place_on, rule_totals, total_in, total_line, toxic_total, toxic_totals};
 
-mod places;
+pub(crate) mod places;
 
+use crate::object::print_total_object;
 use crate::tally::Tally;
 use crate::totals::places::Places;
 use tox_script::{Chains, NamedChain};
@@ -13,9 +14,12 @@ use tox_text::Buffer;
 use tox_text::Part::{Number, Word};
 use tox_time::{EndFault, Sink, Stream};
 
-/// A rule, by its number from 0, with its toxics and what was counted of it.
+/// A rule of a proxy, by its number from 0, with its toxics and what was counted of it.
 #[derive(Clone, Copy)]
 pub(crate) struct CountedRule<'a> {
+    /// Whether each line is an object of JSON.
+    pub(crate) json: bool,
+    pub(crate) proxy: &'a str,
     pub(crate) rule: usize,
     pub(crate) tally: &'a Tally,
     pub(crate) chains: &'a Chains,
@@ -33,7 +37,7 @@ pub(crate) fn print_rule<W: Sink>(
     requires short { length order.now + 1 < 2 ^ 64 }
     ensures { Prints result (W.written writer.old) buffer.old (W.written writer.new) buffer.new
         (W.failed writer.new)
-        (rule_totals counted.now.rule (totals_in counted.now.tally.now) counted.now.chains.now
+        (rule_totals counted.now.json counted.now.proxy.now counted.now.rule (totals_in counted.now.tally.now) counted.now.chains.now
         order.now) }
 {
     if counted.tally.met == 0 {
@@ -61,7 +65,7 @@ fn print_toxics<W: Sink>(
     requires downstream { at.downstream ≤ at.number }
     ensures { Prints result (W.written writer.old) buffer.old (W.written writer.new) buffer.new
         (W.failed writer.new)
-        (toxic_totals counted.now.rule (totals_in counted.now.tally.now) counted.now.chains.now at
+        (toxic_totals counted.now.json counted.now.proxy.now counted.now.rule (totals_in counted.now.tally.now) counted.now.chains.now at
         order.now) }
 {
     let [stream, order @ ..] = order else {
@@ -82,44 +86,66 @@ fn print_toxic<W: Sink>(
     requires { W.failed writer.old ≡ false }
     ensures { Prints result (W.written writer.old) buffer.old (W.written writer.new) buffer.new
         (W.failed writer.new)
-        (toxic_total counted.now.rule (totals_in counted.now.tally.now) counted.now.chains.now
+        (toxic_total counted.now.json counted.now.proxy.now counted.now.rule (totals_in counted.now.tally.now) counted.now.chains.now
         (record { number = at.number; stream = stream; place = place_on stream at })) }
 {
     let place = at.on(stream);
     let total = Total {
+        proxy: counted.proxy,
         rule: counted.rule as u64 + 1,
         number: at.number as u64,
-        applied: counted.tally.applied(stream, place),
-        met: counted.tally.met,
+        applied: counted.tally.applied(stream, place) as u64,
+        met: counted.tally.met as u64,
+        name: name_at(counted.chains.on(stream), place),
     };
-    print_total(
-        buffer,
-        writer,
-        total,
-        name_at(counted.chains.on(stream), place),
-    )
+    print_total(buffer, writer, counted.json, &total)
 }
 
-/// The numbers of a line.
+/// What a line tells of a toxic.
 #[derive(Clone, Copy, Debug)]
-struct Total {
-    rule: u64,
-    number: u64,
-    applied: u32,
-    met: u32,
+pub(crate) struct Total<'a> {
+    pub(crate) proxy: &'a str,
+    /// The rule's number from 1.
+    pub(crate) rule: u64,
+    /// The toxic's number in its rule, from 1.
+    pub(crate) number: u64,
+    /// How many connections it is applied to.
+    pub(crate) applied: u64,
+    /// How many connections met the rule.
+    pub(crate) met: u64,
+    pub(crate) name: &'a str,
 }
 
-/// Prints the line of a toxic of this name.
+/// Prints the line of a toxic, in words or as an object of JSON.
 fn print_total<W: Sink>(
     buffer: &mut Buffer,
     writer: &mut W,
-    total: Total,
-    name: &str,
+    json: bool,
+    total: &Total<'_>,
 ) -> Result<(), EndFault>
     requires { W.failed writer.old ≡ false }
     ensures { Prints result (W.written writer.old) buffer.old (W.written writer.new) buffer.new
         (W.failed writer.new)
-        (total_line total.rule total.number total.applied total.met name.now) }
+        (total_in json total.now.proxy.now total.now.rule total.now.number total.now.applied total.now.met
+        total.now.name.now) }
+{
+    if json {
+        print_total_object(buffer, writer, total)
+    } else {
+        print_words(buffer, writer, total)
+    }
+}
+
+/// Prints the line of a toxic in words.
+fn print_words<W: Sink>(
+    buffer: &mut Buffer,
+    writer: &mut W,
+    total: &Total<'_>,
+) -> Result<(), EndFault>
+    requires { W.failed writer.old ≡ false }
+    ensures { Prints result (W.written writer.old) buffer.old (W.written writer.new) buffer.new
+        (W.failed writer.new)
+        (total_line total.now.rule total.now.number total.now.applied total.now.met total.now.name.now) }
 {
     let parts = [
         Word("rule "),
@@ -127,11 +153,11 @@ fn print_total<W: Sink>(
         Word(" toxic "),
         Number(total.number),
         Word(" applied "),
-        Number(total.applied as u64),
+        Number(total.applied),
         Word(" of "),
-        Number(total.met as u64),
+        Number(total.met),
         Word(" "),
-        Word(name),
+        Word(total.name),
         Word("\n"),
     ];
     buffer.print(writer, &parts)

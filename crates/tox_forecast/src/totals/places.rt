@@ -5,10 +5,10 @@ use tox_time::Stream;
 
 /// A toxic's number in its rule, from 1, and the next place of each stream.
 #[derive(Clone, Copy, Debug)]
-pub(crate) struct Places {
-    pub(crate) number: usize,
-    pub(crate) upstream: usize,
-    pub(crate) downstream: usize,
+pub struct Places {
+    pub number: usize,
+    pub upstream: usize,
+    pub downstream: usize,
 }
 
 impl Places {
@@ -16,7 +16,7 @@ impl Places {
     ghost use Rattle.tox_forecast.specs.Totals.{place_on, places_after};
 
     /// The next place of a stream.
-    pub(crate) fn on(self, stream: Stream) -> usize
+    pub fn on(self, stream: Stream) -> usize
         ensures { result ≡ place_on stream self }
     {
         match stream {
@@ -26,7 +26,7 @@ impl Places {
     }
 
     /// The places behind a toxic on a stream.
-    pub(crate) fn after(self, stream: Stream) -> Places
+    pub fn after(self, stream: Stream) -> Places
         requires number { self.number + 1 < 2 ^ 64 }
         requires upstream { self.upstream ≤ self.number }
         requires downstream { self.downstream ≤ self.number }

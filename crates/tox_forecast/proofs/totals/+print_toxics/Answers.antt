@@ -14,15 +14,15 @@ returns-in_err-print_toxic g t c =
     let result = c.from_residual.result in
     let exit = err_from_is_err_and result c.from_residual.ensures.1 in
     let counted = c.args.counted.now in
-    Prints-as result _ _ _ _ _ _ _ (toxic_totals-cons counted.rule (totals_in counted.tally.now) counted.chains.now c.args.at c.args.order.now Upstream c.in-len1-up.len_at_least)
+    Prints-as result _ _ _ _ _ _ _ (toxic_totals-cons counted.json counted.proxy.now counted.rule (totals_in counted.tally.now) counted.chains.now c.args.at c.args.order.now Upstream c.in-len1-up.len_at_least)
     (Prints-failed result exit.0 _ _ _ _ _ _ _ exit.1 c.in_err-print_toxic.ensures)
 
 pub returns : goal.returns
 returns g t c =
     let result = c.print_toxics.result in
     let counted = c.args.counted.now in
-    let rest = ap (λ at. toxic_totals counted.rule (totals_in counted.tally.now) counted.chains.now at (take (length c.args.order.now - 1) (drop 1 c.args.order.now))) c.after.ensures
-    ∙ ap (toxic_totals counted.rule (totals_in counted.tally.now) counted.chains.now _) (take_rest c.args.order.now 1) in
-    Prints-as result _ _ _ _ _ _ _ (toxic_totals-cons counted.rule (totals_in counted.tally.now) counted.chains.now c.args.at c.args.order.now Upstream c.in-len1-up.len_at_least)
+    let rest = ap (λ at. toxic_totals counted.json counted.proxy.now counted.rule (totals_in counted.tally.now) counted.chains.now at (take (length c.args.order.now - 1) (drop 1 c.args.order.now))) c.after.ensures
+    ∙ ap (toxic_totals counted.json counted.proxy.now counted.rule (totals_in counted.tally.now) counted.chains.now _) (take_rest c.args.order.now 1) in
+    Prints-as result _ _ _ _ _ _ _ (toxic_totals-cons counted.json counted.proxy.now counted.rule (totals_in counted.tally.now) counted.chains.now c.args.at c.args.order.now Upstream c.in-len1-up.len_at_least)
     (Prints-then result _ _ _ _ _ _ _ _ _ c.in_ok-print_toxic.ensures.0
     (Prints-as result _ _ _ _ _ _ _ rest c.print_toxics.ensures))

@@ -12,8 +12,8 @@ use Rattle.tox_forecast.proofs.NumbersFrom.{IsAt-numbers_from, length-numbers_fr
 use Rattle.tox_forecast.proofs.TallySteps.{HasRoom-tallied, IsTallied-next}
 use Rattle.tox_forecast.proofs.forecast.Forecast.print_links.Goals as goal
 
-pub invariant_of-print_link : goal.invariant_of-print_link
-invariant_of-print_link g c =
+pub invariant_of-met : goal.invariant_of-met
+invariant_of-met g c =
     let me = c.args.self.now in
     let conn = c.loop-before.before + 1 in
     let met : c.rule-rule.result ≡ covering_number me.proxy.now conn me.script.now = c.rule-rule.ensures ∙ me.indexed conn (omega arith) in

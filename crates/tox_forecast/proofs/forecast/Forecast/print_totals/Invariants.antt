@@ -10,6 +10,6 @@ abbrev pub invariant-loop-rule : goal.invariant-loop-rule
 invariant-loop-rule g l = record {
   working : g.W.Sink.failed l.writer ≡ false;
   passed : Passes (g.W.Sink.written l.fn.writer) l.fn.buffer (g.W.Sink.written l.writer) l.buffer
-      (flat_map (λ rule. rule_totals rule (totals_of l.self.proxy.now l.script l.self.question.now.seed rule (numbers_from 1 l.self.question.now.links)) (chains_numbered (Some rule) l.script) (order_numbered rule l.script))
+      (flat_map (λ rule. rule_totals l.self.question.now.json l.self.proxy.now rule (totals_of l.self.proxy.now l.script l.self.question.now.seed rule (numbers_from 1 l.self.question.now.links)) (chains_numbered (Some rule) l.script) (order_numbered rule l.script))
       (take l.rule (numbers_from 0 (length l.script.rules))));
 }

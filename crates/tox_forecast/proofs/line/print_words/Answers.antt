@@ -1,7 +1,7 @@
 -- The head, the places, and the line's end.
 use Rattle.std.proofs.lemmas.Result.{err_from_is_err_and}
 use Rattle.tox_text.proofs.Writes.{Prints-failed, Prints-then}
-use Rattle.tox_forecast.proofs.line.print_line.Goals as goal
+use Rattle.tox_forecast.proofs.line.print_words.Goals as goal
 
 pub returns-in_err-print_head : goal.returns-in_err-print_head
 returns-in_err-print_head g c =
