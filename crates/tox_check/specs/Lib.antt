@@ -1,0 +1,12 @@
+pub mod Runs
+pub mod Listed
+pub mod Coverage
+pub mod Summary
+pub mod Tallied
+pub mod Tree
+pub mod Sentences
+pub mod Lines
+pub mod Told
+pub mod Checking
+pub mod Trees
+pub mod Printing

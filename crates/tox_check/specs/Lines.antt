@@ -1,0 +1,91 @@
+-- What is told of the rules of a script.
+use Rattle.std.specs.Prelude.{ℕ, ◌==◌, Bool, false, List, [], ◌∷◌, ◌++◌, codes, decimal, flat_map, length, map, slice_get, take, ◌-◌, Option, None, Some, if◌then◌else◌}
+use Rattle.std.specs.List.{enumerate_from, find}
+use Rattle.tox_time.specs.declared.streams.stream.Stream.{Stream}
+use Rattle.tox_defs.specs.declared.chain.Entry.{Entry}
+use Rattle.tox_config.specs.Populate.{is_named}
+use Rattle.tox_config.specs.Proxy.{Proxy}
+use Rattle.tox_script.specs.Rule.{Rule, Rules}
+use Rattle.tox_script.specs.chains.Chains.{on}
+use Rattle.tox_script.specs.declared.chains.Chains.{Chains}
+use Rattle.tox_forecast.specs.Totals.{PlacedToxic, placed_from}
+use Rattle.tox_forecast.specs.declared.totals.places.Places.{Places}
+use Rattle.tox_near.specs.Nearest.{nearest}
+use Rattle.tox_idle.specs.Idle.{idleness_at}
+use Rattle.tox_idle.specs.declared.idleness.Idleness.{Idleness}
+use Rattle.tox_check.specs.Coverage.{last_of, own_of, taken_of, within}
+use Rattle.tox_check.specs.Sentences.{changes_nothing_text, covered_text, disabled_text, no_toxicity_text, partly_text, unknown_text}
+use Rattle.tox_check.specs.Summary.{greatest, least}
+use Rattle.tox_check.specs.declared.run.Run.{Run}
+
+-- some runs are a rule's own, and these are taken by others
+abbrev pub partly_told : List Run → List Run → List (List ℕ)
+partly_told own [] = []
+partly_told own (run ∷ runs) =
+    partly_text (take 8 own) (length own - 8) (take 8 (run ∷ runs)) (length (run ∷ runs) - 8) ∷ []
+
+-- these runs are a rule's own, and these are taken by others
+abbrev pub coverage_told : ℕ → List Run → List Run → List (List ℕ)
+coverage_told number [] taken = covered_text (least number taken) (greatest 0 taken) ∷ []
+coverage_told number (run ∷ own) taken = partly_told (run ∷ own) taken
+
+-- what is told of the connections of a rule, which meet these runs
+abbrev pub met_told : ℕ → List Run → List (List ℕ)
+met_told number runs = coverage_told number (own_of number runs) (taken_of number runs)
+
+-- whether a toxic is never applied
+abbrev pub is_silent : Option Entry → Bool
+is_silent None = false
+is_silent (Some entry) = entry.toxicity == 0
+
+-- what is told of the toxic of a number that changes nothing, if it is known to
+abbrev pub idle_told : ℕ → Option Idleness → List (List ℕ)
+idle_told number None = []
+idle_told number (Some why) = changes_nothing_text number why ∷ []
+
+-- what is told of a placed toxic
+abbrev pub toxic_told : Chains → PlacedToxic → List (List ℕ)
+toxic_told chains placed =
+    if is_silent (slice_get (on placed.stream chains).chain.entries placed.place)
+    then no_toxicity_text placed.number ∷ []
+    else idle_told placed.number
+    (idleness_at placed.place (on placed.stream chains).chain.entries)
+
+-- what is told of toxics on these streams, of which the first has these places
+abbrev pub silent_told : Chains → Places → List Stream → List (List ℕ)
+silent_told chains at order = flat_map (toxic_told chains) (placed_from at order)
+
+-- what is told of the toxics of a rule
+abbrev pub toxics_told : Chains → List Stream → List (List ℕ)
+toxics_told chains order =
+    silent_told chains (record { number = 1; upstream = 0; downstream = 0 }) order
+
+-- what is told of a rule's proxy
+abbrev pub proxy_told : Proxy → List (List ℕ)
+proxy_told proxy = if proxy.enabled then [] else disabled_text proxy.name ∷ []
+
+-- the names of proxies
+abbrev pub names_of : List Proxy → List (List ℕ)
+names_of proxies = map (λ proxy. proxy.name) proxies
+
+-- what is told of the rule of a number from 1, by its proxy, if there is one, and by the runs of this
+abbrev pub known_told : List Proxy → ℕ → Rule → List Run → Option Proxy → List (List ℕ)
+known_told proxies number rule runs None = unknown_text rule.proxy (nearest rule.proxy (names_of proxies)) ∷ []
+known_told proxies number rule runs (Some proxy) =
+    met_told number (within rule.first (last_of rule.last) runs)
+    ++ (toxics_told rule.chains rule.order ++ proxy_told proxy)
+
+-- what is told of the rule of a number from 1, by the runs of each proxy
+abbrev pub rule_told : List Proxy → (List ℕ → List Run) → ℕ → Rule → List (List ℕ)
+rule_told proxies runs number rule =
+    known_told proxies number rule (runs rule.proxy) (find (is_named rule.proxy) proxies)
+
+-- the lines of the rule of a number from 1
+abbrev pub rule_lines : List Proxy → (List ℕ → List Run) → ℕ → Rule → List (List ℕ)
+rule_lines proxies runs number rule =
+    map (λ told. (codes "rule " ++ decimal number) ++ told) (rule_told proxies runs number rule)
+
+-- the lines of a check: those of each rule in the script's order
+abbrev pub check_lines : List Proxy → Rules → (List ℕ → List Run) → List (List ℕ)
+check_lines proxies script runs =
+    flat_map (λ numbered. rule_lines proxies runs numbered.0 numbered.1) (enumerate_from 1 script.rules)

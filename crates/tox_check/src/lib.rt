@@ -1,0 +1,18 @@
+//! What of a script has no effect: rules that no connection meets, or not all of theirs, and toxics that are never applied.
+#![tactic(auto)]
+
+mod check;
+mod fault;
+mod lines;
+mod listed;
+mod request;
+mod run;
+mod tally;
+mod told;
+mod tree;
+mod trees;
+mod warning;
+
+pub use check::print_check;
+pub use fault::CheckFault;
+pub use request::CheckRequest;

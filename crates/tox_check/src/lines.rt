@@ -1,0 +1,97 @@
+//! The warnings of a rule.
+ghost use Rattle.std.specs.Prelude.{◌≡◌, ◌+◌, ◌<◌, ◌≤◌, ◌^◌, ◌++◌, List, length, map, slice_get, OnOk};
+ghost use Rattle.tox_script.specs.chains.Chains.{on};
+ghost use Rattle.tox_forecast.specs.Totals.{place_on};
+ghost use Rattle.tox_check.specs.Coverage.{within};
+ghost use Rattle.tox_check.specs.Lines.{is_silent, met_told, silent_told, toxic_told};
+ghost use Rattle.tox_check.specs.Tallied.{IsTallied};
+ghost use Rattle.tox_check.specs.Told.{IsTreeOf, runs_by, told_by};
+ghost use Rattle.tox_check.specs.declared.run.Run.{Run};
+ghost use Rattle.tox_check.specs.Sentences.{told};
+
+use crate::tally::Tally;
+use crate::tree::{Range, RunTree};
+use crate::warning::Warning;
+use std::alloc::AllocError;
+use tox_forecast::Places;
+use tox_idle::idleness_at;
+use tox_script::Chains;
+use tox_time::Stream;
+
+/// What is told of the connections of a rule, by the runs of its proxy.
+pub(crate) fn coverage<'a>(tree: &Option<RunTree>, range: Range) -> Option<Warning<'a>>
+    requires tree { IsTreeOf tree.now }
+    requires few { length (runs_by tree.now) < 2 ^ 64 }
+    ensures { told_by result
+        ≡ met_told range.rule (within range.first range.last (runs_by tree.now)) }
+{
+    let mut tally = Tally::new(range.rule);
+    let Some(tree) = tree else {
+        return warning_of(tally);
+    };
+    tree.tally(range, &mut tally);
+    warning_of(tally)
+}
+
+/// What is told of a tally.
+fn warning_of<'a>(tally: Tally) -> Option<Warning<'a>>
+    ensures { (runs : List Run) → IsTallied tally.rule runs tally
+        → told_by result ≡ met_told tally.rule runs }
+{
+    if tally.own.is_empty() {
+        Some(Warning::Covered(tally.low, tally.high))
+    } else if tally.taken.is_empty() {
+        None
+    } else {
+        Some(Warning::Partly(tally.own, tally.taken))
+    }
+}
+
+/// Tells of each toxic that is never applied or changes nothing, of toxics on these streams, of which the first has these places.
+pub(crate) fn put_silent<'a>(
+    warnings: &mut Vec<Warning<'a>>,
+    chains: &Chains,
+    at: Places,
+    order: &[Stream],
+) -> Result<(), AllocError>
+    requires numbered { at.number + length order.now < 2 ^ 64 }
+    requires upstream { at.upstream ≤ at.number }
+    requires downstream { at.downstream ≤ at.number }
+    ensures { OnOk result (map told warnings.new.items
+        ≡ map told warnings.old.items ++ silent_told chains.now at order.now) }
+{
+    let [stream, order @ ..] = order else {
+        return Ok(());
+    };
+    put_if_silent(warnings, chains, at, *stream)?;
+    put_silent(warnings, chains, at.after(*stream), order)
+}
+
+/// Tells of a toxic on a stream, which has these places, if it is never applied or changes nothing.
+fn put_if_silent<'a>(
+    warnings: &mut Vec<Warning<'a>>,
+    chains: &Chains,
+    at: Places,
+    stream: Stream,
+) -> Result<(), AllocError>
+    ensures { OnOk result (map told warnings.new.items ≡ map told warnings.old.items
+        ++ toxic_told chains.now
+        (record { number = at.number; stream = stream; place = place_on stream at })) }
+{
+    if is_silent(chains, stream, at.on(stream)) {
+        warnings.push(Warning::NoToxicity(at.number))?;
+    } else if let Some(why) = idleness_at(chains.on(stream).chain(), at.on(stream)) {
+        warnings.push(Warning::ChangesNothing(at.number, why))?;
+    }
+    Ok(())
+}
+
+/// Whether the toxic at a place of a stream is never applied.
+fn is_silent(chains: &Chains, stream: Stream, place: usize) -> bool
+    ensures { result ≡ is_silent (slice_get (on stream chains.now).chain.entries place) }
+{
+    match chains.on(stream).chain().entries().get(place) {
+        Some(entry) => entry.toxicity == 0,
+        None => false,
+    }
+}
