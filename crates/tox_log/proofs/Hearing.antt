@@ -1,10 +1,11 @@
 -- A line more is heard.
-use Rattle.std.proofs.Common.{◌≡◌, ℕ, Bool, true, false, List, [], ◌∷◌, ◌++◌, length, string_bytes, codes, Option, Some, None, inl, inr, refl, sym, ap, subst, ◌∙◌, append_assoc, append-nil, arith}
+use Rattle.std.proofs.Common.{◌≡◌, ℕ, Bool, true, false, List, [], ◌∷◌, ◌++◌, length, string_bytes, codes, Option, Some, None, inl, inr, refl, sym, ap, ap₂, subst, ◌∙◌, append_assoc, append-nil, arith}
 use Rattle.std.specs.Prelude.{◌⊎◌}
 use Rattle.std.specs.Io.KnownBytes.{IsAtEnd, prepend_known}
 use Rattle.std.proofs.lemmas.List.{length-append}
 use Rattle.tox_link.proofs.Sent.{prepend-append}
 use Rattle.tox_words.specs.Seeded.{seeded_words}
+use Rattle.tox_defs.specs.chain.Chain.{Toxics}
 use Rattle.tox_defs.specs.Flow.{chain_flow}
 use Rattle.tox_log.specs.declared.heading.Heading.{Heading}
 use Rattle.tox_log.specs.declared.open_log.OpenLog.{OpenLog}
@@ -23,14 +24,16 @@ use Rattle.tox_log.specs.declared.replay.Hearing.{Hearing}
 use Rattle.tox_log.specs.Reading.{is_last, to_hand}
 use Rattle.tox_log.specs.declared.event_line.LogLine.{LogLine}
 use Rattle.tox_log.specs.declared.event_line.LogLine.TheVariants.{Event, Last}
+use Rattle.tox_log.specs.declared.last_line.LastLine.{LastLine}
 use Rattle.tox_log.specs.declared.last_line.LastLine.TheVariants.{Ended}
 use Rattle.tox_log.specs.EventText.{event_line, event_words}
 use Rattle.tox_log.specs.LastText.{last_words}
 use Rattle.tox_log.specs.Lines.{line_words}
-use Rattle.tox_log.specs.Judging.{Hears, Judged, source_heard}
+use Rattle.tox_log.specs.Judging.{Hears, Judged, Refuses, source_heard}
 use Rattle.tox_log.specs.declared.replay.Verdict.{Verdict}
 use Rattle.tox_log.specs.declared.replay.Verdict.TheVariants.{Faithful, Unfinished, Unfaithful}
-use Rattle.tox_log.specs.Hearing.{Begins, HasHeard, HasReport, HearsLine, IsFaithfulText, IsTold, SaysSo, event_lines}
+use Rattle.tox_log.specs.Hearing.{Begins, HasHeard, HasReport, HasRefusal, HearsLine, IsFaithfulText, IsRefusedText, IsTextOf, IsTold, SaysSo, event_lines}
+use Rattle.tox_log.proofs.Refusing.{timely-told}
 
 told-front : (told : ℕ → Bool) (events : List LinkEvent) (event : LinkEvent) → IsTold told (events ++ event ∷ []) → IsTold told events
 told-front told [] event all = All-nil (λ event. told (reading_of event) ≡ true)
@@ -64,29 +67,58 @@ pub says-event : (means : List Item → List Item) (text : List ℕ) (old new : 
 says-event means text old new event verdict going hears heard =
     subst (SaysSo means (text ++ (line_words (Event event) ++ 10 ∷ [])) false new) (sym going) (λ _. hears-event means text old new event heard hears)
 
+-- an event that no faithful log has here
+pub says-refused : (means : List Item → List Item) (text : List ℕ) (old new : Judge) (event : LinkEvent) (number : ℕ) → Refuses old event
+    → HasHeard means text old → SaysSo means (text ++ (line_words (Event event) ++ 10 ∷ [])) false new (Unfaithful number)
+says-refused means text old new event number refuses heard = record {
+  events = heard.events;
+  line = Event event;
+  more = [];
+  lines = ap (λ lines. lines ++ (line_words (Event event) ++ 10 ∷ [])) heard.lines ∙ ap (λ line. event_lines heard.events ++ line) (sym (append-nil (line_words (Event event) ++ 10 ∷ [])));
+  refused = λ told faithful. refuses means told heard.events
+      (heard.judged told (told-front told heard.events event (timely-told told 0 (heard.events ++ event ∷ []) faithful.timely))) faithful;
+}
+
+-- a last line that isn't the ending's
+pub says-other-end : (means : List Item → List Item) (text : List ℕ) (old new : Judge) (last : LastLine) (number : ℕ)
+    → HasHeard means text old → SaysSo means (text ++ (line_words (Last last) ++ 10 ∷ [])) true new (Unfaithful number)
+says-other-end means text old new last number heard = record {
+  events = heard.events;
+  line = Last last;
+  more = [];
+  lines = ap (λ lines. lines ++ (line_words (Last last) ++ 10 ∷ [])) heard.lines ∙ ap (λ line. event_lines heard.events ++ line) (sym (append-nil (line_words (Last last) ++ 10 ∷ [])));
+  refused = tt;
+}
+
 -- the last line
 pub hears-last : (means : List Item → List Item) (text : List ℕ) (old new : Judge) (reading : ℕ) (last : Ending) → HasHeard means text old
-    → (new.heard ≡ old.heard) × (new.said ≡ old.said)
+    → (new.heard ≡ old.heard) × (new.said ≡ old.said) × (new.ended ≡ old.ended)
     → ((means : List Item → List Item) (told : ℕ → Bool) (log : List LinkEvent) → told reading ≡ true → Judged means told old log
     → ReportsAt means (λ t. told t ≡ true) log old.heard old.said last (source_heard old.ended) reading)
-    → HasReport means (text ++ (line_words (Last (Ended reading last)) ++ 10 ∷ [])) new.heard new.said last
+    → HasReport means (text ++ (line_words (Last (Ended reading last)) ++ 10 ∷ [])) new.heard new.said new.ended last
 hears-last means text old new reading last heard counts reports = record {
   events = heard.events;
   reading = reading;
-  source = source_heard old.ended;
   lines = rw heard.lines (simp append_assoc);
-  report = λ told all says. rw (counts.0, counts.1) (reports means told heard.events says (heard.judged told all));
+  report = λ told all says. rw (counts.0, counts.1, counts.2) (reports means told heard.events says (heard.judged told all));
 }
 
 -- a line that isn't heard: the verdict says no more than before
-pub says-skipped : (means : List Item → List Item) (text more : List ℕ) (over now : Bool) (judge : Judge) (verdict : Verdict) → (verdict ≡ Unfinished → ⊥) → over ≡ false
-    → SaysSo means text over judge verdict → SaysSo means more now judge verdict
-says-skipped means text more over now judge (Faithful ending) known going says = absurd-over (sym going ∙ says.0)
+pub says-skipped : (means : List Item → List Item) (text line : List ℕ) (over now : Bool) (judge : Judge) (verdict : Verdict) → (verdict ≡ Unfinished → ⊥) → over ≡ false
+    → SaysSo means text over judge verdict → SaysSo means (text ++ line) now judge verdict
+says-skipped means text line over now judge (Faithful ending) known going says = absurd-over (sym going ∙ says.0)
   where
-    absurd-over : false ≡ true → SaysSo means more now judge (Faithful ending)
+    absurd-over : false ≡ true → SaysSo means (text ++ line) now judge (Faithful ending)
     absurd-over same = cc
-says-skipped means text more over now judge Unfinished known going says = absurd (known refl)
-says-skipped means text more over now judge (Unfaithful number) known going says = tt
+says-skipped means text line over now judge Unfinished known going says = absurd (known refl)
+says-skipped means text line over now judge (Unfaithful number) known going says = record {
+  events = says.events;
+  line = says.line;
+  more = says.more ++ line;
+  lines = ap (λ text. text ++ line) says.lines ∙ append_assoc (event_lines says.events) ((line_words says.line ++ 10 ∷ []) ++ says.more) line
+      ∙ ap (λ rest. event_lines says.events ++ rest) (append_assoc (line_words says.line ++ 10 ∷ []) says.more line);
+  refused = says.refused;
+}
 
 -- a line that is heard
 pub says-line : (means : List Item → List Item) (text : List ℕ) (over now : Bool) (old new : Hearing) (line : LogLine) → old.verdict ≡ Unfinished → over ≡ false → now ≡ is_last line
@@ -95,11 +127,12 @@ says-line means text over now old new line unfinished going last hears says =
     let heard : HasHeard means text old.judge = subst (SaysSo means text over old.judge) unfinished says going in
     subst (λ now. SaysSo means (text ++ (line_words line ++ 10 ∷ [])) now new.judge new.verdict) (sym last) (hears means text heard)
 
--- a text that ends with a line feed isn't empty
-not-empty : (front back : List ℕ) → front ++ (back ++ 10 ∷ []) ≡ [] → ⊥
-not-empty front back none = omega (arith, ap length none, length-append front (back ++ 10 ∷ []), length-append back (10 ∷ []))
+-- a text with a line feed isn't empty
+not-empty : (front words more : List ℕ) → front ++ ((words ++ 10 ∷ []) ++ more) ≡ [] → ⊥
+not-empty front words more none =
+    omega (arith, ap length none, length-append front ((words ++ 10 ∷ []) ++ more), length-append (words ++ 10 ∷ []) more, length-append words (10 ∷ []))
 
--- the lines of a faithful log stand behind its header
+-- lines stand behind the header
 behind-header : (before handed : Option (List ℕ)) (header torn lines : List ℕ) (left : Option (List ℕ)) → (lines ≡ [] → ⊥) → before ≡ prepend_known (header ++ torn) handed
     → (torn ≡ []) ⊎ IsAtEnd handed → handed ≡ prepend_known lines left → (rest : Option (List ℕ)) × (before ≡ prepend_known (header ++ lines) rest)
 behind-header before handed header torn lines left some given (inl none) here =
@@ -118,29 +151,49 @@ behind-header before (Some bytes) header torn lines (Some left) some given (inr 
     no-lines [] left same = refl
     no-lines (first ∷ lines) left same = absurd cc
 
--- a faithful verdict
-pub faithful-text : (before after : Option (List ℕ)) (log : OpenLog) (hearing : Hearing) (judged : JudgedLog) (text : List ℕ) (left : Option (List ℕ)) (over : Bool) (judge : Judge) (last : Ending)
-    → Opens before after log → Begins log.heading log.chain hearing → to_hand log after ≡ prepend_known text left
-    → ((means : List Item → List Item) → HasHeard means [] hearing.judge → SaysSo means text over judge judged.verdict) → judged.verdict ≡ Faithful last
-    → judged.heading ≡ log.heading → (judged.heard ≡ judge.heard) × (judged.said ≡ judge.said) → IsFaithfulText before judged last
-faithful-text before after log hearing judged text left over judge last opened begun here says faithful heading counts =
-    let said = subst (SaysSo begun.means text over judge) faithful (says begun.means begun.heard) in
-    let report = said.1 in
-    let header : Heading → List ℕ = λ h. header_text (string_bytes h.proxy) h.number h.stream h.seed log.chain opened.names in
-    let (rest, given) = behind-header before (to_hand log after) (header log.heading) opened.torn text left
-    (λ none. not-empty (event_lines report.events) (last_words (Ended report.reading last)) (sym report.lines ∙ none)) opened.given opened.rest here in record {
-      chain = log.chain;
+-- the lines behind the header that was read
+text-of : (before after : Option (List ℕ)) (log : OpenLog) (hearing : Hearing) (judged : JudgedLog) (text : List ℕ) (left : Option (List ℕ)) → (text ≡ [] → ⊥)
+    → Opens before after log → (begun : Begins log.heading log.chain hearing) → to_hand log after ≡ prepend_known text left
+    → judged.heading ≡ log.heading → judged.chain ≡ log.chain → IsTextOf before judged text begun.means
+text-of before after log hearing judged text left some opened begun here heading chain =
+    let header : Heading → Toxics → List ℕ = λ h c. header_text (string_bytes h.proxy) h.number h.stream h.seed c opened.names in
+    let (rest, given) = behind-header before (to_hand log after) (header log.heading log.chain) opened.torn text left some opened.given opened.rest here in record {
       names = opened.names;
-      lines = text;
       left = rest;
-      text = given ∙ ap (λ h. prepend_known (header h ++ text) rest) (sym heading);
-      means = begun.means;
-      meaning = λ items stream. begun.meaning items stream ∙ ap (λ h. chain_flow log.chain (seeded_words h.seed h.number h.stream) items) (sym heading);
-      report = record {
-        events = report.events;
-        reading = report.reading;
-        source = report.source;
-        lines = report.lines;
-        report = λ told all tells. rw (counts.0, counts.1) (report.report told all tells);
-      };
+      text = given ∙ ap₂ (λ h c. prepend_known (header h c ++ text) rest) (sym heading) (sym chain);
+      meaning = λ items stream. begun.meaning items stream ∙ ap₂ (λ h c. chain_flow c (seeded_words h.seed h.number h.stream) items) (sym heading) (sym chain);
     }
+
+module _ (before after : Option (List ℕ)) (log : OpenLog) (hearing : Hearing) (judged : JudgedLog) (text : List ℕ) (left : Option (List ℕ)) (over : Bool) (judge : Judge)
+    (opened : Opens before after log) (begun : Begins log.heading log.chain hearing) (here : to_hand log after ≡ prepend_known text left)
+    (says : (means : List Item → List Item) → HasHeard means [] hearing.judge → SaysSo means text over judge judged.verdict)
+    (heading : judged.heading ≡ log.heading) (chain : judged.chain ≡ log.chain) where
+  -- a faithful verdict
+  pub faithful-text : (last : Ending) → judged.verdict ≡ Faithful last → (judged.heard ≡ judge.heard) × (judged.said ≡ judge.said) × (judged.source_ended ≡ judge.ended)
+      → IsFaithfulText before judged last
+  faithful-text last faithful counts =
+      let said = subst (SaysSo begun.means text over judge) faithful (says begun.means begun.heard) in
+      let report = said.1 in
+      let some : text ≡ [] → ⊥ = λ none. not-empty (event_lines report.events) (last_words (Ended report.reading last)) []
+      (ap (λ line. event_lines report.events ++ line) (append-nil (last_words (Ended report.reading last) ++ 10 ∷ [])) ∙ sym report.lines ∙ none) in record {
+        lines = text;
+        means = begun.means;
+        text = text-of before after log hearing judged text left some opened begun here heading chain;
+        report = record {
+          events = report.events;
+          reading = report.reading;
+          lines = report.lines;
+          report = λ told all tells. rw (counts.0, counts.1, counts.2) (report.report told all tells);
+        };
+      }
+
+  -- an unfaithful one
+  pub refused-text : (number : ℕ) → judged.verdict ≡ Unfaithful number → IsRefusedText before judged
+  refused-text number unfaithful =
+      let refusal = subst (SaysSo begun.means text over judge) unfaithful (says begun.means begun.heard) in
+      let some : text ≡ [] → ⊥ = λ none. not-empty (event_lines refusal.events) (line_words refusal.line) refusal.more (sym refusal.lines ∙ none) in record {
+        lines = text;
+        means = begun.means;
+        text = text-of before after log hearing judged text left some opened begun here heading chain;
+        refusal = refusal;
+      }

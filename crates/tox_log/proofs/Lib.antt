@@ -6,6 +6,8 @@ pub mod Hearing
 pub mod LineParts
 pub mod Lines
 pub mod NoLines
+pub mod JudgedParts
 pub mod Opening
 pub mod ReadsBack
+pub mod Refusing
 pub mod Judging

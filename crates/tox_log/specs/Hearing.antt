@@ -11,11 +11,11 @@ use Rattle.tox_log.specs.HeaderText.{header_text}
 use Rattle.tox_time.specs.declared.streams.item.Item.{Item}
 use Rattle.tox_time.specs.declared.streams.ending.Ending.{Ending}
 use Rattle.tox_link.specs.declared.notes.LinkEvent.{LinkEvent}
-use Rattle.tox_link.specs.declared.ring.message.ReadEnd.{ReadEnd}
-use Rattle.tox_link.specs.log.Log.{reading_of}
+use Rattle.tox_link.specs.log.Log.{reading_of, IsFaithful}
 use Rattle.tox_link.specs.Reports.{ReportsAt}
 use Rattle.tox_log.specs.declared.judge.Judge.{Judge}
 use Rattle.tox_log.specs.declared.event_line.LogLine.{LogLine}
+use Rattle.tox_log.specs.declared.event_line.LogLine.TheVariants.{Event, Last}
 use Rattle.tox_log.specs.declared.last_line.LastLine.TheVariants.{Ended}
 use Rattle.tox_log.specs.declared.replay.Verdict.{Verdict}
 use Rattle.tox_log.specs.declared.replay.Verdict.TheVariants.{Faithful, Unfinished, Unfaithful}
@@ -24,7 +24,7 @@ use Rattle.tox_log.specs.EventText.{event_line}
 use Rattle.tox_log.specs.LastText.{last_line}
 use Rattle.tox_log.specs.Lines.{line_words}
 use Rattle.tox_log.specs.Reading.{is_last}
-use Rattle.tox_log.specs.Judging.{Judged}
+use Rattle.tox_log.specs.Judging.{Judged, source_heard}
 
 -- the lines of events
 abbrev pub event_lines : List LinkEvent → List ℕ
@@ -41,20 +41,32 @@ pub record HasHeard (means : List Item → List Item) (text : List ℕ) (judge :
   pub judged : (told : ℕ → Bool) → IsTold told events → Judged means told judge events
 
 -- the text is the lines of events and a last line with this ending, and the link with these events reports so: it took and wrote so
--- many bytes
-pub record HasReport (means : List Item → List Item) (text : List ℕ) (taken written : ℕ) (ending : Ending) : Type 0 where
+-- many bytes, and its source had ended or not
+pub record HasReport (means : List Item → List Item) (text : List ℕ) (taken written : ℕ) (ended : Bool) (ending : Ending) : Type 0 where
   pub events : List LinkEvent
   pub reading : ℕ
-  pub source : Option ReadEnd
   pub lines : text ≡ event_lines events ++ last_line (Ended reading ending)
   pub report : (told : ℕ → Bool) → IsTold told events → told reading ≡ true
-      → ReportsAt means (λ t. told t ≡ true) events taken written ending source reading
+      → ReportsAt means (λ t. told t ≡ true) events taken written ending (source_heard ended) reading
+
+-- no log with these events that goes on with this one is faithful, whatever the clock told
+abbrev pub IsRefused : (List Item → List Item) → List LinkEvent → LogLine → Type 0
+IsRefused means events (Event event) = (told : ℕ → Bool) → IsFaithful means (λ t. told t ≡ true) (events ++ event ∷ []) → ⊥
+IsRefused means events (Last last) = Unit {0}
+
+-- the text is the lines of events, one that is refused behind them, and more
+pub record HasRefusal (means : List Item → List Item) (text : List ℕ) : Type 0 where
+  pub events : List LinkEvent
+  pub line : LogLine
+  pub more : List ℕ
+  pub lines : text ≡ event_lines events ++ ((line_words line ++ 10 ∷ []) ++ more)
+  pub refused : IsRefused means events line
 
 -- what a verdict says of the lines that were read so far, which have a last line or none yet
 abbrev pub SaysSo : (List Item → List Item) → List ℕ → Bool → Judge → Verdict → Type 0
-SaysSo means text over judge (Faithful ending) = (over ≡ true) × HasReport means text judge.heard judge.said ending
+SaysSo means text over judge (Faithful ending) = (over ≡ true) × HasReport means text judge.heard judge.said judge.ended ending
 SaysSo means text over judge Unfinished = over ≡ false → HasHeard means text judge
-SaysSo means text over judge (Unfaithful number) = Unit {0}
+SaysSo means text over judge (Unfaithful number) = HasRefusal means text
 
 -- a line is heard
 abbrev pub HearsLine : Hearing → LogLine → Hearing → Type 0
@@ -72,14 +84,24 @@ pub record Begins (heading : Heading) (chain : Toxics) (hearing : Hearing) : Typ
   pub heard : HasHeard means [] hearing.judge
   pub unfinished : hearing.verdict ≡ Unfinished
 
--- bytes begin with the header of a log, the lines of events, and a last line with this ending; and under the chain of that header and
--- the words of its link's stream, a link with these events reports so
-pub record IsFaithfulText (given : Option (List ℕ)) (judged : JudgedLog) (ending : Ending) : Type 0 where
-  pub chain : Toxics
+-- bytes begin with the header of a judged log and these lines, and this is what the chain of that header does with the words of its
+-- link's stream
+pub record IsTextOf (given : Option (List ℕ)) (judged : JudgedLog) (lines : List ℕ) (means : List Item → List Item) : Type 0 where
   pub names : List (List ℕ)
-  pub lines : List ℕ
   pub left : Option (List ℕ)
-  pub text : given ≡ prepend_known (header_text (string_bytes judged.heading.proxy) judged.heading.number judged.heading.stream judged.heading.seed chain names ++ lines) left
+  pub text : given ≡ prepend_known (header_text (string_bytes judged.heading.proxy) judged.heading.number judged.heading.stream judged.heading.seed judged.chain names ++ lines) left
+  pub meaning : IsMeaningOf means judged.chain (seeded_words judged.heading.seed judged.heading.number judged.heading.stream)
+
+-- behind the header stand the lines of events and a last line with this ending, and a link with these events reports so
+pub record IsFaithfulText (given : Option (List ℕ)) (judged : JudgedLog) (ending : Ending) : Type 0 where
+  pub lines : List ℕ
   pub means : List Item → List Item
-  pub meaning : IsMeaningOf means chain (seeded_words judged.heading.seed judged.heading.number judged.heading.stream)
-  pub report : HasReport means lines judged.heard judged.said ending
+  pub text : IsTextOf given judged lines means
+  pub report : HasReport means lines judged.heard judged.said judged.source_ended ending
+
+-- behind the header stand the lines of events and one that is refused
+pub record IsRefusedText (given : Option (List ℕ)) (judged : JudgedLog) : Type 0 where
+  pub lines : List ℕ
+  pub means : List Item → List Item
+  pub text : IsTextOf given judged lines means
+  pub refusal : HasRefusal means lines

@@ -2,7 +2,8 @@
 use Rattle.std.specs.Prelude.{◌≡◌, ℕ, ◌+◌, ◌<◌, ◌≤◌, Bool, true, false, List, [], ◌∷◌, ◌++◌, replicate, nat_lt, if◌then◌else◌, Option, Some, None}
 use Rattle.tox_time.specs.declared.streams.slice.Slice.{Slice}
 use Rattle.tox_time.specs.declared.streams.item.Item.{Item}
-use Rattle.tox_time.specs.streams.Stream.{IsStreamFrom, span_len}
+use Rattle.tox_time.specs.declared.streams.item.Item.TheVariants.{Quiet}
+use Rattle.tox_time.specs.streams.Stream.{IsPrefix, IsStreamFrom, span_len}
 use Rattle.tox_time.specs.streams.Table.{table, slices_table, ending}
 use Rattle.tox_link.specs.declared.link_core.act.Act.{Act}
 use Rattle.tox_link.specs.declared.link_core.act.Act.TheVariants.{Write, WaitUntil, WaitForInput, End}
@@ -76,6 +77,19 @@ Hears old event new = (means : List Item → List Item) (told : ℕ → Bool) (l
 abbrev pub Says : Judge → ℕ → Judge → Type 0
 Says old due new = (means : List Item → List Item) (told : ℕ → Bool) (front : List ℕ) (start : ℕ) (log : List LinkEvent) (count : ℕ)
     → new.said ≡ old.said + count → FollowsWith means told old front start log → FollowsWith means told new (front ++ replicate count due) start log
+
+-- the instants of what is to be said, if nothing else is heard
+abbrev pub next_table : Judge → List ℕ
+next_table judge = rest_table judge.rest ++ table (remaining_output judge.core (Quiet ∷ []))
+
+-- so many bytes that leave at an instant are to be said next
+abbrev pub Expects : Judge → ℕ → ℕ → Type 0
+Expects judge count due = IsPrefix (replicate count due) (next_table judge)
+
+-- no faithful log goes on with this event
+abbrev pub Refuses : Judge → LinkEvent → Type 0
+Refuses judge event = (means : List Item → List Item) (told : ℕ → Bool) (log : List LinkEvent) → Judged means told judge log
+    → IsFaithful means (λ t. told t ≡ true) (log ++ event ∷ []) → ⊥
 
 -- how the source ended, if its end was heard
 abbrev pub source_heard : Bool → Option ReadEnd

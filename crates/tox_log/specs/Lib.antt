@@ -1,6 +1,8 @@
 pub mod EventText
 pub mod LastText
 pub mod HeaderText
+pub mod JudgedLine
+pub mod JudgedObject
 pub mod Judging
 pub mod Hearing
 pub mod Lines

@@ -1,5 +1,5 @@
 //! The judge of a log: what the plan still has to say, beside what the log says.
-ghost use Rattle.std.specs.Prelude.{◌≡◌, ℕ, ◌+◌, ◌≤◌, ◌<◌, ◌^◌, ◌↔◌, Bool, List, [], ◌∷◌, IfOk, OnOk, true, false, Some, None, IsSome, IsTrue};
+ghost use Rattle.std.specs.Prelude.{◌≡◌, ℕ, ◌+◌, ◌-◌, ◌++◌, ◌≤◌, ◌<◌, ◌^◌, ◌↔◌, Bool, List, [], ◌∷◌, IfOk, OnOk, true, false, Some, None, IsSome, IsTrue, replicate, slice_get};
 ghost use Rattle.tox_time.specs.Time.{IsInstant};
 ghost use Rattle.tox_time.specs.declared.streams.item.Item.{Item as OneItem};
 ghost use Rattle.tox_compile.specs.Meaning.{means};
@@ -9,7 +9,7 @@ ghost use Rattle.tox_time.specs.declared.streams.ending.Ending.{Ending as OneEnd
 ghost use Rattle.tox_time.specs.streams.Table.{final_of};
 ghost use Rattle.tox_link.specs.log.Logged.{IsReached};
 ghost use Rattle.tox_link.specs.Reports.{ReportsAt};
-ghost use Rattle.tox_log.specs.Judging.{IsHeld, Judged, Stays, Hears, Says, part_from, slice_in, source_heard};
+ghost use Rattle.tox_log.specs.Judging.{Expects, IsHeld, Judged, Refuses, Stays, Hears, Says, next_table, part_from, slice_in, source_heard};
 
 use std::alloc::{AllocError, Global};
 use tox_compile::Plan;
@@ -177,6 +177,7 @@ pub(crate) fn hear_wrote(judge: &mut Judge, slice: &Slice, reading: &Micros) -> 
         × (judge.new.latest ≡ reading.now) × (judge.new.ended ≡ judge.old.ended) }
     ensures hears { IsTrue result
         → Hears judge.old (OneEvent.Wrote slice.now reading.now) judge.new }
+    ensures refuses { result ≡ false → Refuses judge.old (OneEvent.Wrote slice.now reading.now) }
 {
     if slice.span.start != judge.said
         || slice.span.stop <= slice.span.start
@@ -204,6 +205,10 @@ fn say_part(judge: &mut Judge, slice: &Slice, reading: &Micros) -> bool
     ensures on { IsTrue result → (judge.old.said < judge.new.said)
         × (judge.new.said ≤ slice.now.span.stop) }
     ensures says { IsTrue result → Says judge.old slice.now.instant judge.new }
+    ensures expects { Expects judge.old (slice.now.span.stop - judge.old.said) slice.now.instant
+        → slice.now.instant ≤ reading.now
+        → (result ≡ true)
+        × Expects judge.new (slice.now.span.stop - judge.new.said) slice.now.instant }
 {
     look(judge, reading);
     let Some(part) = judge.rest else {
@@ -225,6 +230,8 @@ fn say(judge: &mut Judge, part: &Slice, stop: u64)
     ensures counts { (judge.new.heard ≡ judge.old.heard) × (judge.new.latest ≡ judge.old.latest)
         × (judge.new.ended ≡ judge.old.ended) × (judge.new.said ≡ stop) }
     ensures says { Says judge.old part.now.instant judge.new }
+    ensures next { next_table judge.old
+        ≡ replicate (stop - judge.old.said) part.now.instant ++ next_table judge.new }
 {
     judge.said = stop;
     judge.rest = part_from(part, stop);
@@ -238,6 +245,9 @@ fn look(judge: &mut Judge, reading: &Micros)
     ensures counts { (judge.new.heard ≡ judge.old.heard) × (judge.new.latest ≡ reading.now)
         × (judge.new.ended ≡ judge.old.ended) × (judge.new.said ≡ judge.old.said) }
     ensures stays { Stays judge.old judge.new }
+    ensures next { next_table judge.new ≡ next_table judge.old }
+    ensures finds { (due : ℕ) → slice_get (next_table judge.old) 0 ≡ Some due
+        → due ≤ reading.now → IsSome judge.new.rest }
 {
     judge.latest = *reading;
     if judge.rest.is_none() {
@@ -254,6 +264,9 @@ fn ask(judge: &mut Judge, reading: &Micros)
     ensures counts { (judge.new.heard ≡ judge.old.heard) × (judge.new.latest ≡ judge.old.latest)
         × (judge.new.ended ≡ judge.old.ended) × (judge.new.said ≡ judge.old.said) }
     ensures stays { Stays judge.old judge.new }
+    ensures next { next_table judge.new ≡ next_table judge.old }
+    ensures finds { (due : ℕ) → slice_get (next_table judge.old) 0 ≡ Some due
+        → due ≤ reading.now → IsSome judge.new.rest }
 {
     let act = judge.core.on_clock(*reading);
     judge.rest = slice_in(&act);
@@ -273,7 +286,8 @@ pub(crate) fn has_ended(judge: &mut Judge, ending: &Ending, reading: &Micros) ->
     requires held { IsHeld judge.old }
     requires later { judge.old.latest ≤ reading.now }
     ensures held { IsHeld judge.new }
-    ensures counts { (judge.new.heard ≡ judge.old.heard) × (judge.new.said ≡ judge.old.said) }
+    ensures counts { (judge.new.heard ≡ judge.old.heard) × (judge.new.said ≡ judge.old.said)
+        × (judge.new.ended ≡ judge.old.ended) }
     ensures reports { IsTrue result
         → (means : List OneItem → List OneItem) (told : ℕ → Bool) (log : List OneEvent)
         → told reading.now ≡ true → Judged means told judge.old log

@@ -1,5 +1,6 @@
 //! The line that a judged log is printed as.
 ghost use Rattle.std.specs.Prelude.{◌≡◌, false, OnOk};
+ghost use Rattle.tox_log.specs.JudgedObject.{verdict_word};
 
 use crate::heading::Heading;
 use crate::lateness::Percentiles;
@@ -26,7 +27,10 @@ pub fn print_judged<W: Sink>(
     print_late(buffer, writer, &log.late)
 }
 
-fn verdict_word(verdict: &Verdict) -> &'static str {
+/// The word of a verdict.
+pub(crate) fn verdict_word(verdict: &Verdict) -> &'static str
+    ensures { result.now ≡ verdict_word verdict.now }
+{
     match verdict {
         Verdict::Faithful(_) => "faithful",
         Verdict::Unfinished => "unfinished",

@@ -64,11 +64,11 @@ impl OpenLog {
         &self.heading
     }
 
-    /// Keeps what the first three lines say.
-    pub fn into_heading(self) -> Heading
-        ensures { result ≡ self.heading }
+    /// Keeps what the first three lines say, and the chain of the stream.
+    pub fn into_parts(self) -> (Heading, Chain)
+        ensures { (result.0 ≡ self.heading) × (result.1 ≡ self.chain) }
     {
-        self.heading
+        (self.heading, self.chain)
     }
 
     /// The chain of the stream.
@@ -99,7 +99,8 @@ impl OpenLog {
     pub fn next_line<R: Source>(&mut self, reader: &mut R) -> Result<Option<LogLine>, LogFault>
         requires { R.failed reader.old ≡ false }
         ensures working { OnOk result (R.failed reader.new ≡ false) }
-        ensures same { OnOk result (self.new.heading ≡ self.old.heading) }
+        ensures same { OnOk result ((self.new.heading ≡ self.old.heading)
+            × (self.new.chain ≡ self.old.chain)) }
         ensures hands { IfOk result (λ handed. MatchOption handed (self.new.over ≡ self.old.over)
             (λ line. Hands self.old self.new (R.remaining reader.old) (R.remaining reader.new) line)) }
     {
@@ -179,7 +180,8 @@ impl OpenLog {
     /// What the line that was read says, if it is of the form and may come next.
     fn line_in_order(&mut self) -> Option<LogLine>
         ensures kept { OnSome result ((self.new.lines ≡ self.old.lines)
-            × (self.new.waits ≡ self.old.waits) × (self.new.heading ≡ self.old.heading)) }
+            × (self.new.waits ≡ self.old.waits) × (self.new.heading ≡ self.old.heading)
+            × (self.new.chain ≡ self.old.chain)) }
         ensures reads { IfSome result (λ line. HasLine self.old.lines (line_words line)
             × (self.old.lines.long ≡ false) × IsWritable line) }
         ensures order { IfSome result (λ line. (self.old.over ≡ false)

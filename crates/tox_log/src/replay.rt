@@ -3,7 +3,7 @@ ghost use Rattle.std.specs.Prelude.{◌≡◌, ℕ, ◌++◌, List, [], Option, 
 ghost use Rattle.std.specs.Io.KnownBytes.{prepend_known};
 ghost use Rattle.tox_compile.specs.Meaning.{means};
 ghost use Rattle.tox_time.specs.declared.streams.item.Item.{Item as OneItem};
-ghost use Rattle.tox_log.specs.Hearing.{Begins, HasHeard, HearsLine, IsFaithfulText, SaysSo};
+ghost use Rattle.tox_log.specs.Hearing.{Begins, HasHeard, HearsLine, IsFaithfulText, IsRefusedText, SaysSo};
 ghost use Rattle.tox_time.specs.declared.streams.ending.Ending.{Ending as OneEnding};
 ghost use Rattle.tox_log.specs.Judging.{IsHeld};
 ghost use Rattle.tox_log.specs.Reading.{to_hand};
@@ -20,11 +20,12 @@ use crate::judge::{
     hear_wrote as judge_wrote, takes_at, takes_piece,
 };
 use crate::judged_text::print_judged;
-use crate::last_line::LastLine;
+use crate::last_line::{BreakCause, LastLine};
 use crate::lateness::{Lateness, Percentiles};
 use crate::open_log::OpenLog;
 use std::alloc::Global;
 use tox_compile::compile;
+use tox_defs::Chain;
 use tox_link::LinkEvent;
 use tox_text::Buffer;
 use tox_time::{Ending, Micros, Sink, Slice, Source};
@@ -41,10 +42,16 @@ pub enum Verdict {
 }
 
 /// A log that was judged.
-#[derive(Debug, Drop)]
+#[derive(Drop)]
 pub struct JudgedLog {
     pub heading: Heading,
+    /// The toxics of the header.
+    pub chain: Chain,
     pub verdict: Verdict,
+    /// Why the stream broke off, where the last line says so and the log is faithful up to it.
+    pub broken: Option<BreakCause>,
+    /// Whether the source's end was heard.
+    pub source_ended: bool,
     /// How many bytes were heard and said, and in how many writes.
     pub heard: u64,
     pub said: u64,
@@ -58,6 +65,7 @@ pub struct JudgedLog {
 struct Hearing {
     judge: Judge,
     verdict: Verdict,
+    broken: Option<BreakCause>,
     writes: u64,
     late: Lateness,
 }
@@ -65,21 +73,28 @@ struct Hearing {
 /// Reads a log to its end, and judges it.
 pub fn judge_log<R: Source>(alloc: Global, reader: &mut R) -> Result<JudgedLog, LogFault>
     requires { R.failed reader.old ≡ false }
-    ensures { IfOk result (λ judged. (ending : OneEnding)
+    ensures faithful { IfOk result (λ judged. (ending : OneEnding)
         → judged.verdict ≡ TheVerdict.Faithful ending
         → IsFaithfulText (R.remaining reader.old) judged ending) }
+    ensures refused { IfOk result (λ judged. (number : ℕ)
+        → judged.verdict ≡ TheVerdict.Unfaithful number
+        → IsRefusedText (R.remaining reader.old) judged) }
 {
     let mut log = OpenLog::new(alloc, reader)?;
     let mut hearing = begin(alloc, &log)?;
     hear_lines(alloc, &mut log, reader, &mut hearing)?;
     let late = hearing.late.percentiles();
+    let (heading, chain) = log.into_parts();
     Ok(JudgedLog {
+        heading,
+        chain,
         verdict: hearing.verdict,
+        broken: hearing.broken,
+        source_ended: hearing.judge.ended,
         heard: hearing.judge.heard,
         said: hearing.judge.said,
         writes: hearing.writes,
         late,
-        heading: log.into_heading(),
     })
 }
 
@@ -117,6 +132,7 @@ fn begin(alloc: Global, log: &OpenLog) -> Result<Hearing, LogFault>
     Ok(Hearing {
         judge: begin_judge(alloc, plan, words)?,
         verdict: Verdict::Unfinished,
+        broken: None,
         writes: 0,
         late: Lateness::new(alloc),
     })
@@ -136,7 +152,7 @@ fn hear_lines<R: Source>(
         × (to_hand log.old (R.remaining reader.old) ≡ prepend_known text left)
         × ((means : List OneItem → List OneItem) → HasHeard means [] hearing.old.judge
         → SaysSo means text log.new.over hearing.new.judge hearing.new.verdict)
-        × (log.new.heading ≡ log.old.heading)) }
+        × (log.new.heading ≡ log.old.heading) × (log.new.chain ≡ log.old.chain)) }
 {
     'lines: for _ in 0..u64::MAX {
         let Some(line) = log.next_line(reader)? else {
@@ -173,7 +189,10 @@ fn hear_line(
         LogLine::Last(LastLine::Ended(reading, ending)) => {
             hear_ending(alloc, hearing, ending, reading, number)
         }
-        LogLine::Last(LastLine::Broken(_, _)) => Ok(()),
+        LogLine::Last(LastLine::Broken(cause, _)) => {
+            hearing.broken = Some(*cause);
+            Ok(())
+        }
     }
 }
 

@@ -1,6 +1,7 @@
 -- Part by part, and then the whole slice.
-use Rattle.std.proofs.Common.{◌≡◌, ◌+◌, ◌-◌, ◌≤◌, ◌<◌, ℕ, replicate, true, ◌∙◌, rules, refl, arith}
-use Rattle.tox_log.specs.Judging.{rest_table}
+use Rattle.std.proofs.Common.{◌≡◌, ◌+◌, ◌-◌, ◌≤◌, ◌<◌, ℕ, replicate, true, subst, ◌∙◌, rules, refl, arith}
+use Rattle.tox_log.specs.Judging.{Expects, rest_table}
+use Rattle.tox_log.proofs.Refusing.{faithful-next}
 use Rattle.tox_log.proofs.Judging.{begins-saying, goes-saying, said-all, begins-held}
 use Rattle.tox_log.proofs.judge.hear_wrote.Goals as goal
 
@@ -15,7 +16,9 @@ parts-init c =
       ended = refl;
       from = omega arith;
       to = omega arith;
+      due = first_of (omega arith, search rules);
       follows = λ means told log follows. begins-saying means told judge.core judge.heard judge.ended slice.span.start log slice.instant (rest_table judge.rest) judge.latest c.args.reading.now judge.said c.requires.later (omega arith) follows;
+      expects = λ expects. subst (λ at. Expects judge (slice.span.stop - at) slice.instant) (search rules) expects;
     }
 
 pub parts-preserved : goal.parts-preserved
@@ -33,12 +36,14 @@ parts-preserved c =
       ended = counts.2 ∙ c.parts.invariant.ended;
       from = omega (arith, on, c.parts.invariant.from);
       to = on.1;
+      due = c.parts.invariant.due;
       follows = λ means told log follows.
           let count : ℕ = new.said - old.said in
           let more : new.said ≡ old.said + count = omega (arith, on) in
           let whole : new.said - slice.span.start ≡ (old.said - slice.span.start) + count = omega (arith, on, c.parts.invariant.from) in
           goes-saying means told new.core new.heard new.ended slice.span.start log slice.instant (rest_table new.rest) new.latest (old.said - slice.span.start) count (new.said - slice.span.start) whole
           (c.say_part.ensures.says yes means told (replicate (old.said - slice.span.start) slice.instant) slice.span.start log count more (c.parts.invariant.follows means told log follows));
+      expects = λ expects. (c.say_part.ensures.expects (c.parts.invariant.expects expects) c.parts.invariant.due).1;
     }
 
 pub returns-clause-hears : goal.returns-clause-hears
@@ -48,3 +53,17 @@ returns-clause-hears c = λ _ means told log says follows.
     let some : slice.span.start < slice.span.stop = first_of (omega arith, search rules) in
     let all : c.parts.judge.said ≡ slice.span.stop = omega (arith, c.parts.invariant.to, c.parts-test.false) in
     said-all means told c.parts.judge slice c.args.reading.now log c.parts.invariant.latest all says due some (c.parts.invariant.follows means told log follows)
+
+pub returns-then-slice-judge-clause-refuses : goal.returns-then-slice-judge-clause-refuses
+returns-then-slice-judge-clause-refuses c = λ _ means told log judged faithful.
+    let next = faithful-next means told c.args.judge.now log c.args.slice.now c.args.reading.now judged faithful in
+    let starts = next.starts in
+    let some = next.some in
+    let due = next.due in
+    search rules
+
+pub returns-then-not-say_part-clause-refuses : goal.returns-then-not-say_part-clause-refuses
+returns-then-not-say_part-clause-refuses c = λ _ means told log judged faithful.
+    let next = faithful-next means told c.args.judge.now log c.args.slice.now c.args.reading.now judged faithful in
+    let goes_on : c.say_part.result ≡ true = (c.say_part.ensures.expects (c.parts.invariant.expects next.expects) c.parts.invariant.due).0 in
+    search rules

@@ -1,8 +1,9 @@
 -- The first bytes of the slice are said.
 use Rattle.std.proofs.Common.{◌≡◌, ℕ, ◌-◌, ◌≤◌, List, Bool, replicate}
 use Rattle.tox_time.specs.declared.streams.item.Item.{Item}
+use Rattle.tox_time.specs.streams.Stream.{span_len}
 use Rattle.tox_link.specs.declared.notes.LinkEvent.{LinkEvent}
-use Rattle.tox_log.specs.Judging.{IsHeld, Judged, FollowsWith}
+use Rattle.tox_log.specs.Judging.{Expects, IsHeld, Judged, FollowsWith}
 use Rattle.tox_log.proofs.judge.hear_wrote.Given as goal
 
 abbrev pub invariant-parts : goal.invariant-parts
@@ -13,8 +14,10 @@ invariant-parts l = record {
   ended : l.judge.ended ≡ l.fn.judge.ended;
   from : l.slice.span.start ≤ l.judge.said;
   to : l.judge.said ≤ l.slice.span.stop;
+  due : l.slice.instant ≤ l.reading;
   follows : (means : List Item → List Item) (told : ℕ → Bool) (log : List LinkEvent) → Judged means told l.fn.judge log
       → FollowsWith means told l.judge (replicate (l.judge.said - l.slice.span.start) l.slice.instant) l.slice.span.start log;
+  expects : Expects l.fn.judge (span_len l.slice.span) l.slice.instant → Expects l.judge (l.slice.span.stop - l.judge.said) l.slice.instant;
 }
 
 abbrev pub decreases-parts : goal.decreases-parts

@@ -17,11 +17,11 @@ lines-preserved-then-ne g c =
     let more = text ++ (line_words c.in-Some.line ++ 10 ∷ []) in record {
       working = c.in_ok-line.ensures.working;
       held = c.lines.invariant.held;
-      same = c.in_ok-line.ensures.same ∙ c.lines.invariant.same;
+      same = (c.in_ok-line.ensures.same.0 ∙ c.lines.invariant.same.0, c.in_ok-line.ensures.same.1 ∙ c.lines.invariant.same.1);
       text = (
         more,
         prepend_more text (line_words c.in-Some.line ++ 10 ∷ []) (to_hand c.args.log.now (g.R.Source.remaining c.args.reader.now)) (to_hand c.lines.log before) (to_hand c.next_line.new.self after) given handed.given,
-        λ means heard. says-skipped means text more c.lines.log.over c.next_line.new.self.over c.lines.hearing.judge c.lines.hearing.verdict (search rules) handed.going (says means heard),
+        λ means heard. says-skipped means text (line_words c.in-Some.line ++ 10 ∷ []) c.lines.log.over c.next_line.new.self.over c.lines.hearing.judge c.lines.hearing.verdict (search rules) handed.going (says means heard),
       );
     }
 
@@ -35,7 +35,7 @@ lines-preserved g c =
     let unfinished : c.lines.hearing.verdict ≡ Unfinished = search rules in record {
       working = c.in_ok-line.ensures.working;
       held = c.hear_line.ensures.held;
-      same = c.in_ok-line.ensures.same ∙ c.lines.invariant.same;
+      same = (c.in_ok-line.ensures.same.0 ∙ c.lines.invariant.same.0, c.in_ok-line.ensures.same.1 ∙ c.lines.invariant.same.1);
       text = (
         text ++ (line_words c.in-Some.line ++ 10 ∷ []),
         prepend_more text (line_words c.in-Some.line ++ 10 ∷ []) (to_hand c.args.log.now (g.R.Source.remaining c.args.reader.now)) (to_hand c.lines.log before) (to_hand c.next_line.new.self after) given handed.given,

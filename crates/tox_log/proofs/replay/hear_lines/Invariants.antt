@@ -11,7 +11,7 @@ abbrev pub invariant-lines : goal.invariant-lines
 invariant-lines g l = record {
   working : g.R.Source.failed l.reader ≡ false;
   held : IsHeld l.hearing.judge;
-  same : l.log.heading ≡ l.fn.log.heading;
+  same : (l.log.heading ≡ l.fn.log.heading) × (l.log.chain ≡ l.fn.log.chain);
   text : (text : List ℕ)
       × (to_hand l.fn.log (g.R.Source.remaining l.fn.reader) ≡ prepend_known text (to_hand l.log (g.R.Source.remaining l.reader)))
       × ((means : List Item → List Item) → HasHeard means [] l.fn.hearing.judge → SaysSo means text l.log.over l.hearing.judge l.hearing.verdict);

@@ -1,0 +1,25 @@
+-- The core's answer is what is next.
+use Rattle.std.proofs.Common.{◌≡◌, ◌++◌, [], ◌∷◌, IsSome, ap, sym, subst, ◌∙◌}
+use Rattle.std.specs.Prelude.{slice_get, Some}
+use Rattle.tox_time.specs.declared.streams.item.Item.TheVariants.{Quiet}
+use Rattle.tox_time.specs.streams.Table.{table}
+use Rattle.tox_link.specs.link_core.Acts.{After}
+use Rattle.tox_link.specs.link_core.Core.{remaining_output}
+use Rattle.tox_log.specs.Judging.{rest_table, slice_in}
+use Rattle.tox_log.proofs.Refusing.{asked-table, due-is-given}
+use Rattle.tox_log.proofs.judge.ask.Goals as goal
+
+pub returns-clause-next : goal.returns-clause-next
+returns-clause-next c =
+    let core = c.args.judge.now.core in
+    let new = c.on_clock-act.new.self in
+    let after : After core c.args.reading.now c.on_clock-act.result new = c.on_clock-act.ensures.output in
+    ap (λ rest. rest_table rest ++ table (remaining_output new (Quiet ∷ []))) c.slice_in-judge.ensures
+    ∙ asked-table core new c.args.reading.now c.on_clock-act.result after
+    ∙ sym (ap (λ rest. rest_table rest ++ table (remaining_output core (Quiet ∷ []))) c.requires.none)
+
+pub returns-clause-finds : goal.returns-clause-finds
+returns-clause-finds c = λ due first before.
+    let core = c.args.judge.now.core in
+    let next = sym (ap (λ rest. slice_get (rest_table rest ++ table (remaining_output core (Quiet ∷ []))) 0) c.requires.none) ∙ first in
+    subst IsSome (sym c.slice_in-judge.ensures) (due-is-given due c.args.reading.now c.on_clock-act.result (c.on_clock-act.ensures.slice due next) before)
