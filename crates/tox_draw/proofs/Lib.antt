@@ -1,5 +1,5 @@
 mod AxisSteps
 mod Firsts
-mod Growing
+pub mod Growing
 mod LineCounts
 mod DrawnTexts

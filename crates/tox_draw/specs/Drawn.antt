@@ -3,14 +3,25 @@ use Rattle.std.specs.Prelude.{◌≡◌, ℕ, List, Option}
 use Rattle.std.specs.Io.KnownBytes.{append_known}
 use Rattle.tox_text.specs.Writing.{AppendsFront}
 use Rattle.tox_draw.specs.declared.picture.Picture.{Picture}
+use Rattle.tox_draw.specs.declared.setting.Setting.{Setting}
+use Rattle.tox_draw.specs.declared.setting.Setting.TheVariants.{Alone, OnPage}
 use Rattle.tox_draw.specs.Frames.{IsFrame}
 use Rattle.tox_draw.specs.Pictures.{picture_text}
 
--- the text of a picture
-pub record IsPictureText (text : List ℕ) : Type 0 where
+-- the text of a picture that stands so
+pub record IsPictureIn (setting : Setting) (text : List ℕ) : Type 0 where
   pub picture : Picture
+  pub stands : picture.setting ≡ setting
   pub frame : IsFrame picture.frame
   pub is : text ≡ picture_text picture
+
+-- the text of a picture that stands alone
+abbrev pub IsPictureText : List ℕ → Type 0
+IsPictureText text = IsPictureIn Alone text
+
+-- the text of a picture that stands on a page under a number
+abbrev pub IsPictureOnPage : ℕ → List ℕ → Type 0
+IsPictureOnPage number text = IsPictureIn (OnPage number) text
 
 -- the text of a picture was written, and nothing else
 pub record WritesPicture (old new : Option (List ℕ)) : Type 0 where

@@ -1,6 +1,8 @@
 -- Short forms.
-use Rattle.std.specs.Prelude.{ℕ, ◌==◌, Bool, List, [], ◌∷◌, ◌++◌, codes, decimal, take, if◌then◌else◌}
+use Rattle.std.specs.Prelude.{ℕ, ◌+◌, ◌==◌, Bool, List, [], ◌∷◌, ◌++◌, codes, decimal, take, if◌then◌else◌}
 use Rattle.std.specs.List.{zip}
+use Rattle.tox_words.specs.Draw.{Draws}
+use Rattle.tox_defs.specs.chain.Applied.{is_applied}
 use Rattle.tox_defs.specs.Toxic.{attributes_of, name_of, values_of}
 use Rattle.tox_defs.specs.declared.chain.Entry.{Entry}
 
@@ -31,6 +33,21 @@ in_parentheses entry = codes "(" ++ (bare entry ++ codes ")")
 -- the short form of a toxic
 abbrev pub form : Entry → Bool → List ℕ
 form entry applied = if applied then bare entry else in_parentheses entry
+
+-- the short form of a toxic behind a mark, if it is applied
+abbrev pub form_if : List ℕ → Entry → Bool → List ℕ
+form_if mark entry applied = if applied then mark ++ bare entry else []
+
+-- what stands before the next one: a space behind one that is there
+abbrev pub mark_behind : List ℕ → Bool → List ℕ
+mark_behind mark applied = if applied then codes " " else mark
+
+-- the short forms of the applied toxics, from a place on: the first behind a mark, each other one behind a space
+abbrev pub applied_forms : Draws → List ℕ → ℕ → List Entry → List ℕ
+applied_forms draws mark place [] = []
+applied_forms draws mark place (entry ∷ entries) =
+    form_if mark entry (is_applied entry place draws)
+    ++ applied_forms draws (mark_behind mark (is_applied entry place draws)) (place + 1) entries
 
 -- a form of more than 94 characters, as the heading shows it
 abbrev pub cut : List ℕ → List ℕ

@@ -15,4 +15,5 @@ pub mod Ticks
 pub mod Lines
 pub mod Pictures
 pub mod Style
+pub mod Settings
 pub mod Drawn

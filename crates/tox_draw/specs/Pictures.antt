@@ -11,7 +11,8 @@ use Rattle.tox_draw.specs.LinkEnds.{end_instant}
 use Rattle.tox_draw.specs.Marks.{area_path, base_line, end_line, end_mark, line_path, source_mark}
 use Rattle.tox_draw.specs.Places.{place_of}
 use Rattle.tox_draw.specs.Sentences.{ended, passed, source_ended, title}
-use Rattle.tox_draw.specs.Style.{style}
+use Rattle.tox_draw.specs.Settings.{id_end, own_style}
+use Rattle.tox_draw.specs.declared.setting.Setting.{Setting}
 use Rattle.tox_draw.specs.Ticks.{byte_ticks, time_ticks}
 
 -- the column of the plan's ending, and of the link's
@@ -26,17 +27,24 @@ abbrev pub shown_total : ℕ → Option Curve → ℕ
 shown_total planned None = planned
 shown_total planned (Some written) = written.total
 
--- the first line
+-- the first line up to what the picture is labelled by
 unfoldable pub opening : ℕ → List ℕ
 opening high =
     codes "<svg xmlns=\"http://www.w3.org/2000/svg\" class=\"toxi-draw\" width=\"960\" height=\""
     ++ (decimal high ++ (codes "\" viewBox=\"0 0 960 "
-    ++ (decimal high ++ codes "\" role=\"img\" aria-labelledby=\"toxi-title toxi-desc\">\n")))
+    ++ (decimal high ++ codes "\" role=\"img\" aria-labelledby=\"")))
+
+-- the ids of the title and of the sentences, which end the first line
+unfoldable pub labelled : Setting → List ℕ
+labelled setting =
+    codes "toxi-title"
+    ++ (id_end setting ++ (codes " toxi-desc" ++ (id_end setting ++ codes "\">\n")))
 
 -- the line of the title
-unfoldable pub title_line : List (List ℕ) → List ℕ
-title_line forms =
-    codes "<title id=\"toxi-title\">" ++ (title forms ++ codes "</title>\n")
+unfoldable pub title_line : Setting → List (List ℕ) → List ℕ
+title_line setting forms =
+    codes "<title id=\"toxi-title"
+    ++ (id_end setting ++ (codes "\">" ++ (title forms ++ codes "</title>\n")))
 
 -- what was due, and what was written
 unfoldable pub due_told : Curve → Curve → List ℕ
@@ -59,7 +67,9 @@ sentences picture =
 -- the line of the sentences
 unfoldable pub description : Picture → List ℕ
 description picture =
-    codes "<desc id=\"toxi-desc\">Bytes over time." ++ (sentences picture ++ codes "</desc>\n")
+    codes "<desc id=\"toxi-desc"
+    ++ (id_end picture.setting
+    ++ (codes "\">Bytes over time." ++ (sentences picture ++ codes "</desc>\n")))
 
 -- the background
 unfoldable pub paper : ℕ → List ℕ
@@ -69,8 +79,10 @@ paper high = codes "<rect class=\"paper\" width=\"960\" height=\"" ++ (decimal h
 unfoldable pub front : Picture → List ℕ
 front picture =
     opening (picture.frame.base + 44)
-    ++ (title_line (texts_of picture.forms.items)
-    ++ (description picture ++ (style ++ paper (picture.frame.base + 44))))
+    ++ (labelled picture.setting
+    ++ (title_line picture.setting (texts_of picture.forms.items)
+    ++ (description picture
+    ++ (own_style picture.setting ++ paper (picture.frame.base + 44)))))
 
 -- the heading and the axes
 unfoldable pub axes : Picture → List ℕ

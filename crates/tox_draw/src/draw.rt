@@ -11,6 +11,7 @@ use crate::frame::Frame;
 use crate::heading::push_heading;
 use crate::link_end::LinkEnd;
 use crate::picture::{Picture, picture_text};
+use crate::setting::Setting;
 use std::alloc::{AllocError, Global};
 use tox_compile::compile;
 use tox_defs::Chain;
@@ -68,6 +69,7 @@ fn drawn(alloc: Global, text: &[u8], chain: &Chain, words: &Words) -> Result<Str
     let frame = Frame::new(lines, &latest, totals.arrived.total);
     let (course, _) = run(alloc, text, chain, words, &frame)?;
     let picture = Picture {
+        setting: Setting::Alone,
         forms,
         heading,
         frame,

@@ -1,9 +1,11 @@
 //! Toxics as short forms without what is as it is by default.
-ghost use Rattle.std.specs.Prelude.{◌≡◌, ◌≤◌, ◌<◌, codes, length, map, string_bytes, IfOk, OnOk};
+ghost use Rattle.std.specs.Prelude.{◌≡◌, ◌≤◌, ◌<◌, ◌++◌, codes, length, map, string_bytes, IfOk, OnOk};
 ghost use Rattle.std.specs.List.{zip};
 ghost use Rattle.std.specs.Str.{IsCharBoundary};
 ghost use Rattle.tox_draw.specs.Adding.{Adds};
-ghost use Rattle.tox_draw.specs.Forms.{bare, cut, form, in_parentheses, next_mark, pair, pairs};
+ghost use Rattle.tox_draw.specs.Forms.{applied_forms, bare, cut, form, form_if, in_parentheses, mark_behind, next_mark, pair, pairs};
+ghost use Rattle.tox_defs.specs.Flow.{chain_draws};
+ghost use Rattle.tox_words.specs.Draw.{draws_of};
 
 use crate::parts::push_word;
 use std::alloc::{AllocError, Global};
@@ -33,6 +35,59 @@ pub(crate) fn forms_of(
         forms.push(form)?;
     }
     Ok(forms)
+}
+
+/// The short forms of the toxics of a chain that are applied under these words, in order, separated by spaces.
+pub fn applied_toxics(alloc: Global, chain: &Chain, words: &Words) -> Result<String, AllocError>
+    ensures { IfOk result (λ text. string_bytes text
+        ≡ applied_forms (chain_draws chain.now words.now) (codes "") 0 chain.now.entries) }
+{
+    let drawing = Drawing::new(chain.lanes(), words);
+    let mut text = String::new(alloc);
+    push_applied(&mut text, chain.entries(), &drawing)?;
+    Ok(text)
+}
+
+/// Adds the short forms of the applied toxics.
+fn push_applied(
+    text: &mut String,
+    entries: &[Entry],
+    drawing: &Drawing<'_>,
+) -> Result<(), AllocError>
+    ensures { OnOk result (Adds text.old text.new
+        (applied_forms (draws_of drawing.now) (codes "") 0 entries.now)) }
+{
+    let mut mark = "";
+    for (place, entry) in entries.iter().enumerate() {
+        mark = push_if(text, mark, entry, entry.is_applied(place, drawing))?;
+    }
+    Ok(())
+}
+
+/// Adds the short form of a toxic behind a mark, if it is applied. Returns what stands before the next one.
+fn push_if(
+    text: &mut String,
+    mark: &'static str,
+    entry: &Entry,
+    applied: bool,
+) -> Result<&'static str, AllocError>
+    ensures adds { OnOk result (Adds text.old text.new (form_if mark.now entry.now applied)) }
+    ensures next { IfOk result (λ next. next.now ≡ mark_behind mark.now applied) }
+{
+    if !applied {
+        return Ok(mark);
+    }
+    push_marked(text, mark, entry)?;
+    Ok(" ")
+}
+
+/// Adds the short form of a toxic behind a mark.
+#[tactic(auto, using(crate::proofs::Growing::adds_then))]
+fn push_marked(text: &mut String, mark: &str, entry: &Entry) -> Result<(), AllocError>
+    ensures { OnOk result (Adds text.old text.new (mark.now ++ bare entry.now)) }
+{
+    push_word(text, mark)?;
+    push_bare(text, entry)
 }
 
 /// The forms as the heading shows them: one of more than 94 characters is cut.

@@ -1,16 +1,15 @@
 //! What stands before the heading of a picture.
-ghost use Rattle.std.specs.Prelude.{◌≤◌, decimal, OnOk};
+ghost use Rattle.std.specs.Prelude.{◌≤◌, OnOk};
 ghost use Rattle.tox_draw.specs.Adding.{Adds};
 ghost use Rattle.tox_draw.specs.Frames.{IsFrame};
 ghost use Rattle.tox_draw.specs.Headings.{texts_of};
-ghost use Rattle.tox_draw.specs.Pictures.{description, due_told, front, left_told, opening, paper, sentences, title_line};
-ghost use Rattle.tox_draw.specs.Style.{style};
+ghost use Rattle.tox_draw.specs.Pictures.{description, due_told, front, labelled, left_told, opening, paper, sentences, title_line};
 
 use crate::curve::Curve;
-use crate::parts::push_word;
+use crate::parts::{push_number, push_word};
 use crate::picture::Picture;
 use crate::sentences::{push_end, push_passed, push_source_end, push_title};
-use crate::style::STYLE;
+use crate::setting::{Setting, push_id_end, push_own_style};
 use std::alloc::AllocError;
 
 /// Adds all that stands before the heading.
@@ -21,13 +20,14 @@ pub(crate) fn push_front(text: &mut String, picture: &Picture) -> Result<(), All
 {
     let high = picture.frame.base + 44;
     push_opening(text, high)?;
-    push_title_line(text, &picture.forms)?;
+    push_labelled(text, &picture.setting)?;
+    push_title_line(text, &picture.setting, &picture.forms)?;
     push_description(text, picture)?;
-    push_style(text)?;
+    push_own_style(text, &picture.setting)?;
     push_paper(text, high)
 }
 
-/// Adds the first line.
+/// Adds the first line up to what the picture is labelled by.
 #[tactic(auto, using(crate::proofs::Growing::adds_then), unfolding(crate::specs::Pictures::opening))]
 fn push_opening(text: &mut String, high: u64) -> Result<(), AllocError>
     ensures { OnOk result (Adds text.old text.new (opening high)) }
@@ -39,24 +39,30 @@ fn push_opening(text: &mut String, high: u64) -> Result<(), AllocError>
     push_number(text, high)?;
     push_word(text, "\" viewBox=\"0 0 960 ")?;
     push_number(text, high)?;
-    push_word(
-        text,
-        "\" role=\"img\" aria-labelledby=\"toxi-title toxi-desc\">\n",
-    )
+    push_word(text, "\" role=\"img\" aria-labelledby=\"")
 }
 
-fn push_number(text: &mut String, number: u64) -> Result<(), AllocError>
-    ensures { OnOk result (Adds text.old text.new (decimal number)) }
+/// Adds the ids of the title and of the sentences, and ends the first line.
+#[tactic(auto, using(crate::proofs::Growing::adds_then), unfolding(crate::specs::Pictures::labelled))]
+fn push_labelled(text: &mut String, setting: &Setting) -> Result<(), AllocError>
+    ensures { OnOk result (Adds text.old text.new (labelled setting.now)) }
 {
-    write!(text, "{number}")
+    push_word(text, "toxi-title")?;
+    push_id_end(text, setting)?;
+    push_word(text, " toxi-desc")?;
+    push_id_end(text, setting)?;
+    push_word(text, "\">\n")
 }
 
 /// Adds the line of the title.
 #[tactic(auto, using(crate::proofs::Growing::adds_then), unfolding(crate::specs::Pictures::title_line))]
-fn push_title_line(text: &mut String, forms: &[String]) -> Result<(), AllocError>
-    ensures { OnOk result (Adds text.old text.new (title_line (texts_of forms.now))) }
+fn push_title_line(text: &mut String, setting: &Setting, forms: &[String]) -> Result<(), AllocError>
+    ensures { OnOk result
+        (Adds text.old text.new (title_line setting.now (texts_of forms.now))) }
 {
-    push_word(text, "<title id=\"toxi-title\">")?;
+    push_word(text, "<title id=\"toxi-title")?;
+    push_id_end(text, setting)?;
+    push_word(text, "\">")?;
     push_title(text, forms)?;
     push_word(text, "</title>\n")
 }
@@ -66,7 +72,9 @@ fn push_title_line(text: &mut String, forms: &[String]) -> Result<(), AllocError
 fn push_description(text: &mut String, picture: &Picture) -> Result<(), AllocError>
     ensures { OnOk result (Adds text.old text.new (description picture.now)) }
 {
-    push_word(text, "<desc id=\"toxi-desc\">Bytes over time.")?;
+    push_word(text, "<desc id=\"toxi-desc")?;
+    push_id_end(text, &picture.setting)?;
+    push_word(text, "\">Bytes over time.")?;
     push_sentences(text, picture)?;
     push_word(text, "</desc>\n")
 }
@@ -104,13 +112,6 @@ fn push_due(text: &mut String, planned: &Curve, written: &Curve) -> Result<(), A
 {
     push_passed(text, "Due", planned.total, &planned.last)?;
     push_passed(text, "Written", written.total, &written.last)
-}
-
-#[tactic(auto, unfolding(crate::specs::Style::style))]
-fn push_style(text: &mut String) -> Result<(), AllocError>
-    ensures { OnOk result (Adds text.old text.new style) }
-{
-    push_word(text, STYLE)
 }
 
 /// Adds the background.

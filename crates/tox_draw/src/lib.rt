@@ -19,10 +19,14 @@ mod picture;
 mod place;
 mod recorded;
 mod sentences;
+mod setting;
 mod strand;
 mod style;
 mod ticks;
 mod unit;
 
 pub use draw::draw_run;
-pub use recorded::draw_log;
+pub use form::applied_toxics;
+pub use parts::{push_number, push_word};
+pub use recorded::{draw_log, log_picture};
+pub use style::STYLE;

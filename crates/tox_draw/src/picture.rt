@@ -15,6 +15,7 @@ use crate::marks::{
 };
 use crate::parts::push_word;
 use crate::place::{Point, place_of};
+use crate::setting::Setting;
 use crate::ticks::{push_byte_ticks, push_time_ticks};
 use std::alloc::{AllocError, Global};
 use tox_time::Micros;
@@ -22,6 +23,7 @@ use tox_time::Micros;
 /// What a picture shows.
 #[derive(Drop)]
 pub(crate) struct Picture {
+    pub(crate) setting: Setting,
     /// The short forms of the toxics.
     pub(crate) forms: Vec<String>,
     /// The lines of the heading.

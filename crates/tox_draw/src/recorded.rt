@@ -1,5 +1,6 @@
 //! `draw --log`: the picture of a recorded link, with what was due beside what was written.
-ghost use Rattle.std.specs.Prelude.{◌≡◌, false, true, OnOk};
+ghost use Rattle.std.specs.Prelude.{◌≡◌, false, true, string_bytes, IfOk, OnErr, OnOk};
+ghost use Rattle.tox_draw.specs.Drawn.{IsPictureIn, IsPictureOnPage, WritesFront, WritesPicture};
 ghost use Rattle.tox_draw.specs.Frames.{IsFrame};
 
 use crate::course::{Course, ending_of};
@@ -8,6 +9,7 @@ use crate::frame::Frame;
 use crate::heading::push_heading;
 use crate::link_end::LinkEnd;
 use crate::picture::{Picture, picture_text};
+use crate::setting::Setting;
 use crate::strand::Strand;
 use std::alloc::{AllocError, Global};
 use tox_compile::compile;
@@ -51,8 +53,13 @@ pub fn draw_log<'a, R: Source, W: Sink>(
     requires first { R.failed first.old ≡ false }
     requires second { R.failed second.old ≡ false }
     requires works { W.failed writer.old ≡ false }
+    ensures ok { OnOk result (WritesPicture (W.written writer.old) (W.written writer.new)) }
+    ensures unwritten { OnErr result (W.failed writer.new ≡ false
+        → W.written writer.new ≡ W.written writer.old) }
+    ensures front { W.failed writer.new ≡ true
+        → WritesFront (W.written writer.old) (W.written writer.new) }
 {
-    let drawn = match drawn(alloc, first, second) {
+    let drawn = match drawn(alloc, first, second, Setting::Alone) {
         Ok(drawn) => drawn,
         Err(fault) => return Err(ReplayFault::of(name, &fault)),
     };
@@ -62,27 +69,49 @@ pub fn draw_log<'a, R: Source, W: Sink>(
     Ok(())
 }
 
-/// The picture of a log.
-fn drawn<R: Source>(alloc: Global, first: &mut R, second: &mut R) -> Result<String, LogFault>
+/// The picture of a log, to stand on a page under a number. Both readers give that log, as [`draw_log`] has them.
+pub fn log_picture<R: Source>(
+    alloc: Global,
+    first: &mut R,
+    second: &mut R,
+    number: u64,
+) -> Result<String, LogFault>
     requires first { R.failed first.old ≡ false }
     requires second { R.failed second.old ≡ false }
+    ensures { IfOk result (λ picture. IsPictureOnPage number (string_bytes picture)) }
+{
+    drawn(alloc, first, second, Setting::OnPage(number))
+}
+
+/// The picture of a log.
+fn drawn<R: Source>(
+    alloc: Global,
+    first: &mut R,
+    second: &mut R,
+    setting: Setting,
+) -> Result<String, LogFault>
+    requires first { R.failed first.old ≡ false }
+    requires second { R.failed second.old ≡ false }
+    ensures { IfOk result (λ drawn. IsPictureIn setting (string_bytes drawn)) }
 {
     let totals = record_of(alloc, first, &Frame::widest())?;
     let mut heading = String::new(alloc);
     let lines = push_heading(&mut heading, &cut_forms(alloc, &totals.forms)?)?;
     let frame = Frame::new(lines, &latest(&totals), totals.course.arrived.total);
     let record = record_of(alloc, second, &frame)?;
-    Ok(picture_of(alloc, record, heading, frame)?)
+    Ok(picture_of(alloc, setting, record, heading, frame)?)
 }
 
 /// The text of a record's picture.
 fn picture_of(
     alloc: Global,
+    setting: Setting,
     record: Record,
     heading: String,
     frame: Frame,
 ) -> Result<String, AllocError>
     requires { IsFrame frame }
+    ensures { IfOk result (λ text. IsPictureIn setting (string_bytes text)) }
 {
     let Record {
         forms,
@@ -95,6 +124,7 @@ fn picture_of(
     let planned = course.planned.curve(alloc, &frame)?;
     let written = written.curve(alloc, &frame)?;
     let picture = Picture {
+        setting,
         forms,
         heading,
         frame,
