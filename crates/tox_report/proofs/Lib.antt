@@ -1,0 +1,5 @@
+mod PlainLetters
+mod Shown
+mod Drawn
+mod Kept
+mod Linked

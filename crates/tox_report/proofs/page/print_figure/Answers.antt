@@ -1,0 +1,10 @@
+-- A log that can't be judged has no figure.
+use Rattle.std.proofs.Common.{[], refl}
+use Rattle.tox_text.proofs.Writes.{Passes-none}
+use Rattle.tox_report.proofs.page.print_figure.Goals as goal
+
+pub returns-in-Fault : goal.returns-in-Fault
+returns-in-Fault g c = ([], rw c.in-Fault.is refl, (Passes-none _ _, c.requires))
+
+pub returns-in-Stream : goal.returns-in-Stream
+returns-in-Stream g c = rw c.in-Stream.is c.print_drawn.ensures

@@ -1,0 +1,12 @@
+pub mod Escaping
+pub mod Cells
+pub mod Outcomes
+pub mod Rows
+pub mod Figures
+pub mod Kinds
+pub mod Totals
+pub mod Fronts
+pub mod Links
+pub mod Logs
+pub mod Reports
+pub mod Pages

@@ -1,0 +1,91 @@
+-- The page of some rows, and how it is written.
+use Rattle.std.specs.Prelude.{◌≡◌, ℕ, ◌+◌, Bool, true, false, List, [], ◌∷◌, ◌++◌, codes, flat_map, take, ltb, Option, Result, Ok, Err, string_bytes}
+use Rattle.std.specs.List.{enumerate_from}
+use Rattle.std.specs.Option.{ForSome}
+use Rattle.std.specs.Io.KnownBytes.{append_known}
+use Rattle.std.specs.declared.string.String.{String}
+use Rattle.std.specs.declared.alloc.Global.{Global}
+use Rattle.tox_text.specs.Writing.{AppendsFront, Passes}
+use Rattle.tox_draw.specs.Drawn.{IsPictureOnPage}
+use Rattle.tox_report.specs.declared.fault.PageFault.{PageFault}
+use Rattle.tox_report.specs.declared.fault.PageFault.TheVariants.{OutOfMemory, WriteFault}
+use Rattle.tox_report.specs.declared.row.Row.{Row}
+use Rattle.tox_report.specs.declared.row.StreamFacts.{StreamFacts}
+use Rattle.tox_report.specs.declared.row.Told.{Told}
+use Rattle.tox_report.specs.declared.row.Told.TheVariants.{Stream, Fault}
+use Rattle.tox_report.specs.Figures.{figure}
+use Rattle.tox_report.specs.Fronts.{page_front}
+use Rattle.tox_report.specs.Links.{link_count}
+use Rattle.tox_report.specs.Rows.{row_of}
+
+-- a row at a place. It leads to its figure if it is one of the first, so many of them
+abbrev pub placed_row : ℕ → ℕ × Row → List ℕ
+placed_row pictures placed = row_of placed.1 (placed.0 + 1) (ltb placed.0 pictures)
+
+-- the rows of the table
+abbrev pub table_rows : List Row → ℕ → List ℕ
+table_rows rows pictures = flat_map (placed_row pictures) (enumerate_from 0 rows)
+
+-- behind the rows
+unfoldable pub table_end : List ℕ
+table_end = codes "</tbody>\n</table>\n</div>\n<h2>Pictures</h2>\n"
+
+-- behind the pictures
+unfoldable pub page_end : List ℕ
+page_end = codes "</main>\n</body>\n</html>\n"
+
+-- the head, the totals and the table
+unfoldable pub page_table : List Row → ℕ → List ℕ
+page_table rows pictures =
+    page_front rows (link_count rows) ++ (table_rows rows pictures ++ table_end)
+
+-- a figure of this number, with a picture or the sentence that stands for one
+pub record IsFigure (number : ℕ) (facts : StreamFacts) (text : List ℕ) : Type 0 where
+  pub picture : Option (String Global)
+  pub drawn : ForSome picture (λ shown. IsPictureOnPage number (string_bytes shown))
+  pub is : text ≡ figure facts number picture
+
+-- what stands for a log below the table: a figure, or nothing if it can't be judged
+abbrev pub StandsBelow : ℕ → Told → List ℕ → Type 0
+StandsBelow number (Stream facts) text = IsFigure number facts text
+StandsBelow number (Fault fault) text = text ≡ []
+
+-- what stands for some logs, of which the first has this number
+abbrev pub AreFigures : ℕ → List Row → List ℕ → Type 0
+AreFigures number [] text = text ≡ []
+AreFigures number (row ∷ rows) text =
+    (first : List ℕ) × (others : List ℕ) × StandsBelow number row.told first
+    × AreFigures (number + 1) rows others × (text ≡ first ++ others)
+
+-- the page of these rows, with pictures of the first, so many of them
+pub record IsPage (rows : List Row) (pictures : ℕ) (text : List ℕ) : Type 0 where
+  pub figures : List ℕ
+  pub drawn : AreFigures 1 (take pictures rows) figures
+  pub whole : text ≡ page_table rows pictures ++ (figures ++ page_end)
+
+-- whether a fault is that of the writer
+abbrev pub is_writers : PageFault → Bool
+is_writers OutOfMemory = false
+is_writers WriteFault = true
+
+-- a part was printed: it passed, or a prefix of it is written
+abbrev pub Shows : Result (Unit {0}) PageFault → Option (List ℕ) → List ℕ → Option (List ℕ)
+    → List ℕ → Bool → List ℕ → Type 0
+Shows (Ok done) old waited new waiting failed text =
+    Passes old waited new waiting text × (failed ≡ false)
+Shows (Err fault) old waited new waiting failed text =
+    AppendsFront old new (waited ++ text) × (failed ≡ is_writers fault)
+
+-- all bytes of a page were written, or a prefix of them, and only a writer that failed is to blame for its fault
+abbrev pub LeavesPage : Result (Unit {0}) PageFault → Option (List ℕ) → Option (List ℕ) → Bool
+    → List ℕ → Type 0
+LeavesPage (Ok done) old new failed text = (new ≡ append_known old text) × (failed ≡ false)
+LeavesPage (Err fault) old new failed text =
+    AppendsFront old new text × (failed ≡ is_writers fault)
+
+-- the page of these rows was written
+pub record WritesPage (result : Result (Unit {0}) PageFault) (rows : List Row) (pictures : ℕ)
+    (old new : Option (List ℕ)) (failed : Bool) : Type 0 where
+  pub text : List ℕ
+  pub page : IsPage rows pictures text
+  pub left : LeavesPage result old new failed text
