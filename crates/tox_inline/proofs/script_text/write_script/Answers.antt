@@ -1,0 +1,6 @@
+-- The text was printed into the empty buffer, which was written.
+use Rattle.tox_text.proofs.Writes.{Writes-flushed}
+use Rattle.tox_inline.proofs.script_text.write_script.Goals as goal
+
+pub returns : goal.returns
+returns g c = Writes-flushed c.flush.result _ _ _ _ _ _ (rw c.new-buffer.ensures at c.in_ok-print_script.ensures.0) c.flush.ensures.writes

@@ -1,0 +1,3 @@
+pub mod Toxics
+pub mod Texts
+pub mod Setup
