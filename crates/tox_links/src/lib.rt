@@ -15,7 +15,9 @@ mod stop;
 
 pub use addresses::connect_address;
 pub use fault::ServeFault;
-pub use lines::{Gaps, LineChannel, LineQueue, NoGaps, print_listening, write_lines};
+pub use lines::{
+    Gaps, LineChannel, LineForm, LineQueue, NoGaps, print_listening, print_open, write_lines,
+};
 pub use link::course::{Course, Courses, courses_of};
 pub use link::end::{Carried, LinkEnd, StreamEnd};
 pub use link::logs::{broken_link, notes_of, unless_stopped};

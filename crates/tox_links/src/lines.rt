@@ -1,5 +1,8 @@
 //! Lines on their way to the output: written by one thread, so that an output that nobody reads holds up no link.
 mod channel;
+mod form;
+mod json_lines;
+mod open_line;
 mod printing;
 mod queue;
 mod serve_lines;
@@ -7,7 +10,8 @@ mod text;
 mod writer;
 
 pub use channel::LineChannel;
-pub use printing::print_listening;
+pub use form::LineForm;
+pub use printing::{print_listening, print_open};
 pub(crate) use printing::{print_link, print_total};
 pub use queue::LineQueue;
 pub(crate) use text::LineText;

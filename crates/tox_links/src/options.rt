@@ -1,4 +1,5 @@
 //! What `serve_with` may be told beyond what it serves.
+use crate::lines::LineForm;
 use tox_log_files::LogLimits;
 
 /// Options of [`serve_with`](crate::serve_with). Without any, `serve` does as it always did.
@@ -12,4 +13,8 @@ pub struct ServeOptions {
     pub workers: Option<u32>,
     /// How much of the links is logged. None: nothing is.
     pub logs: Option<LogLimits>,
+    /// Whether a line tells what each stream of a link meets, once its upstream is reached.
+    pub verbose: bool,
+    /// How each line is written.
+    pub form: LineForm,
 }

@@ -1,24 +1,29 @@
 //! What the program does, as library calls over readers, writers, files, sockets and values: runs, files and picks (tox_runs),
-//! forecasts (tox_forecast), serving (tox_serve), logs (tox_log, tox_log_files), pictures (tox_draw), and the texts that a command prints as they stand (tox_text).
+//! one proxy on the command line (tox_inline), forecasts (tox_forecast), serving (tox_serve), logs (tox_log, tox_log_files), pictures
+//! (tox_draw), pages of runs (tox_report), and the texts that a command prints as they stand (tox_text).
 #![tactic(auto)]
 
+pub use tox_check::{CheckFault, CheckRequest, print_check};
 pub use tox_draw::{draw_log, draw_run};
 pub use tox_forecast::{ForecastRequest, Question, print_forecast};
+pub use tox_inline::{Inline, InlineFault, InlineSetup, InlineToxic, inline_setup};
 pub use tox_log::{
-    HeardFault, JudgedLog, LogFault, OpenLog, ReplayFault, Verdict, judge_log, print_heard,
-    print_judged, print_meant, print_words, write_judged,
+    HeardFault, JudgedLog, LogBytes, LogFault, OpenLog, ReplayFault, Verdict, judge_log,
+    print_heard, print_judged, print_judged_json, print_meant, print_words, write_judged,
+    write_judged_json,
 };
 pub use tox_log_files::{LogFiles, LogLimits, NoLogs};
+pub use tox_report::{LogStore, PageFault, Report};
 pub use tox_runs::{
     FileFault, MAX_INPUT, MemoryFiles, NamedFiles, PickFault, PickRequest, RealFiles, Setup,
     SetupFault, StagesFault, ToxicsFault, dry_run, find_proxy, read_chain, read_file, read_setup,
     stages_run,
 };
 pub use tox_serve::{
-    Gaps, NoGaps, Room, ServeFault, ServeOptions, ServeRuntime, Stop, serve, serve_with,
+    Gaps, LineForm, NoGaps, Room, ServeFault, ServeOptions, ServeRuntime, Stop, serve, serve_with,
     tells_to_stop,
 };
 pub use tox_text::{
-    DryFault, PrintMigratedFault, PrintPickFault, VisibleName, WriteFault, print_migrated,
-    print_pick, print_plan,
+    DryFault, JsonField, PrintMigratedFault, PrintPickFault, VisibleName, WriteFault,
+    print_migrated, print_pick, print_plan, write_object,
 };

@@ -7,4 +7,4 @@ mod threads;
 
 pub use serving::{serve, serve_with};
 pub use signals::tells_to_stop;
-pub use tox_links::{Gaps, NoGaps, Room, ServeFault, ServeOptions, ServeRuntime, Stop};
+pub use tox_links::{Gaps, LineForm, NoGaps, Room, ServeFault, ServeOptions, ServeRuntime, Stop};

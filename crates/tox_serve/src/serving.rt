@@ -14,7 +14,7 @@ use std::thread::{Scope, Threads};
 use std::time::Clock;
 use tox_config::ProxyDef;
 use tox_links::{
-    Gaps, LineChannel, LineQueue, Listening, NoGaps, ServeFault, ServeOptions, ServeRun,
+    Gaps, LineChannel, LineForm, LineQueue, Listening, NoGaps, ServeFault, ServeOptions, ServeRun,
     ServeRuntime, Stop, listen_all, print_listening, write_lines,
 };
 use tox_log_files::{LogFiles, NoLogs, RunLogs, write_logs};
@@ -52,6 +52,8 @@ pub fn serve<
         connect_timeout: None,
         workers: None,
         logs: None,
+        verbose: false,
+        form: LineForm::Words,
     };
     serve_with(
         rt,
@@ -226,7 +228,7 @@ fn serve_by_threads<R: ServeRuntime>(
     thread::scope(thread::scope_env(), rt, |scope| {
         // The threads wait for the lock until all of them are there.
         let mut all_started = may_go.lock(rt);
-        print_listening(rt, run.lines, &listening);
+        print_listening(rt, run, &listening);
         *all_started = start_all(rt, run, may_go, scope, listening);
         if !*all_started {
             return false;
@@ -249,7 +251,7 @@ fn serve_by_workers<R: ServeRuntime>(
     let go = Mutex::new(false);
     let may_go = &go;
     let mut all_started = may_go.lock(rt);
-    print_listening(rt, run.lines, &listening);
+    print_listening(rt, run, &listening);
     let Some((crew, desks)) = Crew::new(rt, run.alloc, listening, workers) else {
         return false;
     };

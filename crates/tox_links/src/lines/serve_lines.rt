@@ -44,7 +44,7 @@ pub(crate) fn link_text(name: &str, end: &LinkEnd) -> Option<LineText>
     LineText::of(&parts)
 }
 
-fn end_word(ending: &Option<Ending>) -> &'static str
+pub(crate) fn end_word(ending: &Option<Ending>) -> &'static str
     ensures { result.now ≡ end_word ending.now }
 {
     match ending {

@@ -1,13 +1,15 @@
 //! The text of one line, made before it is sent.
-ghost use Rattle.std.specs.Prelude.{◌≡◌, Some, [], false, IfSome};
+ghost use Rattle.std.specs.Prelude.{◌≡◌, Some, [], ◌++◌, false, IfSome, IsSome};
+ghost use Rattle.tox_text.specs.JsonLine.{object_line};
 ghost use Rattle.tox_text.specs.Parts.{text_of};
 
 use arrayvec::ArrayVec;
-use tox_text::{Part, write_parts};
+use tox_text::{JsonField, Part, write_object, write_parts};
 use tox_time::{EndFault, Sink};
 
-/// The longest line, in bytes. A name of 255 control characters takes 1,020 of them.
-const MAX_LINE: usize = 2_048;
+/// The longest line, in bytes. The longest is an object of a stream of a link with 32 toxics: the proxy's name may take 1,530 of
+/// them, and the names of the toxics 4,192.
+const MAX_LINE: usize = 6_144;
 
 /// The text of one line. It takes no memory.
 #[derive(Debug, Drop)]
@@ -19,11 +21,30 @@ pub(crate) struct LineText {
 impl LineText {
     /// The text of these parts. None if it is too long, which no line is.
     pub(crate) fn of(parts: &[Part<'_>]) -> Option<LineText>
-        ensures { IfSome result (λ line. line.bytes.items ≡ text_of parts.now) }
+        ensures text { IfSome result (λ line. line.bytes.items ≡ text_of parts.now) }
+        ensures working { IfSome result (λ line. line.failed ≡ false) }
     {
         let mut line = LineText::new();
         write_parts(&mut line, parts).ok()?;
         Some(line)
+    }
+
+    /// The object about an event with these fields. None if it is too long, which no line is.
+    pub(crate) fn of_object(event: &str, fields: &[JsonField<'_>]) -> Option<LineText>
+        ensures { IfSome result (λ line. line.bytes.items ≡ object_line event.now fields.now) }
+    {
+        let mut line = LineText::new();
+        write_object(&mut line, event, fields).ok()?;
+        Some(line)
+    }
+
+    /// Adds parts behind the others. None if the text is then too long, which no line is.
+    pub(crate) fn add(&mut self, parts: &[Part<'_>]) -> Option<()>
+        requires { self.old.failed ≡ false }
+        ensures text { IsSome result → self.new.bytes.items ≡ self.old.bytes.items ++ text_of parts.now }
+        ensures working { IsSome result → self.new.failed ≡ false }
+    {
+        write_parts(self, parts).ok()
     }
 
     /// An empty text.

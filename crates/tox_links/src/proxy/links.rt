@@ -46,7 +46,7 @@ impl<'a> ProxyLinks<'a> {
         let proxy = self.proxy;
         let mut book = self.book.lock(rt);
         if book.settle(end) {
-            print_link(rt, run.lines, &proxy.name, end);
+            print_link(rt, run, &proxy.name, end);
         }
         self.ended.notify_all();
     }
@@ -62,7 +62,7 @@ impl<'a> ProxyLinks<'a> {
         let proxy = self.proxy;
         let mut book = self.ended_book(rt, run);
         book.close();
-        print_total(rt, run.lines, &proxy.name, &book.book);
+        print_total(rt, run, &proxy.name, &book.book);
     }
 
     /// The lock, once all links have ended or were waited for long enough.

@@ -35,26 +35,28 @@ pub fn listen_all<'a, R: Net<Listener = TcpListener, Stream = TcpStream> + Wait>
     ensures fault { IfErr result (HasServeCause proxies.now) }
 {
     let mut listening = Vec::new(alloc);
+    let mut place = 0;
     for proxy in proxies {
         if proxy.enabled {
-            let bound = listen(rt, alloc, live, proxies, proxy)?;
+            let bound = listen(rt, alloc, live, place, proxy)?;
             if listening.push(bound).is_err() {
                 return Err(ServeFault::OutOfMemory);
             }
         }
+        place += 1;
     }
     Ok(listening)
 }
 
-/// Binds the address of a proxy. Its queue of connections is as long as the system allows.
+/// Binds the address of the proxy at a place. Its queue of connections is as long as the system allows.
 fn listen<'a, R: Net<Listener = TcpListener, Stream = TcpStream> + Wait>(
     rt: &R,
     alloc: Global,
     live: &LiveSockets,
-    proxies: &[ProxyDef],
+    place: usize,
     proxy: &'a ProxyDef,
 ) -> Result<Listening<'a>, ServeFault<'a>>
-    ensures proxy { IfOk result (λ bound. bound.proxy.now ≡ proxy.now) }
+    ensures proxy { IfOk result (λ bound. (bound.proxy.now ≡ proxy.now) × (bound.place ≡ place)) }
     ensures fault { IfErr result (IsListenFault proxy.now) }
 {
     let Ok(address) = listen_address(alloc, &proxy.listen) else {
@@ -83,16 +85,9 @@ fn listen<'a, R: Net<Listener = TcpListener, Stream = TcpStream> + Wait>(
     };
     Ok(Listening {
         proxy,
-        place: place_of(proxies, proxy),
+        place,
         listener,
         key,
         address,
     })
-}
-
-/// The place of a proxy among all, from 0. No two have one name.
-fn place_of(proxies: &[ProxyDef], proxy: &ProxyDef) -> usize {
-    let name = proxy.name.as_str();
-    let place = proxies.iter().position(|other| other.name.as_str() == name);
-    place.unwrap_or(0)
 }

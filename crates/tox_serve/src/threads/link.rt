@@ -9,7 +9,7 @@ use std::sync::Arc;
 use std::thread;
 use tox_links::{
     Carried, Courses, LinkEnd, ProxyLinks, ServeRun, ServeRuntime, Taken, broken_link, courses_of,
-    unless_stopped,
+    print_open, unless_stopped,
 };
 use tox_log::BreakCause;
 use tox_sockets::{LinkSockets, LinkStart, LiveSocket};
@@ -62,6 +62,7 @@ fn carry_link<R: ServeRuntime>(
     let Some(courses) = courses_of(run, &proxy.name, taken.number) else {
         return Err(BreakCause::Memory);
     };
+    print_open(rt, run, &proxy.name, taken.number, &taken.client, &courses);
     let Taken { client, number } = taken;
     let Some(link) = LinkSockets::new(run.alloc, client, server) else {
         return Err(BreakCause::Memory);

@@ -20,7 +20,9 @@ use std::mem;
 use std::net::{SocketAddr, TcpStream};
 use std::os::fd::AsRawFd;
 use std::sync::Arc;
-use tox_links::{LinkEnd, ServeRuntime, Taken, broken_link, courses_of, notes_of, unless_stopped};
+use tox_links::{
+    LinkEnd, ServeRuntime, Taken, broken_link, courses_of, notes_of, print_open, unless_stopped,
+};
 use tox_log::BreakCause;
 use tox_sockets::{LinkSockets, LinkStart, LiveSocket};
 use tox_time::Stream;
@@ -273,6 +275,14 @@ impl<'s, R: ServeRuntime> Worker<'s, R> {
         let links = &self.crew.proxies.get(client.proxy)?.links;
         let served = links.proxy;
         let courses = courses_of(run, &served.name, client.taken.number)?;
+        print_open(
+            rt,
+            run,
+            &served.name,
+            client.taken.number,
+            &client.taken.client,
+            &courses,
+        );
         let Client {
             taken,
             proxy,

@@ -15,4 +15,4 @@ total_line-parts name links = simp append_assoc
 pub returns : goal.returns
 returns c =
     subst (λ (text : List ℕ). IfSome c.of.result (λ line. line.bytes.items ≡ text)) (total_line-parts c.args.name.now c.args.book.now)
-    (rw (c.links.ensures, c.total-upstream.ensures, c.total-downstream.ensures) at c.of.ensures)
+    (rw (c.links.ensures, c.total-upstream.ensures, c.total-downstream.ensures) at c.of.ensures.text)

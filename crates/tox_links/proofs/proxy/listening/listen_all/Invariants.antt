@@ -1,9 +1,11 @@
--- The enabled ones of the first proxies are bound.
+-- The enabled ones of the first proxies are bound, and the next one stands at this place.
 use Rattle.std.proofs.Common.{◌≡◌, take, filter, map}
 use Rattle.tox_config.specs.Proxy.{Proxy}
 use Rattle.tox_links.proofs.proxy.listening.listen_all.Given as goal
 
 abbrev pub invariant-loop-proxy : goal.invariant-loop-proxy
-invariant-loop-proxy g l =
-    map (λ bound. bound.proxy.now) l.listening.items
-    ≡ filter (λ (proxy : Proxy). proxy.enabled) (take l.proxy-index l.proxies)
+invariant-loop-proxy g l = record {
+  bound : map (λ bound. bound.proxy.now) l.listening.items
+      ≡ filter (λ (proxy : Proxy). proxy.enabled) (take l.proxy-index l.proxies);
+  place : l.place ≡ l.proxy-index;
+}
