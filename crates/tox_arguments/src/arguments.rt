@@ -36,32 +36,3 @@ pub struct PickArguments<'a> {
     pub seed: u64,
     pub ghost numbered: { (1 ≤ conn) × (conn ≤ 1_000_000) },
 }
-
-/// What `serve` is given.
-#[derive(Clone, Copy, Debug)]
-pub struct ServeArguments<'a> {
-    /// The name of the populate file.
-    pub config: &'a str,
-    /// The name of the script file.
-    pub script: &'a str,
-    pub seed: u64,
-    /// After how many connections each proxy stops listening. None: it goes on.
-    pub links: Option<u64>,
-    /// How many milliseconds a connect may take. None: as many as the system lets it.
-    pub connect_timeout: Option<u32>,
-    /// How many threads drive all links. None: each link has threads of its own.
-    pub workers: Option<u32>,
-    /// What is logged. None: nothing is.
-    pub logs: Option<LogArguments<'a>>,
-}
-
-/// What `serve` logs.
-#[derive(Clone, Copy, Debug)]
-pub struct LogArguments<'a> {
-    /// The folder of the logs.
-    pub folder: &'a str,
-    /// How many links of each proxy are logged.
-    pub links: u64,
-    /// How many bytes a log has at most.
-    pub bytes: u64,
-}

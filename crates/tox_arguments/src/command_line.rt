@@ -1,8 +1,12 @@
 //! The command line, as `clap` reads it.
-use crate::arguments::{DrawArguments, LinkArguments, LogArguments, PickArguments, ServeArguments};
+use crate::arguments::{DrawArguments, LinkArguments, PickArguments};
+use crate::check::{CheckArguments, check_of};
 use crate::commands::toxi;
 use crate::forecast::{ForecastArguments, forecast_of};
 use crate::replay::{ONE_FILE, ReplayArguments, replay_of};
+use crate::report::{ReportArguments, report_of};
+use crate::serve::{InlineArguments, ServeArguments, ServeSource, serve_of, source_of};
+use crate::topics::{HelpText, text_of};
 use clap::error::ErrorKind;
 use clap::{ArgMatches, Error};
 use std::alloc::{AllocError, Global};
@@ -20,25 +24,56 @@ pub enum Task<'a> {
     Draw(DrawArguments<'a>),
     Plan(LinkArguments<'a>),
     Stages(Cap, LinkArguments<'a>),
+    Check(CheckArguments<'a>),
     Pick(PickArguments<'a>),
     Forecast(ForecastArguments<'a>),
     /// The name of a script file.
     Migrate(&'a str),
     Serve(ServeArguments<'a>),
+    /// What `serve` would be given in files, and the folder that gets them.
+    PrintFiles(InlineArguments<'a>, &'a str),
     Replay(ReplayArguments<'a>),
+    Help(HelpText),
+    Report(ReportArguments<'a>),
 }
 
 /// Reads the command line. An error is `clap`'s own text, help too.
+#[inline(never)]
 pub fn read<'a, S: AsStr>(alloc: Global, words: &'a [S]) -> Result<Task<'a>, Error> {
     let matches = toxi(alloc)?.try_get_matches_from(words)?;
+    if let Some(("help", given)) = matches.subcommand() {
+        return help_task(alloc, given.get_str("topic"));
+    }
     match task_of(alloc, &matches)? {
         Some(Task::Replay(arguments)) => replay_task(alloc, arguments),
         Some(task) => Ok(task),
-        None => Err(toxi(alloc)?.error(
-            ErrorKind::MissingRequiredArgument,
-            "a command with its options is required",
-        )?),
+        None => Err(no_command(alloc)?),
     }
+}
+
+/// The refusal of a command line without a command.
+fn no_command(alloc: Global) -> Result<Error, AllocError> {
+    toxi(alloc)?.error(
+        ErrorKind::MissingRequiredArgument,
+        "a command with its options is required",
+    )
+}
+
+/// The task of `help`: a text, or `clap`'s own help of a command, which is an error.
+fn help_task<'a>(alloc: Global, topic: Option<&str>) -> Result<Task<'a>, Error> {
+    match topic {
+        None => command_help(alloc, &["toxi", "--help"]),
+        Some(topic) => match text_of(topic) {
+            Some(text) => Ok(Task::Help(text)),
+            None => command_help(alloc, &["toxi", topic, "--help"]),
+        },
+    }
+}
+
+/// What `clap` answers a command line that asks for help.
+fn command_help<'a>(alloc: Global, words: &[&str]) -> Result<Task<'a>, Error> {
+    toxi(alloc)?.try_get_matches_from(words)?;
+    Err(no_command(alloc)?)
 }
 
 /// The task of `replay`, unless it is given more logs than it takes.
@@ -57,18 +92,35 @@ fn task_of<'a>(alloc: Global, matches: &ArgMatches<'a>) -> Result<Option<Task<'a
         Some(("plan", given)) => Some(Task::Plan(link_of(alloc, given)?)),
         Some(("stages", given)) => Some(Task::Stages(cap_of(given), link_of(alloc, given)?)),
         Some(("replay", given)) => Some(Task::Replay(replay_of(alloc, given)?)),
+        Some(("serve", given)) => serve_task(alloc, given)?,
+        Some(("report", given)) => Some(Task::Report(report_of(alloc, given)?)),
         Some((name, given)) => files_task(name, given),
         None => None,
     })
 }
 
+/// The task of `serve`: to serve, or to print the files that mean what it is given.
+fn serve_task<'a>(alloc: Global, given: &ArgMatches<'a>) -> Result<Option<Task<'a>>, AllocError> {
+    let Some(source) = source_of(alloc, given)? else {
+        return Ok(None);
+    };
+    Ok(match (source, given.get_str("print-files")) {
+        (ServeSource::Inline(inline), Some(folder)) => Some(Task::PrintFiles(inline, folder)),
+        (source, _) => serving_task(given, source),
+    })
+}
+
+fn serving_task<'a>(given: &ArgMatches<'a>, source: ServeSource<'a>) -> Option<Task<'a>> {
+    Some(Task::Serve(serve_of(given, source)?))
+}
+
 /// The task of a command that is given files.
 fn files_task<'a>(name: &str, given: &ArgMatches<'a>) -> Option<Task<'a>> {
     match name {
+        "check" => Some(Task::Check(check_of(given)?)),
         "pick" => Some(Task::Pick(pick_of(given)?)),
         "forecast" => Some(Task::Forecast(forecast_of(given)?)),
         "migrate" => Some(Task::Migrate(given.get_str("script")?)),
-        "serve" => Some(Task::Serve(serve_of(given)?)),
         _ => None,
     }
 }
@@ -116,44 +168,6 @@ fn pick_of<'a>(given: &ArgMatches<'a>) -> Option<PickArguments<'a>> {
         stream: given.get_str("stream")?,
         seed: given.get_one::<u64>("seed")?,
     })
-}
-
-/// How many links of each proxy are logged unless `--log-links` tells.
-const DEFAULT_LOG_LINKS: u64 = 10_000;
-
-/// How many bytes a log has at most unless `--log-bytes` tells.
-const DEFAULT_LOG_BYTES: u64 = 67_108_864;
-
-/// What `serve` is given, where each option that it needs is there.
-fn serve_of<'a>(given: &ArgMatches<'a>) -> Option<ServeArguments<'a>> {
-    Some(ServeArguments {
-        config: given.get_str("config")?,
-        script: given.get_str("script")?,
-        seed: given.get_one::<u64>("seed")?,
-        links: given.get_one::<u64>("links"),
-        connect_timeout: small_number(given, "connect-timeout"),
-        workers: small_number(given, "workers"),
-        logs: logs_of(given),
-    })
-}
-
-/// What `serve` logs.
-fn logs_of<'a>(given: &ArgMatches<'a>) -> Option<LogArguments<'a>> {
-    Some(LogArguments {
-        folder: given.get_str("log")?,
-        links: given
-            .get_one::<u64>("log-links")
-            .unwrap_or(DEFAULT_LOG_LINKS),
-        bytes: given
-            .get_one::<u64>("log-bytes")
-            .unwrap_or(DEFAULT_LOG_BYTES),
-    })
-}
-
-/// The number of an option whose numbers are small. `clap` has rejected other values.
-fn small_number(given: &ArgMatches<'_>, name: &str) -> Option<u32> {
-    let number = given.get_one::<u64>(name)?;
-    u32::try_from(number).ok()
 }
 
 /// The room of each ring. `clap` has rejected other values.

@@ -1,21 +1,16 @@
 //! The commands and their options, as `clap` is told of them.
+use crate::check::check;
 use crate::forecast::forecast;
 use crate::help;
 use crate::replay::replay;
+use crate::report::report;
+use crate::serve::serve;
+use crate::topics::help_command;
 use clap::builder::ValueParser;
 use clap::{Arg, ArgAction, Command, value_parser};
 use std::alloc::{AllocError, Global};
 use tox_time::MAX_CAP;
 use tox_words::MAX_CONNECTIONS;
-
-/// The most threads that drive all links.
-const MAX_WORKERS: u64 = 64;
-
-/// The longest time that a connect may be given, in milliseconds.
-const MAX_CONNECT_TIMEOUT: u64 = 600_000;
-
-/// The most bytes that a log may be given.
-const MAX_LOG_BYTES: u64 = 1 << 40;
 
 /// The version, and the kit that proves and builds it.
 const VERSION: &str = "0.2.0 (rattle-kit-13f logic dac8208d650f15bf)";
@@ -27,6 +22,7 @@ pub(crate) fn toxi<'a>(alloc: Global) -> Result<Command<'a>, AllocError> {
         .version(VERSION)
         .about("A TCP proxy that adds scripted faults")
         .after_help(help::PROGRAM)
+        .disable_help_subcommand(true)
         .subcommand_required(true);
     toxi.subcommands(commands(alloc)?)
 }
@@ -38,11 +34,14 @@ fn commands<'a>(alloc: Global) -> Result<Vec<Command<'a>>, AllocError> {
         draw(alloc)?,
         plan(alloc)?,
         stages(alloc)?,
+        check(alloc)?,
         pick(alloc)?,
         forecast(alloc)?,
         migrate(alloc)?,
         serve(alloc)?,
         replay(alloc)?,
+        report(alloc)?,
+        help_command(alloc)?,
     ]?)
 }
 
@@ -130,73 +129,6 @@ fn migrate<'a>(alloc: Global) -> Result<Command<'a>, AllocError> {
         .arg(script_argument(alloc))
 }
 
-fn serve<'a>(alloc: Global) -> Result<Command<'a>, AllocError> {
-    let links = option(
-        alloc,
-        "links",
-        "N",
-        "After how many connections each proxy stops listening, 1 to 1000000 [default: it goes on]",
-    )
-    .value_parser(connections());
-    let connect_timeout = option(
-        alloc,
-        "connect-timeout",
-        "MS",
-        "How many milliseconds a connect to an upstream may take, 1 to 600000 [default: the system's]",
-    )
-    .value_parser(ValueParser::unsigned(1, MAX_CONNECT_TIMEOUT));
-    let workers = option(
-        alloc,
-        "workers",
-        "N",
-        "How many threads drive all links, 1 to 64 [default: each link has four of its own]",
-    )
-    .value_parser(ValueParser::unsigned(1, MAX_WORKERS));
-    let log = option(
-        alloc,
-        "log",
-        "DIR",
-        "The folder that gets a log of each stream; it is made, or must be empty",
-    );
-    let arguments = vec![in alloc;
-        config_argument(alloc),
-        script_argument(alloc),
-        seed_argument(alloc),
-        links,
-        connect_timeout,
-        workers,
-        log,
-        log_links_argument(alloc)?,
-        log_bytes_argument(alloc)?,
-    ]?;
-    Command::new(alloc, "serve")
-        .about("Listens for each proxy, and carries its connections under their toxics")
-        .after_help(help::SERVE)
-        .args(arguments)
-}
-
-fn log_links_argument<'a>(alloc: Global) -> Result<Arg<'a>, AllocError> {
-    option(
-        alloc,
-        "log-links",
-        "N",
-        "How many links of each proxy are logged, 1 to 1000000 [default: 10000]",
-    )
-    .value_parser(ValueParser::unsigned(1, MAX_CONNECTIONS))
-    .requires_arg("log")
-}
-
-fn log_bytes_argument<'a>(alloc: Global) -> Result<Arg<'a>, AllocError> {
-    option(
-        alloc,
-        "log-bytes",
-        "N",
-        "How many bytes a log has at most, 1 to 2^40 [default: 67108864]",
-    )
-    .value_parser(ValueParser::unsigned(1, MAX_LOG_BYTES))
-    .requires_arg("log")
-}
-
 pub(crate) fn config_argument<'a>(alloc: Global) -> Arg<'a> {
     needed(
         alloc,
@@ -236,6 +168,18 @@ pub(crate) fn option<'a>(alloc: Global, name: &'a str, value: &'a str, help: &'a
         .long(name)
         .value_name(value)
         .help(help)
+}
+
+/// An option without a value.
+pub(crate) fn flag<'a>(alloc: Global, name: &'a str, help: &'a str) -> Arg<'a> {
+    Arg::new(alloc, name)
+        .long(name)
+        .help(help)
+        .action(ArgAction::SetTrue)
+}
+
+pub(crate) fn json_argument<'a>(alloc: Global) -> Arg<'a> {
+    flag(alloc, "json", "Prints each line as one JSON object")
 }
 
 /// What reads a number of connections.

@@ -2,7 +2,7 @@
 ghost use Rattle.std.specs.Prelude.{◌≤◌};
 
 use crate::commands::{
-    config_argument, connections, needed, option, script_argument, seed_argument,
+    config_argument, connections, json_argument, needed, option, script_argument, seed_argument,
 };
 use crate::help;
 use clap::{ArgMatches, Command};
@@ -25,6 +25,8 @@ pub struct ForecastArguments<'a> {
     /// The name of an applied toxic that a wanted line has. None: any line.
     pub named: Option<&'a str>,
     pub seed: u64,
+    /// Whether each line is an object of JSON.
+    pub json: bool,
     pub ghost numbered: { (1 ≤ links) × (links ≤ 1_000_000) },
 }
 
@@ -57,6 +59,7 @@ pub(crate) fn forecast<'a>(alloc: Global) -> Result<Command<'a>, AllocError> {
         seed_argument(alloc),
         stream,
         named,
+        json_argument(alloc),
     ]?;
     Command::new(alloc, "forecast")
         .about(
@@ -80,5 +83,6 @@ pub(crate) fn forecast_of<'a>(given: &ArgMatches<'a>) -> Option<ForecastArgument
         stream: given.get_str("stream"),
         named: given.get_str("where"),
         seed: given.get_one::<u64>("seed")?,
+        json: given.get_flag("json"),
     })
 }

@@ -5,8 +5,8 @@ pub const PROGRAM: &str = "\
 Example:
   printf '0 data 6162\\n50 eof\\n' | toxi dry latency:latency=100
 
-`toxi dry --help` shows each toxic and the lines of the input, `toxi pick --help` the files, `toxi serve --help` a proxy
-under faults.
+`toxi serve --help` shows a proxy under faults, `toxi help toxics` each toxic, `toxi help scripts` and `toxi pick --help` the files,
+`toxi help faults` what each fault means.
 A fault is one line on standard error, and the status is then 1.";
 
 /// Below the options of `toxi dry`.
@@ -91,7 +91,7 @@ prints
 
 /// Below the options of `toxi pick`.
 pub const PICK: &str = "\
-A FILE has at most 16777216 bytes. docs/PROFILE.md describes both formats in full.
+A FILE has at most 16777216 bytes. docs/SCRIPTS.md describes both formats in full.
 
 The populate file is a JSON array of proxies:
 
@@ -120,6 +120,26 @@ prints
   proxy a listen localhost:0 upstream localhost:1 enabled
   0 applied latency:latency=100,jitter=0,toxicity=1000 latency_downstream";
 
+/// Below the options of `toxi check`.
+pub const CHECK: &str = "\
+The files are those of `toxi pick`; see `toxi pick --help`.
+
+The output has a line for each rule and each toxic that has no effect, or not the whole one, in the script's order:
+
+  rule 3 never applies: no proxy shpo (shop?)
+  rule 4 never applies: rules 1 to 3 cover its connections
+  rule 5 applies to 21 to 40 only: connections 10 to 20 meet rule 2
+  rule 2 toxic 1 never applies: toxicity 0
+  rule 2 toxic 3 changes nothing: a timeout drops all data
+  rule 6 is for proxy mail, which is disabled
+
+Rules and toxics count from 1. docs/SCRIPTS.md tells what each line means and what to do.
+
+Example, with the files of `toxi pick --help` as proxies.json and script.toml:
+  toxi check --config proxies.json --script script.toml --verbose
+prints
+  1 proxies, 1 rules, 1 toxics";
+
 /// Below the options of `toxi forecast`.
 pub const FORECAST: &str = "\
 The files are those of `toxi pick`; see `toxi pick --help`.
@@ -131,7 +151,8 @@ tells on how many connections it is applied:
   <connection> upstream|downstream rule <rule> applied <place> ..
   rule <rule> toxic <number> applied <count> of <connections> <name>
 
-Rules and toxics count from 1, places from 0. --stream and --where leave lines out, and no total.
+Rules and toxics count from 1, places from 0. --stream and --where leave lines out, and no total. With
+--json each line is one JSON object.
 
 Example, with the files of `toxi pick --help` as proxies.json and script.toml:
   toxi forecast --config proxies.json --script script.toml --proxy a --links 3 --seed 1 --stream downstream
@@ -165,27 +186,70 @@ prints
 
 /// Below the options of `toxi serve`.
 pub const SERVE: &str = "\
-The files are those of `toxi pick`; see `toxi pick --help`. Each enabled proxy is listened for, and each connection to it
-is carried to its upstream under the toxics that the script has for it. `toxi pick` prints them beforehand.
-
-The output has a line for each proxy that listens, one for each link that ended, and one for each proxy at its end. A
-proxy ends once it stopped listening and all its links ended:
+The files are those of `toxi pick`, and a TOXIC is as `toxi help toxics` shows. --listen and --upstream stand in place of the files
+for one proxy, `default`, whose toxics are named down_1, up_1 and so on. The output has a line for each proxy that listens, with
+--verbose one for each stream of a link whose upstream is reached, one for each link that ended, and one for each proxy at its end:
 
   listening <name> <address>
+  open <name> <number> <stream> <client> <toxic> ..
   link <name> <number> up <bytes> <end> down <bytes> <end>
   total <name> <links> up <bytes> down <bytes>
 
-The bytes are those written upstream and downstream. An end is open, closed, reset or broken: a write failed, the
-upstream wasn't reached, or memory or a thread was refused. Each line is flushed as it is written. While the output isn't
-read, lines of links past 65,536 bytes are dropped, and how many is told on standard error.
+The bytes are those written upstream and downstream. An end is open, closed, reset or broken: a write failed, the upstream wasn't
+reached, or memory or a thread was refused.
 
-With --log each stream of a link has a file <proxy>-<number>-<stream>.log in DIR, which `toxi replay` judges.
+Examples:
+  toxi serve --listen localhost:18080 --upstream localhost:8080 --seed 1 --down latency:latency=100
+  toxi serve --config proxies.json --script script.toml --seed 1 --workers 2 --log logs
+  toxi serve --listen localhost:0 --upstream localhost:1 --seed 1 --links 1
+The last prints, after one connection to the port that it prints first, while port 1 is closed,
+  link default 1 up 0 broken down 0 broken
+  total default 1 up 0 down 0";
 
-Example, with the files of `toxi pick --help` as proxies.json and script.toml, and port 1 of localhost closed:
-  toxi serve --config proxies.json --script script.toml --seed 1 --links 1
-prints, after one connection to the port that it prints first,
-  link a 1 up 0 broken down 0 broken
-  total a 1 up 0 down 0";
+/// Below the options of `toxi help`.
+pub const HELP: &str = "\
+Examples:
+  toxi help serve
+  toxi help toxics
+  toxi help C5";
+
+/// The toxics, as the help of `toxi dry` begins.
+pub(crate) fn toxics() -> &'static str {
+    match DRY.split_once("\n\nThe input has") {
+        Some((toxics, _)) => toxics,
+        None => DRY,
+    }
+}
+
+/// What a script is.
+pub const SCRIPTS: &str = "\
+A script is a document of TOML. Each connection of a proxy meets the toxics of the first rule that covers it:
+
+  version = 2
+  lanes = 32
+
+  [[rule]]
+  proxy = \"a\"
+  first = 2
+  last = 3
+
+  [[rule.toxic]]
+  name = \"slow\"
+  type = \"latency\"
+  stream = \"downstream\"
+  toxicity = 500
+  attributes = { latency = 100 }
+
+  version      1 or 2; absent, it is 1
+  lanes        16 or 32, in version 2 alone; absent, they are 32; in version 1 each chain has 16
+  proxy        the proxy's name, 1 to 255 bytes
+  first, last  the connections of the rule, 1 to 1000000; without last it has no upper end
+  name         1 to 64 bytes, none of them a control character; absent, it is <type>_<stream>
+  stream       upstream or downstream; absent, it is downstream
+  toxicity     the chance in thousandths, 0 to 1000, or in version 2 a text such as \"0.25\"; absent, it is 1000
+  attributes   those of the type, as `toxi help toxics` shows them; an absent one is 0
+
+A connection that no rule covers meets no toxic. The toxics of a stream are met in the file's order.";
 
 /// Below the options of `toxi replay`.
 pub const REPLAY: &str = "\
@@ -203,3 +267,14 @@ Status 1 if a log can't be judged or is unfaithful. docs/PROFILE.md describes th
 
 Example:
   find logs -name '*.log' | toxi replay -";
+
+/// Below the options of `toxi report`.
+pub const REPORT: &str = "\
+A FILE is the log of one stream of one link; `toxi replay --help` tells how it is judged. The output is one HTML page that needs
+nothing beside it: totals, a row for each log, and the pictures of the first rows. Rows stand in the order given, those of logs
+that can't be judged or aren't faithful first.
+
+Status 1 if a log can't be judged or is unfaithful, as `toxi replay` has it. docs/REPORT.md describes the page.
+
+Example:
+  find logs -name '*.log' | toxi report - > run.html";

@@ -2,13 +2,23 @@
 #![tactic(auto)]
 
 mod arguments;
+mod check;
 mod command_line;
 mod commands;
+mod faults;
 mod forecast;
 mod help;
 mod replay;
+mod report;
+mod serve;
+mod topics;
 
-pub use arguments::{DrawArguments, LinkArguments, LogArguments, PickArguments, ServeArguments};
+pub use arguments::{DrawArguments, LinkArguments, PickArguments};
+pub use check::CheckArguments;
 pub use command_line::{Task, read};
+pub use faults::FAULTS;
 pub use forecast::ForecastArguments;
 pub use replay::{NAMES_ON_INPUT, ReplayArguments, ReplayMode};
+pub use report::ReportArguments;
+pub use serve::{InlineArguments, LogArguments, ServeArguments, ServeSource, ToxicArgument};
+pub use topics::HelpText;

@@ -1,5 +1,5 @@
 //! The command `replay` and its options.
-use crate::commands::option;
+use crate::commands::{flag, json_argument, option};
 use crate::help;
 use clap::{Arg, ArgAction, ArgMatches, Command};
 use std::alloc::{AllocError, Global};
@@ -23,6 +23,8 @@ pub struct ReplayArguments<'a> {
     pub mode: ReplayMode<'a>,
     /// The names of the logs, or `-` for names on standard input.
     pub files: Vec<&'a str>,
+    /// Whether each verdict is a JSON object.
+    pub json: bool,
 }
 
 /// The name that stands for names on standard input.
@@ -66,19 +68,16 @@ pub(crate) fn replay<'a>(alloc: Global) -> Result<Command<'a>, AllocError> {
             "Prints what the toxics mean for what the log heard, with lengths for the bytes"
         ),
         as_argument(alloc)?,
+        json_argument(alloc)
+            .conflicts_with("arrivals")?
+            .conflicts_with("words")?
+            .conflicts_with("result")?,
         files_argument(alloc),
     ]?;
     Command::new(alloc, "replay")
         .about("Says of each log of `serve` whether it is faithful, and how late it was")
         .after_help(help::REPLAY)
         .args(arguments)
-}
-
-fn flag<'a>(alloc: Global, name: &'a str, help: &'a str) -> Arg<'a> {
-    Arg::new(alloc, name)
-        .long(name)
-        .help(help)
-        .action(ArgAction::SetTrue)
 }
 
 fn as_argument<'a>(alloc: Global) -> Result<Arg<'a>, AllocError> {
@@ -92,7 +91,8 @@ fn as_argument<'a>(alloc: Global) -> Result<Arg<'a>, AllocError> {
     .requires_arg("result")
 }
 
-fn files_argument<'a>(alloc: Global) -> Arg<'a> {
+/// The logs of a command.
+pub(crate) fn files_argument<'a>(alloc: Global) -> Arg<'a> {
     Arg::new(alloc, "files")
         .value_name("FILE")
         .help("The logs; - takes their names from standard input, one a line")
@@ -109,6 +109,7 @@ pub(crate) fn replay_of<'a>(
     Ok(ReplayArguments {
         mode: mode_of(alloc, given)?,
         files: strs_of(alloc, given, "files")?,
+        json: given.get_flag("json"),
     })
 }
 
@@ -125,7 +126,8 @@ fn mode_of<'a>(alloc: Global, given: &ArgMatches<'a>) -> Result<ReplayMode<'a>, 
     Ok(ReplayMode::Verdicts)
 }
 
-fn strs_of<'a>(
+/// The values of an argument.
+pub(crate) fn strs_of<'a>(
     alloc: Global,
     given: &ArgMatches<'a>,
     name: &str,

@@ -1,0 +1,49 @@
+//! The command `check` and its options.
+use crate::commands::{config_argument, flag, script_argument};
+use crate::help;
+use clap::{ArgMatches, Command};
+use std::alloc::{AllocError, Global};
+
+/// What `check` is given.
+#[derive(Clone, Copy, Debug)]
+pub struct CheckArguments<'a> {
+    /// The name of the populate file.
+    pub config: &'a str,
+    /// The name of the script file.
+    pub script: &'a str,
+    /// Whether a warning is a fault.
+    pub strict: bool,
+    pub verbose: bool,
+}
+
+/// The command.
+pub(crate) fn check<'a>(alloc: Global) -> Result<Command<'a>, AllocError> {
+    let arguments = vec![in alloc;
+        config_argument(alloc),
+        script_argument(alloc),
+        flag(
+            alloc,
+            "strict",
+            "Ends with V1 and status 1 where a line was printed",
+        ),
+        flag(
+            alloc,
+            "verbose",
+            "Prints the numbers of proxies, rules and toxics too",
+        ),
+    ]?;
+    Command::new(alloc, "check")
+        .about("Prints which rules and toxics of a script have no effect")
+        .after_help(help::CHECK)
+        .args(arguments)
+}
+
+/// What the command is asked, where each option that it needs is there.
+pub(crate) fn check_of<'a>(given: &ArgMatches<'a>) -> Option<CheckArguments<'a>> {
+    Some(CheckArguments {
+        config: given.get_str("config")?,
+        script: given.get_str("script")?,
+        strict: given.get_flag("strict"),
+        verbose: given.get_flag("verbose"),
+    })
+}

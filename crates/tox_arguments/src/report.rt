@@ -1,0 +1,51 @@
+//! The command `report` and its options.
+use crate::commands::option;
+use crate::help;
+use crate::replay::{files_argument, strs_of};
+use clap::builder::ValueParser;
+use clap::{ArgMatches, Command};
+use std::alloc::{AllocError, Global};
+
+/// How many pictures a page has unless `--pictures` tells.
+const DEFAULT_PICTURES: usize = 100;
+
+/// The most pictures that a page may be given.
+const MAX_PICTURES: u64 = 1_000_000;
+
+/// What `report` is given.
+#[derive(Debug, Drop)]
+pub struct ReportArguments<'a> {
+    /// How many of the first rows have pictures.
+    pub pictures: usize,
+    /// The names of the logs, or `-` for names on standard input.
+    pub files: Vec<&'a str>,
+}
+
+/// The command.
+pub(crate) fn report<'a>(alloc: Global) -> Result<Command<'a>, AllocError> {
+    let pictures = option(
+        alloc,
+        "pictures",
+        "N",
+        "How many of the first rows have pictures, 0 to 1000000 [default: 100]",
+    )
+    .value_parser(ValueParser::unsigned(0, MAX_PICTURES));
+    Command::new(alloc, "report")
+        .about("Prints a page of a run: what its logs are, with their pictures")
+        .after_help(help::REPORT)
+        .arg(pictures)?
+        .arg(files_argument(alloc))
+}
+
+/// What the command is given.
+pub(crate) fn report_of<'a>(
+    alloc: Global,
+    given: &ArgMatches<'a>,
+) -> Result<ReportArguments<'a>, AllocError> {
+    Ok(ReportArguments {
+        pictures: given
+            .get_one::<usize>("pictures")
+            .unwrap_or(DEFAULT_PICTURES),
+        files: strs_of(alloc, given, "files")?,
+    })
+}

@@ -1,0 +1,332 @@
+//! The command `serve` and its options.
+use crate::commands::{
+    config_argument, connections, flag, json_argument, option, script_argument, seed_argument,
+};
+use crate::help;
+use clap::builder::ValueParser;
+use clap::{Arg, ArgAction, ArgMatches, Command};
+use std::alloc::{AllocError, Global};
+use tox_time::Stream;
+use tox_words::MAX_CONNECTIONS;
+
+/// The most threads that drive all links.
+const MAX_WORKERS: u64 = 64;
+
+/// The longest time that a connect may be given, in milliseconds.
+const MAX_CONNECT_TIMEOUT: u64 = 600_000;
+
+/// The most bytes that a log may be given.
+const MAX_LOG_BYTES: u64 = 1 << 40;
+
+/// How many links of each proxy are logged unless `--log-links` tells.
+const DEFAULT_LOG_LINKS: u64 = 10_000;
+
+/// How many bytes a log has at most unless `--log-bytes` tells.
+const DEFAULT_LOG_BYTES: u64 = 67_108_864;
+
+/// What `serve` is given.
+#[derive(Debug, Drop)]
+pub struct ServeArguments<'a> {
+    pub source: ServeSource<'a>,
+    pub seed: u64,
+    /// After how many connections each proxy stops listening. None: it goes on.
+    pub links: Option<u64>,
+    /// How many milliseconds a connect may take. None: as many as the system lets it.
+    pub connect_timeout: Option<u32>,
+    /// How many threads drive all links. None: each link has threads of its own.
+    pub workers: Option<u32>,
+    /// What is logged. None: nothing is.
+    pub logs: Option<LogArguments<'a>>,
+    /// Whether a line tells what each stream of a link meets, once its upstream is reached.
+    pub verbose: bool,
+    /// Whether each line is a JSON object.
+    pub json: bool,
+}
+
+/// What is served.
+#[derive(Debug, Drop)]
+pub enum ServeSource<'a> {
+    /// The names of a populate file and of a script file.
+    Files { config: &'a str, script: &'a str },
+    /// One proxy and its toxics, on the command line.
+    Inline(InlineArguments<'a>),
+}
+
+/// One proxy and its toxics, on the command line.
+#[derive(Debug, Drop)]
+pub struct InlineArguments<'a> {
+    /// Where the proxy listens.
+    pub listen: &'a str,
+    /// What it connects to.
+    pub upstream: &'a str,
+    /// The toxics of both streams, in the order typed.
+    pub toxics: Vec<ToxicArgument<'a>>,
+}
+
+/// A toxic on the command line.
+#[derive(Clone, Copy, Debug)]
+pub struct ToxicArgument<'a> {
+    /// The number of its word on the command line.
+    place: usize,
+    pub stream: Stream,
+    /// Its short form.
+    pub toxic: &'a str,
+}
+
+/// What `serve` logs.
+#[derive(Clone, Copy, Debug)]
+pub struct LogArguments<'a> {
+    /// The folder of the logs.
+    pub folder: &'a str,
+    /// How many links of each proxy are logged.
+    pub links: u64,
+    /// How many bytes a log has at most.
+    pub bytes: u64,
+}
+
+/// The command.
+pub(crate) fn serve<'a>(alloc: Global) -> Result<Command<'a>, AllocError> {
+    let arguments = vec![in alloc;
+        links_argument(alloc),
+        connect_timeout_argument(alloc),
+        workers_argument(alloc),
+        log_argument(alloc),
+        log_links_argument(alloc)?,
+        log_bytes_argument(alloc)?,
+        verbose_argument(alloc),
+        json_argument(alloc),
+    ]?;
+    let serve = Command::new(alloc, "serve")
+        .about("Listens for each proxy, and carries its connections under their toxics")
+        .after_help(help::SERVE);
+    with_source(alloc, serve)?.args(arguments)
+}
+
+fn links_argument<'a>(alloc: Global) -> Arg<'a> {
+    option(
+        alloc,
+        "links",
+        "N",
+        "After how many connections each proxy stops listening, 1 to 1000000 [default: it goes on]",
+    )
+    .value_parser(connections())
+}
+
+fn connect_timeout_argument<'a>(alloc: Global) -> Arg<'a> {
+    option(
+        alloc,
+        "connect-timeout",
+        "MS",
+        "How many milliseconds a connect to an upstream may take, 1 to 600000 [default: the system's]",
+    )
+    .value_parser(ValueParser::unsigned(1, MAX_CONNECT_TIMEOUT))
+}
+
+fn workers_argument<'a>(alloc: Global) -> Arg<'a> {
+    option(
+        alloc,
+        "workers",
+        "N",
+        "How many threads drive all links, 1 to 64 [default: each link has four of its own]",
+    )
+    .value_parser(ValueParser::unsigned(1, MAX_WORKERS))
+}
+
+fn log_argument<'a>(alloc: Global) -> Arg<'a> {
+    option(
+        alloc,
+        "log",
+        "DIR",
+        "The folder that gets a log of each stream; it is made, or must be empty",
+    )
+}
+
+fn verbose_argument<'a>(alloc: Global) -> Arg<'a> {
+    flag(
+        alloc,
+        "verbose",
+        "Prints what `check` says at the start, and a line for each stream of a link as its upstream is reached",
+    )
+}
+
+/// A command with what is served: two files, or one proxy with its toxics.
+fn with_source<'a>(alloc: Global, command: Command<'a>) -> Result<Command<'a>, AllocError> {
+    command.args(vec![in alloc;
+        unless_listening(config_argument(alloc))?,
+        unless_listening(script_argument(alloc))?,
+        seed_argument(alloc),
+        listen_argument(alloc)?,
+        upstream_argument(alloc)?,
+        down_argument(alloc)?,
+        up_argument(alloc)?,
+        print_files_argument(alloc)?,
+    ]?)
+}
+
+/// An option that must be given unless `--listen` is.
+fn unless_listening<'a>(needed: Arg<'a>) -> Result<Arg<'a>, AllocError> {
+    needed.required(false).required_unless_present("listen")
+}
+
+fn listen_argument<'a>(alloc: Global) -> Result<Arg<'a>, AllocError> {
+    option(
+        alloc,
+        "listen",
+        "ADDRESS",
+        "In place of the files: the address of one proxy, `default`",
+    )
+    .requires_arg("upstream")?
+    .conflicts_with("config")?
+    .conflicts_with("script")
+}
+
+fn upstream_argument<'a>(alloc: Global) -> Result<Arg<'a>, AllocError> {
+    with_listen(option(
+        alloc,
+        "upstream",
+        "ADDRESS",
+        "With --listen: the address of the server behind it",
+    ))
+}
+
+fn down_argument<'a>(alloc: Global) -> Result<Arg<'a>, AllocError> {
+    toxic_argument(
+        alloc,
+        "down",
+        "With --listen: a toxic from the server to the client; may be repeated",
+    )
+}
+
+fn up_argument<'a>(alloc: Global) -> Result<Arg<'a>, AllocError> {
+    toxic_argument(
+        alloc,
+        "up",
+        "With --listen: a toxic from the client to the server; may be repeated",
+    )
+}
+
+fn print_files_argument<'a>(alloc: Global) -> Result<Arg<'a>, AllocError> {
+    with_listen(option(
+        alloc,
+        "print-files",
+        "DIR",
+        "With --listen: writes proxies.json and script.toml that mean the same, and ends",
+    ))
+}
+
+/// An option that stands only beside `--listen`.
+fn with_listen<'a>(option: Arg<'a>) -> Result<Arg<'a>, AllocError> {
+    option.requires_arg("listen")
+}
+
+fn toxic_argument<'a>(alloc: Global, name: &'a str, help: &'a str) -> Result<Arg<'a>, AllocError> {
+    with_listen(option(alloc, name, "TOXIC", help).action(ArgAction::Append))
+}
+
+fn log_links_argument<'a>(alloc: Global) -> Result<Arg<'a>, AllocError> {
+    option(
+        alloc,
+        "log-links",
+        "N",
+        "How many links of each proxy are logged, 1 to 1000000 [default: 10000]",
+    )
+    .value_parser(ValueParser::unsigned(1, MAX_CONNECTIONS))
+    .requires_arg("log")
+}
+
+fn log_bytes_argument<'a>(alloc: Global) -> Result<Arg<'a>, AllocError> {
+    option(
+        alloc,
+        "log-bytes",
+        "N",
+        "How many bytes a log has at most, 1 to 2^40 [default: 67108864]",
+    )
+    .value_parser(ValueParser::unsigned(1, MAX_LOG_BYTES))
+    .requires_arg("log")
+}
+
+/// What the command is given beside what is served, where the seed is there.
+pub(crate) fn serve_of<'a>(
+    given: &ArgMatches<'a>,
+    source: ServeSource<'a>,
+) -> Option<ServeArguments<'a>> {
+    Some(ServeArguments {
+        seed: given.get_one::<u64>("seed")?,
+        source,
+        links: given.get_one::<u64>("links"),
+        connect_timeout: small_number(given, "connect-timeout"),
+        workers: small_number(given, "workers"),
+        logs: logs_of(given),
+        verbose: given.get_flag("verbose"),
+        json: given.get_flag("json"),
+    })
+}
+
+/// What is served. `clap` has rejected files beside a proxy, and either of them without the other.
+pub(crate) fn source_of<'a>(
+    alloc: Global,
+    given: &ArgMatches<'a>,
+) -> Result<Option<ServeSource<'a>>, AllocError> {
+    if let (Some(config), Some(script)) = (given.get_str("config"), given.get_str("script")) {
+        return Ok(Some(ServeSource::Files { config, script }));
+    }
+    let (Some(listen), Some(upstream)) = (given.get_str("listen"), given.get_str("upstream")) else {
+        return Ok(None);
+    };
+    Ok(Some(ServeSource::Inline(InlineArguments {
+        listen,
+        upstream,
+        toxics: toxics_of(alloc, given)?,
+    })))
+}
+
+/// The toxics of both streams, in the order typed.
+fn toxics_of<'a>(
+    alloc: Global,
+    given: &ArgMatches<'a>,
+) -> Result<Vec<ToxicArgument<'a>>, AllocError> {
+    let mut toxics = Vec::new(alloc);
+    add_toxics(&mut toxics, given, "down", Stream::Downstream)?;
+    add_toxics(&mut toxics, given, "up", Stream::Upstream)?;
+    toxics.sort_by_key(|toxic| toxic.place)?;
+    Ok(toxics)
+}
+
+/// Adds the toxics of an option, each with the number of its word.
+fn add_toxics<'a>(
+    toxics: &mut Vec<ToxicArgument<'a>>,
+    given: &ArgMatches<'a>,
+    name: &str,
+    stream: Stream,
+) -> Result<(), AllocError> {
+    let (Some(texts), Some(places)) = (given.get_strs(name), given.indices_of(name)) else {
+        return Ok(());
+    };
+    for (toxic, place) in texts.iter().zip(places) {
+        toxics.push(ToxicArgument {
+            place: *place,
+            stream,
+            toxic,
+        })?;
+    }
+    Ok(())
+}
+
+/// What `serve` logs.
+fn logs_of<'a>(given: &ArgMatches<'a>) -> Option<LogArguments<'a>> {
+    Some(LogArguments {
+        folder: given.get_str("log")?,
+        links: given
+            .get_one::<u64>("log-links")
+            .unwrap_or(DEFAULT_LOG_LINKS),
+        bytes: given
+            .get_one::<u64>("log-bytes")
+            .unwrap_or(DEFAULT_LOG_BYTES),
+    })
+}
+
+/// The number of an option whose numbers are small. `clap` has rejected other values.
+fn small_number(given: &ArgMatches<'_>, name: &str) -> Option<u32> {
+    let number = given.get_one::<u64>(name)?;
+    u32::try_from(number).ok()
+}
