@@ -22,6 +22,7 @@ pub enum DrawFault<'a> {
 }
 
 /// Draws a link whose arrivals are on standard input, or a log.
+#[inline(never)]
 pub fn draw<'a, R: Input + Print + Files + AllocGlobal>(
     rt: &R,
     arguments: &DrawArguments<'a>,

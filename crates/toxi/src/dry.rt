@@ -7,6 +7,7 @@ use tox_proxy::dry_run;
 use tox_time::Real;
 
 /// Reads the link, and then the input.
+#[inline(never)]
 pub fn dry<R: Input + Print + AllocGlobal>(rt: &R, link: &LinkArguments<'_>) -> Result<(), Fault> {
     let link = read_link(rt.alloc(), link)?;
     let mut reader = Real::new(rt.reader());

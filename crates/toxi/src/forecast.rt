@@ -6,6 +6,7 @@ use tox_proxy::{ForecastRequest, PickFault, RealFiles};
 use tox_time::Real;
 
 /// Reads the files and prints the answer.
+#[inline(never)]
 pub fn forecast<'a, R: Files + Print + AllocGlobal>(
     rt: &R,
     arguments: &ForecastArguments<'a>,
@@ -24,5 +25,6 @@ fn request_of<'a>(arguments: &ForecastArguments<'a>) -> ForecastRequest<'a> {
         stream: arguments.stream,
         named: arguments.named,
         seed: arguments.seed,
+        json: arguments.json,
     }
 }

@@ -12,16 +12,21 @@ use tox_proxy::{LogFiles, Room, VisibleName};
 #[error("P6 LogRefused {}", VisibleName(.0))]
 pub struct LogRefused<'a>(pub &'a str);
 
-/// Makes a folder, and its parents, unless it is there and empty.
+/// Makes the folder of logs.
 pub fn make_folder<'a, R: Files + AllocGlobal + Copy>(
     rt: &R,
     folder: &'a str,
 ) -> Result<(), LogRefused<'a>> {
-    if fs::create_dir_all(rt, folder).is_ok() && is_empty(rt, folder) {
+    if is_made(rt, folder) {
         Ok(())
     } else {
         Err(LogRefused(folder))
     }
+}
+
+/// Makes a folder, and its parents. False if it can't be made, or isn't empty.
+pub fn is_made<R: Files + AllocGlobal + Copy>(rt: &R, folder: &str) -> bool {
+    fs::create_dir_all(rt, folder).is_ok() && is_empty(rt, folder)
 }
 
 fn is_empty<R: Files + AllocGlobal + Copy>(rt: &R, folder: &str) -> bool {

@@ -1,21 +1,28 @@
 //! The program `toxi`: a TCP proxy that adds scripted faults.
 #![tactic(auto)]
 
+mod check;
 mod draw;
 mod dry;
 mod fault;
 mod forecast;
+mod help;
+mod inline;
 mod link;
 mod log_folder;
+mod log_names;
 mod migrate;
+mod near;
 mod output;
 mod pick;
 mod plan;
 mod replay;
 mod replay_texts;
+mod report;
 mod serve;
 mod signals;
 mod stages;
+mod warnings;
 mod watch;
 
 use clap::Error;
@@ -53,7 +60,8 @@ fn main(rt: HostRuntime) -> ExitCode {
     }
 }
 
-/// Does what the command line asks for.
+/// Does what the command line asks for. No command is inlined: else each would run on a stack with the locals of all, and a stack
+/// that has to grow when memory is short ends the program by a signal.
 fn perform<
     R: Input
         + Print
@@ -78,11 +86,17 @@ where
         Task::Draw(arguments) => tell(rt, draw::draw(rt, arguments)),
         Task::Plan(link) => tell(rt, plan::plan(rt, link)),
         Task::Stages(cap, link) => tell(rt, stages::stages(rt, cap, link)),
+        Task::Check(arguments) => check::check(rt, arguments),
         Task::Pick(arguments) => tell(rt, pick::pick(rt, arguments)),
         Task::Forecast(arguments) => tell(rt, forecast::forecast(rt, arguments)),
         Task::Migrate(script) => tell(rt, migrate::migrate(rt, script)),
+        Task::PrintFiles(arguments, folder) => {
+            tell(rt, inline::print_files(rt, arguments, folder))
+        }
         Task::Serve(arguments) => watch::serve(rt, arguments),
         Task::Replay(arguments) => replay::replay(rt, arguments),
+        Task::Report(arguments) => report::report(rt, arguments),
+        Task::Help(text) => tell(rt, help::help(rt, *text)),
     }
 }
 

@@ -17,6 +17,7 @@ pub enum MigrateFault<'a> {
 }
 
 /// Reads the script file and prints the migrated script.
+#[inline(never)]
 pub fn migrate<'a, R: Files + Print + AllocGlobal>(
     rt: &R,
     script: &'a str,

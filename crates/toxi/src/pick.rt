@@ -6,6 +6,7 @@ use tox_proxy::{PickFault, PickRequest, RealFiles};
 use tox_time::Real;
 
 /// Reads the files and prints the answer.
+#[inline(never)]
 pub fn pick<'a, R: Files + Print + AllocGlobal>(
     rt: &R,
     arguments: &PickArguments<'a>,

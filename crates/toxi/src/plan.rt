@@ -8,6 +8,7 @@ use tox_proxy::print_plan;
 use tox_time::Real;
 
 /// Reads the link, and prints its plan.
+#[inline(never)]
 pub fn plan<R: Print + AllocGlobal>(rt: &R, link: &LinkArguments<'_>) -> Result<(), Fault> {
     let link = read_link(rt.alloc(), link)?;
     let mut writer = Real::new(io::writer(rt));

@@ -1,16 +1,19 @@
 //! `toxi serve`: proxies that listen. Each line is on standard output as it comes.
 use crate::fail;
+use crate::inline::set_up_inline;
 use crate::log_folder::{LogFolder, make_folder};
+use crate::near::tell_near_scripted;
 use crate::output::PatientOutput;
-use std::alloc::{AllocError, Global};
+use crate::warnings::print_warnings;
+use std::alloc::Global;
 use std::fmt::Display;
 use std::fs;
 use std::rt::Files;
 use std::sync::{Mutex, Wait};
-use tox_arguments::ServeArguments;
+use tox_arguments::{ServeArguments, ServeSource};
 use tox_proxy::{
-    Gaps, LogLimits, RealFiles, Room, ServeFault, ServeOptions, ServeRuntime, Setup, SetupFault,
-    Stop, read_setup, serve_with,
+    Gaps, InlineFault, LineForm, LogLimits, RealFiles, Room, ServeFault, ServeOptions,
+    ServeRuntime, Setup, SetupFault, Stop, read_setup, serve_with,
 };
 
 /// A file that gives and takes nothing.
@@ -25,13 +28,19 @@ pub fn hold_descriptor<R: Files>(rt: &R) -> Option<R::File> {
     fs::open(rt, NOTHING).ok()
 }
 
+/// What is served.
+#[derive(Drop)]
+enum Source {
+    /// The names of a populate file and of a script file.
+    Files { config: String, script: String },
+    /// What the command line itself sets up.
+    Inline(Setup),
+}
+
 /// What `serve` is asked for, kept by the thread that serves.
 #[derive(Drop)]
 pub struct ServeJob {
-    /// The name of the populate file.
-    config: String,
-    /// The name of the script file.
-    script: String,
+    source: Source,
     seed: u64,
     /// The folder of logs.
     folder: Option<String>,
@@ -40,22 +49,22 @@ pub struct ServeJob {
 
 impl ServeJob {
     /// What a command line asks for.
-    pub fn of(alloc: Global, arguments: &ServeArguments<'_>) -> Result<ServeJob, AllocError> {
-        let config = arguments.config.to_string(alloc)?;
-        let script = arguments.script.to_string(alloc)?;
+    pub fn of(alloc: Global, arguments: &ServeArguments<'_>) -> Result<ServeJob, InlineFault> {
+        let source = source_of(alloc, &arguments.source)?;
         let options = ServeOptions {
             links: arguments.links,
             connect_timeout: arguments.connect_timeout,
             workers: arguments.workers,
             logs: limits_of(arguments),
+            verbose: arguments.verbose,
+            form: form_of(arguments.json),
         };
         let folder = match &arguments.logs {
-            Some(logs) => Some(logs.folder.to_string(alloc)?),
+            Some(logs) => Some(owned(alloc, logs.folder)?),
             None => None,
         };
         Ok(ServeJob {
-            config,
-            script,
+            source,
             seed: arguments.seed,
             folder,
             options,
@@ -71,6 +80,33 @@ impl ServeJob {
     }
 }
 
+/// What is served, kept.
+fn source_of(alloc: Global, source: &ServeSource<'_>) -> Result<Source, InlineFault> {
+    match source {
+        ServeSource::Files { config, script } => Ok(Source::Files {
+            config: owned(alloc, config)?,
+            script: owned(alloc, script)?,
+        }),
+        ServeSource::Inline(arguments) => {
+            let made = set_up_inline(alloc, arguments)?;
+            Ok(Source::Inline(made.setup))
+        }
+    }
+}
+
+fn owned(alloc: Global, text: &str) -> Result<String, InlineFault> {
+    text.to_string(alloc).map_err(|_| InlineFault::OutOfMemory)
+}
+
+/// How lines are written.
+fn form_of(json: bool) -> LineForm {
+    if json {
+        LineForm::Json
+    } else {
+        LineForm::Words
+    }
+}
+
 /// How much is logged.
 fn limits_of(arguments: &ServeArguments<'_>) -> Option<LogLimits> {
     match &arguments.logs {
@@ -82,7 +118,7 @@ fn limits_of(arguments: &ServeArguments<'_>) -> Option<LogLimits> {
     }
 }
 
-/// Reads the files, makes the folder of logs, and serves what the files set up. Returns the status of the program.
+/// Serves what is set up, and returns the status of the program.
 pub fn serve_job<R: Print + Eprint + Files + AllocGlobal + ServeRuntime>(
     rt: &R,
     job: &ServeJob,
@@ -92,16 +128,55 @@ where
     R::File: Send + 'static,
     R::Dir: Send + 'static,
 {
-    let setup = match set_up(rt, job) {
-        Ok(setup) => setup,
-        Err(fault) => return status_of(rt, Err(fault)),
-    };
+    match &job.source {
+        Source::Inline(setup) => serve_setup(rt, job, setup, stop),
+        Source::Files { config, script } => match read_setup(
+            &RealFiles::new(rt),
+            rt.alloc(),
+            config.as_str(),
+            script.as_str(),
+        ) {
+            Ok(setup) => serve_setup(rt, job, &setup, stop),
+            Err(fault) => refused(rt, job, script.as_str(), &fault),
+        },
+    }
+}
+
+/// Tells why the files are refused, and what was meant where it is asked for. Returns the status of the program.
+fn refused<R: Eprint + Files + AllocGlobal>(
+    rt: &R,
+    job: &ServeJob,
+    script: &str,
+    fault: &SetupFault<'_>,
+) -> u8 {
+    fail(rt, fault);
+    if job.options.verbose {
+        tell_near_scripted(rt, script, fault);
+    }
+    1
+}
+
+/// Makes the folder of logs, prints the warnings that are asked for, and serves.
+fn serve_setup<R: Print + Eprint + Files + AllocGlobal + ServeRuntime>(
+    rt: &R,
+    job: &ServeJob,
+    setup: &Setup,
+    stop: &Stop,
+) -> u8
+where
+    R::File: Send + 'static,
+    R::Dir: Send + 'static,
+{
     if let Some(folder) = job.folder() {
         if let Err(fault) = make_folder(rt, folder) {
             return status_of(rt, Err(fault));
         }
     }
-    status_of(rt, serve_proxies(rt, &setup, job, stop))
+    if job.options.verbose {
+        // A warning that can't be printed is no reason not to serve.
+        let _ = print_warnings(rt, setup, job.options.form, stop);
+    }
+    status_of(rt, serve_proxies(rt, setup, job, stop))
 }
 
 fn status_of<F: Display + Drop>(rt: &impl Eprint, done: Result<(), F>) -> u8 {
@@ -112,16 +187,6 @@ fn status_of<F: Display + Drop>(rt: &impl Eprint, done: Result<(), F>) -> u8 {
             1
         }
     }
-}
-
-/// Reads the populate file, and then the script.
-fn set_up<'a, R: Files + AllocGlobal>(rt: &R, job: &'a ServeJob) -> Result<Setup, SetupFault<'a>> {
-    read_setup(
-        &RealFiles::new(rt),
-        rt.alloc(),
-        job.config.as_str(),
-        job.script.as_str(),
-    )
 }
 
 /// Tells on standard error how many lines were dropped.

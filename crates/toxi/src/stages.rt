@@ -9,6 +9,7 @@ use tox_proxy::stages_run;
 use tox_time::{Cap, OpenGate, Real};
 
 /// Reads the link, and then the input.
+#[inline(never)]
 pub fn stages<R: Input + Print + AllocGlobal + Threads + Wait + Sync>(
     rt: &R,
     cap: &Cap,

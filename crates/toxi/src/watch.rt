@@ -1,6 +1,7 @@
 //! `toxi serve` in a thread of its own, beside the first one, which waits for its end or a signal. A program ends once its first
 //! thread does, so nothing that hangs in serving can hold up the end.
 use crate::fail;
+use crate::near::tell_near_short;
 use crate::serve::{ServeJob, hold_descriptor, serve_job};
 use crate::signals::Signals;
 use std::io::{Read, Seek};
@@ -11,8 +12,8 @@ use std::sync::{Arc, Condvar, Mutex, Wait};
 use std::thread;
 use std::thread::Threads;
 use std::time::{Clock, Duration};
-use tox_arguments::ServeArguments;
-use tox_proxy::{ServeFault, Stop};
+use tox_arguments::{ServeArguments, ServeSource};
+use tox_proxy::{InlineFault, ServeFault, Stop};
 
 /// How long the end of serving is waited for before signals are looked at, in milliseconds.
 const LOOK: u64 = 50;
@@ -56,6 +57,7 @@ impl Serving {
 }
 
 /// Serves what the files set up, until no proxy is served any more or a signal tells the program to end.
+#[inline(never)]
 pub fn serve<
     R: Print
         + Eprint
@@ -79,8 +81,9 @@ where
     let _errors = hold_descriptor(rt);
     let mut signals = Signals::of_process(rt);
     let alloc = rt.alloc();
-    let Ok(job) = ServeJob::of(alloc, arguments) else {
-        return fail(rt, &ServeFault::OutOfMemory);
+    let job = match ServeJob::of(alloc, arguments) {
+        Ok(job) => job,
+        Err(fault) => return refused(rt, arguments, &fault),
     };
     let Ok(serving) = Arc::new(alloc, Serving::new()) else {
         return fail(rt, &ServeFault::OutOfMemory);
@@ -97,6 +100,21 @@ where
         return fail(rt, &ServeFault::SpawnRefused);
     }
     ExitCode::from(watch(rt, &serving, &mut signals))
+}
+
+/// Tells why nothing is served, and what was meant where it is asked for.
+fn refused<R: Eprint + AllocGlobal>(
+    rt: &R,
+    arguments: &ServeArguments<'_>,
+    fault: &InlineFault,
+) -> ExitCode {
+    let status = fail(rt, fault);
+    if let ServeSource::Inline(inline) = &arguments.source {
+        if arguments.verbose {
+            tell_near_short(rt, &inline.toxics, fault);
+        }
+    }
+    status
 }
 
 /// Waits for the end of serving. Told to end by a signal, it waits no longer than the limit, and the status is 0 then.
