@@ -1,12 +1,12 @@
-//! Runs, picks and forecasts, from text to text, with too little memory.
+//! Runs, picks, forecasts and checks, from text to text, with too little memory.
 use std::alloc::Global;
 use std::test::Fail;
 use tests_support::{MAX_TRIES, Scarcity, Tried, answer_of, chain_of, try_each};
 use tox_config::{ProxyDef, read_populate};
 use tox_defs::Chain;
 use tox_proxy::{
-    DryFault, PrintMigratedFault, PrintPickFault, Question, dry_run, find_proxy, print_forecast,
-    print_migrated, print_pick,
+    DryFault, PrintMigratedFault, PrintPickFault, Question, Setup, dry_run, find_proxy,
+    print_check, print_forecast, print_migrated, print_pick,
 };
 use tox_script::{Script, ScriptFault, read_script};
 use tox_time::{MemorySink, MemorySource, Stream};
@@ -39,6 +39,28 @@ const FORECAST: &str = "\
 2 upstream rule 1 applied
 2 downstream rule 1 applied 0
 rule 1 toxic 1 applied 2 of 2 latency_downstream
+";
+
+const MISTYPED_CONFIG: &str = "[{\"name\":\"shop\",\"upstream\":\"h:1\"}]";
+
+const MISTYPED_SCRIPT: &str = "\
+[[rule]]
+proxy = \"shpo\"
+first = 1
+
+[[rule]]
+proxy = \"shop\"
+first = 2
+
+[[rule]]
+proxy = \"shop\"
+first = 1
+";
+
+const CHECK: &str = "\
+rule 1 never applies: no proxy shpo (shop?)
+rule 3 applies to 1 only: connections 2 on meet rule 2
+1 proxies, 3 rules, 0 toxics
 ";
 
 const MIGRATED: &str = "\
@@ -130,6 +152,7 @@ fn forecast(
         seed: 1,
         stream: None,
         named: None,
+        json: false,
     };
     let mut writer = MemorySink::new(alloc, 200, 64, None)?;
     scarcity.leave(alloc, sixteens)?;
@@ -146,6 +169,37 @@ fn a_forecast_is_refused_memory(rt: HostRuntime) -> Result<(), Fail> {
     let mut scarcity = Scarcity::new(alloc)?;
     let refusals = try_each(&mut scarcity, MAX_TRIES, |scarcity, nth| {
         forecast(scarcity, alloc, nth, &script)
+    })?;
+    eprintln!(rt; "{refusals:?}")?;
+    assert!(rt; refusals.is_answered && 0 < refusals.memory);
+    Ok(())
+}
+
+/// A check with little memory.
+fn check(
+    scarcity: &mut Scarcity,
+    alloc: Global,
+    sixteens: usize,
+    setup: &Setup,
+) -> Result<Tried, Fail> {
+    let mut writer = MemorySink::new(alloc, 200, 64, None)?;
+    scarcity.leave(alloc, sixteens)?;
+    let answer = print_check(alloc, &mut writer, setup, true);
+    scarcity.end();
+    let tried = answer_of(&answer, &PrintPickFault::OutOfMemory);
+    Ok(tried.writing(writer.bytes(), CHECK))
+}
+
+#[test]
+fn a_check_is_refused_memory(rt: HostRuntime) -> Result<(), Fail> {
+    let alloc = rt.alloc();
+    let setup = Setup {
+        proxies: read_populate(alloc, MISTYPED_CONFIG.as_bytes())?,
+        script: read_script(alloc, MISTYPED_SCRIPT.as_bytes())?,
+    };
+    let mut scarcity = Scarcity::new(alloc)?;
+    let refusals = try_each(&mut scarcity, MAX_TRIES, |scarcity, nth| {
+        check(scarcity, alloc, nth, &setup)
     })?;
     eprintln!(rt; "{refusals:?}")?;
     assert!(rt; refusals.is_answered && 0 < refusals.memory);
