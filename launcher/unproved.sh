@@ -65,7 +65,7 @@ compile() {
     while [ -z "$seen" ] && kill -0 "$try" 2>/dev/null; do
         tick
         for found in "$scratch"/*/*/program; do
-            [ ! -x "$found" ] || seen="$found"
+            [ ! -x "$found" ] || ! copied "$found" || seen="$found"
         done
     done
     [ -n "$seen" ] || grep '^run=' "$scratch/said" | grep -qv '^run=none' || fail
@@ -87,9 +87,14 @@ start_try() {
     try=$!
 }
 
-# take PROGRAM: keeps a copy of it in place of earlier ones, if it runs. If the source has changed meanwhile, it is to be compiled again.
+# copied PROGRAM: copies it, if it runs. The kit may still be writing or moving it.
+copied() {
+    cp "$1" "$scratch/toxi" 2>/dev/null && "$scratch/toxi" --version </dev/null >/dev/null 2>&1
+}
+
+# take PROGRAM: keeps the copy of it in place of earlier ones. If the source has changed meanwhile, it is to be compiled again.
 take() {
-    [ -n "$1" ] && cp "$1" "$scratch/toxi" && "$scratch/toxi" --version </dev/null >/dev/null 2>&1 || return
+    [ -n "$1" ] || return
     sum="$(sum_of_source)"
     if [ "$program" = "$kept/toxi-$sum" ]; then
         rm -f "$kept"/toxi-*

@@ -55,6 +55,15 @@ class FromToxiproxyTests(unittest.TestCase):
     def check_each_toxic(self, stream):
         shown = [f"{place} applied {short},toxicity=1000 {stream}{place}" for place, (_, _, short) in enumerate(TOXICS)]
         self.assertEqual(self.picked(stream), [FIRST + "enabled", *shown])
+        self.passes_check()
+
+    def passes_check(self):
+        """Each rule of the result applies, and so does each toxic. The timeout among them leaves some of the others nothing to do."""
+        command = [os.environ["TOXI"], "check", "--config", "p.json", "--script", "s.toml"]
+        ran = subprocess.run(command, cwd=self.folder, capture_output=True, text=True, check=False)
+        self.assertEqual((ran.returncode, ran.stderr), (0, ""))
+        for line in ran.stdout.splitlines():
+            self.assertTrue(line.endswith(" changes nothing: a timeout drops all data"), line)
 
     def test_each_toxic_of_get_proxies(self):
         toxics = [

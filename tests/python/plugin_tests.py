@@ -49,6 +49,11 @@ def test_red_report(run, tmp_path):
     assert sorted(os.listdir(command[command.index("--log") + 1])) == ["shop-1-downstream.log", "shop-1-upstream.log"]
     judge = re.search(r"^find \S+ -name '\*\.log' \| \S+ replay -$", printed, re.M)[0]
     assert subprocess.run(judge, shell=True, capture_output=True, text=True, check=True).stdout.count("unfinished shop 1 ") == 2
+    page = re.search(r"^page (\S+)$", printed, re.M)[1]
+    with open(page, encoding="utf-8") as text:
+        shown = text.read()
+    assert shown.startswith("<!DOCTYPE html>")
+    assert all(word in shown for word in ("shop", "upstream", "downstream", "unfinished"))
 
 
 def test_the_shown_command_gives_the_drawn_seed(run, tmp_path):

@@ -1,4 +1,4 @@
-"""What docs/PROFILE.md says of populate files, scripts, picks and forecasts, as a plain reading of it."""
+"""What docs/SCRIPTS.md says of populate files, scripts, picks and forecasts, as a plain reading of it."""
 import json
 import re
 import tomllib
@@ -228,3 +228,109 @@ def forecast_text(config, script, proxy, links, seed, stream=None, named=None):
             name = rule[3][side][place][0]
             lines.append(f"rule {number} toxic {toxic} applied {applied[number, side, place]} of {met[number]} {name}")
     return "".join(line + "\n" for line in lines)
+
+
+LAST = 1_000_000
+
+
+def osa(a, b):
+    """How many letters are put in, left out, changed or swapped with the next one."""
+    rows = [list(range(len(b) + 1))]
+    for i, x in enumerate(a, 1):
+        row = [i]
+        for j, y in enumerate(b, 1):
+            row.append(min(rows[i - 1][j] + 1, row[j - 1] + 1, rows[i - 1][j - 1] + (x != y)))
+            if i > 1 and j > 1 and x == b[j - 2] and a[i - 2] == y:
+                row[j] = min(row[j], rows[i - 2][j - 2] + 1)
+        rows.append(row)
+    return rows[-1][-1]
+
+
+def near(name, proxies):
+    """The name in brackets behind one that isn't there."""
+    for distance in (1, 2):
+        for other in proxies:
+            if osa(name, other) == distance and 2 * distance < len(name):
+                return f" ({shown(other)}?)"
+    return ""
+
+
+def winners(rules, number, proxy):
+    """The runs of a rule's connections, each with the rule that they meet."""
+    first, last = rules[number - 1][1], min(rules[number - 1][2], LAST)
+    bounds = {first} | {bound for rule in rules for bound in (rule[1], rule[2] + 1) if first < bound <= last}
+    runs = []
+    for begin, end in zip(sorted(bounds), [*sorted(bounds)[1:], last + 1]):
+        winner = next(n for n, rule in enumerate(rules, 1) if rule[0] == proxy and rule[1] <= begin <= rule[2])
+        if runs and runs[-1][2] == winner:
+            runs[-1][1] = end - 1
+        else:
+            runs.append([begin, end - 1, winner])
+    return runs
+
+
+def ranged(run):
+    return f"{run[0]}" + (" on" if run[1] == LAST else f" to {run[1]}" if run[0] < run[1] else "")
+
+
+def and_more(runs):
+    return f", and {len(runs) - 8} more" if len(runs) > 8 else ""
+
+
+def coverage(rules, number, proxy):
+    """What is told of a rule's connections."""
+    runs = winners(rules, number, proxy)
+    own, taken = [run for run in runs if run[2] == number], [run for run in runs if run[2] != number]
+    if not own:
+        low, high = min(run[2] for run in taken), max(run[2] for run in taken)
+        return ["never applies: " + (f"rule {low} covers" if low == high else f"rules {low} to {high} cover") + " its connections"]
+    if not taken:
+        return []
+    parts = []
+    for run, after in zip(taken[:8], [*taken[1:8], None]):
+        parts.append(ranged(run) + ("" if after and after[2] == run[2] else f" meet rule {run[2]}"))
+    gets = ", ".join(map(ranged, own[:8])) + and_more(own)
+    return [f"applies to {gets} only: connections {', '.join(parts)}{and_more(taken)}"]
+
+
+def idleness(chain, place):
+    """Why the toxic at a place changes nothing, if that is told."""
+    kind, values, _ = chain[place][1]
+    drops = [entry[1][0] == "timeout" and entry[1][2] == 1000 for entry in chain]
+    if kind == "latency" and values["latency"] == values["jitter"] == 0 or kind == "slow_close" and values["delay"] == 0:
+        return "it delays nothing"
+    if any(drops[place + 1 :]) or kind in ("bandwidth", "slicer") and any(drops[:place]):
+        return "a timeout drops all data"
+    if kind == "slicer" and values["delay"] == 0 and place + 1 == len(chain):
+        return "it cuts without delay, and is the last"
+    return None
+
+
+def toxic_lines(chains, order):
+    """What is told of the toxics of a rule."""
+    for toxic, (side, place) in enumerate(order, 1):
+        why = idleness(chains[side], place)
+        if chains[side][place][1][2] == 0:
+            yield f"toxic {toxic} never applies: toxicity 0"
+        elif why:
+            yield f"toxic {toxic} changes nothing: {why}"
+
+
+def check_text(config, script, verbose):
+    """What `check` prints, and how many warnings that are."""
+    proxies = read_populate(config)
+    _, _, rules = read_script(script)
+    lines = []
+    for number, (proxy, _, _, chains, order, *_) in enumerate(rules, 1):
+        if proxy not in proxies:
+            lines.append(f"rule {number} never applies: no proxy {shown(proxy)}{near(proxy, proxies)}")
+            continue
+        told = coverage(rules, number, proxy)
+        told += toxic_lines(chains, order)
+        if not proxies[proxy][2]:
+            told.append(f"is for proxy {shown(proxy)}, which is disabled")
+        lines += [f"rule {number} {line}" for line in told]
+    count = len(lines)
+    if verbose:
+        lines.append(f"{len(proxies)} proxies, {len(rules)} rules, {sum(len(rule[4]) for rule in rules)} toxics")
+    return "".join(line + "\n" for line in lines), count

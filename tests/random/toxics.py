@@ -1,4 +1,4 @@
-"""What docs/PROFILE.md says that each toxic does, as a plain reading of it.
+"""What docs/TOXICS.md says that each toxic does, as a plain reading of it.
 
 An item is an instant with a chunk, which is a half-open range of positions, or with an ending. An open link's ending has no
 instant. `draw(j)` is a toxic's word j.

@@ -1,4 +1,4 @@
-"""What docs/PROFILE.md says of a log and of its verdict, as a plain reading of it; and random logs."""
+"""What docs/REPLAY.md says of a log and of its verdict, as a plain reading of it; and random logs."""
 import os
 import re
 import sys
