@@ -3,7 +3,7 @@
     with Toxi({"shop": "127.0.0.1:8080"}, [Rule("shop", toxics=[Latency(latency=100)])], seed=7) as toxi:
         client = connect(toxi.address("shop"))
 
-The manual of toxics, rules and faults is docs/PROFILE.md.
+The manual of toxics and faults is docs/PROFILE.md, that of rules docs/SCRIPTS.md.
 """
 from .errors import ToxiEnded, ToxiError, ToxiFault
 from .lines import Address, Link, Total

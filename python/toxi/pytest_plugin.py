@@ -12,6 +12,7 @@ from typing import Any, Callable, Generator, Iterable, Iterator, List, Optional,
 
 import pytest
 
+from .errors import ToxiError
 from .proxies import Proxies
 from .rules import Rule
 from .served import Toxi
@@ -50,6 +51,10 @@ class Factory:
         """Their reports, one after the other."""
         return "\n".join(served.report() for served in self._started)
 
+    def pages(self) -> List[str]:
+        """A line for each that has logs: where its page is."""
+        return [_page_line(served) for served in self._started if served.logs()]
+
 
 FACTORY = pytest.StashKey[Factory]()
 
@@ -87,7 +92,16 @@ def pytest_runtest_makereport(item: pytest.Item) -> Generator[None, Any, None]:
     # Links that still live get their lines. A debugger may want them alive.
     if report.failed and not item.config.getoption("usepdb", False):
         factory.stop()
-    report.sections.append(("toxi", f"{_command(item, factory.seed)}\n{factory.report()}"))
+    lines = [_command(item, factory.seed), factory.report(), *(factory.pages() if report.failed else [])]
+    report.sections.append(("toxi", "\n".join(lines)))
+
+
+def _page_line(served: Toxi) -> str:
+    """Writes the page of its logs. A report must not fail, so what goes wrong is told in place of the path."""
+    try:
+        return f"page {served.page()}"
+    except (OSError, ToxiError) as error:
+        return f"page not written: {error}"
 
 
 def _command(item: pytest.Item, seed: int) -> str:

@@ -168,6 +168,26 @@ class Toxi:
         """The log of each stream of a link so far, which `toxi replay` judges. None without `log`."""
         return [] if self._log is None else sorted(self._log.glob("*.log"))
 
+    def page(self, path: Union[str, "os.PathLike[str]", None] = None) -> Path:
+        """Writes the page of its logs so far, as `toxi report` prints it, and returns where: `report.html` beside the logs, unless told."""
+        if self._log is None:
+            raise ToxiError("it keeps no logs: give `log`")
+        target = self._log.parent / "report.html" if path is None else Path(path)
+        names = "".join(f"{name}\n" for name in self.logs())
+        with target.open("wb") as page:
+            ran = subprocess.run(
+                [self._program_path(), "report", "-"],
+                input=names.encode(errors="surrogateescape"),
+                stdout=page,
+                stderr=subprocess.PIPE,
+                check=False,
+            )
+        # G3: logs are unfaithful. The page shows them.
+        said = ran.stderr.decode(errors="replace")
+        if ran.returncode != 0 and "G3 " not in said:
+            raise ToxiError(f"no page: {said.strip() or ran.returncode}")
+        return target
+
     def report(self) -> str:
         """What a person needs after a failed test: the seed, the command, the line of each link, and how its logs are judged."""
         judged = [] if self._log is None else [self._replay_line(self._log)]

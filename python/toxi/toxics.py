@@ -1,6 +1,6 @@
 """The toxics of a rule, as dataclasses. All fields are given by keyword.
 
-Units and ranges are those of docs/PROFILE.md. The program checks them when it reads the script, so a wrong one raises a
+Units and ranges are those of docs/TOXICS.md. The program checks them when it reads the script, so a wrong one raises a
 `ToxiFault` at the start.
 """
 from dataclasses import dataclass, fields
