@@ -3,7 +3,7 @@
 import sys
 from typing import Dict, List
 
-from program_help import Help, Option, helps_of
+from program_help import TOPICS, Help, Option, helps_of
 
 NAME = "toxi"
 # Names of values that stand for a file or a folder.
@@ -38,7 +38,7 @@ def bash(helps: Dict[str, Help]) -> str:
         "    esac",
         "    case $command in",
         *words,
-        f"    help) words='{' '.join(helps[''].commands)}' ;;",
+        f"    help) words='{' '.join([*helps[''].commands, *TOPICS])}' ;;",
         "    esac",
         '    COMPREPLY=($(compgen -W "$words" -- "$word"))',
     ]
@@ -67,8 +67,9 @@ def zsh(helps: Dict[str, Help]) -> str:
         f"#compdef {NAME}",
         f"_{NAME}() {{",
         "    local context state line",
-        "    local -a commands",
+        "    local -a commands topics",
         f"    commands=({' '.join(commands)})",
+        f"    topics=({' '.join(zsh_quoted(f'{name}:{about}') for name, about in TOPICS.items())})",
         *zsh_arguments("    ", helps[""], ["'1:command:->command'", "'*::argument:->argument'"], "-C "),
         "    case $state in",
         "    command) _describe command commands ;;",
@@ -79,7 +80,7 @@ def zsh(helps: Dict[str, Help]) -> str:
         if name:
             rest = [zsh_quoted(f"*:{each.value}:{zsh_action(each.value, [])}") for each in found.arguments]
             lines += [f"        {name})", *zsh_arguments("            ", found, rest), "            ;;"]
-    lines += ["        help) _describe command commands ;;", "        esac", "        ;;", "    esac", "}", f'_{NAME} "$@"', ""]
+    lines += ["        help) _describe command commands; _describe topic topics ;;", "        esac", "        ;;", "    esac", "}", f'_{NAME} "$@"', ""]
     return "\n".join(lines)
 
 
@@ -115,7 +116,7 @@ def fish(helps: Dict[str, Help]) -> str:
             lines.append(f"complete -c {NAME} {where}{short} -l {option.long[2:]}{fish_value(option)} -d {fish_quoted(option.about)}")
         if any(each.value in FILE for each in found.arguments):
             lines.append(f"complete -c {NAME} {where} -F")
-    names = " ".join(helps[""].commands)
+    names = " ".join([*helps[""].commands, *TOPICS])
     lines.append(f"complete -c {NAME} -n '__fish_seen_subcommand_from help' -a '{names}'")
     return "\n".join([*lines, ""])
 

@@ -3,7 +3,7 @@
 import sys
 from typing import List
 
-from program_help import Help, helps_of, printed_by
+from program_help import TOPICS, Help, helps_of, printed_by
 
 NAME = "toxi"
 SIGNS = {"\\": "\\(rs", "-": "\\-", "`": "\\(ga", "'": "\\(aq", "^": "\\(ha", "~": "\\(ti"}
@@ -51,6 +51,8 @@ def page(program: str) -> str:
         if name:
             lines += [f".SS {NAME} {plain(name)}", plain(found.about) + ".", ".PP", *as_it_stands(found.usage), *options(found)]
             lines += [".PP", *as_it_stands(found.below)]
+    for topic in TOPICS:
+        lines += [f".SH {topic.upper()}", *as_it_stands(printed_by(program, "help", topic).rstrip("\n"))]
     lines += [".SH EXIT STATUS", "0: done. 1: a fault, as one line on standard error. 2: a command line that can\\(aqt be read."]
     return "\n".join([*lines, ""])
 

@@ -9,6 +9,8 @@ OPTION = re.compile(r"  (?:(-\w), |    )(--[\w-]+)(?: [<\[](.*?)[>\]](?:\.\.\.)?
 ARGUMENT = re.compile(r"  [<\[](\w+)[>\]](?:\.\.\.)?(?:  +(.*))?")
 COMMAND = re.compile(r"  ([a-z][\w-]*)(?:  +(.*))?")
 VALUES = re.compile(r"\[possible values: (.*?)\]")
+# What `toxi help TOPIC` shows besides commands and the codes of faults.
+TOPICS = {"toxics": "The toxics and their attributes", "scripts": "What a script is", "faults": "What each fault means"}
 SECTIONS = {"Commands:": COMMAND, "Arguments:": ARGUMENT, "Options:": OPTION}
 
 
