@@ -60,8 +60,7 @@ fn main(rt: HostRuntime) -> ExitCode {
     }
 }
 
-/// Does what the command line asks for. No command is inlined: else each would run on a stack with the locals of all, and a stack
-/// that has to grow when memory is short ends the program by a signal.
+/// Does what the command line asks for. No command is inlined, so that each has a stack frame of its own.
 fn perform<
     R: Input
         + Print
