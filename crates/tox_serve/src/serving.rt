@@ -21,7 +21,7 @@ use tox_log_files::{LogFiles, NoLogs, RunLogs, write_logs};
 use tox_script::Script;
 use tox_sockets::LiveSockets;
 use tox_time::OpenGate;
-use tox_workers::{Crew, start_crew};
+use tox_workers::{Workers, start_workers};
 
 /// [`serve_with`], with this limit of links and no other option. Dropped lines are told to nobody.
 pub fn serve<
@@ -246,18 +246,18 @@ fn serve_by_workers<R: ServeRuntime>(
     rt: &R,
     run: &ServeRun<'_>,
     listening: Vec<Listening<'_>>,
-    workers: u32,
+    count: u32,
 ) -> bool {
     let go = Mutex::new(false);
     let may_go = &go;
     let mut all_started = may_go.lock(rt);
     print_listening(rt, run, &listening);
-    let Some((crew, desks)) = Crew::new(rt, run.alloc, listening, workers) else {
+    let Some((workers, polls)) = Workers::new(rt, run.alloc, listening, count) else {
         return false;
     };
-    let shared = &crew;
+    let shared = &workers;
     thread::scope(thread::scope_env(), rt, |scope| {
-        *all_started = start_crew(rt, run, shared, desks, may_go, scope);
+        *all_started = start_workers(rt, run, shared, polls, may_go, scope);
         if !*all_started {
             return false;
         }

@@ -1,5 +1,5 @@
 pub mod Driven
-pub mod Lanes
+pub mod Directions
 pub mod Tokens
 pub mod Places
 pub mod Ready

@@ -1,17 +1,17 @@
 -- What a slot has for a link's key.
 use Rattle.std.specs.Prelude.{ℕ, nat_eq, if◌then◌else◌, Option, Some, None}
 use Rattle.tox_workers.specs.declared.links.Place.{Place}
-use Rattle.tox_workers.specs.declared.stage.Stage.{Stage}
+use Rattle.tox_workers.specs.declared.link_state.LinkState.{LinkState}
 
 -- a link is in a slot whose place is of its generation
-abbrev pub stage_of : {R : Type 0} → ℕ → Option (Place R) → Option (Stage R)
-stage_of generation None = None
-stage_of generation (Some place) = if nat_eq place.generation generation then place.stage else None
+abbrev pub link_state_of : {R : Type 0} → ℕ → Option (Place R) → Option (LinkState R)
+link_state_of generation None = None
+link_state_of generation (Some place) = if nat_eq place.generation generation then place.state else None
 
--- the place of that generation has another stage from now on, and any other stays as it is
-abbrev pub with_stage : {R : Type 0} → ℕ → Option (Stage R) → Option (Place R) → Option (Place R)
-with_stage generation stage None = None
-with_stage generation stage (Some place) = if nat_eq place.generation generation then Some (record place { stage = stage }) else Some place
+-- the place of that generation has another state from now on, and any other stays as it is
+abbrev pub with_link_state : {R : Type 0} → ℕ → Option (LinkState R) → Option (Place R) → Option (Place R)
+with_link_state generation state None = None
+with_link_state generation state (Some place) = if nat_eq place.generation generation then Some (record place { state = state }) else Some place
 
 -- the place of that generation is free from now on, and any other stays as it is
 abbrev pub freed : {R : Type 0} → ℕ → Option (Place R) → Option (Place R)

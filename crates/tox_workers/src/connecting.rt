@@ -1,5 +1,5 @@
 //! A link whose upstream isn't connected yet.
-use crate::since::Since;
+use crate::taken_at::TakenAt;
 use std::alloc::Global;
 use std::io::ErrorKind;
 use std::net::{SocketAddr, TcpStream};
@@ -12,7 +12,7 @@ pub(crate) struct Client {
     pub(crate) taken: Taken,
     /// The place of its proxy.
     pub(crate) proxy: usize,
-    pub(crate) since: Since,
+    pub(crate) since: TakenAt,
     /// Whether it was reported to send no more.
     pub(crate) closing: bool,
 }

@@ -10,7 +10,7 @@ ghost use Rattle.tox_time.specs.streams.Stream.{IsStream};
 ghost use Rattle.tox_compile.specs.Meaning.{means};
 ghost use Rattle.tox_link.specs.link_core.Core.{remaining_output};
 
-use crate::news::News;
+use crate::socket_event::SocketEvent;
 use std::alloc::Global;
 use std::boxed::Box;
 use std::sync::{Arc, Wait};
@@ -134,10 +134,7 @@ impl<'r, R: Clock + Wait> Flow<'r, R> {
             Ok(Progress::Ended(ending)) => {
                 Driven::Ended(end(link, clock, sockets, stream, &ending, &notes))
             }
-            Err(fault) => {
-                sockets.ends_of(stream).reset();
-                Driven::Ended(break_off(stream, &fault, &notes))
-            }
+            Err(fault) => Driven::Ended(fail(sockets, stream, &fault, &notes)),
         }
     }
 }
@@ -154,6 +151,19 @@ fn link_of(alloc: Global, plan: Plan, words: Words) -> Option<PolledLink>
     } else {
         PolledLink::without_words(alloc, plan).ok()
     }
+}
+
+/// Resets both sockets after a fault, and tells what the direction carried before it.
+fn fail<R: Wait>(
+    sockets: &LinkSockets,
+    stream: Stream,
+    fault: &LinkFault,
+    notes: &StreamNotes<'_, R>,
+) -> Carried
+    ensures { result.stream ≡ stream }
+{
+    sockets.ends_of(stream).reset();
+    break_off(stream, fault, notes)
 }
 
 /// Tells what a direction carried before a fault, in its log too.

@@ -2,24 +2,24 @@
 #![tactic(auto)]
 
 mod connecting;
-mod crew;
-mod door;
 mod flow;
-mod lane;
 mod link_key;
+mod link_state;
 mod links;
-mod news;
+mod open_direction;
 mod open_link;
+mod peer;
 mod served_proxy;
-mod side;
-mod since;
-mod stage;
+mod shared_listener;
+mod socket_event;
 mod starting;
 mod subject;
+mod taken_at;
 mod timers;
 mod upstream;
 mod waits;
 mod worker;
+mod workers;
 
-pub use crew::{Crew, Desk};
-pub use starting::start_crew;
+pub use starting::start_workers;
+pub use workers::{WorkerPoll, Workers};

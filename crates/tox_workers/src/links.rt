@@ -1,10 +1,10 @@
 //! The links of a worker, in slots that are used again.
 ghost use Rattle.std.specs.Prelude.{◌≡◌, ◌<◌, ◌^◌, IfSome, None, Some};
 ghost use Rattle.slab.specs.Slab.{Updates, get};
-ghost use Rattle.tox_workers.specs.Places.{freed, stage_of, with_stage};
+ghost use Rattle.tox_workers.specs.Places.{freed, link_state_of, with_link_state};
 
 use crate::link_key::LinkKey;
-use crate::stage::Stage;
+use crate::link_state::LinkState;
 use crate::subject::MAX_SLOTS;
 use crate::timers::Turn;
 use slab::Slab;
@@ -16,7 +16,7 @@ use std::time::Clock;
 #[derive(Drop)]
 pub(crate) struct Place<'r, R> {
     pub(crate) generation: u32,
-    pub(crate) stage: Option<Stage<'r, R>>,
+    pub(crate) state: Option<LinkState<'r, R>>,
 }
 
 /// The links of a worker.
@@ -62,13 +62,13 @@ impl<'r, R: Clock + Wait> Links<'r, R> {
         ensures fits { IfSome result (λ key. key.slot < 2 ^ 30) }
         ensures free { IfSome result (λ key. get self.old.places key.slot ≡ None) }
         ensures opens { IfSome result (λ key. Updates self.old.places self.new.places key.slot
-            (Some (record { generation = key.generation; stage = None }))) }
+            (Some (record { generation = key.generation; state = None }))) }
     {
         let generation = self.next;
         self.next = generation.wrapping_add(1);
         let place = Place {
             generation,
-            stage: None,
+            state: None,
         };
         let slot = self.places.insert(place).ok()?;
         if slot >= MAX_SLOTS {
@@ -86,9 +86,9 @@ impl<'r, R: Clock + Wait> Links<'r, R> {
     pub(crate) fn is_armed(&self, turn: Turn, due: u64) -> bool {
         let Turn { key, stream } = turn;
         match self.places.get(key.slot as usize) {
-            Some(place) if place.generation == key.generation => match &place.stage {
-                Some(Stage::Open(open)) => open.is_armed(stream, due),
-                Some(Stage::Connecting(connecting)) => connecting.deadline == Some(due),
+            Some(place) if place.generation == key.generation => match &place.state {
+                Some(LinkState::Open(open)) => open.is_armed(stream, due),
+                Some(LinkState::Connecting(connecting)) => connecting.deadline == Some(due),
                 _ => false,
             },
             _ => false,
@@ -96,28 +96,28 @@ impl<'r, R: Clock + Wait> Links<'r, R> {
     }
 
     /// Takes a link out of its place, to drive it. None if the key is that of a link that has ended.
-    pub(crate) fn take(&mut self, key: LinkKey) -> Option<Stage<'r, R>>
-        ensures takes { result ≡ stage_of key.generation (get self.old.places key.slot) }
+    pub(crate) fn take(&mut self, key: LinkKey) -> Option<LinkState<'r, R>>
+        ensures takes { result ≡ link_state_of key.generation (get self.old.places key.slot) }
         ensures leaves { Updates self.old.places self.new.places key.slot
-            (with_stage key.generation None (get self.old.places key.slot)) }
+            (with_link_state key.generation None (get self.old.places key.slot)) }
     {
         let place = self.places.get_mut(key.slot as usize)?;
         if place.generation != key.generation {
             return None;
         }
-        place.stage.take()
+        place.state.take()
     }
 
     /// Puts a link back into its place.
-    pub(crate) fn put(&mut self, key: LinkKey, stage: Stage<'r, R>)
+    pub(crate) fn put(&mut self, key: LinkKey, state: LinkState<'r, R>)
         ensures { Updates self.old.places self.new.places key.slot
-            (with_stage key.generation (Some stage.entry) (get self.old.places key.slot)) }
+            (with_link_state key.generation (Some state.entry) (get self.old.places key.slot)) }
     {
         let Some(place) = self.places.get_mut(key.slot as usize) else {
             return;
         };
         if place.generation == key.generation {
-            let before = place.stage.replace(stage);
+            let before = place.state.replace(state);
             drop(before);
         }
     }

@@ -3,10 +3,10 @@ ghost use Rattle.std.specs.Prelude.{◌≡◌, IfSome};
 ghost use Rattle.tox_time.specs.declared.streams.stream.Stream.TheVariants as StreamOf;
 
 use crate::flow::{Flow, READ_SIZE};
-use crate::lane::{Lane, LaneProgress};
-use crate::news::News;
-use crate::side::Side;
-use crate::since::Since;
+use crate::open_direction::{DirectionProgress, OpenDirection};
+use crate::peer::Peer;
+use crate::socket_event::SocketEvent;
+use crate::taken_at::TakenAt;
 use std::alloc::Global;
 use std::sync::{Arc, Wait};
 use std::time::Clock;
@@ -24,9 +24,9 @@ pub(crate) struct OpenLink<'r, R> {
     sockets: Arc<LinkSockets, Global>,
     /// Its key among the live sockets.
     pub(crate) live: usize,
-    since: Since,
-    up: Lane<'r, R>,
-    down: Lane<'r, R>,
+    since: TakenAt,
+    up: OpenDirection<'r, R>,
+    down: OpenDirection<'r, R>,
     ghost upstream: { up.stream ≡ StreamOf.Upstream },
     ghost downstream: { down.stream ≡ StreamOf.Downstream },
 }
@@ -38,7 +38,7 @@ pub(crate) struct Opening {
     pub(crate) proxy: usize,
     pub(crate) sockets: Arc<LinkSockets, Global>,
     pub(crate) live: usize,
-    pub(crate) since: Since,
+    pub(crate) since: TakenAt,
     /// Whether its client was reported to send no more.
     pub(crate) closing: bool,
 }
@@ -73,8 +73,8 @@ impl<'r, R: Clock + Wait> OpenLink<'r, R> {
             sockets,
             live,
             since,
-            up: Lane::new(up),
-            down: Lane::new(down),
+            up: OpenDirection::new(up),
+            down: OpenDirection::new(down),
         })
     }
 
@@ -86,10 +86,10 @@ impl<'r, R: Clock + Wait> OpenLink<'r, R> {
 
     /// The system reported something of a socket. Tells whether the direction that reads from it and the one that writes to it are
     /// to be driven.
-    pub(crate) fn note(&mut self, side: Side, news: &News) -> (bool, bool) {
-        match side {
-            Side::Client => (self.up.note_source(news), self.down.note_target(news)),
-            Side::Server => (self.down.note_source(news), self.up.note_target(news)),
+    pub(crate) fn note(&mut self, peer: Peer, event: &SocketEvent) -> (bool, bool) {
+        match peer {
+            Peer::Client => (self.up.note_source(event), self.down.note_target(event)),
+            Peer::Server => (self.down.note_source(event), self.up.note_target(event)),
         }
     }
 
@@ -116,7 +116,7 @@ impl<'r, R: Clock + Wait> OpenLink<'r, R> {
         alloc: Global,
         stream: Stream,
         scratch: &mut [u8; READ_SIZE],
-    ) -> LaneProgress {
+    ) -> DirectionProgress {
         let since = self.since;
         match stream {
             Stream::Upstream => self.up.drive(rt, alloc, &self.sockets, since, scratch),

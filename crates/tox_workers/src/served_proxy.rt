@@ -1,5 +1,5 @@
 //! A proxy that workers serve: what all of them share of it.
-use crate::door::Door;
+use crate::shared_listener::SharedListener;
 use crate::upstream::Upstream;
 use std::alloc::Global;
 use tox_links::{Listening, ProxyLinks};
@@ -8,7 +8,7 @@ use tox_links::{Listening, ProxyLinks};
 #[derive(Drop)]
 pub(crate) struct ServedProxy<'a> {
     pub(crate) links: ProxyLinks<'a>,
-    pub(crate) door: Door,
+    pub(crate) listener: SharedListener,
     pub(crate) upstream: Upstream,
 }
 
@@ -23,10 +23,10 @@ impl<'a> ServedProxy<'a> {
             address: _,
         } = listening;
         let upstream = Upstream::new(alloc, &proxy.upstream)?;
-        let door = Door::new(listener, key).ok()?;
+        let listener = SharedListener::new(listener, key).ok()?;
         Some(ServedProxy {
             links: ProxyLinks::new(alloc, proxy, place),
-            door,
+            listener,
             upstream,
         })
     }

@@ -1,28 +1,28 @@
-//! Starting the threads of a crew: one for each worker, and one for each proxy.
-use crate::crew::{Crew, Desk};
+//! Starting the threads of a run: one for each worker, and one for each proxy.
 use crate::served_proxy::ServedProxy;
 use crate::upstream::Job;
 use crate::worker::work;
+use crate::workers::{WorkerPoll, Workers};
 use std::sync::Mutex;
 use std::thread::Scope;
 use tox_links::{ServeRun, ServeRuntime};
 
 /// Starts the workers and the threads of the proxies, all of which wait until they may go. False if one is refused.
-pub fn start_crew<'s, E: 's, R: ServeRuntime>(
+pub fn start_workers<'s, E: 's, R: ServeRuntime>(
     rt: &'s R,
     run: &'s ServeRun<'s>,
-    crew: &'s Crew<'s>,
-    desks: Vec<Desk>,
+    workers: &'s Workers<'s>,
+    polls: Vec<WorkerPoll>,
     may_go: &'s Mutex<bool>,
     scope: &'s Scope<'s, E>,
 ) -> bool {
-    for desk in desks {
-        if !start_worker(rt, run, crew, desk, may_go, scope) {
+    for worker_poll in polls {
+        if !start_worker(rt, run, workers, worker_poll, may_go, scope) {
             return false;
         }
     }
-    for proxy in &crew.proxies {
-        if !start_proxy(rt, run, crew, proxy, may_go, scope) {
+    for proxy in &workers.proxies {
+        if !start_proxy(rt, run, workers, proxy, may_go, scope) {
             return false;
         }
     }
@@ -32,15 +32,15 @@ pub fn start_crew<'s, E: 's, R: ServeRuntime>(
 fn start_worker<'s, E: 's, R: ServeRuntime>(
     rt: &'s R,
     run: &'s ServeRun<'s>,
-    crew: &'s Crew<'s>,
-    desk: Desk,
+    workers: &'s Workers<'s>,
+    worker_poll: WorkerPoll,
     may_go: &'s Mutex<bool>,
     scope: &'s Scope<'s, E>,
 ) -> bool {
     let started = scope.spawn(move || {
         let goes = *may_go.lock(rt);
         if goes {
-            work(rt, run, crew, desk);
+            work(rt, run, workers, worker_poll);
         }
     });
     started.is_ok()
@@ -49,7 +49,7 @@ fn start_worker<'s, E: 's, R: ServeRuntime>(
 fn start_proxy<'s, E: 's, R: ServeRuntime>(
     rt: &'s R,
     run: &'s ServeRun<'s>,
-    crew: &'s Crew<'s>,
+    workers: &'s Workers<'s>,
     proxy: &'s ServedProxy<'s>,
     may_go: &'s Mutex<bool>,
     scope: &'s Scope<'s, E>,
@@ -57,7 +57,7 @@ fn start_proxy<'s, E: 's, R: ServeRuntime>(
     let started = scope.spawn(move || {
         let goes = *may_go.lock(rt);
         if goes {
-            serve_proxy(rt, run, crew, proxy);
+            serve_proxy(rt, run, workers, proxy);
         }
         run.stop.ended(rt, &run.proxies);
     });
@@ -69,7 +69,7 @@ fn start_proxy<'s, E: 's, R: ServeRuntime>(
 fn serve_proxy<R: ServeRuntime>(
     rt: &R,
     run: &ServeRun<'_>,
-    crew: &Crew<'_>,
+    workers: &Workers<'_>,
     proxy: &ServedProxy<'_>,
 ) {
     let served = proxy.links.proxy;
@@ -77,7 +77,7 @@ fn serve_proxy<R: ServeRuntime>(
         match proxy.upstream.next_job(rt) {
             Job::Resolve => {
                 proxy.upstream.resolve(rt, &served.upstream);
-                crew.wake_all();
+                workers.wake_all();
             }
             Job::Look => {
                 if proxy.links.have_ended(rt) || run.live.is_stopping(rt) {

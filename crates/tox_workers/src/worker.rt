@@ -3,16 +3,16 @@ pub(crate) mod accepting;
 mod driving;
 mod opening;
 
-use crate::crew::{Crew, Desk};
 use crate::flow::READ_SIZE;
 use crate::link_key::LinkKey;
 use crate::links::Links;
-use crate::news::News;
-use crate::side::Side;
+use crate::peer::Peer;
+use crate::socket_event::SocketEvent;
 use crate::subject::{Subject, subject_of};
 use crate::timers::{Timers, Turn};
 use crate::waits::{earlier, nap, whole_millis};
 use crate::worker::accepting::Accepting;
+use crate::workers::{WorkerPoll, Workers};
 use mio::Registry;
 use mio::event::Event;
 use std::thread;
@@ -28,7 +28,7 @@ const REST: u64 = 1;
 pub(crate) struct Worker<'s, R> {
     rt: &'s R,
     run: &'s ServeRun<'s>,
-    crew: &'s Crew<'s>,
+    workers: &'s Workers<'s>,
     registry: Registry,
     /// When it started.
     start: LinkStart,
@@ -44,24 +44,24 @@ pub(crate) struct Worker<'s, R> {
     accepting: Vec<Accepting>,
 }
 
-/// Works at a desk until its proxies have stopped listening and its links have ended.
+/// Works until its proxies have stopped listening and its links have ended.
 pub(crate) fn work<'s, R: ServeRuntime>(
     rt: &'s R,
     run: &'s ServeRun<'s>,
-    crew: &'s Crew<'s>,
-    desk: Desk,
+    workers: &'s Workers<'s>,
+    worker_poll: WorkerPoll,
 ) {
-    let Desk {
+    let WorkerPoll {
         mut poll,
         registry,
         mut events,
         accepting,
-    } = desk;
+    } = worker_poll;
     let mut scratch = [0; READ_SIZE];
     let mut worker = Worker {
         rt,
         run,
-        crew,
+        workers,
         registry,
         start: LinkStart::now(rt),
         links: Links::new(run.alloc),
@@ -116,8 +116,18 @@ impl<'s, R: ServeRuntime> Worker<'s, R> {
 
     fn on_event(&mut self, event: &Event, scratch: &mut [u8; READ_SIZE]) {
         match subject_of(event.token()) {
-            Subject::Client(key) => self.on_socket(key, Side::Client, &News::of(event), scratch),
-            Subject::Server(key) => self.on_socket(key, Side::Server, &News::of(event), scratch),
+            Subject::Client(key) => self.on_socket(
+                key,
+                Peer::Client,
+                &SocketEvent::of(event),
+                scratch,
+            ),
+            Subject::Server(key) => self.on_socket(
+                key,
+                Peer::Server,
+                &SocketEvent::of(event),
+                scratch,
+            ),
             Subject::Listener(place) => self.may_accept(place as usize),
             Subject::Waker => self.on_wake(),
         }

@@ -1,5 +1,5 @@
 //! Taking connections.
-use crate::door::Given;
+use crate::shared_listener::Accepted;
 use crate::waits::{MILLI, earlier};
 use crate::worker::Worker;
 use tox_links::{ACCEPT_REST, ServeRuntime};
@@ -68,24 +68,24 @@ impl<'s, R: ServeRuntime> Worker<'s, R> {
 
     /// Takes a connection, and begins its link. Tells when the proxy is to be asked again, if not at once.
     fn take_one(&mut self, place: usize) -> Option<Accepting> {
-        let crew = self.crew;
-        let proxy = crew.proxies.get(place)?;
-        match proxy.door.take(self.rt, self.run, &proxy.links) {
-            Given::Client(taken) => {
+        let workers = self.workers;
+        let proxy = workers.proxies.get(place)?;
+        match proxy.listener.take(self.rt, self.run, &proxy.links) {
+            Accepted::Client(taken) => {
                 self.begin(place, taken);
                 None
             }
-            Given::Nobody => None,
-            Given::Empty => Some(Accepting::Waits),
-            Given::Lack => Some(Accepting::RestsUntil(
+            Accepted::Dropped => None,
+            Accepted::NotNow => Some(Accepting::Waits),
+            Accepted::OutOfResources => Some(Accepting::RestsUntil(
                 self.now().saturating_add(ACCEPT_REST * MILLI),
             )),
-            Given::Closes => {
+            Accepted::Closes => {
                 proxy.upstream.close(self.rt);
-                crew.wake_all();
+                workers.wake_all();
                 Some(Accepting::Closed)
             }
-            Given::Closed => Some(Accepting::Closed),
+            Accepted::Closed => Some(Accepting::Closed),
         }
     }
 }

@@ -1,11 +1,11 @@
 //! Driving the directions of links: after an event, at a timer, or in their turn.
 use crate::flow::READ_SIZE;
-use crate::lane::LaneProgress;
 use crate::link_key::LinkKey;
-use crate::news::News;
+use crate::link_state::LinkState;
+use crate::open_direction::DirectionProgress;
 use crate::open_link::OpenLink;
-use crate::side::Side;
-use crate::stage::Stage;
+use crate::peer::Peer;
+use crate::socket_event::SocketEvent;
 use crate::timers::Turn;
 use crate::worker::Worker;
 use std::boxed::Box;
@@ -26,22 +26,22 @@ impl<'s, R: ServeRuntime> Worker<'s, R> {
     pub(super) fn on_socket(
         &mut self,
         key: LinkKey,
-        side: Side,
-        news: &News,
+        peer: Peer,
+        event: &SocketEvent,
         scratch: &mut [u8; READ_SIZE],
     ) {
         match self.links.take(key) {
-            Some(Stage::Naming(client)) => {
-                if let Some(client) = self.note_client(key, client, news) {
-                    self.links.put(key, Stage::Naming(client));
+            Some(LinkState::Naming(client)) => {
+                if let Some(client) = self.note_client(key, client, event) {
+                    self.links.put(key, LinkState::Naming(client));
                 }
             }
-            Some(Stage::Connecting(connecting)) => {
-                if let Some(open) = self.on_connecting(key, connecting, side, news) {
+            Some(LinkState::Connecting(connecting)) => {
+                if let Some(open) = self.on_connecting(key, connecting, peer, event) {
                     self.drive_both(key, open, scratch);
                 }
             }
-            Some(Stage::Open(open)) => self.on_open(key, open, side, news, scratch),
+            Some(LinkState::Open(open)) => self.on_open(key, open, peer, event, scratch),
             None => {}
         }
     }
@@ -52,13 +52,13 @@ impl<'s, R: ServeRuntime> Worker<'s, R> {
         &mut self,
         key: LinkKey,
         open: Box<OpenLink<'s, R>>,
-        side: Side,
-        news: &News,
+        peer: Peer,
+        event: &SocketEvent,
         scratch: &mut [u8; READ_SIZE],
     ) {
         let mut open = open;
-        let (source, target) = open.note(side, news);
-        let stream = side.stream();
+        let (source, target) = open.note(peer, event);
+        let stream = peer.stream();
         if source {
             self.drive(key, &mut open, stream, scratch);
         }
@@ -91,10 +91,10 @@ impl<'s, R: ServeRuntime> Worker<'s, R> {
         scratch: &mut [u8; READ_SIZE],
     ) {
         let kept = match open.drive(self.rt, self.run.alloc, stream, scratch) {
-            LaneProgress::Waits => true,
-            LaneProgress::WaitsUntil(due) => self.timers.set(due, Turn { key, stream }),
-            LaneProgress::Again => self.turns.push(Turn { key, stream }).is_ok(),
-            LaneProgress::Ended => {
+            DirectionProgress::Waits => true,
+            DirectionProgress::WaitsUntil(due) => self.timers.set(due, Turn { key, stream }),
+            DirectionProgress::Again => self.turns.push(Turn { key, stream }).is_ok(),
+            DirectionProgress::Ended => {
                 let stream = other(stream);
                 self.turns.push(Turn { key, stream }).is_ok()
             }
@@ -107,7 +107,7 @@ impl<'s, R: ServeRuntime> Worker<'s, R> {
     /// Puts a link back that was driven. One that has ended is closed, and its line is printed.
     pub(super) fn settle(&mut self, key: LinkKey, open: Box<OpenLink<'s, R>>) {
         let Some(end) = open.end() else {
-            self.links.put(key, Stage::Open(open));
+            self.links.put(key, LinkState::Open(open));
             return;
         };
         self.links.close(key);
@@ -130,12 +130,12 @@ impl<'s, R: ServeRuntime> Worker<'s, R> {
 
     fn take_turn(&mut self, key: LinkKey, stream: Stream, scratch: &mut [u8; READ_SIZE]) {
         match self.links.take(key) {
-            Some(Stage::Open(open)) => {
+            Some(LinkState::Open(open)) => {
                 let mut open = open;
                 self.drive(key, &mut open, stream, scratch);
                 self.settle(key, open);
             }
-            Some(stage) => self.links.put(key, stage),
+            Some(state) => self.links.put(key, state),
             None => {}
         }
     }
@@ -155,14 +155,14 @@ impl<'s, R: ServeRuntime> Worker<'s, R> {
     fn on_timer(&mut self, due: u64, turn: Turn, scratch: &mut [u8; READ_SIZE]) {
         let Turn { key, stream } = turn;
         match self.links.take(key) {
-            Some(Stage::Open(open)) => {
+            Some(LinkState::Open(open)) => {
                 let mut open = open;
                 open.disarm(stream, due);
                 self.drive(key, &mut open, stream, scratch);
                 self.settle(key, open);
             }
-            Some(Stage::Connecting(connecting)) => self.on_deadline(key, connecting, due),
-            Some(stage) => self.links.put(key, stage),
+            Some(LinkState::Connecting(connecting)) => self.on_deadline(key, connecting, due),
+            Some(state) => self.links.put(key, state),
             None => {}
         }
     }

@@ -1,12 +1,12 @@
 //! From a connection that was taken to an open link.
 use crate::connecting::{Client, Connecting, Connection, connection_of};
 use crate::link_key::LinkKey;
-use crate::news::News;
+use crate::link_state::LinkState;
 use crate::open_link::{OpenLink, Opening};
-use crate::side::Side;
-use crate::since::Since;
-use crate::stage::Stage;
+use crate::peer::Peer;
+use crate::socket_event::SocketEvent;
 use crate::subject::{Subject, token_of};
+use crate::taken_at::TakenAt;
 use crate::timers::Turn;
 use crate::upstream::Addresses;
 use crate::waits::MILLI;
@@ -40,7 +40,7 @@ impl<'s, R: ServeRuntime> Worker<'s, R> {
 
     /// Begins the link of a connection to the proxy at a place.
     pub(super) fn begin(&mut self, place: usize, taken: Taken) {
-        let since = Since {
+        let since = TakenAt {
             start: LinkStart::now(self.rt),
             worker: self.now(),
         };
@@ -64,7 +64,7 @@ impl<'s, R: ServeRuntime> Worker<'s, R> {
 
     /// Connects the upstream of a link, or has its name resolved.
     fn name(&mut self, key: LinkKey, client: Client) {
-        let Some(proxy) = self.crew.proxies.get(client.proxy) else {
+        let Some(proxy) = self.workers.proxies.get(client.proxy) else {
             self.refuse(key, client);
             return;
         };
@@ -78,7 +78,7 @@ impl<'s, R: ServeRuntime> Worker<'s, R> {
     /// The link waits for the addresses of its upstream.
     fn await_name(&mut self, key: LinkKey, client: Client) {
         if self.naming.push(key).is_ok() {
-            self.links.put(key, Stage::Naming(client));
+            self.links.put(key, LinkState::Naming(client));
         } else {
             self.refuse(key, client);
         }
@@ -107,7 +107,7 @@ impl<'s, R: ServeRuntime> Worker<'s, R> {
             next,
             deadline,
         };
-        self.links.put(key, Stage::Connecting(connecting));
+        self.links.put(key, LinkState::Connecting(connecting));
     }
 
     /// A connect that has begun, and the place behind its address. None if there is none left, or the run is stopping.
@@ -155,14 +155,14 @@ impl<'s, R: ServeRuntime> Worker<'s, R> {
         &mut self,
         key: LinkKey,
         client: Client,
-        news: &News,
+        event: &SocketEvent,
     ) -> Option<Client> {
         let mut client = client;
-        if news.gone {
+        if event.gone {
             self.refuse(key, client);
             return None;
         }
-        client.closing = client.closing || news.closing;
+        client.closing = client.closing || event.closing;
         Some(client)
     }
 
@@ -171,18 +171,18 @@ impl<'s, R: ServeRuntime> Worker<'s, R> {
         &mut self,
         key: LinkKey,
         connecting: Connecting,
-        side: Side,
-        news: &News,
+        peer: Peer,
+        event: &SocketEvent,
     ) -> Option<Box<OpenLink<'s, R>>> {
-        if side == Side::Client {
-            return self.on_waiting_client(key, connecting, news);
+        if peer == Peer::Client {
+            return self.on_waiting_client(key, connecting, event);
         }
         match connection_of(&connecting.server) {
             Connection::Coming => {
-                self.links.put(key, Stage::Connecting(connecting));
+                self.links.put(key, LinkState::Connecting(connecting));
                 None
             }
-            Connection::There => self.open(key, connecting, side, news),
+            Connection::There => self.open(key, connecting, peer, event),
             Connection::Refused => {
                 self.connect_next(key, connecting);
                 None
@@ -196,10 +196,10 @@ impl<'s, R: ServeRuntime> Worker<'s, R> {
         &mut self,
         key: LinkKey,
         connecting: Connecting,
-        news: &News,
+        event: &SocketEvent,
     ) -> Option<Box<OpenLink<'s, R>>> {
-        if news.gone && connection_of(&connecting.server) == Connection::There {
-            return self.open(key, connecting, Side::Client, news);
+        if event.gone && connection_of(&connecting.server) == Connection::There {
+            return self.open(key, connecting, Peer::Client, event);
         }
         let Connecting {
             client,
@@ -208,7 +208,7 @@ impl<'s, R: ServeRuntime> Worker<'s, R> {
             next,
             deadline,
         } = connecting;
-        if let Some(client) = self.note_client(key, client, news) {
+        if let Some(client) = self.note_client(key, client, event) {
             let connecting = Connecting {
                 client,
                 server,
@@ -216,7 +216,7 @@ impl<'s, R: ServeRuntime> Worker<'s, R> {
                 next,
                 deadline,
             };
-            self.links.put(key, Stage::Connecting(connecting));
+            self.links.put(key, LinkState::Connecting(connecting));
         }
         None
     }
@@ -239,7 +239,7 @@ impl<'s, R: ServeRuntime> Worker<'s, R> {
         if connecting.deadline == Some(due) {
             self.connect_next(key, connecting);
         } else {
-            self.links.put(key, Stage::Connecting(connecting));
+            self.links.put(key, LinkState::Connecting(connecting));
         }
     }
 
@@ -249,8 +249,8 @@ impl<'s, R: ServeRuntime> Worker<'s, R> {
         &mut self,
         key: LinkKey,
         connecting: Connecting,
-        side: Side,
-        news: &News,
+        peer: Peer,
+        event: &SocketEvent,
     ) -> Option<Box<OpenLink<'s, R>>> {
         let Connecting {
             client,
@@ -266,13 +266,13 @@ impl<'s, R: ServeRuntime> Worker<'s, R> {
             return None;
         };
         // The report may also say that the peer sends no more, which isn't reported again.
-        open.note(side, news);
+        open.note(peer, event);
         Some(open)
     }
 
     fn make(&mut self, client: Client, server: TcpStream) -> Option<Box<OpenLink<'s, R>>> {
         let (run, rt) = (self.run, self.rt);
-        let links = &self.crew.proxies.get(client.proxy)?.links;
+        let links = &self.workers.proxies.get(client.proxy)?.links;
         let served = links.proxy;
         let courses = courses_of(run, &served.name, client.taken.number)?;
         print_open(
@@ -328,7 +328,7 @@ impl<'s, R: ServeRuntime> Worker<'s, R> {
     /// Settles a link of the proxy at a place that carried nothing, for this cause unless the run was told to stop.
     fn break_link(&self, place: usize, number: u64, cause: BreakCause) {
         let (rt, run) = (self.rt, self.run);
-        if let Some(proxy) = self.crew.proxies.get(place) {
+        if let Some(proxy) = self.workers.proxies.get(place) {
             let cause = unless_stopped(rt, run, cause);
             let end = broken_link(rt, run, &proxy.links, number, cause);
             self.end_link(place, &end);
@@ -337,7 +337,7 @@ impl<'s, R: ServeRuntime> Worker<'s, R> {
 
     /// Settles a link of the proxy at a place.
     pub(super) fn end_link(&self, place: usize, end: &LinkEnd) {
-        if let Some(proxy) = self.crew.proxies.get(place) {
+        if let Some(proxy) = self.workers.proxies.get(place) {
             proxy.links.end_link(self.rt, self.run, end);
         }
     }
@@ -353,8 +353,8 @@ impl<'s, R: ServeRuntime> Worker<'s, R> {
         let keys = mem::replace(&mut self.naming, Vec::new(self.run.alloc));
         for key in keys {
             match self.links.take(key) {
-                Some(Stage::Naming(client)) => self.name(key, client),
-                Some(stage) => self.links.put(key, stage),
+                Some(LinkState::Naming(client)) => self.name(key, client),
+                Some(state) => self.links.put(key, state),
                 None => {}
             }
         }
@@ -367,9 +367,12 @@ impl<'s, R: ServeRuntime> Worker<'s, R> {
                 continue;
             };
             match self.links.take(key) {
-                Some(Stage::Naming(client)) => self.refuse(key, client),
-                Some(Stage::Connecting(connecting)) => self.refuse(key, connecting.into_client()),
-                Some(Stage::Open(open)) => self.turn_both(key, open),
+                Some(LinkState::Naming(client)) => self.refuse(key, client),
+                Some(LinkState::Connecting(connecting)) => self.refuse(
+                    key,
+                    connecting.into_client(),
+                ),
+                Some(LinkState::Open(open)) => self.turn_both(key, open),
                 None => {}
             }
         }

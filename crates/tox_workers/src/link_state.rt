@@ -5,7 +5,7 @@ use std::boxed::Box;
 
 /// How far a link is.
 #[derive(Drop)]
-pub(crate) enum Stage<'r, R> {
+pub(crate) enum LinkState<'r, R> {
     /// It waits for the addresses of its upstream.
     Naming(Client),
     Connecting(Connecting),

@@ -3,17 +3,17 @@ use tox_time::Stream;
 
 /// A socket of a link.
 #[derive(Clone, Copy, Debug, PartialEq, Eq)]
-pub(crate) enum Side {
+pub(crate) enum Peer {
     Client,
     Server,
 }
 
-impl Side {
+impl Peer {
     /// The stream whose bytes come from it.
     pub(crate) fn stream(self) -> Stream {
         match self {
-            Side::Client => Stream::Upstream,
-            Side::Server => Stream::Downstream,
+            Peer::Client => Stream::Upstream,
+            Peer::Server => Stream::Downstream,
         }
     }
 }

@@ -3,7 +3,7 @@ use mio::event::Event;
 
 /// What the system reports of a socket.
 #[derive(Clone, Copy, Debug, PartialEq, Eq)]
-pub(crate) struct News {
+pub(crate) struct SocketEvent {
     pub(crate) readable: bool,
     pub(crate) writable: bool,
     /// Whether its peer sends no more.
@@ -12,11 +12,11 @@ pub(crate) struct News {
     pub(crate) gone: bool,
 }
 
-impl News {
+impl SocketEvent {
     /// What an event reports. A connection that is gone can be read and written: both calls tell.
-    pub(crate) fn of(event: &Event) -> News {
+    pub(crate) fn of(event: &Event) -> SocketEvent {
         let gone = event.is_error() || event.is_write_closed();
-        News {
+        SocketEvent {
             readable: gone || event.is_readable() || event.is_read_closed(),
             writable: gone || event.is_writable(),
             closing: gone || event.is_read_closed(),

@@ -13,7 +13,7 @@ const EVENTS: usize = 512;
 
 /// What all workers of a run share.
 #[derive(Drop)]
-pub struct Crew<'a> {
+pub struct Workers<'a> {
     pub(crate) proxies: Vec<ServedProxy<'a>>,
     /// What wakes each worker.
     wakers: Vec<Waker>,
@@ -21,44 +21,44 @@ pub struct Crew<'a> {
 
 /// What a worker waits at. The listeners and what wakes it are registered.
 #[derive(Drop)]
-pub struct Desk {
+pub struct WorkerPoll {
     pub(crate) poll: Poll,
     pub(crate) registry: Registry,
     pub(crate) events: Events<Global>,
     pub(crate) accepting: Vec<Accepting>,
 }
 
-impl<'a> Crew<'a> {
-    /// The crew of so many workers for proxies whose addresses are bound, and the workers' desks. None if memory or descriptors
+impl<'a> Workers<'a> {
+    /// So many workers for proxies whose addresses are bound, and the poll of each. None if memory or descriptors
     /// are refused.
     pub fn new<R: Net<Listener = TcpListener, Stream = TcpStream> + Wait>(
         rt: &R,
         alloc: Global,
         listening: Vec<Listening<'a>>,
-        workers: u32,
-    ) -> Option<(Crew<'a>, Vec<Desk>)> {
-        let mut crew = Crew {
+        count: u32,
+    ) -> Option<(Workers<'a>, Vec<WorkerPoll>)> {
+        let mut workers = Workers {
             proxies: Vec::new(alloc),
             wakers: Vec::new(alloc),
         };
         for bound in listening {
-            crew.proxies.push(ServedProxy::new(alloc, bound)?).ok()?;
+            workers.proxies.push(ServedProxy::new(alloc, bound)?).ok()?;
         }
-        let mut desks = Vec::new(alloc);
-        for _ in 0..workers {
-            let (desk, waker) = crew.desk(rt, alloc)?;
-            crew.wakers.push(waker).ok()?;
-            desks.push(desk).ok()?;
+        let mut polls = Vec::new(alloc);
+        for _ in 0..count {
+            let (poll, waker) = workers.new_poll(rt, alloc)?;
+            workers.wakers.push(waker).ok()?;
+            polls.push(poll).ok()?;
         }
-        Some((crew, desks))
+        Some((workers, polls))
     }
 
-    /// A desk, and what wakes its worker.
-    fn desk<R: Net<Listener = TcpListener, Stream = TcpStream> + Wait>(
+    /// The poll of one more worker, and what wakes it.
+    fn new_poll<R: Net<Listener = TcpListener, Stream = TcpStream> + Wait>(
         &self,
         rt: &R,
         alloc: Global,
-    ) -> Option<(Desk, Waker)> {
+    ) -> Option<(WorkerPoll, Waker)> {
         let poll = Poll::new(rt).ok()?;
         let registry = poll.registry().try_clone().ok()?;
         let waker = Waker::new(&registry, token_of(Subject::Waker)).ok()?;
@@ -66,17 +66,17 @@ impl<'a> Crew<'a> {
         for (place, proxy) in self.proxies.iter().enumerate() {
             let place = u32::try_from(place).ok()?;
             let token = token_of(Subject::Listener(place));
-            proxy.door.register(rt, &registry, token).ok()?;
+            proxy.listener.register(rt, &registry, token).ok()?;
             accepting.push(Accepting::Goes).ok()?;
         }
         let events = Events::with_capacity(alloc, EVENTS).ok()?;
-        let desk = Desk {
+        let worker_poll = WorkerPoll {
             poll,
             registry,
             events,
             accepting,
         };
-        Some((desk, waker))
+        Some((worker_poll, waker))
     }
 
     /// Wakes all workers.

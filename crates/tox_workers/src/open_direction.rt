@@ -1,10 +1,10 @@
 //! One direction of a link whose upstream is connected.
 ghost use Rattle.std.specs.Prelude.{◌≡◌, IfSome};
-ghost use Rattle.tox_workers.specs.Lanes.{IsOf, IsOf-prop};
+ghost use Rattle.tox_workers.specs.Directions.{IsOf, IsOf-prop};
 
 use crate::flow::{Driven, Flow, READ_SIZE, break_off};
-use crate::news::News;
-use crate::since::Since;
+use crate::socket_event::SocketEvent;
+use crate::taken_at::TakenAt;
 use std::alloc::Global;
 use std::mem;
 use std::sync::Wait;
@@ -17,7 +17,7 @@ use tox_time::Stream;
 
 /// How far a direction is.
 #[derive(Drop)]
-pub(crate) enum State<'r, R> {
+pub(crate) enum DirectionState<'r, R> {
     Going(Flow<'r, R>),
     Ended(Carried),
     /// It is being driven.
@@ -26,7 +26,7 @@ pub(crate) enum State<'r, R> {
 
 /// What a direction that was driven does next.
 #[derive(Clone, Copy, Debug, PartialEq, Eq)]
-pub(crate) enum LaneProgress {
+pub(crate) enum DirectionProgress {
     /// It waits for an event, or for a timer that is set.
     Waits,
     /// It waits for an event, at most until this instant of the worker's clock, for which no timer is set.
@@ -39,22 +39,22 @@ pub(crate) enum LaneProgress {
 
 /// One direction of a link.
 #[derive(Drop)]
-pub(crate) struct Lane<'r, R> {
+pub(crate) struct OpenDirection<'r, R> {
     pub(crate) stream: Stream,
-    pub(crate) state: State<'r, R>,
+    pub(crate) state: DirectionState<'r, R>,
     /// When its earliest timer is due, by the worker's clock.
     armed: Option<u64>,
     ghost of_stream: { IsOf stream state } by { IsOf-prop stream state },
 }
 
-impl<'r, R: Clock + Wait> Lane<'r, R> {
+impl<'r, R: Clock + Wait> OpenDirection<'r, R> {
     /// A direction that goes on.
-    pub(crate) fn new(flow: Flow<'r, R>) -> Lane<'r, R>
+    pub(crate) fn new(flow: Flow<'r, R>) -> OpenDirection<'r, R>
         ensures { result.stream ≡ flow.entry.stream }
     {
-        Lane {
+        OpenDirection {
             stream: flow.stream,
-            state: State::Going(flow),
+            state: DirectionState::Going(flow),
             armed: None,
         }
     }
@@ -63,18 +63,18 @@ impl<'r, R: Clock + Wait> Lane<'r, R> {
     pub(crate) fn log(&mut self, notes: StreamNotes<'r, R>)
         ensures { self.new.stream ≡ self.old.stream }
     {
-        if let State::Going(flow) = &mut self.state {
+        if let DirectionState::Going(flow) = &mut self.state {
             flow.notes = notes;
         }
     }
 
     /// The system reported something of its source. Whether it is to be driven.
-    pub(crate) fn note_source(&mut self, news: &News) -> bool
+    pub(crate) fn note_source(&mut self, event: &SocketEvent) -> bool
         ensures { self.new.stream ≡ self.old.stream }
     {
         match &mut self.state {
-            State::Going(flow) if news.readable => {
-                flow.source.note(news.closing);
+            DirectionState::Going(flow) if event.readable => {
+                flow.source.note(event.closing);
                 true
             }
             _ => false,
@@ -82,11 +82,11 @@ impl<'r, R: Clock + Wait> Lane<'r, R> {
     }
 
     /// The system reported something of its target. Whether it is to be driven.
-    pub(crate) fn note_target(&mut self, news: &News) -> bool
+    pub(crate) fn note_target(&mut self, event: &SocketEvent) -> bool
         ensures { self.new.stream ≡ self.old.stream }
     {
         match &mut self.state {
-            State::Going(flow) if news.writable => flow.sink.note() || news.gone,
+            DirectionState::Going(flow) if event.writable => flow.sink.note() || event.gone,
             _ => false,
         }
     }
@@ -111,56 +111,56 @@ impl<'r, R: Clock + Wait> Lane<'r, R> {
         rt: &'r R,
         alloc: Global,
         sockets: &LinkSockets,
-        since: Since,
+        since: TakenAt,
         scratch: &mut [u8; READ_SIZE],
-    ) -> LaneProgress
+    ) -> DirectionProgress
         ensures { self.new.stream ≡ self.old.stream }
     {
-        let flow = match mem::replace(&mut self.state, State::Driven) {
-            State::Going(flow) => flow,
+        let flow = match mem::replace(&mut self.state, DirectionState::Driven) {
+            DirectionState::Going(flow) => flow,
             other => {
                 self.state = other;
-                return LaneProgress::Waits;
+                return DirectionProgress::Waits;
             }
         };
         let clock = SinceStart::new(rt, sockets, since.start);
         match flow.drive(alloc, &clock, sockets, scratch) {
             Driven::Waits(flow, until) => {
-                self.state = State::Going(flow);
+                self.state = DirectionState::Going(flow);
                 match until {
                     Some(until) => self.arm(since.worker.saturating_add(until.get())),
-                    None => LaneProgress::Waits,
+                    None => DirectionProgress::Waits,
                 }
             }
             Driven::Again(flow) => {
-                self.state = State::Going(flow);
-                LaneProgress::Again
+                self.state = DirectionState::Going(flow);
+                DirectionProgress::Again
             }
             Driven::Ended(carried) => {
-                self.state = State::Ended(carried);
-                LaneProgress::Ended
+                self.state = DirectionState::Ended(carried);
+                DirectionProgress::Ended
             }
         }
     }
 
     /// It waits until an instant. A timer that is due before serves too: it drives it once more.
-    fn arm(&mut self, due: u64) -> LaneProgress
+    fn arm(&mut self, due: u64) -> DirectionProgress
         ensures { self.new.stream ≡ self.old.stream }
     {
         if self.armed.is_some_and(|armed| armed <= due) {
-            return LaneProgress::Waits;
+            return DirectionProgress::Waits;
         }
         self.armed = Some(due);
-        LaneProgress::WaitsUntil(due)
+        DirectionProgress::WaitsUntil(due)
     }
 
     /// Breaks it off, out of memory.
     pub(crate) fn break_off(&mut self)
         ensures { self.new.stream ≡ self.old.stream }
     {
-        if let State::Going(flow) = &self.state {
+        if let DirectionState::Going(flow) = &self.state {
             let fault = LinkFault::OutOfMemory(flow.link.written());
-            self.state = State::Ended(break_off(self.stream, &fault, &flow.notes));
+            self.state = DirectionState::Ended(break_off(self.stream, &fault, &flow.notes));
         }
     }
 
@@ -169,7 +169,7 @@ impl<'r, R: Clock + Wait> Lane<'r, R> {
         ensures { IfSome result (λ carried. carried.now.stream ≡ self.now.stream) }
     {
         match &self.state {
-            State::Ended(carried) => Some(carried),
+            DirectionState::Ended(carried) => Some(carried),
             _ => None,
         }
     }

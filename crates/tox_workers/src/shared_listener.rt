@@ -21,33 +21,36 @@ struct Listener {
 /// The listener of a proxy. Its lock is held from a connection's `accept` until it has its number, so that numbers follow the order in
 /// which connections were taken.
 #[derive(Drop)]
-pub(crate) struct Door {
+pub(crate) struct SharedListener {
     listener: Mutex<Listener>,
     /// The listener's key among the live sockets.
     key: usize,
 }
 
-/// What a door gives.
+/// What an accept gives.
 #[derive(Drop)]
-pub(crate) enum Given {
+pub(crate) enum Accepted {
     Client(Taken),
     /// A connection that broke, or that the book has no number for. There may be more.
-    Nobody,
+    Dropped,
     /// No connection, until the system reports one.
-    Empty,
+    NotNow,
     /// No connection, for lack of descriptors or memory.
-    Lack,
+    OutOfResources,
     /// The proxy has stopped listening with this call.
     Closes,
     /// The proxy has stopped listening before.
     Closed,
 }
 
-impl Door {
-    /// The door of a listener, which is set not to wait.
-    pub(crate) fn new(listener: Arc<TcpListener, Global>, key: usize) -> io::Result<Door> {
+impl SharedListener {
+    /// Shares a listener, which is set not to wait.
+    pub(crate) fn new(
+        listener: Arc<TcpListener, Global>,
+        key: usize,
+    ) -> io::Result<SharedListener> {
         listener.set_nonblocking(true)?;
-        Ok(Door {
+        Ok(SharedListener {
             listener: Mutex::new(Listener {
                 listener: Some(listener),
                 connections: 0,
@@ -79,31 +82,31 @@ impl Door {
         rt: &R,
         run: &ServeRun<'_>,
         links: &ProxyLinks<'_>,
-    ) -> Given {
-        let mut door = self.listener.lock(rt);
-        let Some(listener) = &door.listener else {
-            return Given::Closed;
+    ) -> Accepted {
+        let mut shared = self.listener.lock(rt);
+        let Some(listener) = &shared.listener else {
+            return Accepted::Closed;
         };
         let mut book = links.book(rt);
-        if !is_enough(run.options.links, door.connections, &book.book) {
+        if !is_enough(run.options.links, shared.connections, &book.book) {
             match listener.accept() {
                 Ok((client, _)) => {
-                    door.connections = door.connections.saturating_add(1);
+                    shared.connections = shared.connections.saturating_add(1);
                     return match number_link(&mut book, client) {
-                        Some(taken) => Given::Client(taken),
-                        None => Given::Nobody,
+                        Some(taken) => Accepted::Client(taken),
+                        None => Accepted::Dropped,
                     };
                 }
-                Err(error) if error.kind() == ErrorKind::WouldBlock => return Given::Empty,
+                Err(error) if error.kind() == ErrorKind::WouldBlock => return Accepted::NotNow,
                 Err(error) => match after(&error) {
-                    Next::TryAgain => return Given::Nobody,
-                    Next::Rest => return Given::Lack,
+                    Next::TryAgain => return Accepted::Dropped,
+                    Next::Rest => return Accepted::OutOfResources,
                     Next::GiveUp => {}
                 },
             }
         }
-        door.listener = None;
+        shared.listener = None;
         run.live.remove(rt, self.key);
-        Given::Closes
+        Accepted::Closes
     }
 }
