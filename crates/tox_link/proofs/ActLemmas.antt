@@ -1,17 +1,20 @@
 -- What a link core answers, by what is left.
-use Rattle.std.proofs.Common.{◌≡◌, ℕ, ◌<◌, ◌≤◌, true, List, [], ◌∷◌, ◌++◌, length, append_assoc, Some, None, refl, ap, ◌∙◌, sym, subst, arith, if◌then◌else◌}
+use Rattle.std.proofs.Common.{◌≡◌, ◌≢◌, ℕ, ◌<◌, ◌≤◌, true, List, [], ◌∷◌, ◌++◌, length, append_assoc, Some, None, refl, ap, ◌∙◌, sym, subst, arith, if◌then◌else◌}
 use Rattle.std.specs.Prelude.{IsSome, slice_get}
 use Rattle.tox_time.specs.declared.streams.item.Item.{Item}
-use Rattle.tox_time.specs.declared.streams.item.Item.TheVariants.{Quiet}
+use Rattle.tox_time.specs.declared.streams.item.Item.TheVariants.{Closed, Quiet}
 use Rattle.tox_time.specs.declared.streams.ending.Ending.{Ending}
+use Rattle.tox_time.specs.declared.streams.ending.Ending.TheVariants.{StillOpen}
 use Rattle.tox_time.specs.streams.Stream.{IsStreamFrom}
-use Rattle.tox_time.specs.streams.Table.{final_of}
+use Rattle.tox_time.specs.streams.Table.{ending, final_of}
 use Rattle.tox_compile.specs.Meaning.{deadline_of}
 use Rattle.tox_plan.specs.OpCursors.{ops_of}
 use Rattle.tox_plan.specs.RunnerView.{to_come, found_chunk, known_ending}
+use Rattle.tox_plan.specs.Unended.{IsBeforeDeadline, IsOpenAt, IsUnended}
 use Rattle.tox_plan.proofs.RunnerOutput.{final-no_chunk, no_chunk-table}
 use Rattle.tox_link.specs.declared.link_core.waiting.WaitingPiece.{WaitingPiece}
 use Rattle.tox_link.specs.link_core.Core.{CoreView, KeepsCore, Looked, IsEmptied, Settled, remaining_output, arrivals_from, end_or, next_instant, core_ending, ending_behind, core_deadline}
+use Rattle.tox_link.specs.link_core.CoreKept.{IsCore}
 use Rattle.tox_link.proofs.Looks.{same-of}
 
 -- the remaining output of a core that keeps nothing
@@ -25,6 +28,13 @@ output-emptied core emptied none items =
 pub emptied-instant : (core : CoreView) → IsEmptied core → core.end ≡ None → next_instant (remaining_output core (Quiet ∷ [])) ≡ None
 emptied-instant core emptied none =
     ap next_instant (output-emptied core emptied none (Quiet ∷ [])) ∙ ap (λ ts. slice_get ts 0) (no_chunk-table (to_come core.runner (Quiet ∷ [])) emptied.drained.none)
+
+-- so it hasn't ended while its runner hasn't
+pub emptied-unended : (core : CoreView) (now : ℕ) → IsEmptied core → core.end ≡ None → IsUnended (to_come core.runner) now → IsUnended (remaining_output core) now
+emptied-unended core now emptied none unended = record {
+  quiet = subst (λ items. IsOpenAt now (ending items)) (sym (output-emptied core emptied none (Quiet ∷ []))) unended.quiet;
+  closed = subst (λ items. ending items ≢ StillOpen) (sym (output-emptied core emptied none (Closed now ∷ []))) unended.closed;
+}
 
 -- while a piece waits no ending is known
 pub waits-unknown : (core : CoreView) (last : Ending) → 0 < length core.waiting → core_ending core ≡ Some last → ⊥
@@ -41,6 +51,23 @@ unknown-runner core unknown = by core.waiting
     by : (waiting : List WaitingPiece) → ending_behind waiting (known_ending core.runner) ≡ None
     by [] = unknown
     by (piece ∷ pieces) = refl
+
+-- an emptied core before its deadline stays as it is, while its source goes on and its runner knows no ending
+pub settled-still : (core : CoreView) (now : ℕ) → IsCore core → IsEmptied core → core.end ≡ None → (core.runner.idle ≡ true → core.runner.finished ≡ true → ⊥) → IsBeforeDeadline now (core_deadline core)
+    → (core.runner.idle ≡ true → (t : ℕ) → IsBeforeDeadline t (core_deadline core) → IsUnended (to_come core.runner) t) → Settled core core now
+settled-still core now invariant emptied none going before unended = record {
+  leaves = record { output = λ position since items later stream. same-of _ _ refl; position = refl };
+  emptied = emptied;
+  drawing = refl;
+  ops = refl;
+  ended = refl;
+  bytes = refl;
+  latest = refl;
+  known = λ last is. is;
+  told = λ ended. absurd (going emptied.drained.idle (invariant.finished ended none));
+  overdue = λ d due late. absurd (let ahead : now < d = subst (IsBeforeDeadline now) due before in omega (arith, ahead, late));
+  unended = λ unknown. emptied-unended core now emptied none (unended emptied.drained.idle now before);
+}
 
 -- an emptied core past its deadline
 module _ (core : CoreView) (last : Ending) where
@@ -74,6 +101,7 @@ module _ (core : CoreView) (last : Ending) where
       known = λ other known. absurd (let both : Some other ≡ None = sym known ∙ unknown in cc);
       told = λ ended. subst IsSome (sym quiet-ending) refl;
       overdue = λ e due late. subst IsSome (sym quiet-ending) refl;
+      unended = λ unknown. absurd (let both : Some last ≡ None = sym quiet-ending ∙ unknown in cc);
     }
 
 -- an answer after a look keeps what both keep

@@ -7,9 +7,10 @@ use Rattle.std.proofs.lemmas.List.{take-append-drop, take-take, take_all}
 use Rattle.tox_time.specs.declared.streams.item.Item.{Item}
 use Rattle.tox_time.specs.declared.streams.item.Item.TheVariants.{Quiet}
 use Rattle.tox_time.specs.declared.streams.ending.Ending.{Ending}
-use Rattle.tox_time.specs.declared.streams.ending.Ending.TheVariants.{StillOpen, Closed as ClosedAt, Reset as ResetAt}
+use Rattle.tox_time.specs.declared.streams.ending.Ending.TheVariants.{StillOpen, Closed as ClosedAt}
 use Rattle.tox_time.specs.streams.Stream.{IsStreamFrom}
-use Rattle.tox_time.specs.streams.Table.{table, slices_table, ending, final_of}
+use Rattle.tox_time.specs.streams.Table.{table, slices_table, ending}
+use Rattle.tox_plan.proofs.Endings.{final-ending, final-table}
 use Rattle.tox_link.specs.declared.ring.message.Message.{Message}
 use Rattle.tox_link.specs.declared.ring.message.Message.TheVariants.{Piece, End}
 use Rattle.tox_link.specs.declared.ring.message.ReadEnd.{ReadEnd}
@@ -29,17 +30,6 @@ use Rattle.tox_link.specs.Sources.{read_end_of}
 use Rattle.tox_link.proofs.Logs.{gapless-bytes}
 use Rattle.tox_link.proofs.Sent.{bytes_of-append, prepend-append}
 use Rattle.tox_link.proofs.StepLemmas.{faithful-nil}
-
--- a final has no bytes, and is its ending
-final-table : (last : Ending) → table (final_of last ∷ []) ≡ []
-final-table StillOpen = refl
-final-table (ClosedAt t) = refl
-final-table (ResetAt t) = refl
-
-final-ending : (last : Ending) → ending (final_of last ∷ []) ≡ last
-final-ending StillOpen = refl
-final-ending (ClosedAt t) = refl
-final-ending (ResetAt t) = refl
 
 -- how what was heard ends
 heard-closed : (start : ℕ) (log : List LinkEvent) (rest : List Item) → has_source_end log ≡ true → (t : ℕ) × (ending (heard_from start log rest) ≡ ClosedAt t)

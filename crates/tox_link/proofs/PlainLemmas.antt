@@ -1,11 +1,11 @@
 -- The core of a plan without operations.
-use Rattle.std.proofs.Common.{◌≡◌, ℕ, zero, suc, ◌+◌, ◌<◌, ◌≤◌, Bool, true, false, List, [], ◌∷◌, ◌++◌, replicate, Option, Some, None, refl, ap, ◌∙◌, sym, subst, arith}
+use Rattle.std.proofs.Common.{◌≡◌, ◌≢◌, ℕ, zero, suc, ◌+◌, ◌<◌, ◌≤◌, Bool, true, false, List, [], ◌∷◌, ◌++◌, replicate, Option, Some, None, refl, ap, ◌∙◌, sym, subst, arith}
 use Rattle.std.specs.Prelude.{IsSome, slice_get, is_some, nat_le, if◌then◌else◌}
 use Rattle.std.proofs.lemmas.Bool.{leb-false}
 use Rattle.tox_time.specs.declared.streams.item.Item.{Item}
-use Rattle.tox_time.specs.declared.streams.item.Item.TheVariants.{Quiet}
+use Rattle.tox_time.specs.declared.streams.item.Item.TheVariants.{Closed, Quiet}
 use Rattle.tox_time.specs.declared.streams.ending.Ending.{Ending}
-use Rattle.tox_time.specs.declared.streams.ending.Ending.TheVariants.{Closed as ClosedAt}
+use Rattle.tox_time.specs.declared.streams.ending.Ending.TheVariants.{StillOpen, Closed as ClosedAt}
 use Rattle.tox_time.specs.declared.streams.position.StreamPosition.{StreamPosition}
 use Rattle.tox_time.specs.declared.streams.slice.Slice.{Slice}
 use Rattle.tox_time.specs.streams.Stream.{span_len}
@@ -15,6 +15,7 @@ use Rattle.tox_defs.specs.operations.OpCursor.{ending_or}
 use Rattle.tox_compile.specs.Meaning.{Ops, means}
 use Rattle.tox_plan.specs.Cuts.{BeginsApart}
 use Rattle.tox_plan.specs.RunnerView.{to_come}
+use Rattle.tox_plan.specs.Unended.{IsOpenAt, IsUnended}
 use Rattle.tox_link.specs.declared.link_core.act.Act.{Act}
 use Rattle.tox_link.specs.declared.link_core.act.Act.TheVariants.{Write, WaitUntil, WaitForInput, End}
 use Rattle.tox_link.specs.declared.link_core.waiting.WaitingPiece.{WaitingPiece}
@@ -88,6 +89,7 @@ module _ (given now : ℕ) (piece : WaitingPiece) (end : Option ℕ) (so_far : S
     ended = λ none. absurd (let both : Some piece.instant ≡ None = sym next ∙ none in cc);
     dropped = λ none. absurd (let both : Some piece.instant ≡ None = sym next ∙ none in cc);
     overdue = λ d none. absurd (let both : Some piece.instant ≡ None = sym next ∙ none in cc);
+    unended = λ none. absurd (let both : Some piece.instant ≡ None = sym next ∙ none in cc);
     output = (omega (arith, early, later), gives);
     kept = record { drawing = refl; ops = refl; ended = refl; bytes = refl; waiting = (piece ∷ [], refl); count = omega arith; ending = λ last is. absurd (cc) };
     latest = refl;
@@ -109,6 +111,13 @@ module _ (given now : ℕ) (end : Option ℕ) (so_far : StreamPosition) (ended :
   known None none was = absurd (let both : true ≡ false = sym was ∙ none in cc)
   known (Some t) some was = refl
 
+  unended : (end : Option ℕ) → core_ending (plain_core given None end so_far) ≡ None → IsUnended (remaining_output (plain_core given None end (record so_far { latest = now }))) now
+  unended None unknown = record {
+    quiet = subst (λ items. IsOpenAt now (ending items)) (sym (plain-read given None so_far (Quiet ∷ []))) tt;
+    closed = subst (λ items. ending items ≢ StillOpen) (sym (plain-read given None so_far (Closed now ∷ []))) (λ same. cc);
+  }
+  unended (Some t) unknown = absurd (cc)
+
   pub leaves-later : LeavesOutput idle_core later_core now
   leaves-later = record { output = λ position since items later stream. same-refl (remaining_output idle_core items); position = refl }
 
@@ -126,6 +135,7 @@ module _ (given now : ℕ) (end : Option ℕ) (so_far : StreamPosition) (ended :
     ended = λ none was. known end ended was;
     dropped = λ none. refl;
     overdue = λ d none due. absurd (cc);
+    unended = λ none. unended end;
     output = after;
     kept = keeps-later;
     latest = refl;

@@ -52,7 +52,7 @@ earlier-late d e (Cutoff instant) before late = omega (arith, before, late)
 earlier-late d e (Slicing average variation micros lane until) before late = tt
 earlier-late d e (Limit bytes) before late = tt
 
-earlier-late_ops : (d e : ℕ) (ops : List Op) → d ≤ e → AreLateOps e ops → AreLateOps d ops
+pub earlier-late_ops : (d e : ℕ) (ops : List Op) → d ≤ e → AreLateOps e ops → AreLateOps d ops
 earlier-late_ops d e [] before late = tt
 earlier-late_ops d e (op ∷ ops) before late = (earlier-late d e op before late.0, earlier-late_ops d e ops before late.1)
 
@@ -65,7 +65,7 @@ late-start (Cutoff instant) = omega arith
 late-start (Slicing average variation micros lane until) = tt
 late-start (Limit bytes) = tt
 
-late_ops-start : (ops : List Op) → AreLateOps 0 ops
+pub late_ops-start : (ops : List Op) → AreLateOps 0 ops
 late_ops-start [] = tt
 late_ops-start (op ∷ ops) = (late-start op, late_ops-start ops)
 
@@ -74,7 +74,7 @@ earlier-some instant None none = absurd (cc)
 earlier-some instant (Some e) none = absurd (cc)
 
 -- without a deadline no operation cuts anything off
-late_ops-none : (d : ℕ) (ops : List Op) → deadline_of ops ≡ None → AreLateOps d ops
+pub late_ops-none : (d : ℕ) (ops : List Op) → deadline_of ops ≡ None → AreLateOps d ops
 late_ops-none d [] none = tt
 late_ops-none d (Delay fixed latency jitter lane until ∷ ops) none = (tt, late_ops-none d ops none)
 late_ops-none d (Pace rate until ∷ ops) none = (tt, late_ops-none d ops none)
@@ -101,7 +101,7 @@ module _ (d instant : ℕ) (ops : List Op) (others : (e : ℕ) → deadline_of o
       by false below = let not_less : instant ≤ e = ltb-false e instant below in ((omega (arith, same), later), inl (omega (arith, same, not_less)))
 
 -- the deadline is the first instant from which on some operation stops everything
-stop-deadline : (d : ℕ) (ops : List Op) → deadline_of ops ≡ Some d → AreLateOps d ops × HaveStop d ops
+pub stop-deadline : (d : ℕ) (ops : List Op) → deadline_of ops ≡ Some d → AreLateOps d ops × HaveStop d ops
 stop-deadline d [] is = absurd (cc)
 stop-deadline d (Delay fixed latency jitter lane until ∷ ops) is = let late = stop-deadline d ops is in ((tt, late.0), inr late.1)
 stop-deadline d (Pace rate until ∷ ops) is = let late = stop-deadline d ops is in ((tt, late.0), inr late.1)
@@ -111,7 +111,7 @@ stop-deadline d (Cutoff instant ∷ ops) is = first-cutoff d instant ops (λ e. 
 stop-deadline d (Slicing average variation micros lane until ∷ ops) is = let late = stop-deadline d ops is in ((tt, late.0), inr late.1)
 stop-deadline d (Limit bytes ∷ ops) is = let late = stop-deadline d ops is in ((tt, late.0), inr late.1)
 
-late_ops-snoc : (d : ℕ) (ops : List Op) (op : Op) → AreLateOps d (ops ++ op ∷ []) → AreLateOps d ops × IsLateOp d op
+pub late_ops-snoc : (d : ℕ) (ops : List Op) (op : Op) → AreLateOps d (ops ++ op ∷ []) → AreLateOps d ops × IsLateOp d op
 late_ops-snoc d [] op late = (tt, late.0)
 late_ops-snoc d (first ∷ ops) op late = let others = late_ops-snoc d ops op late.1 in ((late.0, others.0), others.1)
 

@@ -1,8 +1,9 @@
 -- An ending passes through drained cursors as an ending.
-use Rattle.std.proofs.Common.{◌≡◌, ℕ, List, [], ◌∷◌, ap, ◌∙◌}
+use Rattle.std.proofs.Common.{◌≡◌, ℕ, List, [], ◌∷◌, refl, ap, ◌∙◌}
 use Rattle.tox_time.specs.declared.streams.slice.Slice.{Slice}
 use Rattle.tox_time.specs.declared.streams.ending.Ending.{Ending}
-use Rattle.tox_time.specs.streams.Table.{ending, final_of}
+use Rattle.tox_time.specs.declared.streams.ending.Ending.TheVariants.{StillOpen, Closed as ClosedAt, Reset as ResetAt}
+use Rattle.tox_time.specs.streams.Table.{ending, final_of, table}
 use Rattle.tox_words.specs.Draw.{Draws}
 use Rattle.tox_defs.specs.declared.operations.op.Op.{Op}
 use Rattle.tox_defs.specs.declared.operations.state.State.{State}
@@ -12,6 +13,17 @@ use Rattle.tox_defs.specs.operations.OpCursor.{cursor_gives}
 use Rattle.tox_defs.proofs.OpStreams.{gives-final}
 use Rattle.tox_plan.specs.OpCursors.{to_come_from, AreNested, AreDrained}
 use Rattle.tox_plan.proofs.CursorLemmas.{cursor_gives-final, to_come_from-read}
+
+-- a final has no bytes, and is its ending
+pub final-table : (last : Ending) → table (final_of last ∷ []) ≡ []
+final-table StillOpen = refl
+final-table (ClosedAt t) = refl
+final-table (ResetAt t) = refl
+
+pub final-ending : (last : Ending) → ending (final_of last ∷ []) ≡ last
+final-ending StillOpen = refl
+final-ending (ClosedAt t) = refl
+final-ending (ResetAt t) = refl
 
 -- every operation gives an ending for an ending
 pub giving-final : (op : Op) (draws : Draws) (state : State) (end : Ending) → (last : Ending) × (op_giving op draws state (final_of end) ≡ final_of last ∷ [])

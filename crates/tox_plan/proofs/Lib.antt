@@ -14,3 +14,4 @@ pub mod Late
 pub mod Deadlines
 pub mod Givens
 pub mod Orders
+pub mod Unended

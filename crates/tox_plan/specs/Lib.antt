@@ -7,3 +7,4 @@ pub mod Delivering
 pub mod Given
 pub mod NewRunner
 pub mod Slices
+pub mod Unended

@@ -12,6 +12,7 @@ ghost use Rattle.tox_plan.specs.RunnerView.{to_come, HasNoChunk, known_ending, n
 ghost use Rattle.tox_plan.specs.Cuts.{IsCut, IsOneCut, KeepsOffers, BeginsApart, EndsHere};
 ghost use Rattle.tox_plan.specs.Given.{HasGiven, GoesOn, IsLasting, IsWhole, AreAfter};
 ghost use Rattle.tox_plan.specs.NewRunner.{IsNewRunner};
+ghost use Rattle.tox_plan.specs.Unended.{IsBeforeDeadline, IsUnended};
 
 use crate::cursor_endings::{ending_of_read, last_of};
 use crate::phase::Phase;
@@ -324,13 +325,17 @@ impl<'w> Runner<'w> {
     }
 
     /// The link's ending. It is known once the runner is idle and the source has ended, or an operation has given its
-    /// final: even where nothing more arrives, that final is still to come. Nothing else is then to come.
+    /// final: even where nothing more arrives, that final is still to come. Nothing else is then to come. Until it is
+    /// known, the link hasn't ended before the plan's deadline.
     pub fn ending(&self) -> Option<Ending>
         ensures value { result ≡ known_ending self.now }
         ensures known { IsSome result
             ↔ ((self.now.idle ≡ true) × ((self.now.finished ≡ true) ⊎ (to_come self.now [] ≢ []))) }
         ensures only { IfSome result
             (λ ending. (items : List OneItem) → to_come self.now items ≡ final_of ending ∷ []) }
+        ensures unended { result ≡ None → self.now.idle ≡ true → (now : ℕ)
+            → IsBeforeDeadline now (deadline_of (ops_of self.now.cursors))
+            → IsUnended (to_come self.now) now }
     {
         if self.phase.is_idle() {
             self.phase.ending()

@@ -7,6 +7,7 @@ use Rattle.tox_time.specs.declared.streams.item.Item.TheVariants.{Chunk, Closed,
 use Rattle.tox_time.specs.declared.streams.arrivals.ArrivalFault.{ArrivalFault}
 use Rattle.tox_time.specs.streams.Arrivals.{piece_fault}
 use Rattle.tox_plan.specs.RunnerView.{answer_of}
+use Rattle.tox_plan.specs.Unended.{IsUnended}
 use Rattle.tox_link.specs.declared.link_core.act.Act.{Act}
 use Rattle.tox_link.specs.declared.link_core.act.Act.TheVariants.{Write, WaitUntil, WaitForInput, End}
 use Rattle.tox_link.specs.link_core.Core.{CoreView, TakesSlice, LeavesOutput, KeepsCore, remaining_output, next_instant, core_ending, core_deadline, core_position, kept_count}
@@ -49,6 +50,7 @@ pub record Answered (old new : CoreView) (now : ℕ) (act : Act) : Type 0 where
   pub ended : next_instant (remaining_output old (Quiet ∷ [])) ≡ None → old.ended ≡ true → IsSome (core_ending new)
   pub dropped : next_instant (remaining_output old (Quiet ∷ [])) ≡ None → kept_count new ≡ 0
   pub overdue : (d : ℕ) → next_instant (remaining_output old (Quiet ∷ [])) ≡ None → core_deadline old ≡ Some d → d ≤ now → IsSome (core_ending new)
+  pub unended : next_instant (remaining_output old (Quiet ∷ [])) ≡ None → core_ending new ≡ None → IsUnended (remaining_output new) now
   pub output : After old now act new
   pub kept : KeepsCore old new
   pub latest : new.latest ≡ now

@@ -10,6 +10,7 @@ use Rattle.tox_compile.specs.Meaning.{deadline_of}
 use Rattle.tox_plan.specs.OpCursors.{ops_of}
 use Rattle.tox_plan.specs.Cuts.{IsWithin, BeginsApart}
 use Rattle.tox_plan.specs.RunnerView.{RunnerView, HasNoChunk, found_chunk, to_come, known_ending}
+use Rattle.tox_plan.specs.Unended.{IsUnended}
 use Rattle.tox_link.specs.declared.link_core.waiting.WaitingPiece.{WaitingPiece}
 
 -- what a link core is seen as
@@ -136,6 +137,7 @@ pub record Settled (old new : CoreView) (now : ℕ) : Type 0 where
   pub known : (last : Ending) → core_ending old ≡ Some last → core_ending new ≡ Some last
   pub told : old.ended ≡ true → IsSome (core_ending new)
   pub overdue : (d : ℕ) → core_deadline old ≡ Some d → d ≤ now → IsSome (core_ending new)
+  pub unended : core_ending new ≡ None → IsUnended (remaining_output new) now
 
 -- an emptied core whose runner has heard of the source's end, if there is one
 pub record HandsOnEnd (old new : CoreView) : Type 0 where

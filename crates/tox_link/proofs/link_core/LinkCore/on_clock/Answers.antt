@@ -22,6 +22,7 @@ returns c =
       ended = search rules;
       dropped = search rules;
       overdue = search rules;
+      unended = search rules;
       output = search rules;
       kept = subst (λ old. KeepsCore old c.answer.new.self) c.self.view_is
           (keeps-after core c.look.new.self c.answer.new.self c.args.now c.look.ensures.looked c.look.ensures.known c.answer.ensures.kept);

@@ -1,0 +1,24 @@
+-- When a link hasn't ended yet.
+use Rattle.std.specs.Prelude.{◌≢◌, ℕ, ◌<◌, List, [], ◌∷◌, Option, Some, None}
+use Rattle.tox_time.specs.declared.streams.item.Item.{Item}
+use Rattle.tox_time.specs.declared.streams.item.Item.TheVariants.{Closed, Quiet}
+use Rattle.tox_time.specs.declared.streams.ending.Ending.{Ending}
+use Rattle.tox_time.specs.declared.streams.ending.Ending.TheVariants.{StillOpen, Closed as ClosedAt, Reset as ResetAt}
+use Rattle.tox_time.specs.streams.Table.{ending}
+
+-- there is no deadline, or it is later
+abbrev pub IsBeforeDeadline : ℕ → Option ℕ → Type 0
+IsBeforeDeadline now None = Unit {0}
+IsBeforeDeadline now (Some deadline) = now < deadline
+
+-- the link stays open, or a later reset ends it
+abbrev pub IsOpenAt : ℕ → Ending → Type 0
+IsOpenAt now StillOpen = Unit {0}
+IsOpenAt now (ClosedAt t) = ⊥
+IsOpenAt now (ResetAt t) = now < t
+
+-- a link with this output hasn't ended at an instant: if nothing more arrives, it stays open or a later reset ends it; a close that
+-- arrives then ends it
+pub record IsUnended (output : List Item → List Item) (now : ℕ) : Type 0 where
+  pub quiet : IsOpenAt now (ending (output (Quiet ∷ [])))
+  pub closed : ending (output (Closed now ∷ [])) ≢ StillOpen
