@@ -24,15 +24,14 @@ use Rattle.tox_log.specs.declared.replay.Hearing.{Hearing}
 use Rattle.tox_log.specs.Reading.{is_last, to_hand}
 use Rattle.tox_log.specs.declared.event_line.LogLine.{LogLine}
 use Rattle.tox_log.specs.declared.event_line.LogLine.TheVariants.{Event, Last}
-use Rattle.tox_log.specs.declared.last_line.LastLine.{LastLine}
 use Rattle.tox_log.specs.declared.last_line.LastLine.TheVariants.{Ended}
 use Rattle.tox_log.specs.EventText.{event_line, event_words}
 use Rattle.tox_log.specs.LastText.{last_words}
 use Rattle.tox_log.specs.Lines.{line_words}
-use Rattle.tox_log.specs.Judging.{Hears, Judged, Refuses, source_heard}
+use Rattle.tox_log.specs.Judging.{Hears, Judged, Refuses, RefusesEnding, source_heard}
 use Rattle.tox_log.specs.declared.replay.Verdict.{Verdict}
 use Rattle.tox_log.specs.declared.replay.Verdict.TheVariants.{Faithful, Unfinished, Unfaithful}
-use Rattle.tox_log.specs.Hearing.{Begins, HasHeard, HasReport, HasRefusal, HearsLine, IsFaithfulText, IsRefusedText, IsTextOf, IsTold, SaysSo, event_lines}
+use Rattle.tox_log.specs.Hearing.{Begins, HasHeard, HasReport, HearsLine, IsFaithfulText, IsRefusedText, IsTextOf, IsTold, SaysSo, event_lines}
 use Rattle.tox_log.proofs.Refusing.{timely-told}
 
 told-front : (told : ℕ → Bool) (events : List LinkEvent) (event : LinkEvent) → IsTold told (events ++ event ∷ []) → IsTold told events
@@ -46,7 +45,7 @@ told-last : (told : ℕ → Bool) (events : List LinkEvent) (event : LinkEvent) 
 told-last told [] event all = All-head (λ event. told (reading_of event) ≡ true) event [] all
 told-last told (first ∷ events) event all = told-last told events event (All-tail (λ event. told (reading_of event) ≡ true) first (events ++ event ∷ []) all)
 
-line-more : (text words : List ℕ) (events : List LinkEvent) (event : LinkEvent) → text ≡ event_lines events → words ≡ event_words event
+pub line-more : (text words : List ℕ) (events : List LinkEvent) (event : LinkEvent) → text ≡ event_lines events → words ≡ event_words event
     → text ++ (words ++ 10 ∷ []) ≡ event_lines (events ++ event ∷ [])
 line-more text words events event lines is =
     let one : event_lines (event ∷ []) ≡ event_words event ++ codes "\n" = append-nil (event_line event) in
@@ -79,16 +78,18 @@ says-refused means text old new event number refuses heard = record {
       (heard.judged told (told-front told heard.events event (timely-told told 0 (heard.events ++ event ∷ []) faithful.timely))) faithful;
 }
 
--- a last line that isn't the ending's
-pub says-other-end : (means : List Item → List Item) (text : List ℕ) (old new : Judge) (last : LastLine) (number : ℕ)
-    → HasHeard means text old → SaysSo means (text ++ (line_words (Last last) ++ 10 ∷ [])) true new (Unfaithful number)
-says-other-end means text old new last number heard = record {
-  events = heard.events;
-  line = Last last;
-  more = [];
-  lines = ap (λ lines. lines ++ (line_words (Last last) ++ 10 ∷ [])) heard.lines ∙ ap (λ line. event_lines heard.events ++ line) (sym (append-nil (line_words (Last last) ++ 10 ∷ [])));
-  refused = tt;
-}
+-- an ending that no link with these events reports
+pub says-other-end : (means : List Item → List Item) (text : List ℕ) (old new : Judge) (reading : ℕ) (last : Ending) (number : ℕ) → RefusesEnding old reading last
+    → HasHeard means text old → SaysSo means (text ++ (line_words (Last (Ended reading last)) ++ 10 ∷ [])) true new (Unfaithful number)
+says-other-end means text old new reading last number refuses heard =
+    let words : List ℕ = line_words (Last (Ended reading last)) ++ 10 ∷ [] in
+    record {
+      events = heard.events;
+      line = Last (Ended reading last);
+      more = [];
+      lines = ap (λ lines. lines ++ words) heard.lines ∙ ap (λ line. event_lines heard.events ++ line) (sym (append-nil words));
+      refused = λ told taken written source report. refuses means told heard.events (heard.judged told (timely-told told 0 heard.events report.faithful.timely)) taken written source report;
+    }
 
 -- the last line
 pub hears-last : (means : List Item → List Item) (text : List ℕ) (old new : Judge) (reading : ℕ) (last : Ending) → HasHeard means text old

@@ -1,5 +1,5 @@
 -- The object of a judged log, in the fields in which it is printed.
-use Rattle.std.proofs.Common.{◌≡◌, ℕ, Bool, List, [], ◌∷◌, ◌++◌, codes, decimal, flat_map, not, Some, append_assoc, append-nil, ap, ap₂, ◌∙◌}
+use Rattle.std.proofs.Common.{◌≡◌, ℕ, List, [], ◌∷◌, ◌++◌, codes, decimal, flat_map, not, Some, append_assoc, append-nil, ap, ap₂, ◌∙◌}
 use Rattle.tox_text.specs.Json.{flag_text}
 use Rattle.tox_text.specs.JsonLine.{field_text, number_field, text_field}
 use Rattle.tox_text.specs.declared.json_line.JsonField.{JsonField}

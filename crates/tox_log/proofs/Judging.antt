@@ -7,11 +7,12 @@ use Rattle.tox_time.specs.declared.streams.slice.Slice.{Slice}
 use Rattle.tox_time.specs.declared.streams.item.Item.{Item}
 use Rattle.tox_time.specs.declared.streams.item.Item.TheVariants.{Chunk, Closed, Quiet}
 use Rattle.tox_time.specs.declared.streams.ending.Ending.{Ending}
-use Rattle.tox_time.specs.declared.streams.ending.Ending.TheVariants.{StillOpen, Closed as ClosedAt, Reset as ResetAt}
+use Rattle.tox_time.specs.declared.streams.ending.Ending.TheVariants.{Closed as ClosedAt}
 use Rattle.tox_time.specs.streams.Stream.{IsStream, IsStreamFrom, span_len}
 use Rattle.tox_time.specs.streams.Table.{table, slices_table, ending, final_of}
 use Rattle.tox_time.specs.Time.{IsInstant}
 use Rattle.tox_plan.proofs.Deliveries.{slices_table-append}
+use Rattle.tox_plan.proofs.Endings.{final-ending, final-table}
 use Rattle.tox_link.specs.declared.link_core.act.Act.{Act}
 use Rattle.tox_link.specs.declared.link_core.act.Act.TheVariants.{Write, WaitUntil, WaitForInput, End}
 use Rattle.tox_link.specs.declared.notes.LinkEvent.{LinkEvent}
@@ -194,17 +195,6 @@ module _ (means : List Item → List Item) (told : ℕ → Bool) (core : CoreVie
       bytes = let more = heard_bytes-append log (Wrote slice latest ∷ []) in omega (arith, more, follows.bytes);
       closed = end-same log (Wrote slice latest ∷ []) refl ∙ follows.closed;
     }
-
--- a final has no bytes, and is its ending
-final-table : (last : Ending) → table (final_of last ∷ []) ≡ []
-final-table StillOpen = refl
-final-table (ClosedAt t) = refl
-final-table (ResetAt t) = refl
-
-final-ending : (last : Ending) → ending (final_of last ∷ []) ≡ last
-final-ending StillOpen = refl
-final-ending (ClosedAt t) = refl
-final-ending (ResetAt t) = refl
 
 -- how what was heard ends
 heard-closed : (start : ℕ) (log : List LinkEvent) (rest : List Item) → has_source_end log ≡ true → (t : ℕ) × (ending (heard_from start log rest) ≡ ClosedAt t)

@@ -10,4 +10,5 @@ pub mod JudgedParts
 pub mod Opening
 pub mod ReadsBack
 pub mod Refusing
+pub mod RefusingEndings
 pub mod Judging

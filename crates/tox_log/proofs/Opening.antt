@@ -15,6 +15,10 @@ use Rattle.tox_log.specs.declared.line_reader.LineReader.{LineReader}
 use Rattle.tox_log.specs.declared.open_log.OpenLog.{OpenLog}
 use Rattle.tox_log.specs.HeaderText.{header_text, heading_lines, toxic_line, toxic_lines}
 use Rattle.tox_log.specs.Opening.{AddsToxic, Opens, ReadsToxics, named_lines}
+use Rattle.std.specs.Prelude.{◌≢◌}
+use Rattle.std.proofs.lemmas.List.Elements.{All-nil}
+use Rattle.tox_time.specs.streams.StreamPosition.{first_position}
+use Rattle.tox_log.specs.Numbers.{Lacks}
 use Rattle.tox_log.specs.Reading.{TakesLine, TakesRest, to_hand, to_take, waiting}
 
 -- the toxics of these lines were read
@@ -59,6 +63,7 @@ read-waits old mid next new before between after read line kept short chain same
     ∙ ap (λ lines. prepend_known (lines.line.items ++ 10 ∷ []) (to_take lines after)) same in record {
       toxics = read.toxics;
       torn = [];
+      unended = All-nil (λ other. other ≢ 10);
       chain = ap (λ chain. chain.entries) (chain ∙ kept) ∙ read.chain;
       given = read.given ∙ ap (prepend_known (named_lines read.toxics)) (line-taken mid.lines next.lines between after line short ∙ sym handed)
           ∙ ap (λ bytes. prepend_known bytes (to_hand new after)) (sym (append-nil (named_lines read.toxics)));
@@ -73,6 +78,7 @@ read-ends old mid next before between after read rest kept going =
     ap (λ w. if w then prepend_known (next.lines.line.items ++ 10 ∷ []) (to_take next.lines after) else to_take next.lines after) going in record {
       toxics = read.toxics;
       torn = rest.torn;
+      unended = rest.unended;
       chain = ap (λ chain. chain.entries) kept ∙ read.chain;
       given = prepend_more (named_lines read.toxics) rest.torn (to_take old.lines before) (to_take mid.lines between) (to_hand next after) read.given
           (rest.given ∙ ap (prepend_known rest.torn) (sym handed));
@@ -86,6 +92,7 @@ read-stops old now before after read going =
     ap (λ w. if w then prepend_known (now.lines.line.items ++ 10 ∷ []) (to_take now.lines after) else to_take now.lines after) going in record {
       toxics = read.toxics;
       torn = [];
+      unended = All-nil (λ other. other ≢ 10);
       chain = read.chain;
       given = read.given ∙ ap (prepend_known (named_lines read.toxics)) (sym handed) ∙ ap (λ bytes. prepend_known bytes (to_hand now after)) (sym (append-nil (named_lines read.toxics)));
       rest = inl refl;
@@ -100,6 +107,7 @@ opens-so : (first : LineReader) (start log : OpenLog) (before between after : Op
     → waiting first ≡ [] → to_take first before ≡ prepend_known (heading_lines name number direction lanes seed) (to_take start.lines between) → start.chain.entries ≡ []
     → log.chain.lanes ≡ lanes → ReadsToxics start log between after
     → (names : List (List ℕ)) × (torn : List ℕ) × (before ≡ prepend_known (header_text name number direction seed log.chain names ++ torn) (to_hand log after)) × ((torn ≡ []) ⊎ IsAtEnd (to_hand log after))
+    × Lacks 10 torn
 opens-so first start log before between after name number seed direction lanes fresh heading none same read =
     let names = map (λ named. named.1) read.toxics in
     let all : before ≡ to_take first before = prepend-nil before ∙ ap (λ bytes. prepend_known bytes before) (sym fresh) in
@@ -113,17 +121,20 @@ opens-so first start log before between after name number seed direction lanes f
       all ∙ prepend_more (heading_lines name number direction lanes seed) (named_lines read.toxics ++ read.torn) (to_take first before) (to_take start.lines between) (to_hand log after) heading read.given
           ∙ ap (λ bytes. prepend_known bytes (to_hand log after)) (sym (append_assoc (heading_lines name number direction lanes seed) (named_lines read.toxics) read.torn) ∙ ap (λ header. header ++ read.torn) (sym header)),
       read.rest,
+      read.unended,
     )
 
 -- the log that is read now
 pub opens : (first : LineReader) (start log : OpenLog) (before between after : Option (List ℕ)) (heading : Heading) → waiting first ≡ []
     → to_take first before ≡ prepend_known (heading_lines (string_bytes heading.proxy) heading.number heading.stream heading.lanes heading.seed) (to_take start.lines between)
-    → start.chain.entries ≡ [] → log.heading ≡ heading → log.over ≡ false → log.chain.lanes ≡ heading.lanes → ReadsToxics start log between after → Opens before after log
-opens first start log before between after heading fresh lines none is going same read =
-    let (names, torn, given, rest) = opens-so first start log before between after (string_bytes heading.proxy) heading.number heading.seed heading.stream heading.lanes fresh lines none same read in record {
+    → start.chain.entries ≡ [] → log.heading ≡ heading → log.over ≡ false → log.chain.lanes ≡ heading.lanes → log.heard ≡ first_position → ReadsToxics start log between after → Opens before after log
+opens first start log before between after heading fresh lines none is going same begun read =
+    let (names, torn, given, rest, unended) = opens-so first start log before between after (string_bytes heading.proxy) heading.number heading.seed heading.stream heading.lanes fresh lines none same read in record {
       names = names;
       torn = torn;
       given = subst (λ h. before ≡ prepend_known (header_text (string_bytes h.proxy) h.number h.stream h.seed log.chain names ++ torn) (to_hand log after)) (sym is) given;
       rest = rest;
+      unended = unended;
       going = going;
+      start = begun;
     }

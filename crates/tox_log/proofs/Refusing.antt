@@ -1,12 +1,12 @@
 -- What a faithful log says next is what its judge expects.
-use Rattle.std.proofs.Common.{◌≡◌, ℕ, ◌+◌, ◌-◌, ◌<◌, ◌≤◌, Bool, true, List, [], ◌∷◌, ◌++◌, length, take, replicate, zero, suc, Some, IsSome, slice_get, rules, refl, ap, sym, ◌∙◌, subst, append_assoc, append-nil, arith}
+use Rattle.std.proofs.Common.{◌≡◌, ℕ, ◌+◌, ◌<◌, ◌≤◌, Bool, true, List, [], ◌∷◌, ◌++◌, length, replicate, zero, suc, Some, IsSome, slice_get, rules, refl, ap, sym, ◌∙◌, subst, append_assoc, append-nil, arith}
 use Rattle.std.proofs.Math.Seq.{take-length}
 use Rattle.std.proofs.lemmas.List.Elements.{All-cons, All-nil}
 use Rattle.std.proofs.lemmas.List.{append_cancel_left, replicate-append-replicate}
 use Rattle.tox_time.specs.declared.streams.slice.Slice.{Slice}
 use Rattle.tox_time.specs.declared.streams.item.Item.{Item}
 use Rattle.tox_time.specs.declared.streams.item.Item.TheVariants.{Quiet}
-use Rattle.tox_time.specs.streams.Stream.{IsPrefix, span_len}
+use Rattle.tox_time.specs.streams.Stream.{span_len}
 use Rattle.tox_time.specs.streams.Table.{table, slices_table}
 use Rattle.tox_plan.proofs.Deliveries.{slices_table-append}
 use Rattle.tox_link.specs.declared.notes.LinkEvent.{LinkEvent}
@@ -15,7 +15,7 @@ use Rattle.tox_link.specs.declared.link_core.act.Act.{Act}
 use Rattle.tox_link.specs.declared.link_core.act.Act.TheVariants.{Write, WaitUntil, WaitForInput, End}
 use Rattle.tox_link.specs.link_core.Acts.{After, IsSliceAct}
 use Rattle.tox_link.specs.link_core.Core.{CoreView, remaining_output}
-use Rattle.tox_link.specs.log.Log.{heard, heard_from, said, Agrees, reading_of, IsFaithful, IsGapless, IsTimely}
+use Rattle.tox_link.specs.log.Log.{said, Agrees, reading_of, IsFaithful, IsGapless, IsTimely}
 use Rattle.tox_log.specs.Hearing.{IsTold}
 use Rattle.tox_link.proofs.Logs.{heard-wrote, said-append}
 use Rattle.tox_log.specs.declared.judge.Judge.{Judge}

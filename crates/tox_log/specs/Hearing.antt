@@ -16,7 +16,7 @@ use Rattle.tox_link.specs.Reports.{ReportsAt}
 use Rattle.tox_log.specs.declared.judge.Judge.{Judge}
 use Rattle.tox_log.specs.declared.event_line.LogLine.{LogLine}
 use Rattle.tox_log.specs.declared.event_line.LogLine.TheVariants.{Event, Last}
-use Rattle.tox_log.specs.declared.last_line.LastLine.TheVariants.{Ended}
+use Rattle.tox_log.specs.declared.last_line.LastLine.TheVariants.{Ended, Broken}
 use Rattle.tox_log.specs.declared.replay.Verdict.{Verdict}
 use Rattle.tox_log.specs.declared.replay.Verdict.TheVariants.{Faithful, Unfinished, Unfaithful}
 use Rattle.tox_log.specs.declared.replay.Hearing.{Hearing}
@@ -24,7 +24,7 @@ use Rattle.tox_log.specs.EventText.{event_line}
 use Rattle.tox_log.specs.LastText.{last_line}
 use Rattle.tox_log.specs.Lines.{line_words}
 use Rattle.tox_log.specs.Reading.{is_last}
-use Rattle.tox_log.specs.Judging.{Judged, source_heard}
+use Rattle.tox_log.specs.Judging.{HasNoReport, Judged, source_heard}
 
 -- the lines of events
 abbrev pub event_lines : List LinkEvent → List ℕ
@@ -49,10 +49,12 @@ pub record HasReport (means : List Item → List Item) (text : List ℕ) (taken 
   pub report : (told : ℕ → Bool) → IsTold told events → told reading ≡ true
       → ReportsAt means (λ t. told t ≡ true) events taken written ending (source_heard ended) reading
 
--- no log with these events that goes on with this one is faithful, whatever the clock told
+-- whatever the clock told, no log with these events that goes on with this one is faithful, or no link with these events reports this
+-- ending at this reading; a line that tells a break is never refused
 abbrev pub IsRefused : (List Item → List Item) → List LinkEvent → LogLine → Type 0
 IsRefused means events (Event event) = (told : ℕ → Bool) → IsFaithful means (λ t. told t ≡ true) (events ++ event ∷ []) → ⊥
-IsRefused means events (Last last) = Unit {0}
+IsRefused means events (Last (Ended reading ending)) = (told : ℕ → Bool) → HasNoReport means told events reading ending
+IsRefused means events (Last (Broken cause bytes)) = ⊥
 
 -- the text is the lines of events, one that is refused behind them, and more
 pub record HasRefusal (means : List Item → List Item) (text : List ℕ) : Type 0 where

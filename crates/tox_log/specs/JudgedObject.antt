@@ -1,5 +1,5 @@
 -- The line of a judged log as an object of JSON.
-use Rattle.std.specs.Prelude.{ℕ, Bool, List, [], ◌++◌, codes, decimal, not, string_bytes, Option, Some, None}
+use Rattle.std.specs.Prelude.{ℕ, List, [], ◌++◌, codes, decimal, not, string_bytes, Option, Some, None}
 use Rattle.tox_time.specs.declared.streams.ending.Ending.{Ending}
 use Rattle.tox_time.specs.declared.streams.ending.Ending.TheVariants.{StillOpen, Closed, Reset}
 use Rattle.tox_time.specs.streams.StreamName.{stream_name}

@@ -4,7 +4,9 @@ use Rattle.tox_time.specs.declared.streams.slice.Slice.{Slice}
 use Rattle.tox_time.specs.declared.streams.item.Item.{Item}
 use Rattle.tox_time.specs.declared.streams.item.Item.TheVariants.{Quiet}
 use Rattle.tox_time.specs.streams.Stream.{IsPrefix, IsStreamFrom, span_len}
+use Rattle.tox_time.specs.declared.streams.ending.Ending.{Ending}
 use Rattle.tox_time.specs.streams.Table.{table, slices_table, ending}
+use Rattle.tox_plan.specs.Unended.{IsUnended}
 use Rattle.tox_link.specs.declared.link_core.act.Act.{Act}
 use Rattle.tox_link.specs.declared.link_core.act.Act.TheVariants.{Write, WaitUntil, WaitForInput, End}
 use Rattle.tox_link.specs.declared.notes.LinkEvent.{LinkEvent}
@@ -13,6 +15,7 @@ use Rattle.tox_link.specs.declared.ring.message.ReadEnd.TheVariants.{Eof}
 use Rattle.tox_link.specs.link_core.Core.{CoreView, remaining_output, core_ending, core_position}
 use Rattle.tox_link.specs.log.Carried.{IsBy}
 use Rattle.tox_link.specs.log.Log.{heard_from, heard_bytes, has_source_end, said, reading_of, IsFaithful, IsGapless}
+use Rattle.tox_link.specs.Reports.{ReportsAt}
 use Rattle.tox_log.specs.declared.judge.Judge.{Judge}
 
 -- the instants of what is left of a slice
@@ -90,6 +93,18 @@ Expects judge count due = IsPrefix (replicate count due) (next_table judge)
 abbrev pub Refuses : Judge → LinkEvent → Type 0
 Refuses judge event = (means : List Item → List Item) (told : ℕ → Bool) (log : List LinkEvent) → Judged means told judge log
     → IsFaithful means (λ t. told t ≡ true) (log ++ event ∷ []) → ⊥
+
+-- all is said, and a link whose core knows no ending hasn't ended at a reading
+abbrev pub HasSaidAll : Judge → ℕ → Type 0
+HasSaidAll judge reading = (judge.rest ≡ None) × (core_ending judge.core ≡ None → IsUnended (remaining_output judge.core) reading)
+
+-- no link with this log reports this ending at a reading
+abbrev pub HasNoReport : (List Item → List Item) → (ℕ → Bool) → List LinkEvent → ℕ → Ending → Type 0
+HasNoReport means told log reading last = (taken written : ℕ) (source : Option ReadEnd) → ReportsAt means (λ t. told t ≡ true) log taken written last source reading → ⊥
+
+-- no link with the log of a judge reports this ending at a reading
+abbrev pub RefusesEnding : Judge → ℕ → Ending → Type 0
+RefusesEnding judge reading last = (means : List Item → List Item) (told : ℕ → Bool) (log : List LinkEvent) → Judged means told judge log → HasNoReport means told log reading last
 
 -- how the source ended, if its end was heard
 abbrev pub source_heard : Bool → Option ReadEnd

@@ -1,6 +1,7 @@
 pub mod EventText
 pub mod LastText
 pub mod HeaderText
+pub mod FaultText
 pub mod JudgedLine
 pub mod JudgedObject
 pub mod Judging
@@ -8,4 +9,5 @@ pub mod Hearing
 pub mod Lines
 pub mod Numbers
 pub mod Opening
+pub mod Order
 pub mod Reading

@@ -6,6 +6,7 @@ use Rattle.tox_log.specs.declared.open_log.OpenLog.{OpenLog}
 use Rattle.tox_log.specs.declared.event_line.LogLine.{LogLine}
 use Rattle.tox_log.specs.declared.event_line.LogLine.TheVariants.{Event, Last}
 use Rattle.tox_log.specs.Lines.{IsWritable, line_words}
+use Rattle.tox_log.specs.Numbers.{Lacks}
 
 -- the bytes of the block that were not taken yet
 abbrev pub waiting : LineReader → List ℕ
@@ -32,7 +33,16 @@ TakesLine old new before after = (text : List ℕ) × Takes old new before after
 pub record TakesRest (old new : LineReader) (before after : Option (List ℕ)) : Type 0 where
   pub torn : List ℕ
   pub given : to_take old before ≡ prepend_known torn (to_take new after)
+  pub unended : Lacks 10 torn
   pub ended : IsAtEnd (to_take new after)
+
+-- no line feed is left in these bytes
+pub record LacksLine (bytes : Option (List ℕ)) : Type 0 where
+  pub torn : List ℕ
+  pub left : Option (List ℕ)
+  pub given : bytes ≡ prepend_known torn left
+  pub unended : Lacks 10 torn
+  pub ended : IsAtEnd left
 
 -- the bytes of the lines that are still to be handed out
 abbrev pub to_hand : OpenLog → Option (List ℕ) → Option (List ℕ)

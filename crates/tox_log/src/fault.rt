@@ -1,6 +1,10 @@
 //! Why a log can't be judged.
+ghost use Rattle.std.specs.Prelude.{◌≡◌};
+ghost use Rattle.tox_log.specs.FaultText.{fault_in};
+
 use std::alloc::AllocError;
-use thiserror::Error;
+use std::error::Error;
+use std::fmt;
 use tox_text::VisibleName;
 use tox_time::EndFault;
 
@@ -39,30 +43,50 @@ impl From<EndFault> for LogFault {
 }
 
 /// Why a replay failed, with the name of the log's file.
-#[derive(Clone, Copy, Debug, PartialEq, Eq, Error)]
+#[derive(Clone, Copy, Debug, PartialEq, Eq)]
 pub enum ReplayFault<'a> {
-    #[error("L0 OutOfMemory")]
     OutOfMemory,
     /// A write failed, or took nothing.
-    #[error("L4 WriteFault")]
     WriteFault,
     /// The file of this name couldn't be opened, or a read of it failed.
-    #[error("P1 FileFault {}", VisibleName(.0))]
     Unreadable(&'a str),
     /// This line of the file isn't of the form, or may not stand there.
-    #[error("G1 BadLog {} {}", VisibleName(.0), .1)]
     BadLog(&'a str, u64),
     /// This line of the file is a piece that comes while 1024 pieces wait.
-    #[error("G2 LogTooDeep {} {}", VisibleName(.0), .1)]
     LogTooDeep(&'a str, u64),
     /// So many logs are unfaithful.
-    #[error("G3 NotFaithful {0}")]
     NotFaithful(u64),
 }
 
+impl fmt::Display for ReplayFault<'_> {
+    ghost use Rattle.std.specs.Prelude.{Some};
+    ghost use Rattle.tox_log.specs.FaultText.{replay_fault_text};
+
+    ghost output = { λ fault. Some (replay_fault_text fault) };
+
+    fn fmt<W: fmt::Write>(&self, f: &mut fmt::Formatter<W>) -> fmt::Result {
+        match self {
+            ReplayFault::OutOfMemory => f.write_str("L0 OutOfMemory"),
+            ReplayFault::WriteFault => f.write_str("L4 WriteFault"),
+            ReplayFault::Unreadable(name) => write!(f, "P1 FileFault {}", VisibleName(name)),
+            ReplayFault::BadLog(name, line) => write!(f, "G1 BadLog {} {line}", VisibleName(name)),
+            ReplayFault::LogTooDeep(name, line) => write!(
+                f,
+                "G2 LogTooDeep {} {line}",
+                VisibleName(name)
+            ),
+            ReplayFault::NotFaithful(count) => write!(f, "G3 NotFaithful {count}"),
+        }
+    }
+}
+
+impl Error for ReplayFault<'_> {}
+
 impl<'a> ReplayFault<'a> {
     /// The fault of the log in the file of this name.
-    pub fn of(name: &'a str, fault: &LogFault) -> ReplayFault<'a> {
+    pub fn of(name: &'a str, fault: &LogFault) -> ReplayFault<'a>
+        ensures { result ≡ fault_in name.entry fault.now }
+    {
         match fault {
             LogFault::OutOfMemory => ReplayFault::OutOfMemory,
             LogFault::ReadFault => ReplayFault::Unreadable(name),

@@ -9,7 +9,7 @@ ghost use Rattle.tox_time.specs.declared.streams.ending.Ending.{Ending as OneEnd
 ghost use Rattle.tox_time.specs.streams.Table.{final_of};
 ghost use Rattle.tox_link.specs.log.Logged.{IsReached};
 ghost use Rattle.tox_link.specs.Reports.{ReportsAt};
-ghost use Rattle.tox_log.specs.Judging.{Expects, IsHeld, Judged, Refuses, Stays, Hears, Says, next_table, part_from, slice_in, source_heard};
+ghost use Rattle.tox_log.specs.Judging.{Expects, HasSaidAll, IsHeld, Judged, Refuses, RefusesEnding, Stays, Hears, Says, next_table, part_from, slice_in, source_heard};
 
 use std::alloc::{AllocError, Global};
 use tox_compile::Plan;
@@ -248,6 +248,7 @@ fn look(judge: &mut Judge, reading: &Micros)
     ensures next { next_table judge.new ≡ next_table judge.old }
     ensures finds { (due : ℕ) → slice_get (next_table judge.old) 0 ≡ Some due
         → due ≤ reading.now → IsSome judge.new.rest }
+    ensures all { next_table judge.old ≡ [] → HasSaidAll judge.new reading.now }
 {
     judge.latest = *reading;
     if judge.rest.is_none() {
@@ -267,6 +268,7 @@ fn ask(judge: &mut Judge, reading: &Micros)
     ensures next { next_table judge.new ≡ next_table judge.old }
     ensures finds { (due : ℕ) → slice_get (next_table judge.old) 0 ≡ Some due
         → due ≤ reading.now → IsSome judge.new.rest }
+    ensures all { next_table judge.old ≡ [] → HasSaidAll judge.new reading.now }
 {
     let act = judge.core.on_clock(*reading);
     judge.rest = slice_in(&act);
@@ -285,6 +287,7 @@ fn slice_in(act: &Act) -> Option<Slice>
 pub(crate) fn has_ended(judge: &mut Judge, ending: &Ending, reading: &Micros) -> bool
     requires held { IsHeld judge.old }
     requires later { judge.old.latest ≤ reading.now }
+    requires fits { IsInstant reading.now }
     ensures held { IsHeld judge.new }
     ensures counts { (judge.new.heard ≡ judge.old.heard) × (judge.new.said ≡ judge.old.said)
         × (judge.new.ended ≡ judge.old.ended) }
@@ -293,6 +296,7 @@ pub(crate) fn has_ended(judge: &mut Judge, ending: &Ending, reading: &Micros) ->
         → told reading.now ≡ true → Judged means told judge.old log
         → ReportsAt means (λ t. told t ≡ true) log judge.old.heard judge.old.said ending.now
         (source_heard judge.old.ended) reading.now }
+    ensures refuses { result ≡ false → RefusesEnding judge.old reading.now ending.now }
 {
     look(judge, reading);
     let Some(last) = judge.core.ending() else {
@@ -303,8 +307,8 @@ pub(crate) fn has_ended(judge: &mut Judge, ending: &Ending, reading: &Micros) ->
 
 /// Whether nothing is left of a slice, and the last ending is this one and reached.
 fn is_end(rest: &Option<Slice>, last: &Ending, ending: &Ending, reading: &Micros) -> bool
-    ensures { IsTrue result → (rest.now ≡ None) × (last.now ≡ ending.now)
-        × IsReached reading.now ending.now }
+    ensures { IsTrue result ↔ ((rest.now ≡ None) × (last.now ≡ ending.now)
+        × IsReached reading.now ending.now) }
 {
     rest.is_none() && *last == *ending && is_reached(ending, reading)
 }

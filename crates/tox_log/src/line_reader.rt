@@ -25,6 +25,7 @@ pub(crate) struct LineReader {
 }
 
 impl LineReader {
+    ghost use Rattle.tox_log.specs.Numbers.{Lacks};
     ghost use Rattle.tox_log.specs.Reading.{HasLine, TakesLine, TakesRest, to_take, waiting};
 
     pub(crate) fn new(alloc: Global) -> Result<LineReader, AllocError>
@@ -95,7 +96,8 @@ impl LineReader {
     /// Takes the bytes up to the next line feed onto the line, or the rest of the block. Whether a line feed came.
     fn take(&mut self) -> bool
         ensures { (part : List ℕ) × (waiting self.old ≡ part ++ (if result then 10 ∷ waiting self.new else waiting self.new))
-            × ((text : List ℕ) → HasLine self.old text → HasLine self.new (text ++ part)) }
+            × ((text : List ℕ) → HasLine self.old text → HasLine self.new (text ++ part))
+            × Lacks 10 part }
     {
         let waiting = &self.block[self.start..self.stop];
         match memchr(b'\n', waiting) {

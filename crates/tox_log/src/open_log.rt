@@ -1,11 +1,14 @@
 //! A log that is being read: its header, and then line by line.
-ghost use Rattle.std.specs.Prelude.{◌≡◌, ◌≤◌, false, OnOk, OnSome, IfOk, IfSome, IsFalse, IsTrue, MatchOption, string_bytes};
+ghost use Rattle.std.specs.Prelude.{◌≡◌, ◌≤◌, ◌+◌, true, false, OnOk, OnSome, IfOk, IfSome, IfNone, IsFalse, IsTrue, MatchOption, string_bytes};
 ghost use Rattle.tox_log.specs.Lines.{IsWritable, line_words};
 ghost use Rattle.std.specs.Io.KnownBytes.{prepend_known};
 ghost use Rattle.tox_words.specs.Seeded.{seeded_words};
 ghost use Rattle.tox_log.specs.HeaderText.{heading_lines, link_line, seed_line, title_line};
 ghost use Rattle.tox_log.specs.Opening.{AddsToxic, Opens, ReadsToxics, SameHeading};
-ghost use Rattle.tox_log.specs.Reading.{Hands, HasLine, TakesLine, TakesRest, is_last, to_take};
+ghost use Rattle.tox_log.specs.Order.{GoesOnWith};
+ghost use Rattle.tox_log.specs.declared.event_line.LogLine.TheVariants as OneLine;
+ghost use Rattle.tox_link.specs.declared.notes.LinkEvent.TheVariants as OneEvent;
+ghost use Rattle.tox_log.specs.Reading.{Hands, HasLine, LacksLine, TakesLine, TakesRest, is_last, to_hand, to_take};
 
 use crate::event_line::{LogLine, read_line};
 use crate::fault::LogFault;
@@ -103,6 +106,10 @@ impl OpenLog {
             × (self.new.chain ≡ self.old.chain)) }
         ensures hands { IfOk result (λ handed. MatchOption handed (self.new.over ≡ self.old.over)
             (λ line. Hands self.old self.new (R.remaining reader.old) (R.remaining reader.new) line)) }
+        ensures order { IfOk result (λ handed. MatchOption handed (self.new.heard ≡ self.old.heard)
+            (λ line. GoesOnWith self.old.heard line self.new.heard)) }
+        ensures ends { IfOk result (λ handed.
+            IfNone handed (LacksLine (to_hand self.old (R.remaining reader.old)))) }
     {
         if self.waits {
             self.waits = false;
@@ -185,7 +192,8 @@ impl OpenLog {
         ensures reads { IfSome result (λ line. HasLine self.old.lines (line_words line)
             × (self.old.lines.long ≡ false) × IsWritable line) }
         ensures order { IfSome result (λ line. (self.old.over ≡ false)
-            × (self.new.over ≡ is_last line)) }
+            × (self.new.over ≡ is_last line)
+            × GoesOnWith self.old.heard line self.new.heard) }
     {
         let line = read_line(self.lines.line()?)?;
         if self.over || !comes_next(&mut self.heard, &line) {
@@ -207,7 +215,9 @@ fn is_last(line: &LogLine) -> bool
 
 /// Whether a line may come next, behind what was heard: readings never fall, positions stay within 2^40, and nothing comes behind
 /// the source's end.
-fn comes_next(heard: &mut StreamPosition, line: &LogLine) -> bool {
+fn comes_next(heard: &mut StreamPosition, line: &LogLine) -> bool
+    ensures { IsTrue result → GoesOnWith heard.old line.now heard.new }
+{
     match line {
         LogLine::Event(LinkEvent::Piece(len, instant)) => hear_piece(heard, *len, instant),
         LogLine::Event(LinkEvent::SourceEnd(instant)) => hear_end(heard, instant),
@@ -217,7 +227,10 @@ fn comes_next(heard: &mut StreamPosition, line: &LogLine) -> bool {
     }
 }
 
-fn hear_piece(heard: &mut StreamPosition, len: u64, instant: &Micros) -> bool {
+fn hear_piece(heard: &mut StreamPosition, len: u64, instant: &Micros) -> bool
+    ensures { IsTrue result
+        → GoesOnWith heard.old (OneLine.Event (OneEvent.Piece len instant.now)) heard.new }
+{
     if heard.with_piece(len, *instant).is_err() {
         return false;
     }
@@ -225,16 +238,22 @@ fn hear_piece(heard: &mut StreamPosition, len: u64, instant: &Micros) -> bool {
     read_at(heard, instant)
 }
 
-fn hear_end(heard: &mut StreamPosition, instant: &Micros) -> bool {
-    if heard.ended {
+fn hear_end(heard: &mut StreamPosition, instant: &Micros) -> bool
+    ensures { IsTrue result
+        → GoesOnWith heard.old (OneLine.Event (OneEvent.SourceEnd instant.now)) heard.new }
+{
+    let Ok(next) = heard.with_end(*instant) else {
         return false;
-    }
-    heard.ended = true;
-    read_at(heard, instant)
+    };
+    *heard = next;
+    true
 }
 
 /// The clock was read. Readings never fall.
-fn read_at(heard: &mut StreamPosition, reading: &Micros) -> bool {
+fn read_at(heard: &mut StreamPosition, reading: &Micros) -> bool
+    ensures { IsTrue result → (heard.old.latest ≤ reading.now)
+        × (heard.new ≡ record heard.old { latest = reading.now }) }
+{
     if *reading < heard.latest {
         return false;
     }

@@ -1,12 +1,13 @@
 -- The core's answer is what is next.
 use Rattle.std.proofs.Common.{◌≡◌, ◌++◌, [], ◌∷◌, IsSome, ap, sym, subst, ◌∙◌}
-use Rattle.std.specs.Prelude.{slice_get, Some}
+use Rattle.std.specs.Prelude.{slice_get, None}
 use Rattle.tox_time.specs.declared.streams.item.Item.TheVariants.{Quiet}
 use Rattle.tox_time.specs.streams.Table.{table}
 use Rattle.tox_link.specs.link_core.Acts.{After}
-use Rattle.tox_link.specs.link_core.Core.{remaining_output}
+use Rattle.tox_link.specs.link_core.Core.{core_deadline, core_ending, next_instant, remaining_output}
 use Rattle.tox_log.specs.Judging.{rest_table, slice_in}
 use Rattle.tox_log.proofs.Refusing.{asked-table, due-is-given}
+use Rattle.tox_log.proofs.RefusingEndings.{idle-gives_none}
 use Rattle.tox_log.proofs.judge.ask.Goals as goal
 
 pub returns-clause-next : goal.returns-clause-next
@@ -23,3 +24,12 @@ returns-clause-finds c = λ due first before.
     let core = c.args.judge.now.core in
     let next = sym (ap (λ rest. slice_get (rest_table rest ++ table (remaining_output core (Quiet ∷ []))) 0) c.requires.none) ∙ first in
     subst IsSome (sym c.slice_in-judge.ensures) (due-is-given due c.args.reading.now c.on_clock-act.result (c.on_clock-act.ensures.slice due next) before)
+
+pub returns-clause-all : goal.returns-clause-all
+returns-clause-all c = λ none.
+    let core = c.args.judge.now.core in
+    let idle : next_instant (remaining_output core (Quiet ∷ [])) ≡ None =
+    ap (λ ts. slice_get ts 0) (sym (ap (λ rest. rest_table rest ++ table (remaining_output core (Quiet ∷ []))) c.requires.none) ∙ none) in (
+      c.slice_in-judge.ensures ∙ ap slice_in (c.on_clock-act.ensures.idle idle) ∙ idle-gives_none core.ended c.args.reading.now (core_deadline core) (core_ending c.on_clock-act.new.self),
+      c.on_clock-act.ensures.unended idle,
+    )

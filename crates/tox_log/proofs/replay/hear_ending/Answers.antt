@@ -2,7 +2,6 @@
 use Rattle.std.proofs.Common.{refl}
 use Rattle.std.proofs.Common.{rules}
 use Rattle.tox_log.proofs.Hearing.{hears-last, says-other-end}
-use Rattle.tox_log.specs.declared.last_line.LastLine.TheVariants.{Ended}
 use Rattle.tox_log.proofs.replay.hear_ending.Goals as goal
 
 pub returns-in_default-clause-hears : goal.returns-in_default-clause-hears
@@ -12,4 +11,4 @@ pub returns-in_ok-add-clause-hears : goal.returns-in_ok-add-clause-hears
 returns-in_ok-add-clause-hears c = λ means text heard. (refl, hears-last means text c.args.hearing.now.judge c.has_ended.new.judge c.args.reading.now c.args.ending.now heard c.has_ended.ensures.counts (c.has_ended.ensures.reports (search rules)))
 
 pub returns-then-not-has_ended-clause-hears : goal.returns-then-not-has_ended-clause-hears
-returns-then-not-has_ended-clause-hears c = λ means text heard. says-other-end means text c.args.hearing.now.judge c.has_ended.new.judge (Ended c.args.reading.now c.args.ending.now) c.args.number heard
+returns-then-not-has_ended-clause-hears c = λ means text heard. says-other-end means text c.args.hearing.now.judge c.has_ended.new.judge c.args.reading.now c.args.ending.now c.args.number (c.has_ended.ensures.refuses (search rules)) heard

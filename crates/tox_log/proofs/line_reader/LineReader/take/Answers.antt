@@ -1,8 +1,9 @@
 -- The line feed is cut off.
 use Rattle.std.proofs.Common.{false, ◌≡◌, ◌<◌, ◌+◌, ◌++◌, ◌∷◌, List, ℕ, length, take, slice_range, get_or, ap, sym, ◌∙◌, append-nil, arith, subst}
 use Rattle.std.proofs.lemmas.Bool.Decides.{nat_tests}
+use Rattle.tox_log.specs.Numbers.{Lacks}
 use Rattle.tox_log.specs.Reading.{waiting}
-use Rattle.tox_log.proofs.Blocks.{parts-at, range-rest, range-within, range-none}
+use Rattle.tox_log.proofs.Blocks.{lacks-before, lacks-nowhere, parts-at, range-rest, range-within, range-none}
 use Rattle.tox_log.proofs.line_reader.LineReader.take.Goals as goal
 
 pub returns-in-Some : goal.returns-in-Some
@@ -19,6 +20,7 @@ returns-in-Some c =
       ap (λ b. slice_range b lines.start lines.stop) (sym given) ∙ parts-at w place 10 below feed
           ∙ ap (λ rest. take place w ++ 10 ∷ rest) (sym rest ∙ ap (λ b. slice_range b (lines.start + (place + 1)) lines.stop) given),
       c.add.ensures,
+      lacks-before 10 w place (omega (arith, below)) c.in-Some.ensures.0.before,
     )
 
 pub returns-in-None : goal.returns-in-None
@@ -27,4 +29,5 @@ returns-in-None c =
       waiting lines,
       sym (append-nil (waiting lines)) ∙ ap (λ rest. waiting lines ++ rest) (sym (range-none lines.block.items lines.stop)),
       subst (λ b. (text : List ℕ) → (lines.long ≡ false → lines.line.items ≡ text) → c.add-in-None.new.long ≡ false → c.add-in-None.new.line.items ≡ text ++ slice_range b lines.start lines.stop) c.deref.ensures.value c.add-in-None.ensures,
+      subst (λ b. Lacks 10 (slice_range b lines.start lines.stop)) c.deref.ensures.value (lacks-nowhere 10 (slice_range c.deref.result.now lines.start lines.stop) c.in-None.ensures),
     )

@@ -10,4 +10,4 @@ returns-clause-opens g c =
     let same = c.in_ok-read_toxics.ensures.same in
     let start : OpenLog = record { lines = c.read_heading.new.lines; number = 3; waits = false; heading = heading; chain = c.with_lanes.result; heard = c.start.result; over = false } in
     opens c.in_ok-lines.lines start c.read_toxics.new.self (g.R.Source.remaining c.args.reader.now) (g.R.Source.remaining c.read_heading.new.reader) (g.R.Source.remaining c.read_toxics.new.reader) heading
-    c.in_ok-lines.ensures c.in_ok-heading.ensures.lines (ap (λ chain. chain.entries) c.with_lanes.ensures) same.0 same.1 (same.2 ∙ ap (λ chain. chain.lanes) c.with_lanes.ensures) c.in_ok-read_toxics.ensures.toxics
+    c.in_ok-lines.ensures c.in_ok-heading.ensures.lines (ap (λ chain. chain.entries) c.with_lanes.ensures) same.0 same.1 (same.2 ∙ ap (λ chain. chain.lanes) c.with_lanes.ensures) (same.3 ∙ c.start.ensures) c.in_ok-read_toxics.ensures.toxics

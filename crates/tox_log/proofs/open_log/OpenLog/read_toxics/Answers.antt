@@ -10,7 +10,7 @@ toxics-preserved g c =
     let before = c.toxics.invariant.same in record {
       working = c.in_ok-advance.ensures.working;
       going = same.2 ∙ kept.0 ∙ c.toxics.invariant.going;
-      same = (same.0.0 ∙ kept.1.0 ∙ before.0, same.0.1 ∙ kept.1.1 ∙ before.1, same.0.2 ∙ kept.1.2 ∙ before.2);
+      same = (same.0.0 ∙ kept.1.0 ∙ before.0, same.0.1 ∙ kept.1.1 ∙ before.1, same.0.2 ∙ kept.1.2 ∙ before.2, same.0.3 ∙ kept.1.3 ∙ before.3);
       read = read-one c.args.self.now c.toxics.self c.advance.new.self c.add_toxic.new.self (g.R.Source.remaining c.args.reader.now) (g.R.Source.remaining c.toxics.reader) (g.R.Source.remaining c.advance.new.reader)
           c.toxics.invariant.read (c.in_ok-advance.ensures.line (search rules)) kept.2 (c.in_ok-add_toxic.ensures.added (search rules)) same.1;
     }
