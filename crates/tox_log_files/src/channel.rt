@@ -1,4 +1,7 @@
 //! The logs whose lines wait for their files.
+ghost use Rattle.std.specs.Prelude.{◌≡◌, ◌≢◌, [], IfSome};
+ghost use Rattle.std.specs.Sync.Mutex.{mutex_guard_value};
+
 use crate::stream_log::StreamLog;
 use crate::waiting_bytes::WaitingBytes;
 use std::alloc::Global;
@@ -62,7 +65,9 @@ impl LogChannel {
         &self,
         rt: &R,
         empty: &mut Vec<Arc<StreamLog, Global>>,
-    ) -> bool {
+    ) -> bool
+        requires { empty.old.items ≡ [] }
+    {
         let Some(mut waiting) = self.filled(rt) else {
             return false;
         };
@@ -76,7 +81,9 @@ impl LogChannel {
     }
 
     /// The lock, once a log waits. None once no more come.
-    fn filled<R: Wait>(&self, rt: &R) -> Option<MutexGuard<'_, Waiting>> {
+    fn filled<R: Wait>(&self, rt: &R) -> Option<MutexGuard<'_, Waiting>>
+        ensures { IfSome result (λ guard. (mutex_guard_value guard).logs.items ≢ []) }
+    {
         let mut waiting = self.waiting.lock(rt);
         for _ in rt.forever() {
             if !waiting.logs.is_empty() {

@@ -1,4 +1,8 @@
 //! The names of the files of logs.
+ghost use Rattle.std.specs.Prelude.{◌≡◌, ◌++◌, string_bytes, IfOk};
+ghost use Rattle.std.specs.List.{list_all};
+ghost use Rattle.tox_log_files.specs.FileName.{is_plain, log_name, stream_part, suits_file};
+
 use std::alloc::{AllocError, Global};
 use tox_log::LoggedLink;
 
@@ -10,21 +14,42 @@ pub(crate) fn file_name(
     alloc: Global,
     place: usize,
     link: &LoggedLink<'_>,
-) -> Result<String, AllocError> {
-    let (number, stream) = (link.number, link.stream.name());
+) -> Result<String, AllocError>
+    ensures { IfOk result (λ name. string_bytes name
+        ≡ log_name link.now.proxy.now place link.now.number link.now.stream) }
+{
     if suits(link.proxy) {
-        let proxy = link.proxy;
-        format!(in alloc; "{proxy}-{number}-{stream}.log")
-    } else {
-        format!(in alloc; "@{place}-{number}-{stream}.log")
+        return name_of(alloc, link.proxy, link);
     }
+    let part = format!(in alloc; "@{place}")?;
+    name_of(alloc, &part, link)
+}
+
+/// The name of the file, with what stands in it for the proxy.
+fn name_of(alloc: Global, part: &str, link: &LoggedLink<'_>) -> Result<String, AllocError>
+    ensures { IfOk result (λ name. string_bytes name
+        ≡ part.now ++ stream_part link.now.number link.now.stream) }
+{
+    let (number, stream) = (link.number, link.stream.name());
+    format!(in alloc; "{part}-{number}-{stream}.log")
 }
 
 /// Whether a proxy's name may stand in the name of a file: 1 to 64 ASCII letters, digits, `_` and `-`.
-fn suits(name: &str) -> bool {
-    !name.is_empty() && name.len() <= MAX_NAME && name.bytes().all(is_plain)
+fn suits(name: &str) -> bool
+    ensures { result ≡ suits_file name.now }
+{
+    !name.is_empty() && name.len() <= MAX_NAME && are_plain(name)
 }
 
-fn is_plain(byte: u8) -> bool {
+/// Whether a name has ASCII letters, digits, `_` and `-` alone.
+fn are_plain(name: &str) -> bool
+    ensures { result ≡ list_all is_plain name.now }
+{
+    name.bytes().all(is_plain)
+}
+
+fn is_plain(byte: u8) -> bool
+    ensures { result ≡ is_plain byte }
+{
     byte.is_ascii_alphanumeric() || byte == b'_' || byte == b'-'
 }

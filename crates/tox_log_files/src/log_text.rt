@@ -1,87 +1,84 @@
 //! The lines of a log that wait for its file.
-ghost use Rattle.std.specs.Prelude.{◌≡◌, false, length};
+ghost use Rattle.std.specs.Prelude.{◌≡◌, ◌≢◌, ℕ, ◌+◌, ◌-◌, ◌<◌, ◌≤◌, ◌^◌, ◌&&◌, ◌||◌, List, [], ◌++◌, false, length, not, if◌then◌else◌};
+ghost use Rattle.tox_log_files.specs.WholeLines.{AreLines};
+ghost use Rattle.tox_log_files.specs.EntryText.{entry_text};
+ghost use Rattle.tox_log_files.specs.LogSteps.{Adds, IsLogOf, is_wanted, state_behind, tells};
 
-use memchr::memrchr;
+use crate::entry::Entry;
+use crate::entry_text::{print_entry, state_behind};
+use crate::log_state::LogState;
+use crate::waiting_bytes::WaitingBytes;
+use crate::whole_lines::lines_within;
 use std::alloc::Global;
 use std::mem;
-use tox_defs::Chain;
-use tox_link::LinkEvent;
-use tox_log::{LastLine, LogBytes, LoggedLink, print_event, print_header, print_last};
-use tox_text::Buffer;
-use tox_time::EndFault;
+use std::sync::Wait;
+use tox_log::LogBytes;
 
-/// How many bytes of a log may wait for its file. A file that can't follow ends the log.
-const MAX_WAITING: usize = 1_048_576;
+/// How many bytes of one log may wait for its file. A file that can't follow ends the log.
+const MAX_WAITING_PER_LOG: usize = 1_048_576;
 
-/// What is added to a log.
-#[derive(Clone, Copy)]
-pub(crate) enum Entry<'a> {
-    Header(Header<'a>),
-    Event(&'a LinkEvent),
-    Last(&'a LastLine),
-}
-
-/// What the header of a log tells.
-#[derive(Clone, Copy)]
-pub(crate) struct Header<'a> {
-    pub(crate) link: &'a LoggedLink<'a>,
-    pub(crate) chain: &'a Chain,
-    pub(crate) names: &'a [String],
-    pub(crate) ghost one_each: { length names.now ≡ length chain.now.entries },
-}
-
-/// Prints an entry behind what waits.
-fn print_entry(waiting: &mut LogBytes, entry: &Entry<'_>) -> Result<(), EndFault>
+/// Adds the lines of an entry that have room, if they may wait, and tells how the log is then.
+fn add_entry<R: Wait>(
+    rt: &R,
+    all: &WaitingBytes,
+    waiting: &mut LogBytes,
+    entry: &Entry<'_>,
+    room: u64,
+) -> LogState
     requires { waiting.old.1 ≡ false }
+    ensures adds { Adds room waiting.old.0 (entry_text entry.now) waiting.new.0
+        (state_behind entry.now) result }
+    ensures works { waiting.new.1 ≡ false }
 {
-    let mut buffer = Buffer::new();
-    match entry {
-        Entry::Header(header) => {
-            let Header { link, chain, names } = header;
-            print_header(&mut buffer, waiting, link, chain, names)?;
-        }
-        Entry::Event(event) => print_event(&mut buffer, waiting, event)?,
-        Entry::Last(last) => print_last(&mut buffer, waiting, last)?,
+    let before = waiting.bytes().len();
+    let printed = print_entry(waiting, entry).is_ok();
+    let text = &waiting.bytes()[before..];
+    let count = lines_within(text, room);
+    let is_whole = count == text.len();
+    let end = before + count;
+    if printed && end <= MAX_WAITING_PER_LOG && all.reserve(rt, count as u64) {
+        waiting.cut(end);
+        return if is_whole {
+            state_behind(entry)
+        } else {
+            LogState::Done
+        };
     }
-    buffer.flush(waiting)
-}
-
-/// How far a log is.
-#[derive(Clone, Copy, Debug, PartialEq, Eq)]
-enum LogState {
-    Goes,
-    /// It has its last line, or its greatest length.
-    Done,
-    /// A line couldn't be kept, or its file failed.
-    Cut,
-    /// It was cut, and that was told.
-    Told,
+    waiting.cut(before);
+    LogState::Cut
 }
 
 /// The lines of a log that wait for its file, and what its file has.
 #[derive(Drop)]
 pub(crate) struct LogText {
     alloc: Global,
-    /// Whole lines.
     waiting: LogBytes,
-    /// How many bytes were kept, also those that its file has by now.
-    kept: u64,
-    /// How many bytes may be kept.
+    /// How many bytes its writer has taken.
+    taken: u64,
+    /// How many bytes it may have.
     most: u64,
     /// How many lines its file has.
     lines: u64,
     state: LogState,
     /// Whether its writer was called for what waits.
     is_called: bool,
+    ghost works: { waiting.1 ≡ false },
+    ghost whole: { AreLines waiting.0 },
+    ghost few: { length waiting.0 ≤ 1048576 },
+    ghost within: { taken + length waiting.0 ≤ most },
 }
 
 impl LogText {
     /// A log without lines, of at most so many bytes.
-    pub(crate) fn new(alloc: Global, most: u64) -> LogText {
+    pub(crate) fn new(alloc: Global, most: u64) -> LogText
+        ensures empty { result.waiting ≡ ([], false) }
+        ensures start { (result.taken ≡ 0) × (result.lines ≡ 0) × (result.state ≡ LogState.Goes) }
+        ensures limit { result.most ≡ most }
+    {
         LogText {
             alloc,
             waiting: LogBytes::new(alloc),
-            kept: 0,
+            taken: 0,
             most,
             lines: 0,
             state: LogState::Goes,
@@ -90,82 +87,98 @@ impl LogText {
     }
 
     /// How many bytes wait.
-    pub(crate) fn waiting(&self) -> usize {
+    pub(crate) fn waiting(&self) -> usize
+        ensures { result ≡ length self.now.waiting.0 }
+    {
         self.waiting.bytes().len()
     }
 
-    /// Adds an entry, unless the log has ended or no more may wait, which ends it. True if its writer must be called.
-    pub(crate) fn add(&mut self, entry: &Entry<'_>, may_wait: bool) -> bool {
-        if self.state == LogState::Goes && !self.waiting.has_failed() {
-            let before = self.waiting();
-            let printed = print_entry(&mut self.waiting, entry).is_ok();
-            self.keep(before, printed && may_wait);
-            if matches!(entry, Entry::Last(_)) && self.state == LogState::Goes {
-                self.state = LogState::Done;
-            }
-        }
+    /// Adds an entry, unless the log has ended. Lines that may not wait end it. True if its writer must be called.
+    pub(crate) fn add<R: Wait>(&mut self, rt: &R, all: &WaitingBytes, entry: &Entry<'_>) -> bool
+        ensures log { (taken told : List ℕ) → length taken ≡ self.old.taken
+            → IsLogOf self.old.most told (taken ++ self.old.waiting.0) self.old.state
+            → IsLogOf self.new.most (told ++ entry_text entry.now) (taken ++ self.new.waiting.0)
+            self.new.state }
+        ensures adds { self.old.state ≡ LogState.Goes
+            → Adds (self.old.most - (self.old.taken + length self.old.waiting.0)) self.old.waiting.0
+            (entry_text entry.now) self.new.waiting.0 (state_behind entry.now) self.new.state }
+        ensures kept { (self.new.taken ≡ self.old.taken) × (self.new.most ≡ self.old.most)
+            × (self.new.lines ≡ self.old.lines) }
+        ensures calls { result
+            ≡ (not self.old.is_called && is_wanted self.new.waiting.0 self.new.state) }
+    {
+        self.grow(rt, all, entry);
         self.call()
     }
 
-    /// Keeps what was printed behind the bytes that waited before, or ends the log at the last whole line that it has room for.
-    fn keep(&mut self, before: usize, is_whole: bool) {
-        let waiting = self.waiting.bytes();
-        let room = self.most.saturating_sub(self.kept);
-        let more = waiting.len().saturating_sub(before) as u64;
-        if is_whole && more <= room && waiting.len() <= MAX_WAITING {
-            self.kept = self.kept.saturating_add(more);
-            return;
-        }
-        if is_whole && more > room {
-            let end = whole_lines(waiting, before, room);
-            self.waiting.cut(end);
-            self.state = LogState::Done;
-        } else {
-            self.waiting.cut(before);
-            self.state = LogState::Cut;
+    /// Adds an entry, unless the log has ended.
+    fn grow<R: Wait>(&mut self, rt: &R, all: &WaitingBytes, entry: &Entry<'_>)
+        ensures adds { self.old.state ≡ LogState.Goes
+            → Adds (self.old.most - (self.old.taken + length self.old.waiting.0)) self.old.waiting.0
+            (entry_text entry.now) self.new.waiting.0 (state_behind entry.now) self.new.state }
+        ensures ended { self.old.state ≢ LogState.Goes
+            → (self.new.waiting.0 ≡ self.old.waiting.0) × (self.new.state ≡ self.old.state) }
+        ensures kept { (self.new.taken ≡ self.old.taken) × (self.new.most ≡ self.old.most)
+            × (self.new.lines ≡ self.old.lines) × (self.new.is_called ≡ self.old.is_called) }
+    {
+        if self.state == LogState::Goes {
+            let room = self.most - (self.taken + self.waiting() as u64);
+            self.state = add_entry(rt, all, &mut self.waiting, entry, room);
         }
     }
 
     /// True if there is something for the writer, and it wasn't called before.
-    fn call(&mut self) -> bool {
+    fn call(&mut self) -> bool
+        ensures kept { self.new ≡ record self.old { is_called = self.new.is_called } }
+        ensures calls { result
+            ≡ (not self.old.is_called && is_wanted self.old.waiting.0 self.old.state) }
+        ensures called { self.new.is_called ≡ (self.old.is_called || result) }
+    {
         let is_wanted = !self.waiting.bytes().is_empty() || self.state == LogState::Cut;
-        let calls = is_wanted && !self.is_called;
+        let calls = !self.is_called && is_wanted;
         self.is_called = self.is_called || calls;
         calls
     }
 
     /// The writer couldn't be called: the next entry calls it.
-    pub(crate) fn call_again(&mut self) {
+    pub(crate) fn call_again(&mut self)
+        ensures { self.new ≡ record self.old { is_called = false } }
+    {
         self.is_called = false;
     }
 
     /// Takes the lines that wait.
-    pub(crate) fn take(&mut self) -> LogBytes {
+    pub(crate) fn take(&mut self) -> LogBytes
+        ensures taken { result ≡ self.old.waiting }
+        ensures counted { self.new.taken ≡ self.old.taken + length self.old.waiting.0 }
+        ensures empty { (self.new.waiting ≡ ([], false)) × (self.new.is_called ≡ false) }
+        ensures kept { (self.new.most ≡ self.old.most) × (self.new.lines ≡ self.old.lines)
+            × (self.new.state ≡ self.old.state) }
+    {
         self.is_called = false;
+        self.taken += self.waiting.bytes().len() as u64;
         mem::replace(&mut self.waiting, LogBytes::new(self.alloc))
     }
 
     /// The file has so many more lines, or has failed behind them. Tells how many lines it has if the log ends there, once.
-    pub(crate) fn wrote(&mut self, lines: u64, failed: bool) -> Option<u64> {
+    pub(crate) fn wrote(&mut self, lines: u64, failed: bool) -> Option<u64>
+        ensures lines { self.old.lines + lines < 2 ^ 64 → self.new.lines ≡ self.old.lines + lines }
+        ensures told { result ≡ (if tells self.old.waiting.0 self.old.state failed
+            then Some self.new.lines else None) }
+        ensures state { self.new.state ≡ (if tells self.old.waiting.0 self.old.state failed
+            then LogState.Told else self.old.state) }
+        ensures waits { self.new.waiting.0 ≡ (if failed then [] else self.old.waiting.0) }
+        ensures kept { (self.new.taken ≡ self.old.taken) × (self.new.most ≡ self.old.most) }
+    {
         self.lines = self.lines.saturating_add(lines);
         if failed {
             self.waiting = LogBytes::new(self.alloc);
-            self.state = LogState::Cut;
         }
-        if self.state != LogState::Cut || !self.waiting.bytes().is_empty() {
+        let is_over = failed || self.state == LogState::Cut && self.waiting.bytes().is_empty();
+        if !is_over || self.state == LogState::Told {
             return None;
         }
         self.state = LogState::Told;
         Some(self.lines)
-    }
-}
-
-/// Where the last whole line ends that has room, of those that stand behind a place.
-fn whole_lines(bytes: &[u8], before: usize, room: u64) -> usize {
-    let room = usize::try_from(room).unwrap_or(usize::MAX);
-    let end = before.saturating_add(room).min(bytes.len());
-    match memrchr(b'\n', &bytes[..end]) {
-        Some(place) => place + 1,
-        None => 0,
     }
 }

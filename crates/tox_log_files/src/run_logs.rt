@@ -1,12 +1,16 @@
 //! The logs of a run.
-ghost use Rattle.std.specs.Prelude.{◌≡◌, length};
+ghost use Rattle.std.specs.Prelude.{◌≡◌, ◌<◌, ◌≤◌, IfSome, None, length};
+ghost use Rattle.tox_log_files.specs.FileName.{log_name};
+ghost use Rattle.tox_log_files.specs.SharedLog.{file_of};
 
 use crate::channel::LogChannel;
+use crate::entry::{Entry, Header};
 use crate::file_name::file_name;
-use crate::log_text::{Entry, Header, LogText};
+use crate::log_text::LogText;
 use crate::stream_log::StreamLog;
 use crate::stream_notes::StreamNotes;
 use std::alloc::Global;
+use std::marker::Model;
 use std::sync::{Arc, Wait};
 use tox_defs::Chain;
 use tox_log::LoggedLink;
@@ -27,9 +31,19 @@ pub struct RunLogs {
     limits: LogLimits,
 }
 
+impl Model for RunLogs {
+    ghost use Rattle.tox_log_files.specs.declared.run_logs.LogLimits.{LogLimits as Limits};
+
+    ghost Value = { Limits };
+
+    ghost view = { λ logs. logs.limits };
+}
+
 impl RunLogs {
     /// No logs.
-    pub fn new(alloc: Global, limits: LogLimits) -> RunLogs {
+    pub fn new(alloc: Global, limits: LogLimits) -> RunLogs
+        ensures { result ≡ limits }
+    {
         RunLogs {
             channel: LogChannel::new(alloc),
             limits,
@@ -53,22 +67,32 @@ impl RunLogs {
         names: &[String],
     ) -> StreamNotes<'r, R>
         requires { length names.now ≡ length chain.now.entries }
+        ensures named { IfSome result (λ name.
+            name ≡ log_name link.now.proxy.now place link.now.number link.now.stream) }
+        ensures first { self.now.links < link.now.number → result ≡ None }
     {
         let notes = StreamNotes::of(rt, &self.channel, self.log_of(alloc, place, link));
         notes.add(&Entry::Header(Header { link, chain, names }));
         notes
     }
 
+    /// The log of a stream, if its link is among the first and there is memory for it.
     fn log_of(
         &self,
         alloc: Global,
         place: usize,
         link: &LoggedLink<'_>,
-    ) -> Option<Arc<StreamLog, Global>> {
+    ) -> Option<Arc<StreamLog, Global>>
+        ensures named { IfSome result (λ log.
+            file_of log ≡ log_name link.now.proxy.now place link.now.number link.now.stream) }
+        ensures first { self.now.links < link.now.number → result ≡ None }
+    {
         if link.number > self.limits.links {
             return None;
         }
-        let name = file_name(alloc, place, link).ok()?;
+        let Ok(name) = file_name(alloc, place, link) else {
+            return None;
+        };
         let text = LogText::new(alloc, self.limits.bytes);
         Arc::new(alloc, StreamLog::new(name, text)).ok()
     }

@@ -1,23 +1,30 @@
 //! The log of a stream, which its direction and the writer of logs share.
-ghost use Rattle.std.specs.Prelude.{◌≤◌, length};
+ghost use Rattle.std.specs.Prelude.{◌≡◌, ◌≤◌, IsTrue, length, string_bytes};
+ghost use Rattle.tox_log_files.specs.FileName.{names_file};
+ghost use Rattle.tox_log_files.specs.WholeLines.{AreLines};
 
+use crate::entry::Entry;
 use crate::log_files::LogFiles;
-use crate::log_text::{Entry, LogText};
+use crate::log_text::LogText;
 use crate::waiting_bytes::WaitingBytes;
-use memchr::memchr_iter;
+use crate::whole_lines::count_lines;
 use std::sync::{Mutex, Wait};
 
 /// The log of a stream.
 #[derive(Drop)]
 pub(crate) struct StreamLog {
     /// The name of its file.
-    name: String,
+    pub(crate) name: String,
     text: Mutex<LogText>,
+    ghost named: { IsTrue (names_file (string_bytes name)) },
 }
 
 impl StreamLog {
     /// A log without lines.
-    pub(crate) fn new(name: String, text: LogText) -> StreamLog {
+    pub(crate) fn new(name: String, text: LogText) -> StreamLog
+        requires { IsTrue (names_file (string_bytes name)) }
+        ensures { result.name ≡ name }
+    {
         StreamLog {
             name,
             text: Mutex::new(text),
@@ -26,11 +33,7 @@ impl StreamLog {
 
     /// Adds an entry. True if the writer must be called.
     pub(crate) fn add<R: Wait>(&self, rt: &R, all: &WaitingBytes, entry: &Entry<'_>) -> bool {
-        let mut text = self.text.lock(rt);
-        let before = text.waiting();
-        let calls = text.add(entry, all.has_room());
-        all.add(text.waiting().saturating_sub(before));
-        calls
+        self.text.lock(rt).add(rt, all, entry)
     }
 
     /// The writer couldn't be called: the next entry calls it.
@@ -43,26 +46,26 @@ impl StreamLog {
         let lines = self.text.lock(rt).take();
         let bytes = lines.bytes();
         let taken = self.append(bytes, files);
-        let failed = taken < bytes.len();
-        let count = memchr_iter(b'\n', &bytes[..taken]).count() as u64;
+        let count = count_lines(&bytes[..taken]) as u64;
         let mut text = self.text.lock(rt);
         let before = text.waiting();
-        let told = text.wrote(count, failed);
+        let told = text.wrote(count, taken < bytes.len());
         let dropped = before.saturating_sub(text.waiting());
         drop(text);
-        all.remove(bytes.len().saturating_add(dropped));
+        all.remove(rt, bytes.len().saturating_add(dropped) as u64);
         if let Some(lines) = told {
             files.ended(&self.name, lines);
         }
     }
 
-    /// Appends bytes to the file, if there are any. How many it took.
+    /// Appends whole lines to the file, if there are any. How many bytes it took.
     fn append<F: LogFiles>(&self, bytes: &[u8], files: &F) -> usize
+        requires { AreLines bytes.now }
         ensures { result ≤ length bytes.now }
     {
         if bytes.is_empty() {
             return 0;
         }
-        files.append(&self.name, bytes).min(bytes.len())
+        files.append(&self.name, bytes)
     }
 }

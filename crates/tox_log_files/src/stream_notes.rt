@@ -1,10 +1,12 @@
 //! What a direction of a served link notes.
-ghost use Rattle.std.specs.Prelude.{None};
+ghost use Rattle.std.specs.Prelude.{◌≡◌, None, option_map};
+ghost use Rattle.tox_log_files.specs.SharedLog.{file_of};
 
 use crate::channel::LogChannel;
-use crate::log_text::Entry;
+use crate::entry::Entry;
 use crate::stream_log::StreamLog;
 use std::alloc::{AllocError, Global};
+use std::marker::Model;
 use std::sync::{Arc, Wait};
 use tox_link::{LinkEvent, Notes};
 use tox_log::LastLine;
@@ -23,9 +25,20 @@ pub struct StreamNotes<'r, R> {
     kept: Option<KeptLog<'r>>,
 }
 
+impl<'r, R> Model for StreamNotes<'r, R> {
+    ghost use Rattle.std.specs.Prelude.{List, ℕ, Option, option_map};
+    ghost use Rattle.tox_log_files.specs.SharedLog.{file_of};
+
+    ghost Value = { Option (List ℕ) };
+
+    ghost view = { λ notes. option_map (λ kept. file_of kept.log) notes.kept };
+}
+
 impl<'r, R: Wait> StreamNotes<'r, R> {
     /// Notes that keep nothing.
-    pub fn none(rt: &'r R) -> StreamNotes<'r, R> {
+    pub fn none(rt: &'r R) -> StreamNotes<'r, R>
+        ensures { result ≡ None }
+    {
         StreamNotes { rt, kept: None }
     }
 
@@ -34,7 +47,9 @@ impl<'r, R: Wait> StreamNotes<'r, R> {
         rt: &'r R,
         channel: &'r LogChannel,
         log: Option<Arc<StreamLog, Global>>,
-    ) -> StreamNotes<'r, R> {
+    ) -> StreamNotes<'r, R>
+        ensures { result ≡ option_map file_of log }
+    {
         let kept = match log {
             Some(log) => Some(KeptLog { channel, log }),
             None => None,
@@ -71,7 +86,10 @@ impl<'r> KeptLog<'r> {
 impl<'r, R: Wait> Notes for StreamNotes<'r, R> {
     ghost events = { λ notes. None };
 
-    fn note(&mut self, event: LinkEvent) -> Result<(), AllocError> {
+    fn note(&mut self, event: LinkEvent) -> Result<(), AllocError>
+        ensures goes_on { result ≡ Ok tt }
+        ensures same { self.new ≡ self.old }
+    {
         self.add(&Entry::Event(&event));
         Ok(())
     }

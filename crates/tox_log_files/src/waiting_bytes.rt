@@ -1,35 +1,67 @@
 //! How many bytes of all logs wait for their files.
-use std::sync::atomic::{AtomicU64, Ordering};
+ghost use Rattle.std.specs.Prelude.{◌≤◌, IsTrue};
+
+use std::sync::Wait;
+use std::sync::atomic::{AtomicIn, Ordering, Rule};
 
 /// How many bytes of all logs may wait for their files.
-const MAX_WAITING: u64 = 67_108_864;
+const MAX_WAITING_IN_ALL: u64 = 67_108_864;
+
+/// What is true of the number of bytes that wait.
+#[derive(Debug)]
+struct WithinLimit;
+
+impl Rule for WithinLimit {
+    ghost invariant = { λ bytes. bytes ≤ 67108864 };
+}
 
 /// How many bytes of all logs wait for their files.
 #[derive(Drop)]
 pub(crate) struct WaitingBytes {
-    count: AtomicU64,
+    count: AtomicIn<WithinLimit>,
 }
 
 impl WaitingBytes {
     /// None wait.
     pub(crate) fn new() -> WaitingBytes {
         WaitingBytes {
-            count: AtomicU64::new(0),
+            count: AtomicIn::new(0),
         }
     }
 
-    /// Whether more may wait. Logs that ask at once pass the limit by a line each.
-    pub(crate) fn has_room(&self) -> bool {
-        self.count.load(Ordering::Relaxed) < MAX_WAITING
-    }
-
-    /// So many more wait.
-    pub(crate) fn add(&self, bytes: usize) {
-        self.count.fetch_add(bytes as u64, Ordering::Relaxed);
+    /// Counts so many more bytes, if all that wait are few enough then. False if they may not wait.
+    pub(crate) fn reserve<R: Wait>(&self, rt: &R, bytes: u64) -> bool
+        ensures { IsTrue result → bytes ≤ 67108864 }
+    {
+        for _ in rt.forever() {
+            let count = self.count.load(Ordering::SeqCst);
+            if bytes > MAX_WAITING_IN_ALL - count {
+                return false;
+            }
+            if self.set(count, count + bytes) {
+                return true;
+            }
+        }
+        unreachable!()
     }
 
     /// So many have left.
-    pub(crate) fn remove(&self, bytes: usize) {
-        self.count.fetch_sub(bytes as u64, Ordering::Relaxed);
+    pub(crate) fn remove<R: Wait>(&self, rt: &R, bytes: u64) {
+        for _ in rt.forever() {
+            let count = self.count.load(Ordering::SeqCst);
+            if self.set(count, count.saturating_sub(bytes)) {
+                return;
+            }
+        }
+        unreachable!()
+    }
+
+    /// Writes a count, if it is still the old one.
+    fn set(&self, old: u64, new: u64) -> bool
+        requires { new ≤ 67108864 }
+    {
+        self.count
+            .compare_exchange(old, new, Ordering::SeqCst, Ordering::SeqCst)
+            .is_ok()
     }
 }

@@ -1,4 +1,7 @@
 //! The folder of `toxi serve --log`.
+ghost use Rattle.std.specs.Prelude.{◌≤◌, length, take};
+ghost use Rattle.std.specs.Io.KnownBytes.{Appends};
+
 use std::fs::OpenOptions;
 use std::io::Write;
 use std::rt::Files;
@@ -77,16 +80,16 @@ impl<'a, R: Files + AllocGlobal + Eprint + Wait> LogFiles for LogFolder<'a, R> {
     }
 }
 
-/// Writes bytes, and tells how many the file took.
-fn write_counted<W: Write>(file: &mut W, bytes: &[u8]) -> usize {
+/// Writes bytes, and tells how many the file took: fewer once it fails.
+fn write_counted<W: Write>(file: &mut W, bytes: &[u8]) -> usize
+    ensures count { result ≤ length bytes.now }
+    ensures first { Appends (W.contents file.old) (W.contents file.new) (take result bytes.now) }
+{
     let mut done = 0;
     for _ in 0..bytes.len() {
-        let Some(rest) = bytes.get(done..) else {
-            return done;
-        };
-        match file.write(rest) {
+        match file.write(&bytes[done..]) {
             Ok(0) => return done,
-            Ok(count) => done = done.saturating_add(count),
+            Ok(count) => done += count,
             Err(error) if error.kind() == io::ErrorKind::Interrupted => {}
             Err(_) => return done,
         }
