@@ -3,3 +3,6 @@ mod Firsts
 pub mod Growing
 mod LineCounts
 mod DrawnTexts
+mod Planned
+mod HeardEvents
+mod HeardLines

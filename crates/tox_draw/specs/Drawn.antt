@@ -7,6 +7,7 @@ use Rattle.tox_draw.specs.declared.setting.Setting.{Setting}
 use Rattle.tox_draw.specs.declared.setting.Setting.TheVariants.{Alone, OnPage}
 use Rattle.tox_draw.specs.Frames.{IsFrame}
 use Rattle.tox_draw.specs.Pictures.{picture_text}
+use Rattle.tox_draw.specs.Recorded.{IsPictureOf}
 
 -- the text of a picture that stands so
 pub record IsPictureIn (setting : Setting) (text : List ℕ) : Type 0 where
@@ -19,10 +20,6 @@ pub record IsPictureIn (setting : Setting) (text : List ℕ) : Type 0 where
 abbrev pub IsPictureText : List ℕ → Type 0
 IsPictureText text = IsPictureIn Alone text
 
--- the text of a picture that stands on a page under a number
-abbrev pub IsPictureOnPage : ℕ → List ℕ → Type 0
-IsPictureOnPage number text = IsPictureIn (OnPage number) text
-
 -- the text of a picture was written, and nothing else
 pub record WritesPicture (old new : Option (List ℕ)) : Type 0 where
   pub text : List ℕ
@@ -33,4 +30,20 @@ pub record WritesPicture (old new : Option (List ℕ)) : Type 0 where
 pub record WritesFront (old new : Option (List ℕ)) : Type 0 where
   pub text : List ℕ
   pub drawn : IsPictureText text
+  pub front : AppendsFront old new text
+
+-- the text of a picture of these bytes that stands on a page under a number
+abbrev pub IsPictureOnPage : Option (List ℕ) → ℕ → List ℕ → Type 0
+IsPictureOnPage given number text = IsPictureOf given (OnPage number) text
+
+-- the text of a picture of these bytes was written, and nothing else
+pub record WritesPictureOf (given old new : Option (List ℕ)) : Type 0 where
+  pub text : List ℕ
+  pub drawn : IsPictureOf given Alone text
+  pub written : new ≡ append_known old text
+
+-- a prefix of the text of a picture of these bytes was written
+pub record WritesFrontOf (given old new : Option (List ℕ)) : Type 0 where
+  pub text : List ℕ
+  pub drawn : IsPictureOf given Alone text
   pub front : AppendsFront old new text

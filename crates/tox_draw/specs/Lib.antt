@@ -16,4 +16,7 @@ pub mod Lines
 pub mod Pictures
 pub mod Style
 pub mod Settings
+pub mod Planning
+pub mod Recorded
+pub mod Hearings
 pub mod Drawn

@@ -1,6 +1,12 @@
 //! What happens on a drawn link: what arrives, and what leaves by its plan.
-ghost use Rattle.std.specs.Prelude.{◌≡◌, ◌≤◌, true, IfOk};
+ghost use Rattle.std.specs.Prelude.{◌≡◌, ◌≤◌, ◌<◌, ◌+◌, ◌++◌, ◌∷◌, [], ℕ, List, length, replicate, true, None, IfOk};
+ghost use Rattle.tox_time.specs.declared.streams.item.Item.TheVariants.{Quiet};
+ghost use Rattle.tox_time.specs.streams.Table.{final_of};
+ghost use Rattle.tox_plan.specs.RunnerView.{to_come};
+ghost use Rattle.tox_draw.specs.declared.frame.Frame.{Frame as OneFrame};
 ghost use Rattle.tox_draw.specs.Frames.{IsFrame};
+ghost use Rattle.tox_draw.specs.Lines.{IsStrand};
+ghost use Rattle.tox_draw.specs.Planning.{DrawsCuts, DrawsPiece, DrawsSourceEnd};
 
 use crate::frame::Frame;
 use crate::strand::Strand;
@@ -18,7 +24,10 @@ pub(crate) struct Course {
 
 impl Course {
     /// Nothing happened yet.
-    pub(crate) fn new(alloc: Global) -> Result<Course, AllocError> {
+    pub(crate) fn new(alloc: Global) -> Result<Course, AllocError>
+        ensures { IfOk result (λ course. (course.source_end ≡ None)
+            × ((frame : OneFrame) → IsStrand frame [] course.arrived × IsStrand frame [] course.planned)) }
+    {
         Ok(Course {
             arrived: Strand::new(alloc)?,
             planned: Strand::new(alloc)?,
@@ -36,22 +45,27 @@ impl Course {
     )
         requires frame { IsFrame frame.now }
         requires idle { runner.old.idle ≡ true }
-        ensures { runner.new.idle ≡ true }
+        ensures idle { runner.new.idle ≡ true }
+        ensures arrived { (table : List ℕ) → IsStrand frame.now table self.old.arrived → 0 < len
+            → length table + len ≤ 1_099_511_627_776
+            → IsStrand frame.now (table ++ replicate len instant.now) self.new.arrived }
+        ensures due { DrawsPiece frame.now self.old.planned runner.old len instant.now
+            self.new.planned runner.new }
+        ensures kept { self.new.source_end ≡ self.old.source_end }
     {
         self.arrived.add(frame, len, instant);
         if runner.offer(len, *instant).is_err() {
             return;
         }
-        while let Some(slice) = runner.next_cut() {
-            let span = slice.span;
-            self.planned.add(frame, span.stop.saturating_sub(span.start), &slice.instant);
-        }
+        take_cuts(&mut self.planned, runner, frame);
     }
 
     /// The source ends. Returns the plan's ending.
     pub(crate) fn take_end(&mut self, runner: &mut Runner<'_>, instant: &Micros)
         requires { runner.old.idle ≡ true }
-        ensures { runner.new.idle ≡ true }
+        ensures idle { runner.new.idle ≡ true }
+        ensures ended { self.new ≡ record self.old { source_end = Some instant.now } }
+        ensures due { (frame : OneFrame) → DrawsSourceEnd frame self.old.planned runner.old instant.now runner.new }
     {
         self.source_end = Some(*instant);
         let end = runner.latest().later(*instant);
@@ -66,9 +80,23 @@ impl Course {
     }
 }
 
+/// What a runner gives of the offered piece leaves.
+fn take_cuts(planned: &mut Strand, runner: &mut Runner<'_>, frame: &Frame)
+    requires { IsFrame frame.now }
+    ensures idle { runner.new.idle ≡ true }
+    ensures due { DrawsCuts frame.now planned.old runner.old planned.new runner.new }
+    ensures kept { (runner.new.piece ≡ runner.old.piece) × (runner.new.latest ≡ runner.old.latest) }
+{
+    while let Some(slice) = runner.next_cut() {
+        let span = slice.span;
+        planned.add(frame, span.stop.saturating_sub(span.start), &slice.instant);
+    }
+}
+
 /// How the plan ends the link.
 pub(crate) fn ending_of(runner: &mut Runner<'_>) -> Ending
     requires { runner.old.idle ≡ true }
+    ensures { to_come runner.old (Quiet ∷ []) ≡ final_of result ∷ [] }
 {
     match runner.ending() {
         Some(ending) => ending,

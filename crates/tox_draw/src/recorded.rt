@@ -1,7 +1,11 @@
 //! `draw --log`: the picture of a recorded link, with what was due beside what was written.
-ghost use Rattle.std.specs.Prelude.{◌≡◌, false, true, string_bytes, IfOk, OnErr, OnOk};
-ghost use Rattle.tox_draw.specs.Drawn.{IsPictureIn, IsPictureOnPage, WritesFront, WritesPicture};
+ghost use Rattle.std.specs.Prelude.{◌≡◌, ℕ, List, Option, false, true, string_bytes, IfOk, OnErr, OnOk};
+ghost use Rattle.tox_time.specs.declared.streams.item.Item.{Item as OneItem};
+ghost use Rattle.tox_log.specs.Reading.{to_hand};
+ghost use Rattle.tox_draw.specs.Drawn.{IsPictureOnPage, WritesFrontOf, WritesPictureOf};
 ghost use Rattle.tox_draw.specs.Frames.{IsFrame};
+ghost use Rattle.tox_draw.specs.Hearings.{BeginsHearing, HearsAll, HearsEvent, HearsLogLine, KeepsRecord};
+ghost use Rattle.tox_draw.specs.Recorded.{IsPictureOf, end_at};
 
 use crate::course::{Course, ending_of};
 use crate::form::{cut_forms, forms_of};
@@ -53,11 +57,12 @@ pub fn draw_log<'a, R: Source, W: Sink>(
     requires first { R.failed first.old ≡ false }
     requires second { R.failed second.old ≡ false }
     requires works { W.failed writer.old ≡ false }
-    ensures ok { OnOk result (WritesPicture (W.written writer.old) (W.written writer.new)) }
+    ensures ok { OnOk result
+        (WritesPictureOf (R.remaining second.old) (W.written writer.old) (W.written writer.new)) }
     ensures unwritten { OnErr result (W.failed writer.new ≡ false
         → W.written writer.new ≡ W.written writer.old) }
     ensures front { W.failed writer.new ≡ true
-        → WritesFront (W.written writer.old) (W.written writer.new) }
+        → WritesFrontOf (R.remaining second.old) (W.written writer.old) (W.written writer.new) }
 {
     let drawn = match drawn(alloc, first, second, Setting::Alone) {
         Ok(drawn) => drawn,
@@ -78,7 +83,8 @@ pub fn log_picture<R: Source>(
 ) -> Result<String, LogFault>
     requires first { R.failed first.old ≡ false }
     requires second { R.failed second.old ≡ false }
-    ensures { IfOk result (λ picture. IsPictureOnPage number (string_bytes picture)) }
+    ensures { IfOk result (λ picture.
+        IsPictureOnPage (R.remaining second.old) number (string_bytes picture)) }
 {
     drawn(alloc, first, second, Setting::OnPage(number))
 }
@@ -92,7 +98,8 @@ fn drawn<R: Source>(
 ) -> Result<String, LogFault>
     requires first { R.failed first.old ≡ false }
     requires second { R.failed second.old ≡ false }
-    ensures { IfOk result (λ drawn. IsPictureIn setting (string_bytes drawn)) }
+    ensures { IfOk result
+        (λ drawn. IsPictureOf (R.remaining second.old) setting (string_bytes drawn)) }
 {
     let totals = record_of(alloc, first, &Frame::widest())?;
     let mut heading = String::new(alloc);
@@ -106,12 +113,13 @@ fn drawn<R: Source>(
 fn picture_of(
     alloc: Global,
     setting: Setting,
-    record: Record,
+    kept: Record,
     heading: String,
     frame: Frame,
 ) -> Result<String, AllocError>
     requires { IsFrame frame }
-    ensures { IfOk result (λ text. IsPictureIn setting (string_bytes text)) }
+    ensures { IfOk result (λ text. (given : Option (List ℕ)) → KeepsRecord frame given kept
+        → IsPictureOf given setting (string_bytes text)) }
 {
     let Record {
         forms,
@@ -119,7 +127,7 @@ fn picture_of(
         due_end,
         written,
         end,
-    } = record;
+    } = kept;
     let arrived = course.arrived.curve(alloc, &frame)?;
     let planned = course.planned.curve(alloc, &frame)?;
     let written = written.curve(alloc, &frame)?;
@@ -153,6 +161,7 @@ fn latest(record: &Record) -> Micros {
 fn record_of<R: Source>(alloc: Global, reader: &mut R, frame: &Frame) -> Result<Record, LogFault>
     requires works { R.failed reader.old ≡ false }
     requires frame { IsFrame frame.now }
+    ensures { IfOk result (KeepsRecord frame.now (R.remaining reader.old)) }
 {
     let mut log = OpenLog::new(alloc, reader)?;
     let words = log.words(alloc)?;
@@ -185,22 +194,28 @@ fn hear_lines<R: Source>(
     requires works { R.failed reader.old ≡ false }
     requires idle { runner.old.idle ≡ true }
     requires frame { IsFrame frame.now }
-    ensures { OnOk result (runner.new.idle ≡ true) }
+    ensures idle { OnOk result (runner.new.idle ≡ true) }
+    ensures same { OnOk result ((log.new.heading ≡ log.old.heading)
+        × (log.new.chain ≡ log.old.chain)) }
+    ensures hears { OnOk result ((means : List OneItem → List OneItem)
+        → BeginsHearing frame.now means log.old hearing.old runner.old
+        → HearsAll frame.now means (to_hand log.old (R.remaining reader.old)) hearing.new runner.new) }
 {
-    for _ in 0..u64::MAX {
+    'lines: for _ in 0..u64::MAX {
         let Some(line) = log.next_line(reader)? else {
-            break;
+            return Ok(());
         };
         hear_line(hearing, runner, frame, &line);
     }
-    Ok(())
+    Err(LogFault::ReadFault)
 }
 
 /// Hears a line. Up to the last line the end is missing, at the last reading.
 fn hear_line(hearing: &mut Hearing, runner: &mut Runner<'_>, frame: &Frame, line: &LogLine)
     requires idle { runner.old.idle ≡ true }
     requires frame { IsFrame frame.now }
-    ensures { runner.new.idle ≡ true }
+    ensures idle { runner.new.idle ≡ true }
+    ensures hears { HearsLogLine frame.now hearing.old runner.old line.now hearing.new runner.new }
 {
     match line {
         LogLine::Event(event) => hear_event(hearing, runner, frame, event),
@@ -215,7 +230,8 @@ fn hear_line(hearing: &mut Hearing, runner: &mut Runner<'_>, frame: &Frame, line
 fn hear_event(hearing: &mut Hearing, runner: &mut Runner<'_>, frame: &Frame, event: &LinkEvent)
     requires idle { runner.old.idle ≡ true }
     requires frame { IsFrame frame.now }
-    ensures { runner.new.idle ≡ true }
+    ensures idle { runner.new.idle ≡ true }
+    ensures hears { HearsEvent frame.now hearing.old runner.old event.now hearing.new runner.new }
 {
     match event {
         LinkEvent::Piece(len, instant) => {
@@ -236,13 +252,18 @@ fn hear_event(hearing: &mut Hearing, runner: &mut Runner<'_>, frame: &Frame, eve
 }
 
 /// The clock was read.
-fn read_at(hearing: &mut Hearing, reading: &Micros) {
+fn read_at(hearing: &mut Hearing, reading: &Micros)
+    ensures { hearing.new
+        ≡ record hearing.old { latest = reading.now; end = LinkEnd.Missing reading.now } }
+{
     hearing.latest = *reading;
     hearing.end = LinkEnd::Missing(*reading);
 }
 
 /// An ending that came at a reading.
-fn end_at(ending: &Ending, reading: &Micros) -> LinkEnd {
+fn end_at(ending: &Ending, reading: &Micros) -> LinkEnd
+    ensures { result ≡ end_at ending.now reading.now }
+{
     match ending {
         Ending::StillOpen => LinkEnd::Open,
         Ending::Closed(_) => LinkEnd::Closed(*reading),

@@ -1,5 +1,5 @@
 -- A row more in a report.
-use Rattle.std.proofs.Common.{◌≡◌, ℕ, Bool, true, false, cond, not, ◌||◌, List, [], ◌∷◌, ◌++◌, filter, count_by, length, Result, Ok, Err, IfErr, OnErr, refl, ap, sym, subst, ◌∙◌, append-nil}
+use Rattle.std.proofs.Common.{◌≡◌, ℕ, Bool, true, false, cond, not, ◌||◌, List, [], ◌∷◌, ◌++◌, filter, count_by, length, Result, Ok, Err, IfErr, OnErr, inl, inr, refl, ap, sym, subst, ◌∙◌, append-nil}
 use Rattle.std.proofs.lemmas.List.Elements.{filter-append}
 use Rattle.std.proofs.lemmas.List.Sums.{length-filter}
 use Rattle.tox_report.specs.declared.kind.Kind.TheVariants as kind
@@ -8,6 +8,10 @@ use Rattle.tox_report.specs.declared.row.Row.{Row}
 use Rattle.tox_report.specs.Kinds.{has}
 use Rattle.tox_log.specs.declared.fault.ReplayFault.{ReplayFault}
 use Rattle.tox_log.specs.declared.fault.ReplayFault.TheVariants.{OutOfMemory, WriteFault, Unreadable, BadLog, LogTooDeep, NotFaithful}
+use Rattle.std.specs.Prelude.{◌⊎◌}
+use Rattle.std.specs.Borrow.{Bor}
+use Rattle.tox_log.specs.declared.fault.LogFault.TheVariants as cause
+use Rattle.tox_log.specs.FaultText.{IsFaultIn}
 use Rattle.tox_report.specs.Reports.{AddsRow, KeepsFault, KeepsOn, Refuses, is_marked}
 
 -- a row behind others, which passes or not
@@ -62,13 +66,24 @@ pub unfaithful_is_marked : (row : Row) → has kind.Unfaithful row ≡ true → 
 unfaithful_is_marked row is = marked_wide (has kind.Refused row) (has kind.Unfaithful row) is
 
 -- a fault other than out of memory
-pub Refuses-told : (name : List ℕ) (old new : Report) (fault : ReplayFault) → (fault ≡ OutOfMemory → ⊥) → KeepsFault name old new → Refuses name old new fault
+pub Refuses-told : (name : List ℕ) (old new : Report) (fault : ReplayFault) → (fault ≡ OutOfMemory → ⊥) → KeepsFault name fault old new → Refuses name old new fault
 Refuses-told name old new OutOfMemory other kept = absurd (other refl)
 Refuses-told name old new WriteFault other kept = kept
 Refuses-told name old new (Unreadable told) other kept = kept
 Refuses-told name old new (BadLog told line) other kept = kept
 Refuses-told name old new (LogTooDeep told line) other kept = kept
 Refuses-told name old new (NotFaithful count) other kept = kept
+
+-- the fault of a log, or out of memory
+pub fault-named : {A : Type 0} (result : Result A ReplayFault) (name : Bor (List ℕ)) (fault : ReplayFault) → (result ≡ Err fault) ⊎ (result ≡ Err OutOfMemory) → IsFaultIn name fault
+    → IfErr result (IsFaultIn name)
+fault-named result name fault (inl is) named = subst (λ result. IfErr result (IsFaultIn name)) (sym is) named
+fault-named result name fault (inr is) named = subst (λ result. IfErr result (IsFaultIn name)) (sym is) (cause.OutOfMemory, refl)
+
+-- out of memory alone
+pub memory-named : {A : Type 0} (result : Result A ReplayFault) (name : Bor (List ℕ)) → IfErr result (λ fault. fault ≡ OutOfMemory) → IfErr result (IsFaultIn name)
+memory-named (Ok done) name memory = tt
+memory-named (Err fault) name memory = (cause.OutOfMemory, memory)
 
 -- out of memory alone
 pub Refuses-memory : {A : Type 0} (result : Result A ReplayFault) (name : List ℕ) (old new : Report) → IfErr result (λ fault. fault ≡ OutOfMemory) → OnErr result (KeepsOn old new)

@@ -16,6 +16,7 @@ use Rattle.tox_report.specs.declared.row.Told.TheVariants.{Stream, Fault}
 use Rattle.tox_report.specs.Figures.{figure}
 use Rattle.tox_report.specs.Fronts.{page_front}
 use Rattle.tox_report.specs.Links.{link_count}
+use Rattle.tox_report.specs.Logs.{KnownLog, Opens}
 use Rattle.tox_report.specs.Rows.{row_of}
 
 -- a row at a place. It leads to its figure if it is one of the first, so many of them
@@ -39,28 +40,35 @@ unfoldable pub page_table : List Row → ℕ → List ℕ
 page_table rows pictures =
     page_front rows (link_count rows) ++ (table_rows rows pictures ++ table_end)
 
--- a figure of this number, with a picture or the sentence that stands for one
-pub record IsFigure (number : ℕ) (facts : StreamFacts) (text : List ℕ) : Type 0 where
+-- a picture of the bytes that a reader of a log gave, under a number
+pub record IsPictureOfLog (known : KnownLog) (number : ℕ) (text : List ℕ) : Type 0 where
+  pub given : Option (List ℕ)
+  pub opened : Opens known given
+  pub drawn : IsPictureOnPage given number text
+
+-- a log's figure of this number, with its picture or the sentence that stands for one
+pub record IsFigure (known : KnownLog) (number : ℕ) (facts : StreamFacts) (text : List ℕ) : Type 0 where
   pub picture : Option (String Global)
-  pub drawn : ForSome picture (λ shown. IsPictureOnPage number (string_bytes shown))
+  pub drawn : ForSome picture (λ shown. IsPictureOfLog known number (string_bytes shown))
   pub is : text ≡ figure facts number picture
 
 -- what stands for a log below the table: a figure, or nothing if it can't be judged
-abbrev pub StandsBelow : ℕ → Told → List ℕ → Type 0
-StandsBelow number (Stream facts) text = IsFigure number facts text
-StandsBelow number (Fault fault) text = text ≡ []
+abbrev pub StandsBelow : KnownLog → ℕ → Told → List ℕ → Type 0
+StandsBelow known number (Stream facts) text = IsFigure known number facts text
+StandsBelow known number (Fault fault) text = text ≡ []
 
--- what stands for some logs, of which the first has this number
-abbrev pub AreFigures : ℕ → List Row → List ℕ → Type 0
-AreFigures number [] text = text ≡ []
-AreFigures number (row ∷ rows) text =
-    (first : List ℕ) × (others : List ℕ) × StandsBelow number row.told first
-    × AreFigures (number + 1) rows others × (text ≡ first ++ others)
+-- what stands for some logs, of which the first has this number, by what is known of each name
+abbrev pub AreFigures : (List ℕ → KnownLog) → ℕ → List Row → List ℕ → Type 0
+AreFigures known number [] text = text ≡ []
+AreFigures known number (row ∷ rows) text =
+    (first : List ℕ) × (others : List ℕ)
+    × StandsBelow (known (string_bytes row.name)) number row.told first
+    × AreFigures known (number + 1) rows others × (text ≡ first ++ others)
 
 -- the page of these rows, with pictures of the first, so many of them
-pub record IsPage (rows : List Row) (pictures : ℕ) (text : List ℕ) : Type 0 where
+pub record IsPage (known : List ℕ → KnownLog) (rows : List Row) (pictures : ℕ) (text : List ℕ) : Type 0 where
   pub figures : List ℕ
-  pub drawn : AreFigures 1 (take pictures rows) figures
+  pub drawn : AreFigures known 1 (take pictures rows) figures
   pub whole : text ≡ page_table rows pictures ++ (figures ++ page_end)
 
 -- whether a fault is that of the writer
@@ -84,8 +92,8 @@ LeavesPage (Err fault) old new failed text =
     AppendsFront old new text × (failed ≡ is_writers fault)
 
 -- the page of these rows was written
-pub record WritesPage (result : Result (Unit {0}) PageFault) (rows : List Row) (pictures : ℕ)
-    (old new : Option (List ℕ)) (failed : Bool) : Type 0 where
+pub record WritesPage (known : List ℕ → KnownLog) (result : Result (Unit {0}) PageFault)
+    (rows : List Row) (pictures : ℕ) (old new : Option (List ℕ)) (failed : Bool) : Type 0 where
   pub text : List ℕ
-  pub page : IsPage rows pictures text
+  pub page : IsPage known rows pictures text
   pub left : LeavesPage result old new failed text

@@ -5,6 +5,7 @@ use Rattle.tox_defs.specs.Flow.{chain_draws}
 use Rattle.tox_log.specs.declared.fault.ReplayFault.{ReplayFault}
 use Rattle.tox_log.specs.declared.fault.ReplayFault.TheVariants.{OutOfMemory}
 use Rattle.tox_log.specs.declared.replay.JudgedLog.{JudgedLog}
+use Rattle.tox_log.specs.FaultText.{replay_fault_text}
 use Rattle.tox_draw.specs.Forms.{applied_forms}
 use Rattle.tox_report.specs.declared.kind.Kind.TheVariants as kind
 use Rattle.tox_report.specs.declared.report.Report.{Report}
@@ -62,10 +63,10 @@ abbrev pub TellsStream : JudgedLog → Told → Type 0
 TellsStream log (Stream facts) = IsStreamOf log facts
 TellsStream log (Fault fault) = ⊥
 
--- a fault is told
-abbrev pub TellsFault : Told → Type 0
-TellsFault (Stream facts) = ⊥
-TellsFault (Fault fault) = Unit {0}
+-- a fault is told by its text
+abbrev pub TellsFault : ReplayFault → Told → Type 0
+TellsFault fault (Stream facts) = ⊥
+TellsFault fault (Fault text) = string_bytes text ≡ replay_fault_text fault
 
 -- a row came for the log of this name, which was judged so
 pub record KeepsLog (name : List ℕ) (log : JudgedLog) (old new : Report) : Type 0 where
@@ -74,11 +75,11 @@ pub record KeepsLog (name : List ℕ) (log : JudgedLog) (old new : Report) : Typ
   pub told : TellsStream log row.told
   pub added : AddsRow old row new
 
--- a row came for the log of this name, which can't be judged
-pub record KeepsFault (name : List ℕ) (old new : Report) : Type 0 where
+-- a row came for the log of this name, which can't be judged for this fault
+pub record KeepsFault (name : List ℕ) (fault : ReplayFault) (old new : Report) : Type 0 where
   pub row : Row
   pub named : string_bytes row.name ≡ name
-  pub told : TellsFault row.told
+  pub told : TellsFault fault row.told
   pub added : AddsRow old row new
 
 -- the log of this name was opened and judged, and a row came for it
@@ -89,7 +90,7 @@ pub record TakesLog (known : KnownLog) (name : List ℕ) (old new : Report) : Ty
   pub judged : IsJudged given log
   pub kept : KeepsLog name log old new
 
--- what a fault leaves: a row that tells one. Out of memory the rows stay
+-- what a fault leaves: a row with its text. Out of memory the rows stay
 abbrev pub Refuses : List ℕ → Report → Report → ReplayFault → Type 0
 Refuses name old new OutOfMemory = KeepsOn old new
-Refuses name old new fault = KeepsFault name old new
+Refuses name old new fault = KeepsFault name fault old new

@@ -1,12 +1,11 @@
 //! The page of a report: the rows, and then the pictures.
 ghost use Rattle.std.specs.Prelude.{◌≡◌, ◌≤◌, ◌<◌, ◌^◌, ℕ, List, false, length, ltb, string_bytes, take, IfOk, OnOk};
 ghost use Rattle.std.specs.Option.{ForSome};
-ghost use Rattle.tox_draw.specs.Drawn.{IsPictureOnPage};
 ghost use Rattle.tox_report.specs.declared.row.Row.{Row as OneRow};
 ghost use Rattle.tox_report.specs.Figures.{figure};
 ghost use Rattle.tox_report.specs.Fronts.{page_front};
 ghost use Rattle.tox_report.specs.Links.{link_count};
-ghost use Rattle.tox_report.specs.Pages.{AreFigures, IsFigure, IsPage, LeavesPage, Shows, StandsBelow, WritesPage, page_end, page_table, table_end, table_rows};
+ghost use Rattle.tox_report.specs.Pages.{AreFigures, IsFigure, IsPage, IsPictureOfLog, LeavesPage, Shows, StandsBelow, WritesPage, page_end, page_table, table_end, table_rows};
 ghost use Rattle.tox_report.specs.Reports.{Keeps, page_order};
 ghost use Rattle.tox_report.specs.Rows.{row_of};
 
@@ -43,8 +42,8 @@ impl Report {
     ) -> Result<(), PageFault>
         requires { W.failed writer.old ≡ false }
         ensures { (rows : List OneRow) → Keeps self rows
-            → WritesPage result (page_order rows) pictures (W.written writer.old)
-            (W.written writer.new) (W.failed writer.new) }
+            → WritesPage (S.known store.now) result (page_order rows) pictures
+            (W.written writer.old) (W.written writer.new) (W.failed writer.new) }
     {
         let rows = self.into_rows()?;
         write_rows(alloc, store, &rows, pictures, writer)
@@ -60,8 +59,8 @@ fn write_rows<S: LogStore, W: Sink>(
     writer: &mut W,
 ) -> Result<(), PageFault>
     requires { W.failed writer.old ≡ false }
-    ensures { WritesPage result rows.now pictures (W.written writer.old) (W.written writer.new)
-        (W.failed writer.new) }
+    ensures { WritesPage (S.known store.now) result rows.now pictures (W.written writer.old)
+        (W.written writer.new) (W.failed writer.new) }
 {
     let mut buffer = Buffer::new();
     print_page(alloc, &mut buffer, writer, store, rows, pictures)?;
@@ -88,7 +87,7 @@ fn print_page<S: LogStore, W: Sink>(
     pictures: usize,
 ) -> Result<(), PageFault>
     requires { W.failed writer.old ≡ false }
-    ensures { (text : List ℕ) × IsPage rows.now pictures text
+    ensures { (text : List ℕ) × IsPage (S.known store.now) rows.now pictures text
         × Shows result (W.written writer.old) buffer.old (W.written writer.new) buffer.new
         (W.failed writer.new) text }
 {
@@ -208,7 +207,7 @@ fn print_figures<S: LogStore, W: Sink>(
 ) -> Result<(), PageFault>
     requires works { W.failed writer.old ≡ false }
     requires there { count ≤ length rows.now }
-    ensures { (text : List ℕ) × AreFigures 1 (take count rows.now) text
+    ensures { (text : List ℕ) × AreFigures (S.known store.now) 1 (take count rows.now) text
         × Shows result (W.written writer.old) buffer.old (W.written writer.new) buffer.new
         (W.failed writer.new) text }
 {
@@ -228,7 +227,8 @@ fn print_figure<S: LogStore, W: Sink>(
     number: u64,
 ) -> Result<(), PageFault>
     requires { W.failed writer.old ≡ false }
-    ensures { (text : List ℕ) × StandsBelow number row.now.told text
+    ensures { (text : List ℕ)
+        × StandsBelow (S.known store.now (string_bytes row.now.name)) number row.now.told text
         × Shows result (W.written writer.old) buffer.old (W.written writer.new) buffer.new
         (W.failed writer.new) text }
 {
@@ -259,7 +259,7 @@ fn print_drawn<S: LogStore, W: Sink>(
     number: u64,
 ) -> Result<(), PageFault>
     requires { W.failed writer.old ≡ false }
-    ensures { (text : List ℕ) × IsFigure number facts.now text
+    ensures { (text : List ℕ) × IsFigure (S.known store.now name.now) number facts.now text
         × Shows result (W.written writer.old) buffer.old (W.written writer.new) buffer.new
         (W.failed writer.new) text }
 {
@@ -289,7 +289,7 @@ fn picture_of<S: LogStore>(
     number: u64,
 ) -> Result<Option<String>, AllocError>
     ensures { IfOk result (λ picture. ForSome picture
-        (λ shown. IsPictureOnPage number (string_bytes shown))) }
+        (λ shown. IsPictureOfLog (S.known store.now name.now) number (string_bytes shown))) }
 {
     let Some(mut first) = store.open(name) else {
         return Ok(None);

@@ -1,5 +1,6 @@
 //! The logs of a run, judged one by one.
 ghost use Rattle.std.specs.Prelude.{◌≡◌, List, [], ◌∷◌, ◌++◌, None, Some, Err, count_by, string_bytes, IsErr, IfOk, IfErr, OnOk, OnErr, ◌⊎◌};
+ghost use Rattle.tox_log.specs.FaultText.{IsFaultIn};
 ghost use Rattle.tox_report.specs.Kinds.{has};
 ghost use Rattle.tox_report.specs.declared.row.Row.{Row as OneRow};
 ghost use Rattle.tox_report.specs.Reports.{AddsRow, Keeps, KeepsFault, KeepsLog, KeepsOn, Refuses, TakesLog, TellsFault, page_order};
@@ -42,6 +43,7 @@ impl Report {
         ensures ok { OnOk result
             (TakesLog (S.known store.now name.now) name.now self.old self.new) }
         ensures fault { IfErr result (Refuses name.now self.old self.new) }
+        ensures named { IfErr result (IsFaultIn name.entry) }
         ensures missing { S.known store.now name.now ≡ Some None
             → (result ≡ Err (ReplayFault.Unreadable name.entry))
             ⊎ (result ≡ Err ReplayFault.OutOfMemory) }
@@ -125,7 +127,7 @@ impl Report {
         name: &str,
         fault: &ReplayFault<'_>,
     ) -> Result<(), AllocError>
-        ensures ok { OnOk result (KeepsFault name.now self.old self.new) }
+        ensures ok { OnOk result (KeepsFault name.now fault.now self.old self.new) }
         ensures kept { OnErr result (KeepsOn self.old self.new) }
     {
         let told = Told::Fault(format!(in alloc; "{fault}")?);

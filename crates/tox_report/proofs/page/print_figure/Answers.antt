@@ -7,4 +7,4 @@ pub returns-in-Fault : goal.returns-in-Fault
 returns-in-Fault g c = ([], rw c.in-Fault.is refl, (Passes-none _ _, c.requires))
 
 pub returns-in-Stream : goal.returns-in-Stream
-returns-in-Stream g c = rw c.in-Stream.is c.print_drawn.ensures
+returns-in-Stream g c = rw c.in-Stream.is (rw c.as_str.ensures.value at c.print_drawn.ensures)

@@ -9,7 +9,7 @@ use Rattle.tox_report.proofs.page.print_page.Goals as goal
 pub returns-in_err-print_table : goal.returns-in_err-print_table
 returns-in_err-print_table g c =
     let exit = err_from_is_err_and c.from_residual.result c.from_residual.ensures.1 in
-    let figures = AreFigures-any 1 (take c.args.pictures c.args.rows.now) in (
+    let figures = AreFigures-any (g.S.LogStore.known c.args.store.now) 1 (take c.args.pictures c.args.rows.now) in (
       page_table c.args.rows.now c.args.pictures ++ (figures.0 ++ page_end),
       record { figures = figures.0; drawn = figures.1; whole = refl },
       Shows-failed c.from_residual.result exit.0 _ _ _ _ _ _ _ _ exit.1 exit.2 c.in_err-print_table.ensures,
@@ -20,7 +20,7 @@ returns-in_err-print_figures g c =
     let exit = err_from_is_err_and c.from_residual-in_err-print_figures.result c.from_residual-in_err-print_figures.ensures.1 in
     let figures = c.in_err-print_figures.ensures in (
       page_table c.args.rows.now c.args.pictures ++ (figures.0 ++ page_end),
-      record { figures = figures.0; drawn = AreFigures-min c.args.rows.now c.args.pictures c.min-count.result figures.0 c.min-count.ensures figures.1; whole = refl },
+      record { figures = figures.0; drawn = AreFigures-min (g.S.LogStore.known c.args.store.now) c.args.rows.now c.args.pictures c.min-count.result figures.0 c.min-count.ensures figures.1; whole = refl },
       Shows-then c.from_residual-in_err-print_figures.result _ _ _ _ _ _ _ _ _ c.in_ok-print_table.ensures.0
           (Shows-failed c.from_residual-in_err-print_figures.result exit.0 _ _ _ _ _ _ _ _ exit.1 exit.2 figures.2),
     )
@@ -29,7 +29,7 @@ pub returns : goal.returns
 returns g c =
     let figures = c.in_ok-print_figures.ensures in (
       page_table c.args.rows.now c.args.pictures ++ (figures.0 ++ page_end),
-      record { figures = figures.0; drawn = AreFigures-min c.args.rows.now c.args.pictures c.min-count.result figures.0 c.min-count.ensures figures.1; whole = refl },
+      record { figures = figures.0; drawn = AreFigures-min (g.S.LogStore.known c.args.store.now) c.args.rows.now c.args.pictures c.min-count.result figures.0 c.min-count.ensures figures.1; whole = refl },
       Shows-then c.print_page_end.result _ _ _ _ _ _ _ _ _ c.in_ok-print_table.ensures.0
           (Shows-then c.print_page_end.result _ _ _ _ _ _ _ _ _ figures.2.0 c.print_page_end.ensures),
     )

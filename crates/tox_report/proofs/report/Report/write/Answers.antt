@@ -9,7 +9,7 @@ use Rattle.tox_report.proofs.report.Report.write.Goals as goal
 pub returns-in_err-rows : goal.returns-in_err-rows
 returns-in_err-rows g c = λ rows kept.
     let exit = err_from_is_err_and c.from_residual.result c.from_residual.ensures.1 in
-    let page = IsPage-any (page_order rows) c.args.pictures in
+    let page = IsPage-any (g.S.LogStore.known c.args.store.now) (page_order rows) c.args.pictures in
     record { text = page.0; page = page.1; left = rw (exit.1, exit.2) (AppendsFront-none _ page.0, c.requires) }
 
 pub returns : goal.returns
