@@ -9,9 +9,9 @@ pub appends-more : (old mid new : Option (List ℕ)) (bytes : List ℕ) (done co
     → Appends mid new (take count (take (length bytes - done) (drop done bytes))) → Appends old new (take (done + count) bytes)
 appends-more old mid new bytes done count first second =
     let all : take (length bytes - done) (drop done bytes) ≡ drop done bytes =
-        take_all (length bytes - done) (drop done bytes) (omega (arith, length-drop done bytes)) in
+    take_all (length bytes - done) (drop done bytes) (omega (arith, length-drop done bytes)) in
     let joined : take done bytes ++ take count (take (length bytes - done) (drop done bytes)) ≡ take (done + count) bytes =
-        ap (λ rest. take done bytes ++ take count rest) all ∙ sym (take-add done count bytes) in
+    ap (λ rest. take done bytes ++ take count rest) all ∙ sym (take-add done count bytes) in
     let P : List ℕ → Type 0 = Appends old new in
     subst P joined (Appends-trans old mid new (take done bytes) (take count (take (length bytes - done) (drop done bytes))) first second)
 
