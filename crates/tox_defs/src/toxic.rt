@@ -52,7 +52,7 @@ pub enum Toxic {
 
 impl Toxic {
     /// A toxic of each type, with zeros.
-    pub(crate) const EACH_TYPE: [Toxic; 7] = [
+    pub const EACH_TYPE: [Toxic; 7] = [
         Toxic::Latency {
             latency: 0,
             jitter: 0,

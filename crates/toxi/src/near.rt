@@ -7,17 +7,6 @@ use tox_near::nearest;
 use tox_proxy::{InlineFault, SetupFault, ToxicsFault, VisibleName, read_file};
 use tox_script::{Location, ScriptFault};
 
-/// The types.
-const TYPES: [&str; 7] = [
-    "latency",
-    "bandwidth",
-    "slow_close",
-    "timeout",
-    "reset_peer",
-    "slicer",
-    "limit_data",
-];
-
 /// Tells what a TOXIC of the command line may mean, if its fault is that there is no such type or attribute.
 pub fn tell_near_short<R: Eprint + AllocGlobal>(
     rt: &R,
@@ -39,12 +28,12 @@ pub fn tell_near_short<R: Eprint + AllocGlobal>(
 fn tell_near_form<R: Eprint + AllocGlobal>(rt: &R, short: &str) {
     let (kind, pairs) = short.split_once(':').unwrap_or((short, ""));
     let Some(toxic) = Toxic::of_name(kind) else {
-        tell(rt, kind, &TYPES);
+        tell_near_type(rt, kind);
         return;
     };
     for pair in pairs.split(',') {
         let (key, _) = pair.split_once('=').unwrap_or((pair, ""));
-        if key != "toxicity" && !has(toxic.attributes(), key) {
+        if key != "toxicity" && !toxic.has_attribute(key) {
             tell(rt, key, toxic.attributes());
             return;
         }
@@ -85,14 +74,14 @@ fn tell_near_table<R: Eprint + AllocGlobal>(rt: &R, table: &Value) {
         return;
     };
     let Some(toxic) = Toxic::of_name(kind) else {
-        tell(rt, kind, &TYPES);
+        tell_near_type(rt, kind);
         return;
     };
     let Some(Some(attributes)) = table.get("attributes").map(|value| value.as_table()) else {
         return;
     };
     for key in attributes.keys() {
-        if !has(toxic.attributes(), key.as_str()) {
+        if !toxic.has_attribute(key.as_str()) {
             tell(rt, key.as_str(), toxic.attributes());
             return;
         }
@@ -119,8 +108,9 @@ fn text_of<'a>(table: &'a Value, key: &str) -> Option<&'a str> {
     table.get(key)?.as_str()
 }
 
-fn has(names: &[&str], name: &str) -> bool {
-    names.iter().any(|each| *each == name)
+/// Tells the nearest type's name.
+fn tell_near_type<R: Eprint + AllocGlobal>(rt: &R, name: &str) {
+    tell(rt, name, &Toxic::EACH_TYPE.map(|toxic| toxic.name()));
 }
 
 /// Tells the nearest of the known names, if one is near.
