@@ -22,5 +22,6 @@ pub use link_fault::LinkFault;
 pub use link_report::LinkReport;
 pub use notes::{LinkEvent, NoNotes, Notes};
 pub use ring::message::ReadEnd;
+pub use ring::reading::READ_SIZE;
 pub use source_ending::SourceEnding;
 pub use tox_book::{Book, BookFault, OpenFault};

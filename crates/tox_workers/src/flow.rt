@@ -16,15 +16,14 @@ use std::boxed::Box;
 use std::sync::{Arc, Wait};
 use std::time::Clock;
 use tox_compile::Plan;
-use tox_link::{Hangup, LinkFault, PollSink, PollSource, PolledLink, Progress, drive, finish};
+use tox_link::{
+    Hangup, LinkFault, PollSink, PollSource, PolledLink, Progress, READ_SIZE, drive, finish,
+};
 use tox_links::{Carried, Course};
 use tox_log_files::StreamNotes;
 use tox_sockets::{LinkSockets, LinkStart, ReadySink, ReadySource, SinceStart};
 use tox_time::{Ending, Micros, Stream};
 use tox_words::Words;
-
-/// The most bytes of one read.
-pub(crate) const READ_SIZE: usize = 16_384;
 
 /// One direction of a link that goes on.
 #[derive(Drop)]

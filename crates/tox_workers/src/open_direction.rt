@@ -2,14 +2,14 @@
 ghost use Rattle.std.specs.Prelude.{◌≡◌, IfSome};
 ghost use Rattle.tox_workers.specs.Directions.{IsOf, IsOf-prop};
 
-use crate::flow::{Driven, Flow, READ_SIZE, break_off};
+use crate::flow::{Driven, Flow, break_off};
 use crate::socket_event::SocketEvent;
 use crate::taken_at::TakenAt;
 use std::alloc::Global;
 use std::mem;
 use std::sync::Wait;
 use std::time::Clock;
-use tox_link::LinkFault;
+use tox_link::{LinkFault, READ_SIZE};
 use tox_links::Carried;
 use tox_log_files::StreamNotes;
 use tox_sockets::{LinkSockets, SinceStart};

@@ -2,7 +2,7 @@
 ghost use Rattle.std.specs.Prelude.{◌≡◌, IfSome};
 ghost use Rattle.tox_time.specs.declared.streams.stream.Stream.TheVariants as StreamOf;
 
-use crate::flow::{Flow, READ_SIZE};
+use crate::flow::Flow;
 use crate::open_direction::{DirectionProgress, OpenDirection};
 use crate::peer::Peer;
 use crate::socket_event::SocketEvent;
@@ -10,6 +10,7 @@ use crate::taken_at::TakenAt;
 use std::alloc::Global;
 use std::sync::{Arc, Wait};
 use std::time::Clock;
+use tox_link::READ_SIZE;
 use tox_links::{Courses, LinkEnd};
 use tox_log_files::StreamNotes;
 use tox_sockets::LinkSockets;

@@ -3,7 +3,6 @@ pub(crate) mod accepting;
 mod driving;
 mod opening;
 
-use crate::flow::READ_SIZE;
 use crate::link_key::LinkKey;
 use crate::links::Links;
 use crate::peer::Peer;
@@ -17,6 +16,7 @@ use mio::Registry;
 use mio::event::Event;
 use std::thread;
 use std::time::Duration;
+use tox_link::READ_SIZE;
 use tox_links::{ServeRun, ServeRuntime};
 use tox_sockets::LinkStart;
 

@@ -12,7 +12,7 @@ use std::sync::Wait;
 use tox_time::{Gate, MAX_BYTES, Source, pause};
 
 /// The most bytes of one read.
-pub(crate) const READ_SIZE: usize = 16_384;
+pub const READ_SIZE: usize = 16_384;
 
 /// What the reader's thread hands back.
 #[derive(Drop)]

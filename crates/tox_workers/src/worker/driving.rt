@@ -1,5 +1,4 @@
 //! Driving the directions of links: after an event, at a timer, or in their turn.
-use crate::flow::READ_SIZE;
 use crate::link_key::LinkKey;
 use crate::link_state::LinkState;
 use crate::open_direction::DirectionProgress;
@@ -10,6 +9,7 @@ use crate::timers::Turn;
 use crate::worker::Worker;
 use std::boxed::Box;
 use std::mem;
+use tox_link::READ_SIZE;
 use tox_links::ServeRuntime;
 use tox_time::Stream;
 
