@@ -1,5 +1,6 @@
 //! The command `check` and its options.
-use crate::commands::{config_argument, flag, script_argument};
+use crate::argument::Argument;
+use crate::commands::{config, script, with_arguments};
 use crate::help;
 use clap::{ArgMatches, Command};
 use std::alloc::{AllocError, Global};
@@ -18,24 +19,22 @@ pub struct CheckArguments<'a> {
 
 /// The command.
 pub(crate) fn check<'a>(alloc: Global) -> Result<Command<'a>, AllocError> {
-    let arguments = vec![in alloc;
-        config_argument(alloc),
-        script_argument(alloc),
-        flag(
-            alloc,
-            "strict",
-            "Ends with V1 and status 1 where a line was printed",
-        ),
-        flag(
-            alloc,
-            "verbose",
-            "Prints the numbers of proxies, rules and toxics too",
-        ),
-    ]?;
-    Command::new(alloc, "check")
+    let check = Command::new(alloc, "check")
         .about("Prints which rules and toxics of a script have no effect")
-        .after_help(help::CHECK)
-        .args(arguments)
+        .after_help(help::CHECK);
+    let strict = Argument::flag(
+        "strict",
+        "Ends with V1 and status 1 where a line was printed",
+    );
+    let verbose = Argument::flag(
+        "verbose",
+        "Prints the numbers of proxies, rules and toxics too",
+    );
+    with_arguments(
+        alloc,
+        check,
+        &[config().needed(), script().needed(), strict, verbose],
+    )
 }
 
 /// What the command is asked, where each option that it needs is there.

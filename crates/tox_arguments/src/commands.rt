@@ -1,4 +1,5 @@
-//! The commands and their options, as `clap` is told of them.
+//! The commands and their arguments, as `clap` is told of them.
+use crate::argument::Argument;
 use crate::check::check;
 use crate::forecast::forecast;
 use crate::help;
@@ -6,8 +7,7 @@ use crate::replay::replay;
 use crate::report::report;
 use crate::serve::serve;
 use crate::topics::help_command;
-use clap::builder::ValueParser;
-use clap::{Arg, ArgAction, Command, value_parser};
+use clap::Command;
 use std::alloc::{AllocError, Global};
 use tox_time::MAX_CAP;
 use tox_words::MAX_CONNECTIONS;
@@ -15,201 +15,208 @@ use tox_words::MAX_CONNECTIONS;
 /// The version, and the kit that proves and builds it.
 const VERSION: &str = "0.2.0 (rattle-kit-13f logic dac8208d650f15bf)";
 
+/// A command.
+#[derive(Clone, Copy)]
+enum CommandName {
+    Dry,
+    Draw,
+    Plan,
+    Stages,
+    Check,
+    Pick,
+    Forecast,
+    Migrate,
+    Serve,
+    Replay,
+    Report,
+    Help,
+}
+
+/// The commands, in the order of the help.
+const COMMANDS: [CommandName; 12] = [
+    CommandName::Dry,
+    CommandName::Draw,
+    CommandName::Plan,
+    CommandName::Stages,
+    CommandName::Check,
+    CommandName::Pick,
+    CommandName::Forecast,
+    CommandName::Migrate,
+    CommandName::Serve,
+    CommandName::Replay,
+    CommandName::Report,
+    CommandName::Help,
+];
+
 /// The program's command line.
 pub(crate) fn toxi<'a>(alloc: Global) -> Result<Command<'a>, AllocError> {
-    let toxi = Command::new(alloc, "toxi")
+    let mut toxi = Command::new(alloc, "toxi")
         .bin_name("toxi")?
         .version(VERSION)
         .about("A TCP proxy that adds scripted faults")
         .after_help(help::PROGRAM)
         .disable_help_subcommand(true)
         .subcommand_required(true);
-    toxi.subcommands(commands(alloc)?)
+    for name in COMMANDS {
+        toxi = toxi.subcommand(command(alloc, name)?)?;
+    }
+    Ok(toxi)
 }
 
-/// The commands, in the order of the help.
-fn commands<'a>(alloc: Global) -> Result<Vec<Command<'a>>, AllocError> {
-    Ok(vec![in alloc;
-        dry(alloc)?,
-        draw(alloc)?,
-        plan(alloc)?,
-        stages(alloc)?,
-        check(alloc)?,
-        pick(alloc)?,
-        forecast(alloc)?,
-        migrate(alloc)?,
-        serve(alloc)?,
-        replay(alloc)?,
-        report(alloc)?,
-        help_command(alloc)?,
-    ]?)
+fn command<'a>(alloc: Global, name: CommandName) -> Result<Command<'a>, AllocError> {
+    match name {
+        CommandName::Dry => dry(alloc),
+        CommandName::Draw => draw(alloc),
+        CommandName::Plan => plan(alloc),
+        CommandName::Stages => stages(alloc),
+        CommandName::Check => check(alloc),
+        CommandName::Pick => pick(alloc),
+        CommandName::Forecast => forecast(alloc),
+        CommandName::Migrate => migrate(alloc),
+        CommandName::Serve => serve(alloc),
+        CommandName::Replay => replay(alloc),
+        CommandName::Report => report(alloc),
+        CommandName::Help => help_command(alloc),
+    }
+}
+
+/// A command with these arguments, in the order of its help.
+pub(crate) fn with_arguments<'a>(
+    alloc: Global,
+    command: Command<'a>,
+    arguments: &[Argument],
+) -> Result<Command<'a>, AllocError> {
+    let mut command = command;
+    for argument in arguments {
+        command = command.arg(argument.arg(alloc)?)?;
+    }
+    Ok(command)
 }
 
 fn dry<'a>(alloc: Global) -> Result<Command<'a>, AllocError> {
     let dry = Command::new(alloc, "dry")
         .about("Prints when each byte would leave, and how the link would end")
         .after_help(help::DRY);
-    with_link(alloc, dry)
+    with_arguments(alloc, dry, &[lanes(), words(), toxics()])
 }
 
 fn draw<'a>(alloc: Global) -> Result<Command<'a>, AllocError> {
-    let log = option(
-        alloc,
+    let log = Argument::option(
         "log",
         "FILE",
         "Draws the log of a stream of `serve` instead: what was due beside what was written",
     )
-    .conflicts_with("lanes")?
-    .conflicts_with("words")?
-    .conflicts_with("toxics")?;
+    .without(&["lanes", "words", "toxics"]);
     let draw = Command::new(alloc, "draw")
         .about("Prints a picture of what arrives, what leaves and what is held between")
-        .after_help(help::DRAW)
-        .arg(log)?;
-    with_link(alloc, draw)
+        .after_help(help::DRAW);
+    with_arguments(alloc, draw, &[log, lanes(), words(), toxics()])
 }
 
 fn plan<'a>(alloc: Global) -> Result<Command<'a>, AllocError> {
     let plan = Command::new(alloc, "plan")
         .about("Prints what the toxics are compiled into")
         .after_help(help::PLAN);
-    with_link(alloc, plan)
+    with_arguments(alloc, plan, &[lanes(), words(), toxics()])
 }
 
 fn stages<'a>(alloc: Global) -> Result<Command<'a>, AllocError> {
-    let cap = option(
-        alloc,
+    let cap = Argument::option(
         "cap",
         "N",
         "The room of each ring, in items: 1 to 1024 [default: 4]",
     )
-    .value_parser(ValueParser::unsigned(1, MAX_CAP as u64));
+    .within(1, MAX_CAP as u64);
     let stages = Command::new(alloc, "stages")
         .about("Prints what `dry` prints, by a thread for each toxic")
-        .after_help(help::STAGES)
-        .arg(cap)?;
-    with_link(alloc, stages)
-}
-
-/// A command with the lanes, words and toxics of a link.
-fn with_link<'a>(alloc: Global, command: Command<'a>) -> Result<Command<'a>, AllocError> {
-    command.args(vec![in alloc;
-        lanes_argument(alloc),
-        words_argument(alloc),
-        toxics_argument(alloc),
-    ]?)
+        .after_help(help::STAGES);
+    with_arguments(alloc, stages, &[cap, lanes(), words(), toxics()])
 }
 
 fn pick<'a>(alloc: Global) -> Result<Command<'a>, AllocError> {
-    let conn = needed(
-        alloc,
-        "conn",
-        "N",
-        "The number of the connection, 1 to 1000000",
-    )
-    .value_parser(connections());
-    let arguments = vec![in alloc;
-        config_argument(alloc),
-        script_argument(alloc),
-        needed(alloc, "proxy", "NAME", "The proxy's name"),
-        conn,
-        needed(alloc, "stream", "STREAM", "upstream or downstream"),
-        seed_argument(alloc),
-    ]?;
-    Command::new(alloc, "pick")
+    let pick = Command::new(alloc, "pick")
         .about("Prints what a numbered connection meets, from the files and the seed alone")
-        .after_help(help::PICK)
-        .args(arguments)
+        .after_help(help::PICK);
+    let conn = connections("conn", "The number of the connection, 1 to 1000000").needed();
+    let stream = Argument::option("stream", "STREAM", "upstream or downstream").needed();
+    with_arguments(
+        alloc,
+        pick,
+        &[
+            config().needed(),
+            script().needed(),
+            proxy(),
+            conn,
+            stream,
+            seed(),
+        ],
+    )
 }
 
 fn migrate<'a>(alloc: Global) -> Result<Command<'a>, AllocError> {
-    Command::new(alloc, "migrate")
+    let migrate = Command::new(alloc, "migrate")
         .about("Prints a script of version 1 as a script of version 2")
-        .after_help(help::MIGRATE)
-        .arg(script_argument(alloc))
+        .after_help(help::MIGRATE);
+    with_arguments(alloc, migrate, &[script().needed()])
 }
 
-pub(crate) fn config_argument<'a>(alloc: Global) -> Arg<'a> {
-    needed(
-        alloc,
-        "config",
-        "FILE",
-        "The populate file: the proxies, in JSON",
-    )
+pub(crate) fn config() -> Argument {
+    Argument::option("config", "FILE", "The populate file: the proxies, in JSON")
 }
 
-pub(crate) fn script_argument<'a>(alloc: Global) -> Arg<'a> {
-    needed(
-        alloc,
+pub(crate) fn script() -> Argument {
+    Argument::option(
         "script",
         "FILE",
         "The script: the toxics of connections, in TOML",
     )
 }
 
-pub(crate) fn seed_argument<'a>(alloc: Global) -> Arg<'a> {
-    needed(
-        alloc,
+pub(crate) fn proxy() -> Argument {
+    Argument::option("proxy", "NAME", "The proxy's name").needed()
+}
+
+pub(crate) fn seed() -> Argument {
+    Argument::option(
         "seed",
         "N",
         "What the random words are made from, 0 to 2^64 - 1",
     )
-    .value_parser(value_parser!(u64))
+    .number()
+    .needed()
 }
 
-/// An option that must be given.
-pub(crate) fn needed<'a>(alloc: Global, name: &'a str, value: &'a str, help: &'a str) -> Arg<'a> {
-    option(alloc, name, value, help).required(true)
+pub(crate) fn json() -> Argument {
+    Argument::flag("json", "Prints each line as one JSON object")
 }
 
-/// An option with a value.
-pub(crate) fn option<'a>(alloc: Global, name: &'a str, value: &'a str, help: &'a str) -> Arg<'a> {
-    Arg::new(alloc, name)
-        .long(name)
-        .value_name(value)
-        .help(help)
+/// An option with a number of connections.
+pub(crate) fn connections(name: &'static str, help: &'static str) -> Argument {
+    Argument::option(name, "N", help).within(1, MAX_CONNECTIONS)
 }
 
-/// An option without a value.
-pub(crate) fn flag<'a>(alloc: Global, name: &'a str, help: &'a str) -> Arg<'a> {
-    Arg::new(alloc, name)
-        .long(name)
-        .help(help)
-        .action(ArgAction::SetTrue)
-}
-
-pub(crate) fn json_argument<'a>(alloc: Global) -> Arg<'a> {
-    flag(alloc, "json", "Prints each line as one JSON object")
-}
-
-/// What reads a number of connections.
-pub(crate) fn connections<'a>() -> ValueParser<'a> {
-    ValueParser::unsigned(1, MAX_CONNECTIONS)
-}
-
-fn lanes_argument<'a>(alloc: Global) -> Arg<'a> {
-    option(
-        alloc,
+fn lanes() -> Argument {
+    Argument::option(
         "lanes",
         "L",
         "How many lanes share the random words: 16 or 32 [default: 16]",
     )
-    .value_parser(ValueParser::from(&["16", "32"][..]))
+    .one_of(&["16", "32"])
 }
 
-fn words_argument<'a>(alloc: Global) -> Arg<'a> {
-    option(
-        alloc,
+fn words() -> Argument {
+    Argument::option(
         "words",
         "W",
         "The random words: 1 to 4096 numbers up to 4294967295, separated by commas [default: 0]",
     )
 }
 
-fn toxics_argument<'a>(alloc: Global) -> Arg<'a> {
-    Arg::new(alloc, "toxics")
-        .value_name("TOXIC")
-        .help("The toxics that the link meets, in order, at most one for each lane")
-        .num_args(0..)
-        .action(ArgAction::Append)
+fn toxics() -> Argument {
+    Argument::places(
+        "toxics",
+        "TOXIC",
+        "The toxics that the link meets, in order, at most one for each lane",
+        0,
+    )
 }

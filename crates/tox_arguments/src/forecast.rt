@@ -1,9 +1,8 @@
 //! The command `forecast` and its options.
 ghost use Rattle.std.specs.Prelude.{◌≤◌};
 
-use crate::commands::{
-    config_argument, connections, json_argument, needed, option, script_argument, seed_argument,
-};
+use crate::argument::Argument;
+use crate::commands::{config, connections, json, proxy, script, seed, with_arguments};
 use crate::help;
 use clap::{ArgMatches, Command};
 use std::alloc::{AllocError, Global};
@@ -32,41 +31,35 @@ pub struct ForecastArguments<'a> {
 
 /// The command.
 pub(crate) fn forecast<'a>(alloc: Global) -> Result<Command<'a>, AllocError> {
-    let links = needed(
-        alloc,
-        "links",
-        "N",
-        "The number of connections, 1 to 1000000",
-    )
-    .value_parser(connections());
-    let stream = option(
-        alloc,
+    let forecast = Command::new(alloc, "forecast")
+        .about(
+            "Prints what the connections of a proxy will meet, and how often each toxic is applied",
+        )
+        .after_help(help::FORECAST);
+    let stream = Argument::option(
         "stream",
         "STREAM",
         "Only lines of this stream: upstream or downstream",
     );
-    let named = option(
-        alloc,
+    let named = Argument::option(
         "where",
         "NAME",
         "Only lines with an applied toxic of this name",
     );
-    let arguments = vec![in alloc;
-        config_argument(alloc),
-        script_argument(alloc),
-        needed(alloc, "proxy", "NAME", "The proxy's name"),
-        links,
-        seed_argument(alloc),
-        stream,
-        named,
-        json_argument(alloc),
-    ]?;
-    Command::new(alloc, "forecast")
-        .about(
-            "Prints what the connections of a proxy will meet, and how often each toxic is applied",
-        )
-        .after_help(help::FORECAST)
-        .args(arguments)
+    with_arguments(
+        alloc,
+        forecast,
+        &[
+            config().needed(),
+            script().needed(),
+            proxy(),
+            connections("links", "The number of connections, 1 to 1000000").needed(),
+            seed(),
+            stream,
+            named,
+            json(),
+        ],
+    )
 }
 
 /// What the command is asked, where each option that it needs is there.

@@ -1,6 +1,7 @@
 //! The command line of `toxi`: its commands, their options and their help.
 #![tactic(auto)]
 
+mod argument;
 mod arguments;
 mod check;
 mod command_line;

@@ -1,7 +1,8 @@
 //! The command `replay` and its options.
-use crate::commands::{flag, json_argument, option};
+use crate::argument::Argument;
+use crate::commands::{json, with_arguments};
 use crate::help;
-use clap::{Arg, ArgAction, ArgMatches, Command};
+use clap::{ArgMatches, Command};
 use std::alloc::{AllocError, Global};
 
 /// What `replay` prints.
@@ -48,57 +49,44 @@ impl<'a> ReplayArguments<'a> {
 
 /// The command.
 pub(crate) fn replay<'a>(alloc: Global) -> Result<Command<'a>, AllocError> {
-    let arguments = vec![in alloc;
-        flag(
-            alloc,
-            "arrivals",
-            "Prints what the log heard as the arrivals of `dry`, its bytes as zeros"
-        )
-        .conflicts_with("words")?
-        .conflicts_with("result")?,
-        flag(
-            alloc,
-            "words",
-            "Prints the log's random words, for `dry --words`"
-        )
-        .conflicts_with("result")?,
-        flag(
-            alloc,
-            "result",
-            "Prints what the toxics mean for what the log heard, with lengths for the bytes"
-        ),
-        as_argument(alloc)?,
-        json_argument(alloc)
-            .conflicts_with("arrivals")?
-            .conflicts_with("words")?
-            .conflicts_with("result")?,
-        files_argument(alloc),
-    ]?;
-    Command::new(alloc, "replay")
+    let replay = Command::new(alloc, "replay")
         .about("Says of each log of `serve` whether it is faithful, and how late it was")
-        .after_help(help::REPLAY)
-        .args(arguments)
-}
-
-fn as_argument<'a>(alloc: Global) -> Result<Arg<'a>, AllocError> {
-    option(
-        alloc,
+        .after_help(help::REPLAY);
+    let arrivals = Argument::flag(
+        "arrivals",
+        "Prints what the log heard as the arrivals of `dry`, its bytes as zeros",
+    )
+    .without(&["words", "result"]);
+    let words = Argument::flag("words", "Prints the log's random words, for `dry --words`").without(
+        &["result"],
+    );
+    let result = Argument::flag(
+        "result",
+        "Prints what the toxics mean for what the log heard, with lengths for the bytes",
+    );
+    let other = Argument::options(
         "as",
         "TOXIC",
         "With --result: a toxic in place of the log's; may be repeated",
     )
-    .action(ArgAction::Append)
-    .requires_arg("result")
+    .beside(&["result"]);
+    let json = json().without(&["arrivals", "words", "result"]);
+    with_arguments(
+        alloc,
+        replay,
+        &[arrivals, words, result, other, json, files()],
+    )
 }
 
 /// The logs of a command.
-pub(crate) fn files_argument<'a>(alloc: Global) -> Arg<'a> {
-    Arg::new(alloc, "files")
-        .value_name("FILE")
-        .help("The logs; - takes their names from standard input, one a line")
-        .required(true)
-        .num_args(1..)
-        .action(ArgAction::Append)
+pub(crate) fn files() -> Argument {
+    Argument::places(
+        "files",
+        "FILE",
+        "The logs; - takes their names from standard input, one a line",
+        1,
+    )
+    .needed()
 }
 
 /// What the command is given.

@@ -1,8 +1,8 @@
 //! The command `report` and its options.
-use crate::commands::option;
+use crate::argument::Argument;
+use crate::commands::with_arguments;
 use crate::help;
-use crate::replay::{files_argument, strs_of};
-use clap::builder::ValueParser;
+use crate::replay::{files, strs_of};
 use clap::{ArgMatches, Command};
 use std::alloc::{AllocError, Global};
 
@@ -23,18 +23,16 @@ pub struct ReportArguments<'a> {
 
 /// The command.
 pub(crate) fn report<'a>(alloc: Global) -> Result<Command<'a>, AllocError> {
-    let pictures = option(
-        alloc,
+    let report = Command::new(alloc, "report")
+        .about("Prints a page of a run: what its logs are, with their pictures")
+        .after_help(help::REPORT);
+    let pictures = Argument::option(
         "pictures",
         "N",
         "How many of the first rows have pictures, 0 to 1000000 [default: 100]",
     )
-    .value_parser(ValueParser::unsigned(0, MAX_PICTURES));
-    Command::new(alloc, "report")
-        .about("Prints a page of a run: what its logs are, with their pictures")
-        .after_help(help::REPORT)
-        .arg(pictures)?
-        .arg(files_argument(alloc))
+    .within(0, MAX_PICTURES);
+    with_arguments(alloc, report, &[pictures, files()])
 }
 
 /// What the command is given.

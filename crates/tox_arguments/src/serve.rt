@@ -1,13 +1,10 @@
 //! The command `serve` and its options.
-use crate::commands::{
-    config_argument, connections, flag, json_argument, option, script_argument, seed_argument,
-};
+use crate::argument::Argument;
+use crate::commands::{config, connections, json, script, seed, with_arguments};
 use crate::help;
-use clap::builder::ValueParser;
-use clap::{Arg, ArgAction, ArgMatches, Command};
+use clap::{ArgMatches, Command};
 use std::alloc::{AllocError, Global};
 use tox_time::Stream;
-use tox_words::MAX_CONNECTIONS;
 
 /// The most threads that drive all links.
 const MAX_WORKERS: u64 = 64;
@@ -86,163 +83,103 @@ pub struct LogArguments<'a> {
 
 /// The command.
 pub(crate) fn serve<'a>(alloc: Global) -> Result<Command<'a>, AllocError> {
-    let arguments = vec![in alloc;
-        links_argument(alloc),
-        connect_timeout_argument(alloc),
-        workers_argument(alloc),
-        log_argument(alloc),
-        log_links_argument(alloc)?,
-        log_bytes_argument(alloc)?,
-        verbose_argument(alloc),
-        json_argument(alloc),
-    ]?;
     let serve = Command::new(alloc, "serve")
         .about("Listens for each proxy, and carries its connections under their toxics")
         .after_help(help::SERVE);
-    with_source(alloc, serve)?.args(arguments)
+    let serve = with_arguments(alloc, serve, &source_arguments())?;
+    let serve = with_arguments(alloc, serve, &link_arguments())?;
+    with_arguments(alloc, serve, &output_arguments())
 }
 
-fn links_argument<'a>(alloc: Global) -> Arg<'a> {
-    option(
-        alloc,
-        "links",
-        "N",
-        "After how many connections each proxy stops listening, 1 to 1000000 [default: it goes on]",
-    )
-    .value_parser(connections())
-}
-
-fn connect_timeout_argument<'a>(alloc: Global) -> Arg<'a> {
-    option(
-        alloc,
-        "connect-timeout",
-        "MS",
-        "How many milliseconds a connect to an upstream may take, 1 to 600000 [default: the system's]",
-    )
-    .value_parser(ValueParser::unsigned(1, MAX_CONNECT_TIMEOUT))
-}
-
-fn workers_argument<'a>(alloc: Global) -> Arg<'a> {
-    option(
-        alloc,
-        "workers",
-        "N",
-        "How many threads drive all links, 1 to 64 [default: each link has four of its own]",
-    )
-    .value_parser(ValueParser::unsigned(1, MAX_WORKERS))
-}
-
-fn log_argument<'a>(alloc: Global) -> Arg<'a> {
-    option(
-        alloc,
-        "log",
-        "DIR",
-        "The folder that gets a log of each stream; it is made, or must be empty",
-    )
-}
-
-fn verbose_argument<'a>(alloc: Global) -> Arg<'a> {
-    flag(
-        alloc,
-        "verbose",
-        "Prints what `check` says at the start, and a line for each stream of a link as its upstream is reached",
-    )
-}
-
-/// A command with what is served: two files, or one proxy with its toxics.
-fn with_source<'a>(alloc: Global, command: Command<'a>) -> Result<Command<'a>, AllocError> {
-    command.args(vec![in alloc;
-        unless_listening(config_argument(alloc))?,
-        unless_listening(script_argument(alloc))?,
-        seed_argument(alloc),
-        listen_argument(alloc)?,
-        upstream_argument(alloc)?,
-        down_argument(alloc)?,
-        up_argument(alloc)?,
-        print_files_argument(alloc)?,
-    ]?)
-}
-
-/// An option that must be given unless `--listen` is.
-fn unless_listening<'a>(needed: Arg<'a>) -> Result<Arg<'a>, AllocError> {
-    needed.required(false).required_unless_present("listen")
-}
-
-fn listen_argument<'a>(alloc: Global) -> Result<Arg<'a>, AllocError> {
-    option(
-        alloc,
-        "listen",
-        "ADDRESS",
-        "In place of the files: the address of one proxy, `default`",
-    )
-    .requires_arg("upstream")?
-    .conflicts_with("config")?
-    .conflicts_with("script")
-}
-
-fn upstream_argument<'a>(alloc: Global) -> Result<Arg<'a>, AllocError> {
-    with_listen(option(
-        alloc,
-        "upstream",
-        "ADDRESS",
-        "With --listen: the address of the server behind it",
-    ))
-}
-
-fn down_argument<'a>(alloc: Global) -> Result<Arg<'a>, AllocError> {
-    toxic_argument(
-        alloc,
-        "down",
-        "With --listen: a toxic from the server to the client; may be repeated",
-    )
-}
-
-fn up_argument<'a>(alloc: Global) -> Result<Arg<'a>, AllocError> {
-    toxic_argument(
-        alloc,
-        "up",
-        "With --listen: a toxic from the client to the server; may be repeated",
-    )
-}
-
-fn print_files_argument<'a>(alloc: Global) -> Result<Arg<'a>, AllocError> {
-    with_listen(option(
-        alloc,
-        "print-files",
-        "DIR",
-        "With --listen: writes proxies.json and script.toml that mean the same, and ends",
-    ))
+/// What is served: two files, or one proxy with its toxics.
+fn source_arguments() -> [Argument; 8] {
+    [
+        config().needed_unless("listen"),
+        script().needed_unless("listen"),
+        seed(),
+        Argument::option(
+            "listen",
+            "ADDRESS",
+            "In place of the files: the address of one proxy, `default`",
+        )
+        .beside(&["upstream"])
+        .without(&["config", "script"]),
+        with_listen(Argument::option(
+            "upstream",
+            "ADDRESS",
+            "With --listen: the address of the server behind it",
+        )),
+        with_listen(Argument::options(
+            "down",
+            "TOXIC",
+            "With --listen: a toxic from the server to the client; may be repeated",
+        )),
+        with_listen(Argument::options(
+            "up",
+            "TOXIC",
+            "With --listen: a toxic from the client to the server; may be repeated",
+        )),
+        with_listen(Argument::option(
+            "print-files",
+            "DIR",
+            "With --listen: writes proxies.json and script.toml that mean the same, and ends",
+        )),
+    ]
 }
 
 /// An option that stands only beside `--listen`.
-fn with_listen<'a>(option: Arg<'a>) -> Result<Arg<'a>, AllocError> {
-    option.requires_arg("listen")
+fn with_listen(option: Argument) -> Argument {
+    option.beside(&["listen"])
 }
 
-fn toxic_argument<'a>(alloc: Global, name: &'a str, help: &'a str) -> Result<Arg<'a>, AllocError> {
-    with_listen(option(alloc, name, "TOXIC", help).action(ArgAction::Append))
+/// How links are served.
+fn link_arguments() -> [Argument; 3] {
+    [
+        connections(
+            "links",
+            "After how many connections each proxy stops listening, 1 to 1000000 [default: it goes on]",
+        ),
+        Argument::option(
+            "connect-timeout",
+            "MS",
+            "How many milliseconds a connect to an upstream may take, 1 to 600000 [default: the system's]",
+        )
+        .within(1, MAX_CONNECT_TIMEOUT),
+        Argument::option(
+            "workers",
+            "N",
+            "How many threads drive all links, 1 to 64 [default: each link has four of its own]",
+        )
+        .within(1, MAX_WORKERS),
+    ]
 }
 
-fn log_links_argument<'a>(alloc: Global) -> Result<Arg<'a>, AllocError> {
-    option(
-        alloc,
-        "log-links",
-        "N",
-        "How many links of each proxy are logged, 1 to 1000000 [default: 10000]",
-    )
-    .value_parser(ValueParser::unsigned(1, MAX_CONNECTIONS))
-    .requires_arg("log")
-}
-
-fn log_bytes_argument<'a>(alloc: Global) -> Result<Arg<'a>, AllocError> {
-    option(
-        alloc,
-        "log-bytes",
-        "N",
-        "How many bytes a log has at most, 1 to 2^40 [default: 67108864]",
-    )
-    .value_parser(ValueParser::unsigned(1, MAX_LOG_BYTES))
-    .requires_arg("log")
+/// What is logged and printed.
+fn output_arguments() -> [Argument; 5] {
+    [
+        Argument::option(
+            "log",
+            "DIR",
+            "The folder that gets a log of each stream; it is made, or must be empty",
+        ),
+        connections(
+            "log-links",
+            "How many links of each proxy are logged, 1 to 1000000 [default: 10000]",
+        )
+        .beside(&["log"]),
+        Argument::option(
+            "log-bytes",
+            "N",
+            "How many bytes a log has at most, 1 to 2^40 [default: 67108864]",
+        )
+        .within(1, MAX_LOG_BYTES)
+        .beside(&["log"]),
+        Argument::flag(
+            "verbose",
+            "Prints what `check` says at the start, and a line for each stream of a link as its upstream is reached",
+        ),
+        json(),
+    ]
 }
 
 /// What the command is given beside what is served, where the seed is there.

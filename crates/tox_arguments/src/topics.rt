@@ -1,7 +1,9 @@
 //! The command `help`: of a command, of toxics, scripts and faults, and of a fault by its code.
+use crate::argument::Argument;
+use crate::commands::with_arguments;
 use crate::faults::fault_of;
 use crate::help;
-use clap::{Arg, Command};
+use clap::Command;
 use std::alloc::{AllocError, Global};
 
 /// A text of help.
@@ -15,15 +17,17 @@ pub enum HelpText {
 
 /// The command.
 pub(crate) fn help_command<'a>(alloc: Global) -> Result<Command<'a>, AllocError> {
-    let topic = Arg::new(alloc, "topic").value_name("TOPIC").help(
-        "A command, toxics, scripts, faults, or the code of a fault",
-    );
-    Command::new(alloc, "help")
+    let help = Command::new(alloc, "help")
         .about(
             "Prints the help of a command, of toxics, scripts or faults, or of a fault by its code",
         )
-        .after_help(help::HELP)
-        .arg(topic)
+        .after_help(help::HELP);
+    let topic = Argument::place(
+        "topic",
+        "TOPIC",
+        "A command, toxics, scripts, faults, or the code of a fault",
+    );
+    with_arguments(alloc, help, &[topic])
 }
 
 /// The text of a topic that is no command.
