@@ -5,15 +5,13 @@ use crate::near::tell_near_short;
 use crate::serve::{ServeJob, hold_descriptor, serve_job};
 use crate::signals::Signals;
 use std::io::{Read, Seek};
-use std::net::{Net, TcpListener, TcpStream};
 use std::process::ExitCode;
 use std::rt::Files;
 use std::sync::{Arc, Condvar, Mutex, Wait};
 use std::thread;
-use std::thread::Threads;
 use std::time::{Clock, Duration};
 use tox_arguments::{ServeArguments, ServeSource};
-use tox_proxy::{InlineFault, ServeFault, Stop};
+use tox_proxy::{InlineFault, ServeFault, ServeRuntime, Stop};
 
 /// How long the end of serving is waited for before signals are looked at, in milliseconds.
 const LOOK: u64 = 50;
@@ -58,20 +56,10 @@ impl Serving {
 
 /// Serves what the files set up, until no proxy is served any more or a signal tells the program to end.
 #[inline(never)]
-pub fn serve<
-    R: Print
-        + Eprint
-        + Files
-        + AllocGlobal
-        + Net<Listener = TcpListener, Stream = TcpStream>
-        + Threads
-        + Wait
-        + Clock
-        + Copy
-        + Send
-        + Sync
-        + 'static,
->(rt: &R, arguments: &ServeArguments<'_>) -> ExitCode
+pub fn serve<R: Print + Eprint + Files + AllocGlobal + ServeRuntime>(
+    rt: &R,
+    arguments: &ServeArguments<'_>,
+) -> ExitCode
 where
     R::File: Send + 'static,
     R::Dir: Send + 'static,
