@@ -9,8 +9,11 @@ use std::mem;
 use std::sync::{Arc, Condvar, Mutex, MutexGuard, Wait};
 use std::time::{Clock, Duration};
 
-/// How long the writer lets lines gather, in milliseconds.
-const GATHERS: u64 = 50;
+/// How long the writer rests, while it lets lines gather, before it looks whether some must go to their file at once, in milliseconds.
+const LOOK: u64 = 50;
+
+/// How many such rests it makes at most.
+const LOOKS: u32 = 8;
 
 /// What the lock keeps.
 #[derive(Drop)]
@@ -60,7 +63,7 @@ impl LogChannel {
         self.closed.notify_all();
     }
 
-    /// Exchanges the logs that wait for an empty vector, a while after the first came. False once no more come.
+    /// Exchanges the logs that wait for an empty vector, once lines have gathered. False once no more come.
     pub(crate) fn receive<R: Wait + Clock>(
         &self,
         rt: &R,
@@ -68,16 +71,34 @@ impl LogChannel {
     ) -> bool
         requires { empty.old.items ≡ [] }
     {
-        let Some(mut waiting) = self.filled(rt) else {
+        let Some(waiting) = self.filled(rt) else {
             return false;
         };
-        if !waiting.closed {
-            let gathers = Duration::from_millis(GATHERS);
-            let (gathered, _) = self.closed.wait_timeout(rt, waiting, gathers);
-            waiting = gathered;
-        }
+        let mut waiting = self.gathered(rt, waiting);
+        self.bytes.clear_urgent();
         mem::swap(&mut waiting.logs, empty);
         true
+    }
+
+    /// The lock, once lines have gathered: for all rests, or until some must go to their file at once, or no more come.
+    fn gathered<'a, R: Wait + Clock>(
+        &'a self,
+        rt: &R,
+        waiting: MutexGuard<'a, Waiting>,
+    ) -> MutexGuard<'a, Waiting> {
+        let mut waiting = waiting;
+        for _ in 0..LOOKS {
+            if waiting.closed {
+                return waiting;
+            }
+            let look = Duration::from_millis(LOOK);
+            let (rested, _) = self.closed.wait_timeout(rt, waiting, look);
+            waiting = rested;
+            if self.bytes.is_urgent() {
+                return waiting;
+            }
+        }
+        waiting
     }
 
     /// The lock, once a log waits. None once no more come.

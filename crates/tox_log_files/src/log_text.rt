@@ -17,6 +17,9 @@ use tox_log::LogBytes;
 /// How many bytes of one log may wait for its file. A file that can't follow ends the log.
 const MAX_WAITING_PER_LOG: usize = 1_048_576;
 
+/// From how many bytes on a log goes to its file at once.
+const MANY_PER_LOG: usize = 262_144;
+
 /// Adds the lines of an entry that have room, if they may wait, and tells how the log is then.
 fn add_entry<R: Wait>(
     rt: &R,
@@ -108,7 +111,16 @@ impl LogText {
             ≡ (not self.old.is_called && is_wanted self.new.waiting.0 self.new.state) }
     {
         self.grow(rt, all, entry);
+        if self.is_urgent() {
+            all.set_urgent();
+        }
         self.call()
+    }
+
+    /// Whether what waits must go to the file at once: there is much, or nothing comes behind it.
+    fn is_urgent(&self) -> bool {
+        let count = self.waiting();
+        count >= MANY_PER_LOG || count > 0 && self.state != LogState::Goes
     }
 
     /// Adds an entry, unless the log has ended.

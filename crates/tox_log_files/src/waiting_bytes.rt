@@ -2,10 +2,13 @@
 ghost use Rattle.std.specs.Prelude.{◌≤◌, IsTrue};
 
 use std::sync::Wait;
-use std::sync::atomic::{AtomicIn, Ordering, Rule};
+use std::sync::atomic::{AtomicBool, AtomicIn, Ordering, Rule};
 
 /// How many bytes of all logs may wait for their files.
 const MAX_WAITING_IN_ALL: u64 = 67_108_864;
+
+/// From how many bytes of all logs on they go to their files at once.
+const MANY_IN_ALL: u64 = 16_777_216;
 
 /// What is true of the number of bytes that wait.
 #[derive(Debug)]
@@ -19,6 +22,8 @@ impl Rule for WithinLimit {
 #[derive(Drop)]
 pub(crate) struct WaitingBytes {
     count: AtomicIn<WithinLimit>,
+    /// Whether those of a log must go to its file at once.
+    urgent: AtomicBool,
 }
 
 impl WaitingBytes {
@@ -26,6 +31,7 @@ impl WaitingBytes {
     pub(crate) fn new() -> WaitingBytes {
         WaitingBytes {
             count: AtomicIn::new(0),
+            urgent: AtomicBool::new(false),
         }
     }
 
@@ -54,6 +60,21 @@ impl WaitingBytes {
             }
         }
         unreachable!()
+    }
+
+    /// Those of a log must go to its file at once.
+    pub(crate) fn set_urgent(&self) {
+        self.urgent.store(true, Ordering::SeqCst);
+    }
+
+    /// The logs that wait go to their files now.
+    pub(crate) fn clear_urgent(&self) {
+        self.urgent.store(false, Ordering::SeqCst);
+    }
+
+    /// Whether those of a log must go to its file at once, or there are many in all.
+    pub(crate) fn is_urgent(&self) -> bool {
+        self.urgent.load(Ordering::SeqCst) || self.count.load(Ordering::SeqCst) >= MANY_IN_ALL
     }
 
     /// Writes a count, if it is still the old one.
