@@ -143,6 +143,11 @@ class FromToxiproxyTests(unittest.TestCase):
         for command in ("toxic add -t latency mail", "toxic add shop", "create a", "create -u $HOST a", "create 'a"):
             self.assertEqual(self.convert(f"{CREATE}toxiproxy-cli {command}\n")[0], 3)
 
+    def test_http_calls_are_named(self):
+        change = "curl -X POST localhost:8474/proxies/shop/toxics -d '{\"type\": \"latency\"}'"
+        self.assertEqual(self.convert(f"{CREATE}{change}\n"), (3, ["line 2: a call of the HTTP interface isn't read"]))
+        self.assertEqual(self.convert(f"{CREATE}curl localhost:8474/proxies\ncurl -d a=1 localhost/orders\n")[0], 0)
+
     def test_what_is_no_setup(self):
         for text in ("", "{", "[1]", "{}", "[]", '{"a": 1}', "echo a", "version = 2"):
             self.assertEqual(self.convert(text)[0], 1)
