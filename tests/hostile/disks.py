@@ -1,19 +1,22 @@
-"""Logs whose disk fails. The link goes on, its log ends, and standard error tells it once."""
+"""When lines of a log reach its file; and logs whose disk fails: the link goes on, its log ends, and standard error tells it once."""
 import contextlib
 import os
 import re
 import resource
 import signal
 import subprocess
+import time
 
 import logged
 from ends import read_all, read_count
 from registry import start
 from stops import Stopped
-from waiting import check
+from waiting import check, check_in_time, wait_until
 
 ENDED = re.compile(r"toxi: log shop-(\d+)-(\w+)\.log ends at line (\d+)")
 PIECES = 100
+# How long the last line of a log may wait for its file, in seconds: less than lines gather.
+LAST = 0.3
 
 
 def small_files():
@@ -59,6 +62,25 @@ def told(toxi, folder):
             with open(name, "rb") as file:
                 whole = file.read().count(b"\n")
         check(whole == line, f"the log of {stream} has {whole} whole lines, and {line} are told")
+
+
+@start
+def a_last_line_is_not_kept_waiting(program, folder):
+    logs = os.path.join(folder, "soon")
+    name = os.path.join(logs, "shop-1-downstream.log")
+    with Stopped(program, folder, logs=logs) as toxi:
+        client, server = toxi.link()
+        wait_until(lambda: os.path.exists(name), "the file of the log")
+        server.sendall(b"hello")
+        check(read_count(client, 5) == b"hello", "the client heard other bytes than the upstream said")
+        server.close()
+        begun = time.monotonic()
+        with open(name) as log:
+            wait_until(lambda: log.seek(0) == 0 and " closed " in log.read(), "the last line of the log")
+        check_in_time(time.monotonic() - begun < LAST, "the last line of the log waited")
+        client.close()
+        toxi.line()
+        toxi.tell()
 
 
 @start
