@@ -1,5 +1,5 @@
 //! The pieces that are still needed: a ring of neighbours with fixed room.
-ghost use Rattle.std.specs.Prelude.{◌≡◌, ◌<◌, ◌≤◌, ◌^◌, ◌↔◌, [], ◌∷◌, ◌++◌, drop, filter, find, length, nat_lt, nat_le, slice_get, true, false, IfOk, IsTrue, option_copied};
+ghost use Rattle.std.specs.Prelude.{◌≡◌, ◌<◌, ◌≤◌, ◌^◌, ◌↔◌, [], ◌∷◌, ◌++◌, drop, filter, find, length, nat_lt, nat_le, slice_get, true, false, IfOk, IfSome, IfNone, IsTrue, option_copied};
 ghost use Rattle.std.specs.List.Sorted.{IsPartitionPoint};
 ghost use Rattle.tox_lend.specs.Run.{stop_of};
 ghost use Rattle.tox_lend.specs.Window.{JoinUpTo, has_position};
@@ -81,12 +81,23 @@ impl Window {
               held = filter (λ piece. nat_lt position (stop_of piece)) self.old.held;
             } }
     {
-        while let Some(piece) = self.held.front() {
-            if !piece.ends_by(position) {
-                return;
-            }
-            take_front(&mut self.held);
+        while let Some(_piece) = self.take_ended(position) {}
+    }
+
+    /// Hands out the first piece if it ends at or before a position. None if it ends behind it, or if none is held.
+    pub fn take_ended(&mut self, position: u64) -> Option<Piece>
+        ensures same { self.new ≡ record self.old { held = self.new.held } }
+        ensures some { IfSome result (λ piece. (self.old.held ≡ piece ∷ self.new.held)
+            × (stop_of piece ≤ position)) }
+        ensures none { IfNone result ((self.new.held ≡ self.old.held)
+            × (filter (λ piece. nat_lt position (stop_of piece)) self.old.held ≡ self.old.held)) }
+        ensures sifted { filter (λ piece. nat_lt position (stop_of piece)) self.new.held
+            ≡ filter (λ piece. nat_lt position (stop_of piece)) self.old.held }
+    {
+        if !self.held.front()?.ends_by(position) {
+            return None;
         }
+        take_front(&mut self.held)
     }
 
     /// Hands out the first piece and keeps the others, or None if it holds none.
