@@ -286,17 +286,18 @@ sound-waited side inbox core messages sound kept position =
     (record { joined = sound.joined; start = omega (arith, position, sound.start); parts = sound.parts }) refl refl
 
 -- a slice was written, and the pieces before its end are given up
-pub sound-wrote : (side : WriterSide) (window : Pieces) (slice : Slice) → GivesSlice side slice → window ≡ record side.window { held = past slice.span.stop side.window.held }
-    → IsSound (record side { window = window; written = slice.span.stop }) (received side.inbox.receiver)
-sound-wrote side window slice due same =
+pub sound-wrote : (side new : WriterSide) (slice : Slice) → GivesSlice side slice
+    → new ≡ record side { window = record side.window { held = past slice.span.stop side.window.held }; emptied = new.emptied; written = slice.span.stop }
+    → IsSound new (received new.inbox.receiver)
+sound-wrote side new slice due same =
     let sound = due.sound in
     let takes = due.takes in
-    let stop : window.stop ≡ side.window.stop = ap (λ (window : Pieces). window.stop) same in
+    let gave_up = record side { window = record side.window { held = past slice.span.stop side.window.held }; emptied = new.emptied; written = slice.span.stop } in
     let left : IsLeft (came side) side.window.stop slice.span.stop (past slice.span.stop side.window.held)
     = past-left (came side) side.window.stop slice.span.stop side.window.held sound.joined (omega (arith, sound.start, takes.starts, takes.within.some)) (omega (arith, takes.arrived, sound.stop, due.kept.bytes)) sound.parts in
-    sound-step (record side { core = due.before }) (record side { window = window; written = slice.span.stop }) (received side.inbox.receiver) sound due.kept (sym takes.stops) (omega (arith, takes.stops, takes.arrived)) stop
-    (subst (λ (window : Pieces). IsLeft (came side) window.stop (core_position side.core) window.held) (sym same) (subst (λ at. IsLeft (came side) side.window.stop at (past slice.span.stop side.window.held)) (sym takes.stops) left))
-    refl refl
+    subst (λ (side : WriterSide). IsSound side (received side.inbox.receiver)) (sym same)
+    (sound-step (record side { core = due.before }) gave_up (received side.inbox.receiver) sound due.kept (sym takes.stops) (omega (arith, takes.stops, takes.arrived)) refl
+    (subst (λ at. IsLeft (came side) side.window.stop at (past slice.span.stop side.window.held)) (sym takes.stops) left) refl refl)
 
 -- nothing came yet
 pub sound-fresh : (side : WriterSide) → IsFresh side → IsSound side (received side.inbox.receiver)

@@ -65,7 +65,7 @@ fn start<
     ensures err { IfErr result (λ fault. written_before fault ≡ 0) }
     ensures cause { IfErr result (λ fault. is_write_fault fault ≡ false) }
 {
-    let Ok((side, sender)) = WriterSide::new(alloc, plan, words) else {
+    let Ok((side, sender, vectors)) = WriterSide::new(alloc, plan, words) else {
         return Err(LinkFault::OutOfMemory(0));
     };
     let Ok(parkers) = side.inbox.parkers.clone() else {
@@ -74,7 +74,7 @@ fn start<
     let Ok(gate) = gate.clone() else {
         return Err(LinkFault::OutOfMemory(0));
     };
-    let Some(thread) = start_reader(rt, alloc, reader, sender, reads, parkers, gate) else {
+    let Some(thread) = start_reader(rt, vectors, reader, sender, reads, parkers, gate) else {
         return Err(LinkFault::SpawnRefused(0));
     };
     Ok((side, thread))

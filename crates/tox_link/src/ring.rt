@@ -4,3 +4,4 @@ pub(crate) mod message;
 pub(crate) mod parking;
 pub(crate) mod reader_thread;
 pub(crate) mod reading;
+pub(crate) mod vectors;

@@ -56,7 +56,7 @@ fn write_next<N: Notes, W: Sink>(
         return Err(LinkFault::WriteFault(side.written));
     }
     side.written = stop;
-    side.window.drop_before(stop);
+    side.give_up(stop);
     let Ok(()) = notes.note(LinkEvent::Wrote(*slice, *now)) else {
         return Err(LinkFault::OutOfMemory(side.written));
     };

@@ -1,9 +1,10 @@
 //! The writer's side of a link: what came through the ring, and how much of it is written.
-ghost use Rattle.std.specs.Prelude.{◌≡◌, ◌↔◌, [], List, IsTrue, IfOk};
+ghost use Rattle.std.specs.Prelude.{◌≡◌, ◌↔◌, [], List, filter, nat_lt, IsTrue, IfOk};
 ghost use Rattle.rtrb.specs.Ring.{sent, received, IsPair};
 ghost use Rattle.tox_time.specs.declared.streams.item.Item.{Item as OneItem};
 ghost use Rattle.tox_time.specs.streams.Stream.{IsStream};
 ghost use Rattle.tox_compile.specs.Meaning.{means};
+ghost use Rattle.tox_lend.specs.Run.{stop_of};
 ghost use Rattle.tox_link.specs.carrying.Held.{MayTake};
 ghost use Rattle.tox_link.specs.carrying.Side.{IsFresh};
 ghost use Rattle.tox_link.specs.link_core.Core.{remaining_output};
@@ -13,6 +14,7 @@ use crate::link_core::direction_core::{DirectionCore, room_of};
 use crate::ring::inbox::Inbox;
 use crate::ring::message::{InOrder, Message, Sender};
 use crate::ring::parking::Parkers;
+use crate::ring::vectors::{Emptied, Vectors};
 use crate::source_ending::SourceEnding;
 use rtrb::RingBuffer;
 use std::alloc::{AllocError, Global};
@@ -30,6 +32,8 @@ pub struct WriterSide<'w> {
     pub core: DirectionCore<'w>,
     pub window: Window,
     pub inbox: Inbox,
+    /// Takes the vectors of the pieces that are given up.
+    pub emptied: Emptied,
     /// How the source ended, if its end came before the ending was known.
     pub source: SourceEnding,
     /// Whether the source's end came.
@@ -39,12 +43,12 @@ pub struct WriterSide<'w> {
 }
 
 impl<'w> WriterSide<'w> {
-    /// The writer's side of a link of the plan, and the reader's end of its ring.
+    /// The writer's side of a link of the plan, and what its reader's thread gets: its end of the ring, and its vectors.
     pub fn new(
         alloc: Global,
         plan: Plan,
         words: &'w Words,
-    ) -> Result<(WriterSide<'w>, Sender), AllocError>
+    ) -> Result<(WriterSide<'w>, Sender, Vectors), AllocError>
         ensures meaning { IfOk result (λ made. (items : List OneItem) → IsStream items
             → remaining_output made.0.core items ≡ means plan words.now items) }
         ensures fresh { IfOk result (λ made. IsFresh made.0) }
@@ -65,15 +69,32 @@ impl<'w> WriterSide<'w> {
             pops: 0,
             yields: 0,
         };
+        let (emptied, vectors) = Vectors::new(alloc)?;
         let side = WriterSide {
             core,
             window,
             inbox,
+            emptied,
             source: SourceEnding::NotReached,
             ended: false,
             written: 0,
         };
-        Ok((side, sender))
+        Ok((side, sender, vectors))
+    }
+
+    /// Gives up the pieces that end at or before a position. Their vectors go back to the reader's thread where it has room for them.
+    pub fn give_up(&mut self, position: u64)
+        ensures { self.new ≡ record self.old {
+          window = record self.old.window {
+            held = filter (λ piece. nat_lt position (stop_of piece)) self.old.window.held;
+          };
+          emptied = self.new.emptied;
+        } }
+    {
+        while let Some(piece) = self.window.take_ended(position) {
+            // A vector for which there is no room is dropped.
+            let _ = self.emptied.push(piece.bytes);
+        }
     }
 
     /// Whether a message may be taken.

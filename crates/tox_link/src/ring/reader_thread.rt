@@ -7,7 +7,7 @@ ghost use Rattle.tox_link.specs.declared.ring.message.Message.{Message as OneMes
 use crate::ring::message::{ReadEnd, Receiver, Sender};
 use crate::ring::parking::Parkers;
 use crate::ring::reading::{Reading, read_all};
-use std::alloc::Global;
+use crate::ring::vectors::Vectors;
 use std::snapshot::Snapshot;
 use std::sync::{Arc, Wait};
 use std::thread;
@@ -37,7 +37,7 @@ pub fn start_reader<
     G: Gate + Send + Drop + 'static,
 >(
     rt: &R,
-    alloc: Global,
+    vectors: Vectors,
     reader: S,
     sender: Sender,
     reads: u64,
@@ -62,7 +62,7 @@ pub fn start_reader<
             requires { (S.failed reader ≡ false) × (sent sender ≡ []) }
             ensures { SameProducer sender result.sender
                 × ReadsFrom (S.remaining reader) reads (sent result.sender) result.end (S.remaining result.reader) (S.failed result.reader) }
-        { read_all(&rt_there, alloc, reader, sender, reads, &parkers, &*gate) },
+        { read_all(&rt_there, vectors, reader, sender, reads, &parkers, &*gate) },
     )
     .ok()
 }

@@ -6,8 +6,8 @@ ghost use Rattle.tox_link.specs.declared.ring.message.ReadEnd.TheVariants.{Reads
 
 use crate::ring::message::{Message, ReadEnd, Sender};
 use crate::ring::parking::Parkers;
+use crate::ring::vectors::Vectors;
 use rtrb::PushError;
-use std::alloc::Global;
 use std::sync::Wait;
 use tox_time::{Gate, MAX_BYTES, Source, pause};
 
@@ -46,7 +46,7 @@ fn send<R: Wait>(rt: &R, parkers: &Parkers, sender: &mut Sender, message: Messag
 /// Reads at most `reads` times, and sends what each read gave. Returns why it ended.
 fn read_pieces<R: Wait, S: Source, G: Gate>(
     rt: &R,
-    alloc: Global,
+    vectors: &mut Vectors,
     reader: &mut S,
     sender: &mut Sender,
     reads: u64,
@@ -76,7 +76,7 @@ fn read_pieces<R: Wait, S: Source, G: Gate>(
             return ReadEnd::TooManyBytes;
         }
         total += count as u64;
-        let Ok(piece) = Vec::from_slice(alloc, &buffer[..count]) else {
+        let Ok(piece) = vectors.with_bytes(&buffer[..count]) else {
             return ReadEnd::OutOfMemory;
         };
         send(rt, parkers, sender, Message::Piece(piece));
@@ -87,7 +87,7 @@ fn read_pieces<R: Wait, S: Source, G: Gate>(
 /// Reads, sends each piece and then the end, and hands the reader back.
 pub fn read_all<R: Wait, S: Source, G: Gate>(
     rt: &R,
-    alloc: Global,
+    vectors: Vectors,
     reader: S,
     sender: Sender,
     reads: u64,
@@ -99,9 +99,18 @@ pub fn read_all<R: Wait, S: Source, G: Gate>(
     ensures ring { SameProducer sender result.sender }
     ensures reads { ReadsFrom (S.remaining reader) reads (sent result.sender) result.end (S.remaining result.reader) (S.failed result.reader) }
 {
+    let mut vectors = vectors;
     let mut reader = reader;
     let mut sender = sender;
-    let end = read_pieces(rt, alloc, &mut reader, &mut sender, reads, parkers, gate);
+    let end = read_pieces(
+        rt,
+        &mut vectors,
+        &mut reader,
+        &mut sender,
+        reads,
+        parkers,
+        gate,
+    );
     send(rt, parkers, &mut sender, Message::End(end));
     Reading {
         reader,

@@ -4,7 +4,7 @@ use Rattle.std.specs.Prelude.{All, filter, nat_lt}
 use Rattle.std.proofs.lemmas.Bool.{ltb-true}
 use Rattle.std.proofs.lemmas.List.Elements.{All-weaker, filter_passes}
 use Rattle.tox_lend.specs.Run.{Run, stop_of}
-use Rattle.tox_lend.specs.Window.{Pieces}
+use Rattle.tox_link.specs.declared.carrying.writer_side.WriterSide.{WriterSide}
 use Rattle.tox_link.proofs.SideLemmas.{sound-wrote}
 use Rattle.tox_link.proofs.carrying.driving.write_next.Goals as goal
 
@@ -14,7 +14,7 @@ overflow_add-side g c =
     omega (arith, due.sound.written, due.takes.starts, due.takes.within.some, c.in-Err.ensures.few)
 
 pub returns-clause-ok : goal.returns-clause-ok
-returns-clause-ok g c = sound-wrote c.args.side.now c.drop_before.new.self c.args.slice.now c.requires.due c.drop_before.ensures
+returns-clause-ok g c = sound-wrote c.args.side.now c.give_up.new.self c.args.slice.now c.requires.due c.give_up.ensures
 
 -- the pieces that stop past a position
 still-held : (position : ℕ) (pieces : List Run) → All (λ piece. position < stop_of piece) (filter (λ piece. nat_lt position (stop_of piece)) pieces)
@@ -25,4 +25,4 @@ still-held position pieces =
 pub returns-clause-dropped : goal.returns-clause-dropped
 returns-clause-dropped g c =
     let stop = c.args.slice.now.span.stop in
-    subst (λ (window : Pieces). All (λ piece. stop < stop_of piece) window.held) (sym c.drop_before.ensures) (still-held stop c.args.side.now.window.held)
+    subst (λ (side : WriterSide). All (λ piece. side.written < stop_of piece) side.window.held) (sym c.give_up.ensures) (still-held stop c.args.side.now.window.held)

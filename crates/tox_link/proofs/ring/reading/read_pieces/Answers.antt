@@ -15,15 +15,15 @@ returns-then-count-total-clause-bytes g c =
     let more : 2 ^ 40 < length (bytes ++ given) = omega (arith, both, long, c.if-count-total.true, c.loop-nth.invariant.total) in
     (given, prepend_more _ _ _ _ _ c.loop-nth.invariant.bytes c.in-Ok.ensures.bytes, more)
 
-pub returns-in_default-from_slice-clause-bytes : goal.returns-in_default-from_slice-clause-bytes
-returns-in_default-from_slice-clause-bytes g c = (take c.in-Ok.count c.read-answer.new.buffer, prepend_more _ _ _ _ _ c.loop-nth.invariant.bytes c.in-Ok.ensures.bytes, tt)
+pub returns-in_default-with_bytes-clause-bytes : goal.returns-in_default-with_bytes-clause-bytes
+returns-in_default-with_bytes-clause-bytes g c = (take c.in-Ok.count c.read-answer.new.buffer, prepend_more _ _ _ _ _ c.loop-nth.invariant.bytes c.in-Ok.ensures.bytes, tt)
 
 pub loop-nth-preserved : goal.loop-nth-preserved
 loop-nth-preserved g c =
     let count = c.in-Ok.count in
     let given = take count c.read-answer.new.buffer in
-    let piece = c.in-Ok-from_slice.piece in
-    let one : bytes_of (Piece piece ∷ []) ≡ given = append-nil piece.items ∙ c.in-Ok-from_slice.ensures.items in
+    let piece = c.in-Ok-with_bytes.piece in
+    let one : bytes_of (Piece piece ∷ []) ≡ given = append-nil piece.items ∙ c.in-Ok-with_bytes.ensures in
     let bytes : bytes_of (sent c.send.new.sender) ≡ bytes_of (sent c.loop-nth.sender) ++ given
     = sent_more (sent c.loop-nth.sender) (sent c.send.new.sender) (Piece piece) given c.send.ensures.sent one in
     let long : length given ≡ count = length-take-le count c.read-answer.new.buffer c.in-Ok.ensures.count in
