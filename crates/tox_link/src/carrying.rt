@@ -1,18 +1,13 @@
 //! One direction of a live link, from its reader's thread to its writer.
-ghost use Rattle.std.specs.Prelude.{◌≡◌, ℕ, List, [], length, false, IfOk, IfErr, IfSome, OnOk, Err};
+ghost use Rattle.std.specs.Prelude.{◌≡◌, ℕ, List, [], false, IfOk, IfErr, MatchResult, Err};
 ghost use Rattle.rtrb.specs.Ring.{sent, IsPair};
 ghost use Rattle.tox_time.specs.declared.streams.item.Item.{Item as OneItem};
 ghost use Rattle.tox_time.specs.streams.Stream.{IsStream};
 ghost use Rattle.tox_compile.specs.Meaning.{means};
 ghost use Rattle.tox_link.specs.declared.link_fault.LinkFault.TheVariants.{SpawnRefused};
-ghost use Rattle.tox_link.specs.declared.ring.message.Message.{Message as OneMessage};
-ghost use Rattle.tox_link.specs.declared.notes.LinkEvent.{LinkEvent as OneEvent};
 ghost use Rattle.tox_link.specs.link_core.Core.{remaining_output};
-ghost use Rattle.tox_link.specs.log.Events.{with_events};
-ghost use Rattle.tox_link.specs.Hangups.{HangsUp, BreaksOff};
-ghost use Rattle.tox_link.specs.log.Logged.{IsCutOff};
-ghost use Rattle.tox_link.specs.ring.Messages.{AreFirstOf, HandsOn, EndsFor};
-ghost use Rattle.tox_link.specs.Reports.{Reports, WritesFirst, is_write_fault, written_before};
+ghost use Rattle.tox_link.specs.Reports.{is_write_fault, written_before};
+ghost use Rattle.tox_link.specs.carrying.Results.{BreaksAt, Carries};
 ghost use Rattle.tox_link.specs.carrying.Side.{IsFresh};
 ghost use Rattle.tox_link.specs.Sources.{read_end_of};
 
@@ -112,35 +107,38 @@ pub fn carry<
 ) -> Result<LinkReport<S>, LinkFault>
     requires reader { S.failed reader ≡ false }
     requires writer { W.failed ends.old.writer ≡ false }
-    ensures log { IfOk result (λ report. (log : List OneEvent)
-        × (N.events notes.new ≡ with_events (N.events notes.old) log)
-        × Reports (means plan words.now) (C.told clock.now) log
+    ensures carried { IfOk result (λ report.
+        Carries (means plan words.now) (C.told clock.now) reads
+        (record { remaining = S.remaining reader; failed = S.failed reader })
+        (record { remaining = S.remaining report.reader; failed = S.failed report.reader })
+        (record {
+          written = W.written ends.old.writer;
+          events = N.events notes.old;
+          calls = H.calls ends.old.hangup;
+        })
+        (record {
+          written = W.written ends.new.writer;
+          events = N.events notes.new;
+          calls = H.calls ends.new.hangup;
+        })
         report.taken report.written report.ending (read_end_of report.source)) }
-    ensures bytes { IfOk result (λ report. (bytes : List ℕ)
-        × WritesFirst (S.remaining reader) (W.written ends.old.writer) (W.written ends.new.writer)
-        bytes report.written
-        × (length bytes ≡ report.taken)
-        × IfSome (read_end_of report.source) (λ end.
-        HandsOn (S.remaining reader) bytes end (S.remaining report.reader)
-        × EndsFor end reads (length bytes) (S.remaining report.reader) (S.failed report.reader))) }
-    ensures working { OnOk result (W.failed ends.new.writer ≡ false) }
-    ensures broken { IfErr result (λ fault. (log : List OneEvent)
-        × (N.events notes.new ≡ with_events (N.events notes.old) log)
-        × IsCutOff (means plan words.now) (C.told clock.now) (written_before fault) log) }
-    ensures broken_bytes { IfErr result (λ fault. (bytes : List ℕ)
-        × WritesFirst (S.remaining reader) (W.written ends.old.writer) (W.written ends.new.writer)
-        bytes (written_before fault)) }
-    ensures cause { IfErr result (λ fault. W.failed ends.new.writer ≡ is_write_fault fault) }
+    ensures broken { IfErr result
+        (BreaksAt (means plan words.now) (C.told clock.now)
+        (record { remaining = S.remaining reader; failed = S.failed reader })
+        (record {
+          written = W.written ends.old.writer;
+          events = N.events notes.old;
+          calls = H.calls ends.old.hangup;
+        })
+        (record {
+          written = W.written ends.new.writer;
+          events = N.events notes.new;
+          calls = H.calls ends.new.hangup;
+        })) }
+    ensures failed { MatchResult result (λ _. W.failed ends.new.writer ≡ false)
+        (λ fault. W.failed ends.new.writer ≡ is_write_fault fault) }
     ensures unstarted { (n : ℕ) → result ≡ Err (SpawnRefused n)
         → (ends.new ≡ ends.old) × (notes.new ≡ notes.old) }
-    ensures hangs_up { IfOk result (λ report.
-        (taken : List OneMessage)
-        × AreFirstOf (S.remaining reader) reads taken (S.remaining report.reader) (S.failed report.reader)
-        × HangsUp (H.calls ends.old.hangup) (H.calls ends.new.hangup) taken
-        report.ending (read_end_of report.source)) }
-    ensures breaks_off { IfErr result (λ fault. (log : List OneEvent)
-        × (N.events notes.new ≡ with_events (N.events notes.old) log)
-        × BreaksOff (C.told clock.now) log (H.calls ends.old.hangup) (H.calls ends.new.hangup) fault) }
 {
     let (mut side, thread) = start(rt, alloc, reader, plan, words, reads, gate)?;
     let driven = drive(rt, &mut side, clock, notes, &mut ends.writer, &**gate);

@@ -16,106 +16,78 @@ use Rattle.tox_link.proofs.carrying.carry.Goals as goal
 pub returns-in_err-side-clause-broken : goal.returns-in_err-side-clause-broken
 returns-in_err-side-clause-broken g c =
     let p = err_from_is_err_and c.from_residual.result c.from_residual.ensures.1 in
-    rw (p.1, p.2) ([], events-none (g.N.Notes.events c.args.notes.now), cut-nothing (means c.args.plan c.args.words.now) (g.C.Clock.told c.args.clock.now) _ c.in_err-side.ensures.err)
+    rw (p.1, p.2) (record {
+      log = [];
+      noted = events-none (g.N.Notes.events c.args.notes.now);
+      cut_off = cut-nothing (means c.args.plan c.args.words.now) (g.C.Clock.told c.args.clock.now) _ c.in_err-side.ensures.err;
+      bytes = [];
+      wrote = writes-nothing (g.S.Source.remaining c.args.reader) (g.W.Sink.written c.args.ends.now.writer) _ c.in_err-side.ensures.err;
+      reset = broke-unstarted (g.C.Clock.told c.args.clock.now) (g.H.Hangup.calls c.args.ends.now.hangup) _ c.in_err-side.ensures.err c.in_err-side.ensures.cause;
+    })
 
-pub returns-in_err-side-clause-broken_bytes : goal.returns-in_err-side-clause-broken_bytes
-returns-in_err-side-clause-broken_bytes g c =
-    let p = err_from_is_err_and c.from_residual.result c.from_residual.ensures.1 in
-    rw (p.1, p.2) ([], writes-nothing (g.S.Source.remaining c.args.reader) (g.W.Sink.written c.args.ends.now.writer) _ c.in_err-side.ensures.err)
-
-pub returns-in_err-side-clause-breaks_off : goal.returns-in_err-side-clause-breaks_off
-returns-in_err-side-clause-breaks_off g c =
-    let p = err_from_is_err_and c.from_residual.result c.from_residual.ensures.1 in
-    rw (p.1, p.2) ([], events-none (g.N.Notes.events c.args.notes.now), broke-unstarted (g.C.Clock.told c.args.clock.now) (g.H.Hangup.calls c.args.ends.now.hangup) _ c.in_err-side.ensures.err c.in_err-side.ensures.cause)
-
-pub returns-in-Ok-clause-hangs_up : goal.returns-in-Ok-clause-hangs_up
-returns-in-Ok-clause-hangs_up g c =
-    let side = c.drive-driven.new.side in
-    let messages = received side.inbox.receiver in
-    let joined = c.join_reader-reader in
-    let more = c.drain.ensures.received in
-    let left = joined.ensures.sent in
-    let after = g.S.Source.remaining joined.result.0 in
-    let failed = g.S.Source.failed joined.result.0 in
-    let sent : ReadsFrom (g.S.Source.remaining c.args.reader) c.args.reads (received joined.new.receiver ++ left.0) joined.result.1 after failed
-    = reads-same _ _ _ _ _ _ _ _ (ap g.S.Source.remaining c.in_ok-side.ensures.reads.0) c.in_ok-side.ensures.reads.1 left.1 in (
-      messages,
-      first-of messages (received joined.new.receiver) more.0 left.0 (g.S.Source.remaining c.args.reader) after c.args.reads joined.result.1 failed (joined.ensures.received ∙ more.1) sent,
-      hung-up _ _ side messages c.in-Ok.ending (rw c.in-Ok.is at c.hang_up.ensures.ok) (rw c.in-Ok.is at c.drive-driven.ensures.ended).stays_open (rw c.in-Ok.is at c.drive-driven.ensures.ok),
-    )
-
-pub returns-clause-breaks_off : goal.returns-clause-breaks_off
-returns-clause-breaks_off g c =
-    let err = rw c.in-Err.is at c.drive-driven.ensures.err in
-    (err.1, err.2, inr (c.drive-driven.new.side.core.latest, rw c.in-Err.is at c.hang_up.ensures.err, err.4))
-
-pub returns-in-Ok-clause-log : goal.returns-in-Ok-clause-log
-returns-in-Ok-clause-log g c =
+pub returns-in-Ok-clause-carried : goal.returns-in-Ok-clause-carried
+returns-in-Ok-clause-carried g c =
     let told = g.C.Clock.told c.args.clock.now in
     let plan = means c.args.plan c.args.words.now in
+    let given = g.S.Source.remaining c.args.reader in
     let side = c.drive-driven.new.side in
+    let messages = received side.inbox.receiver in
     let logs = rw c.in-Ok.is at c.drive-driven.ensures.log in
     let over = rw c.in-Ok.is at c.drive-driven.ensures.ended in
     let sound = rw c.in-Ok.is at c.drive-driven.ensures.ok in
-    let logged = logs.2 plan (logged-fresh plan told c.in_ok-side.side c.in_ok-side.ensures.fresh c.in_ok-side.ensures.meaning) in (
-      logs.0,
-      logs.1,
-      (
-        side.core.latest,
-        link-reports plan told side.core side.ended logs.0 c.in-Ok.ending (read_end_of side.source) c.stop.result side.written logged.carried logged.closed over sound.written (c.stop.ensures.value ∙ sound.stop),
-      ),
-    )
-
-pub returns-in-Ok-clause-bytes : goal.returns-in-Ok-clause-bytes
-returns-in-Ok-clause-bytes g c =
-    let side = c.drive-driven.new.side in
-    let messages = received side.inbox.receiver in
+    let logged = logs.2 plan (logged-fresh plan told c.in_ok-side.side c.in_ok-side.ensures.fresh c.in_ok-side.ensures.meaning) in
     let joined = c.join_reader-reader in
     let later = received joined.new.receiver in
     let more = c.drain.ensures.received in
     let grown = joined.ensures.received ∙ more.1 in
     let left = joined.ensures.sent in
-    let sound = rw c.in-Ok.is at c.drive-driven.ensures.ok in
     let after = g.S.Source.remaining joined.result.0 in
     let failed = g.S.Source.failed joined.result.0 in
-    let sent : ReadsFrom (g.S.Source.remaining c.args.reader) c.args.reads (later ++ left.0) joined.result.1 after failed
+    let sent : ReadsFrom given c.args.reads (later ++ left.0) joined.result.1 after failed
     = reads-same _ _ _ _ _ _ _ _ (ap g.S.Source.remaining c.in_ok-side.ensures.reads.0) c.in_ok-side.ensures.reads.1 left.1 in
-    let first = first-bytes messages later more.0 left.0 (g.S.Source.remaining c.args.reader) after c.args.reads joined.result.1 failed grown sent in (
-      take side.core.bytes (came side),
-      writes-first (g.S.Source.remaining c.args.reader) (g.W.Sink.written c.args.ends.now.writer) (g.W.Sink.written c.drive-driven.new.writer) first.0 (came side) side.core.bytes side.written (omega (arith, sound.written, sound.within)) sound.few first.1 c.drive-driven.ensures.written,
-      length-take-le side.core.bytes (came side) sound.few ∙ sym (c.stop.ensures.value ∙ sound.stop),
-      source-told side messages later more.0 left.0 (g.S.Source.remaining c.args.reader) after c.args.reads joined.result.1 failed sound grown sent,
-    )
+    let first = first-bytes messages later more.0 left.0 given after c.args.reads joined.result.1 failed grown sent in
+    record {
+      log = logs.0;
+      noted = logs.1;
+      reports = (
+        side.core.latest,
+        link-reports plan told side.core side.ended logs.0 c.in-Ok.ending (read_end_of side.source) c.stop.result side.written logged.carried logged.closed over sound.written (c.stop.ensures.value ∙ sound.stop),
+      );
+      bytes = take side.core.bytes (came side);
+      took = length-take-le side.core.bytes (came side) sound.few ∙ sym (c.stop.ensures.value ∙ sound.stop);
+      wrote = writes-first given (g.W.Sink.written c.args.ends.now.writer) (g.W.Sink.written c.drive-driven.new.writer) first.0 (came side) side.core.bytes side.written (omega (arith, sound.written, sound.within)) sound.few first.1 c.drive-driven.ensures.written;
+      source_end = source-told side messages later more.0 left.0 given after c.args.reads joined.result.1 failed sound grown sent;
+      messages = messages;
+      first = first-of messages later more.0 left.0 given after c.args.reads joined.result.1 failed grown sent;
+      hung_up = hung-up _ _ side messages c.in-Ok.ending (rw c.in-Ok.is at c.hang_up.ensures.ok) over.stays_open sound;
+    }
 
 pub returns-clause-broken : goal.returns-clause-broken
 returns-clause-broken g c =
     let told = g.C.Clock.told c.args.clock.now in
     let plan = means c.args.plan c.args.words.now in
-    let err = rw c.in-Err.is at c.drive-driven.ensures.err in (
-      err.1,
-      err.2,
-      subst (λ written. IsCutOff plan told written err.1) (sym err.0) (err.3 plan (logged-fresh plan told c.in_ok-side.side c.in_ok-side.ensures.fresh c.in_ok-side.ensures.meaning)),
-    )
-
-pub returns-clause-broken_bytes : goal.returns-clause-broken_bytes
-returns-clause-broken_bytes g c =
+    let given = g.S.Source.remaining c.args.reader in
     let side = c.drive-driven.new.side in
     let messages = received side.inbox.receiver in
     let joined = c.join_reader-reader in
     let later = received joined.new.receiver in
     let more = c.drain.ensures.received in
-    let grown = joined.ensures.received ∙ more.1 in
     let left = joined.ensures.sent in
     let after = g.S.Source.remaining joined.result.0 in
     let failed = g.S.Source.failed joined.result.0 in
-    let sent : ReadsFrom (g.S.Source.remaining c.args.reader) c.args.reads (later ++ left.0) joined.result.1 after failed
+    let sent : ReadsFrom given c.args.reads (later ++ left.0) joined.result.1 after failed
     = reads-same _ _ _ _ _ _ _ _ (ap g.S.Source.remaining c.in_ok-side.ensures.reads.0) c.in_ok-side.ensures.reads.1 left.1 in
     let err = rw c.in-Err.is at c.drive-driven.ensures.err in
-    let first = first-bytes messages later more.0 left.0 (g.S.Source.remaining c.args.reader) after c.args.reads joined.result.1 failed grown sent in (
-      came side,
-      subst (WritesFirst (g.S.Source.remaining c.args.reader) (g.W.Sink.written c.args.ends.now.writer) (g.W.Sink.written c.drive-driven.new.writer) (came side)) (sym err.0)
-          (record { left = first.0; gave = first.1; few = c.drive-driven.ensures.few; wrote = c.drive-driven.ensures.written }),
-    )
+    let first = first-bytes messages later more.0 left.0 given after c.args.reads joined.result.1 failed (joined.ensures.received ∙ more.1) sent in
+    record {
+      log = err.1;
+      noted = err.2;
+      cut_off = subst (λ written. IsCutOff plan told written err.1) (sym err.0) (err.3 plan (logged-fresh plan told c.in_ok-side.side c.in_ok-side.ensures.fresh c.in_ok-side.ensures.meaning));
+      bytes = came side;
+      wrote = subst (WritesFirst given (g.W.Sink.written c.args.ends.now.writer) (g.W.Sink.written c.drive-driven.new.writer) (came side)) (sym err.0)
+          (record { left = first.0; gave = first.1; few = c.drive-driven.ensures.few; wrote = c.drive-driven.ensures.written });
+      reset = inr (side.core.latest, rw c.in-Err.is at c.hang_up.ensures.err, err.4);
+    }
 
 pub returns-in_err-side-clause-unstarted : goal.returns-in_err-side-clause-unstarted
 returns-in_err-side-clause-unstarted g c = λ n same. (refl, refl)
