@@ -1,5 +1,5 @@
 -- What a link reports.
-use Rattle.std.specs.Prelude.{◌≡◌, ℕ, ◌≤◌, Bool, true, false, List, length, take, Option, Some, None}
+use Rattle.std.specs.Prelude.{◌≡◌, ◌≢◌, ℕ, ◌≤◌, Bool, true, false, List, length, take, Option, Some, None}
 use Rattle.std.specs.Io.KnownBytes.{append_known, prepend_known}
 use Rattle.tox_time.specs.declared.streams.item.Item.{Item}
 use Rattle.tox_time.specs.declared.streams.ending.Ending.{Ending}
@@ -24,6 +24,12 @@ abbrev pub is_write_fault : LinkFault → Bool
 is_write_fault (OutOfMemory written) = false
 is_write_fault (SpawnRefused written) = false
 is_write_fault (WriteFault written) = true
+
+-- a fault behind so many written bytes, of a link whose reader's thread was started: `WriteFault` exactly where the writer has failed
+pub record IsFaultAt (written : ℕ) (writer_failed : Bool) (fault : LinkFault) : Type 0 where
+  pub count : written_before fault ≡ written
+  pub cause : writer_failed ≡ is_write_fault fault
+  pub started : (n : ℕ) → fault ≢ SpawnRefused n
 
 -- the source's end was heard where the link learnt in time why the reading ended, and else none
 abbrev pub HeardSo : Option ReadEnd → Ending → Type 0

@@ -7,7 +7,7 @@ ghost use Rattle.tox_compile.specs.Meaning.{means};
 ghost use Rattle.tox_link.specs.declared.link_fault.LinkFault.TheVariants.{SpawnRefused};
 ghost use Rattle.tox_link.specs.link_core.Core.{remaining_output};
 ghost use Rattle.tox_link.specs.Reports.{is_write_fault, written_before};
-ghost use Rattle.tox_link.specs.carrying.Results.{BreaksAt, Carries};
+ghost use Rattle.tox_link.specs.carrying.Results.{BreaksAt, Carries, far_end, near_end};
 ghost use Rattle.tox_link.specs.carrying.Side.{IsFresh};
 ghost use Rattle.tox_link.specs.Sources.{read_end_of};
 
@@ -24,7 +24,7 @@ use crate::carrying::writer_side::WriterSide;
 use crate::clock::Clock;
 use crate::hangup::{Ends, Hangup};
 use crate::link_fault::LinkFault;
-use crate::link_report::LinkReport;
+use crate::link_report::{LinkReport, TimedReport};
 use crate::notes::Notes;
 use crate::ring::reader_thread::{ReaderThread, join_reader, start_reader};
 use std::alloc::Global;
@@ -107,34 +107,69 @@ pub fn carry<
 ) -> Result<LinkReport<S>, LinkFault>
     requires reader { S.failed reader ≡ false }
     requires writer { W.failed ends.old.writer ≡ false }
-    ensures carried { IfOk result (λ report.
+    ensures carried { IfOk result (λ report. (reading : ℕ)
+        × Carries (means plan words.now) (C.told clock.now) reads
+        (near_end (S.remaining reader) (S.failed reader))
+        (near_end (S.remaining report.reader) (S.failed report.reader))
+        (far_end (W.written ends.old.writer) (N.events notes.old) (H.calls ends.old.hangup))
+        (far_end (W.written ends.new.writer) (N.events notes.new) (H.calls ends.new.hangup))
+        report.taken report.written report.ending (read_end_of report.source) reading) }
+    ensures broken { IfErr result (BreaksAt (means plan words.now) (C.told clock.now)
+        (near_end (S.remaining reader) (S.failed reader))
+        (far_end (W.written ends.old.writer) (N.events notes.old) (H.calls ends.old.hangup))
+        (far_end (W.written ends.new.writer) (N.events notes.new) (H.calls ends.new.hangup))) }
+    ensures failed { MatchResult result (λ _. W.failed ends.new.writer ≡ false)
+        (λ fault. W.failed ends.new.writer ≡ is_write_fault fault) }
+    ensures unstarted { (n : ℕ) → result ≡ Err (SpawnRefused n)
+        → (ends.new ≡ ends.old) × (notes.new ≡ notes.old) }
+{
+    match carry_timed(
+        rt, alloc, reader, ends, clock, plan, words, reads, notes, gate,
+    ) {
+        Ok(timed) => Ok(timed.report),
+        Err(fault) => Err(fault),
+    }
+}
+
+/// Carries one direction as [`carry`] does, and tells the reading of the clock at which it ended.
+///
+/// # Errors
+///
+/// Those of [`carry`].
+pub fn carry_timed<
+    R: Threads + Wait + Copy + Send + 'static,
+    S: Source + Send + Drop + 'static,
+    W: Sink,
+    H: Hangup,
+    C: Clock,
+    N: Notes,
+    G: Gate + Send + Drop + 'static,
+>(
+    rt: &R,
+    alloc: Global,
+    reader: S,
+    ends: &mut Ends<W, H>,
+    clock: &C,
+    plan: Plan,
+    words: &Words,
+    reads: u64,
+    notes: &mut N,
+    gate: &Arc<G>,
+) -> Result<TimedReport<S>, LinkFault>
+    requires reader { S.failed reader ≡ false }
+    requires writer { W.failed ends.old.writer ≡ false }
+    ensures carried { IfOk result (λ timed.
         Carries (means plan words.now) (C.told clock.now) reads
-        (record { remaining = S.remaining reader; failed = S.failed reader })
-        (record { remaining = S.remaining report.reader; failed = S.failed report.reader })
-        (record {
-          written = W.written ends.old.writer;
-          events = N.events notes.old;
-          calls = H.calls ends.old.hangup;
-        })
-        (record {
-          written = W.written ends.new.writer;
-          events = N.events notes.new;
-          calls = H.calls ends.new.hangup;
-        })
-        report.taken report.written report.ending (read_end_of report.source)) }
-    ensures broken { IfErr result
-        (BreaksAt (means plan words.now) (C.told clock.now)
-        (record { remaining = S.remaining reader; failed = S.failed reader })
-        (record {
-          written = W.written ends.old.writer;
-          events = N.events notes.old;
-          calls = H.calls ends.old.hangup;
-        })
-        (record {
-          written = W.written ends.new.writer;
-          events = N.events notes.new;
-          calls = H.calls ends.new.hangup;
-        })) }
+        (near_end (S.remaining reader) (S.failed reader))
+        (near_end (S.remaining timed.report.reader) (S.failed timed.report.reader))
+        (far_end (W.written ends.old.writer) (N.events notes.old) (H.calls ends.old.hangup))
+        (far_end (W.written ends.new.writer) (N.events notes.new) (H.calls ends.new.hangup))
+        timed.report.taken timed.report.written timed.report.ending
+        (read_end_of timed.report.source) timed.reading) }
+    ensures broken { IfErr result (BreaksAt (means plan words.now) (C.told clock.now)
+        (near_end (S.remaining reader) (S.failed reader))
+        (far_end (W.written ends.old.writer) (N.events notes.old) (H.calls ends.old.hangup))
+        (far_end (W.written ends.new.writer) (N.events notes.new) (H.calls ends.new.hangup))) }
     ensures failed { MatchResult result (λ _. W.failed ends.new.writer ≡ false)
         (λ fault. W.failed ends.new.writer ≡ is_write_fault fault) }
     ensures unstarted { (n : ℕ) → result ≡ Err (SpawnRefused n)
@@ -147,12 +182,15 @@ pub fn carry<
     drain(rt, &mut side.inbox, ended, &**gate);
     let (reader, _) = join_reader(rt, thread, &mut side.inbox.receiver);
     match driven {
-        Ok(ending) => Ok(LinkReport {
-            taken: side.window.stop(),
-            written: side.written,
-            ending,
-            source: side.source,
-            reader,
+        Ok(ending) => Ok(TimedReport {
+            report: LinkReport {
+                taken: side.window.stop(),
+                written: side.written,
+                ending,
+                source: side.source,
+                reader,
+            },
+            reading: side.core.latest(),
         }),
         Err(fault) => Err(fault),
     }

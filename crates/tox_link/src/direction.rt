@@ -13,5 +13,5 @@ mod writing_on;
 pub use poll_ends::{PollSink, PollSource};
 pub use polled_link::PolledLink;
 pub use progress::Progress;
-pub use reporting::{TimedReport, finish};
+pub use reporting::finish;
 pub use stepping::drive;

@@ -12,14 +12,14 @@ mod notes;
 mod ring;
 mod source_ending;
 
-pub use carrying::carry;
+pub use carrying::{carry, carry_timed};
 pub use clock::Clock;
-pub use direction::{PollSink, PollSource, PolledLink, Progress, TimedReport, drive, finish};
+pub use direction::{PollSink, PollSource, PolledLink, Progress, drive, finish};
 pub use hangup::{Ends, Hangup};
 pub use link_core::LinkCore;
 pub use link_core::act::Act;
 pub use link_fault::LinkFault;
-pub use link_report::LinkReport;
+pub use link_report::{LinkReport, TimedReport};
 pub use notes::{LinkEvent, NoNotes, Notes};
 pub use ring::message::ReadEnd;
 pub use ring::reading::READ_SIZE;

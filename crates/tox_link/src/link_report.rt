@@ -1,6 +1,6 @@
 //! What a link that ended reports.
 use crate::source_ending::SourceEnding;
-use tox_time::Ending;
+use tox_time::{Ending, Micros};
 
 /// What a link that ended reports.
 #[derive(Drop)]
@@ -15,4 +15,11 @@ pub struct LinkReport<S> {
     pub source: SourceEnding,
     /// The reader.
     pub reader: S,
+}
+
+/// What a link that ended reports, and the reading of the clock at which it ended.
+#[derive(Drop)]
+pub struct TimedReport<S> {
+    pub report: LinkReport<S>,
+    pub reading: Micros,
 }

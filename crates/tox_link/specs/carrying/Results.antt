@@ -10,7 +10,7 @@ use Rattle.tox_link.specs.log.Events.{with_events}
 use Rattle.tox_link.specs.log.Logged.{IsCutOff}
 use Rattle.tox_link.specs.ring.Messages.{AreFirstOf, HandsOn, EndsFor}
 use Rattle.tox_link.specs.Hangups.{Call, HangsUp, BreaksOff}
-use Rattle.tox_link.specs.Reports.{Reports, WritesFirst, written_before}
+use Rattle.tox_link.specs.Reports.{ReportsAt, WritesFirst, written_before}
 
 -- what a link's far end tells: the bytes written, the events noted, and how it was hung up
 pub record FarEnd : Type 0 where
@@ -18,17 +18,23 @@ pub record FarEnd : Type 0 where
   pub events : Option (List LinkEvent)
   pub calls : Option (List Call)
 
+abbrev pub far_end : Option (List ℕ) → Option (List LinkEvent) → Option (List Call) → FarEnd
+far_end written events calls = record { written = written; events = events; calls = calls }
+
 -- what a reader has still to give, and whether it has failed
 pub record NearEnd : Type 0 where
   pub remaining : Option (List ℕ)
   pub failed : Bool
 
--- a link carried bytes of a reader that was read at most so many times, and ended so: its log reports that, what it wrote are the
--- first bytes that there were to give, and it was hung up once
-pub record Carries (means : List Item → List Item) (told : ℕ → Type 0) (reads : ℕ) (given left : NearEnd) (before after : FarEnd) (taken written : ℕ) (ending : Ending) (source : Option ReadEnd) : Type 0 where
+abbrev pub near_end : Option (List ℕ) → Bool → NearEnd
+near_end remaining failed = record { remaining = remaining; failed = failed }
+
+-- a link carried bytes of a reader that was read at most so many times, and ended so at a reading of the clock: its log reports that,
+-- what it wrote are the first bytes that there were to give, and it was hung up once
+pub record Carries (means : List Item → List Item) (told : ℕ → Type 0) (reads : ℕ) (given left : NearEnd) (before after : FarEnd) (taken written : ℕ) (ending : Ending) (source : Option ReadEnd) (reading : ℕ) : Type 0 where
   pub log : List LinkEvent
   pub noted : after.events ≡ with_events before.events log
-  pub reports : Reports means told log taken written ending source
+  pub reports : ReportsAt means told log taken written ending source reading
   pub bytes : List ℕ
   pub took : length bytes ≡ taken
   pub wrote : WritesFirst given.remaining before.written after.written bytes written

@@ -26,6 +26,9 @@ pub record EndsView : Type 0 where
   pub written : Option (List ℕ)
   pub events : Option (List LinkEvent)
 
+abbrev pub ends_view : Option (List ℕ) → Option (List ℕ) → Option (List LinkEvent) → EndsView
+ends_view remaining written events = record { remaining = remaining; written = written; events = events }
+
 -- a direction at a clock with these readings and a source that has so much left: the source works while it is read,
 -- and ended as the direction says, whatever number of reads was allowed
 pub record IsReady (told : ℕ → Type 0) (link : PolledLink) (left : Option (List ℕ)) (failed : Bool) : Type 0 where

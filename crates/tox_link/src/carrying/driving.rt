@@ -1,15 +1,14 @@
 //! The writer's side at work: takes from the ring and does what the core says, until the link ends.
-ghost use Rattle.std.specs.Prelude.{◌≡◌, ◌≢◌, ℕ, ◌<◌, ◌≤◌, ◌⊎◌, List, [], ◌∷◌, Option, All, length, take, false, IfOk, IfErr, IfSome, OnOk, OnErr};
+ghost use Rattle.std.specs.Prelude.{◌≡◌, ℕ, ◌<◌, ◌≤◌, ◌⊎◌, List, [], ◌∷◌, Option, All, length, take, false, IfOk, IfErr, IfSome, OnOk, OnErr};
 ghost use Rattle.std.specs.Io.KnownBytes.{append_known};
 ghost use Rattle.rtrb.specs.Ring.{received, SameConsumer};
 ghost use Rattle.tox_lend.specs.Run.{stop_of};
-ghost use Rattle.tox_link.specs.declared.link_fault.LinkFault.TheVariants.{SpawnRefused};
 ghost use Rattle.tox_link.specs.declared.notes.LinkEvent.{LinkEvent as OneEvent};
 ghost use Rattle.tox_link.specs.log.Carried.{ReadsOn};
 ghost use Rattle.tox_link.specs.log.Events.{with_events};
 ghost use Rattle.tox_link.specs.Hangups.{IsResetAt};
 ghost use Rattle.tox_link.specs.log.Logged.{KeepsLogged, LogsFrom, CutsOff, CutsOffFrom, HasEnded};
-ghost use Rattle.tox_link.specs.Reports.{is_write_fault, written_before};
+ghost use Rattle.tox_link.specs.Reports.{IsFaultAt};
 ghost use Rattle.tox_link.specs.carrying.Side.{IsFresh, IsSound, GivesSlice, came};
 
 use crate::carrying::steps::decide;
@@ -39,15 +38,12 @@ fn write_next<N: Notes, W: Sink>(
         → W.written writer.old ≡ append_known base (take side.old.written (came side.old))
         → W.written writer.new ≡ append_known base (take side.new.written (came side.new)) }
     ensures few { side.new.written ≤ slice.now.span.stop }
-    ensures dropped { OnOk result
-        (All (λ piece. side.new.written < stop_of piece) side.new.window.held) }
-    ensures ok { OnOk result (IsSound side.new (received side.new.inbox.receiver)) }
-    ensures working { OnOk result (W.failed writer.new ≡ false) }
-    ensures noted { OnOk result (N.events notes.new
-        ≡ with_events (N.events notes.old) (OneEvent.Wrote slice.now now.now ∷ [])) }
-    ensures err { IfErr result (λ fault. written_before fault ≡ side.new.written) }
-    ensures cause { IfErr result (λ fault. W.failed writer.new ≡ is_write_fault fault) }
-    ensures started { IfErr result (λ fault. (n : ℕ) → fault ≢ SpawnRefused n) }
+    ensures ok { OnOk result (IsSound side.new (received side.new.inbox.receiver)
+        × (W.failed writer.new ≡ false)
+        × All (λ piece. side.new.written < stop_of piece) side.new.window.held
+        × (N.events notes.new
+        ≡ with_events (N.events notes.old) (OneEvent.Wrote slice.now now.now ∷ []))) }
+    ensures fault { IfErr result (IsFaultAt side.new.written (W.failed writer.new)) }
     ensures unnoted { OnErr result (N.events notes.new ≡ N.events notes.old) }
 {
     let stop = slice.span.stop;
@@ -81,20 +77,16 @@ fn act<R: Wait, C: Clock, N: Notes, W: Sink>(
         → W.written writer.old ≡ append_known base (take side.old.written (came side.old))
         → W.written writer.new ≡ append_known base (take side.new.written (came side.new)) }
     ensures few { side.new.written ≤ length (came side.new) }
-    ensures ok { OnOk result (IsSound side.new (received side.new.inbox.receiver)) }
-    ensures working { OnOk result (W.failed writer.new ≡ false) }
-    ensures ended { IfOk result (λ ending.
-        IfSome ending (HasEnded (C.told clock.now) side.new.core side.new.ended)) }
+    ensures ok { IfOk result (λ ending. IsSound side.new (received side.new.inbox.receiver)
+        × (W.failed writer.new ≡ false)
+        × IfSome ending (HasEnded (C.told clock.now) side.new.core side.new.ended)) }
     ensures log { OnOk result ((more : List OneEvent)
         × (N.events notes.new ≡ with_events (N.events notes.old) more)
         × KeepsLogged (C.told clock.now) side.old more side.new) }
-    ensures err { IfErr result (λ fault. (written_before fault ≡ side.new.written)
-        × CutsOff (C.told clock.now) side.old side.new.written) }
-    ensures reads { OnErr result
-        (ReadsOn (C.told clock.now) side.old.core.latest side.new.core.latest) }
-    ensures cause { IfErr result (λ fault. W.failed writer.new ≡ is_write_fault fault) }
-    ensures started { IfErr result (λ fault. (n : ℕ) → fault ≢ SpawnRefused n) }
-    ensures unnoted { OnErr result (N.events notes.new ≡ N.events notes.old) }
+    ensures broken { IfErr result (λ fault. IsFaultAt side.new.written (W.failed writer.new) fault
+        × CutsOff (C.told clock.now) side.old side.new.written
+        × ReadsOn (C.told clock.now) side.old.core.latest side.new.core.latest
+        × (N.events notes.new ≡ N.events notes.old)) }
 {
     let (act, now) = decide(&mut side.core, clock);
     match act {
@@ -133,19 +125,17 @@ pub(crate) fn drive<R: Wait, C: Clock, N: Notes, W: Sink, G: Gate>(
     ensures written { W.written writer.new
         ≡ append_known (W.written writer.old) (take side.new.written (came side.new)) }
     ensures few { side.new.written ≤ length (came side.new) }
-    ensures ok { OnOk result (IsSound side.new (received side.new.inbox.receiver)) }
-    ensures working { OnOk result (W.failed writer.new ≡ false) }
-    ensures ended { IfOk result (HasEnded (C.told clock.now) side.new.core side.new.ended) }
+    ensures ok { IfOk result (λ ending. IsSound side.new (received side.new.inbox.receiver)
+        × (W.failed writer.new ≡ false)
+        × HasEnded (C.told clock.now) side.new.core side.new.ended ending) }
     ensures log { OnOk result ((log : List OneEvent)
         × (N.events notes.new ≡ with_events (N.events notes.old) log)
         × LogsFrom (C.told clock.now) side.old log side.new) }
-    ensures err { IfErr result (λ fault. (written_before fault ≡ side.new.written)
+    ensures broken { IfErr result (λ fault. IsFaultAt side.new.written (W.failed writer.new) fault
         × (log : List OneEvent)
         × (N.events notes.new ≡ with_events (N.events notes.old) log)
         × CutsOffFrom (C.told clock.now) side.old log side.new.written
         × IsResetAt (C.told clock.now) log side.new.core.latest) }
-    ensures cause { IfErr result (λ fault. W.failed writer.new ≡ is_write_fault fault) }
-    ensures started { IfErr result (λ fault. (n : ℕ) → fault ≢ SpawnRefused n) }
 {
     for _ in rt.forever() {
         let Ok(took) = take_message(side, clock, notes, gate) else {

@@ -88,8 +88,8 @@ pub(crate) fn take_message<C: Clock, N: Notes, G: Gate>(
 ) -> Result<bool, AllocError>
     requires sound { IsSound side.old (received side.old.inbox.receiver) }
     requires read { (side.old.core.latest ≡ 0) ⊎ C.told clock.now side.old.core.latest }
-    ensures ring { SameConsumer side.old.inbox.receiver side.new.inbox.receiver }
-    ensures same { side.new.written ≡ side.old.written }
+    ensures same { SameConsumer side.old.inbox.receiver side.new.inbox.receiver
+        × (side.new.written ≡ side.old.written) }
     ensures took { IfOk result (λ took. MatchBool took
         ((message : OneMessage)
         × (received side.new.inbox.receiver ≡ received side.old.inbox.receiver ++ message ∷ []))
@@ -99,9 +99,8 @@ pub(crate) fn take_message<C: Clock, N: Notes, G: Gate>(
     ensures log { OnOk result ((more : List OneEvent)
         × (N.events notes.new ≡ with_events (N.events notes.old) more)
         × KeepsLogged (C.told clock.now) side.old more side.new) }
-    ensures reads { OnErr result
-        (ReadsOn (C.told clock.now) side.old.core.latest side.new.core.latest) }
-    ensures err { OnErr result (N.events notes.new ≡ N.events notes.old) }
+    ensures err { OnErr result (ReadsOn (C.told clock.now) side.old.core.latest side.new.core.latest
+        × (N.events notes.new ≡ N.events notes.old)) }
 {
     if !side.may_take() {
         return Ok(false);

@@ -1,7 +1,7 @@
 //! Asking the core, where no slice is being written.
 ghost use Rattle.std.specs.Prelude.{◌≡◌, ℕ, ◌≤◌, ◌⊎◌, List, None, Option};
 ghost use Rattle.tox_link.specs.declared.notes.LinkEvent.{LinkEvent as OneEvent};
-ghost use Rattle.tox_link.specs.direction.Driven.{Drove, begun_by, steps_of_act};
+ghost use Rattle.tox_link.specs.direction.Driven.{Drove, begun_by, steps_of_act, ends_view};
 ghost use Rattle.tox_link.specs.direction.Follows.{IsHeld};
 ghost use Rattle.tox_link.specs.link_core.Acts.{Answered};
 
@@ -26,8 +26,8 @@ pub(crate) fn ask<C: Clock>(link: &mut PolledLink, clock: &C) -> Act
     } }
     ensures drove { (left written : Option (List ℕ)) (events : Option (List OneEvent))
         → Drove (steps_of_act result) (C.told clock.now)
-        link.old (record { remaining = left; written = written; events = events })
-        link.new (record { remaining = left; written = written; events = events }) }
+        link.old (ends_view left written events)
+        link.new (ends_view left written events) }
 {
     let (act, reading) = decide(&mut link.core, clock);
     if let Act::Write(slice) = &act {

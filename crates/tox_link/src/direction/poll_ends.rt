@@ -28,8 +28,8 @@ pub trait PollSource {
             (λ n. n ≡ 0 → 0 < length buffer.new → IsAtEnd (remaining self.new))) }
         ensures waits { IfOk result (λ got. IfNone got (waits self.new ≡ true)) }
         ensures working { OnOk result (failed self.new ≡ false) }
-        ensures fault { OnErr result (failed self.new ≡ true) }
-        ensures kept { OnErr result (remaining self.new ≡ remaining self.old) };
+        ensures fault { OnErr result ((failed self.new ≡ true)
+            × (remaining self.new ≡ remaining self.old)) };
 }
 
 /// A writer that answers None where it would wait. It may be called only while it has not failed.

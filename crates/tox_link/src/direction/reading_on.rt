@@ -3,7 +3,7 @@ ghost use Rattle.std.specs.Prelude.{◌≡◌, ℕ, ◌+◌, ◌<◌, ◌≤◌,
 ghost use Rattle.std.specs.Io.KnownBytes.{prepend_known};
 ghost use Rattle.tox_link.specs.declared.source_ending.SourceEnding.TheVariants.{TooManyBytes as AtLimit};
 ghost use Rattle.tox_link.specs.carrying.Held.{MayTake};
-ghost use Rattle.tox_link.specs.direction.Driven.{Drove};
+ghost use Rattle.tox_link.specs.direction.Driven.{Drove, ends_view};
 ghost use Rattle.tox_link.specs.direction.Follows.{IsHeld, AreLeftOver};
 ghost use Rattle.tox_link.specs.link_core.Core.{core_ending};
 ghost use Rattle.tox_link.specs.log.Carried.{ReadsOn};
@@ -38,12 +38,8 @@ fn keep_bytes<C: Clock, N: Notes>(
         × (link.new.written ≡ link.old.written) }
     ensures ok { OnOk result (link.new.ended ≡ false) }
     ensures drove { (left written : Option (List ℕ)) → Drove 1 (C.told clock.now)
-        link.old (record {
-          remaining = prepend_known bytes.items left;
-          written = written;
-          events = N.events notes.old;
-        })
-        link.new (record { remaining = left; written = written; events = N.events notes.new }) }
+        link.old (ends_view (prepend_known bytes.items left) written (N.events notes.old))
+        link.new (ends_view left written (N.events notes.new)) }
 {
     let Ok(()) = take_piece(&mut link.core, &mut link.window, clock, notes, bytes) else {
         link.ended = true;
@@ -72,12 +68,8 @@ pub(crate) fn end_source<C: Clock, N: Notes>(
     ensures source { (link.new.source ≡ source) ⊎ (link.new.source ≡ link.old.source) }
     ensures drove { (bytes : List ℕ) (left written : Option (List ℕ))
         → AreLeftOver link.old source bytes → Drove 1 (C.told clock.now)
-        link.old (record {
-          remaining = prepend_known bytes left;
-          written = written;
-          events = N.events notes.old;
-        })
-        link.new (record { remaining = left; written = written; events = N.events notes.new }) }
+        link.old (ends_view (prepend_known bytes left) written (N.events notes.old))
+        link.new (ends_view left written (N.events notes.new)) }
 {
     link.ended = true;
     let None = link.core.ending() else {
@@ -109,12 +101,8 @@ pub(crate) fn keep_read<C: Clock, N: Notes>(
     ensures source { (link.new.source ≡ link.old.source)
         ⊎ ((link.new.source ≡ AtLimit) × (link.new.ended ≡ true)) }
     ensures drove { (left written : Option (List ℕ)) → Drove 1 (C.told clock.now)
-        link.old (record {
-          remaining = prepend_known bytes.now left;
-          written = written;
-          events = N.events notes.old;
-        })
-        link.new (record { remaining = left; written = written; events = N.events notes.new }) }
+        link.old (ends_view (prepend_known bytes.now left) written (N.events notes.old))
+        link.new (ends_view left written (N.events notes.new)) }
 {
     if link.core.ending().is_some() {
         return Ok(());

@@ -1,7 +1,7 @@
 //! Reading once, where the core waits.
 ghost use Rattle.std.specs.Prelude.{◌≡◌, ℕ, List, false, true, None, Option, IfOk};
 ghost use Rattle.tox_link.specs.carrying.Held.{MayTake};
-ghost use Rattle.tox_link.specs.direction.Driven.{Drove, IsReady, steps_of_move};
+ghost use Rattle.tox_link.specs.direction.Driven.{Drove, IsReady, steps_of_move, ends_view};
 
 use crate::clock::Clock;
 use crate::direction::poll_ends::PollSource;
@@ -32,16 +32,8 @@ pub(crate) fn read_once<C: Clock, N: Notes, S: PollSource>(
     ensures waits { IfOk result (λ moved. moved ≡ false
         → (link.new ≡ link.old) × (S.waits source.new ≡ true)) }
     ensures drove { (written : Option (List ℕ)) → Drove (steps_of_move result) (C.told clock.now)
-        link.old (record {
-          remaining = S.remaining source.old;
-          written = written;
-          events = N.events notes.old;
-        })
-        link.new (record {
-          remaining = S.remaining source.new;
-          written = written;
-          events = N.events notes.new;
-        }) }
+        link.old (ends_view (S.remaining source.old) written (N.events notes.old))
+        link.new (ends_view (S.remaining source.new) written (N.events notes.new)) }
 {
     let Ok(got) = source.poll_read(scratch) else {
         end_source(link, clock, notes, SourceEnding::ReadFault)?;

@@ -10,15 +10,8 @@ ghost use Rattle.tox_link.specs.Sources.{read_end_of};
 use crate::clock::Clock;
 use crate::direction::polled_link::PolledLink;
 use crate::link_fault::LinkFault;
-use crate::link_report::LinkReport;
-use tox_time::{Ending, Micros};
-
-/// What a direction that ended reports, and the reading of the clock at which it ended.
-#[derive(Drop)]
-pub struct TimedReport<S> {
-    pub report: LinkReport<S>,
-    pub reading: Micros,
-}
+use crate::link_report::{LinkReport, TimedReport};
+use tox_time::Ending;
 
 /// What a direction reports that was driven until it ended, or broke off by a fault.
 pub fn finish<C: Clock, S: Drop>(

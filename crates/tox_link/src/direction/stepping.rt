@@ -1,6 +1,6 @@
 //! Driving a direction: as many steps as its ends allow.
 ghost use Rattle.std.specs.Prelude.{◌≡◌, ℕ, Bool, List, false, None, Option, IfOk, IfErr, OnOk};
-ghost use Rattle.tox_link.specs.direction.Driven.{Drove, IsReady, IsProgress, steps_of};
+ghost use Rattle.tox_link.specs.direction.Driven.{Drove, IsReady, IsProgress, steps_of, ends_view};
 ghost use Rattle.tox_link.specs.link_core.Acts.{Says, wait_act};
 ghost use Rattle.tox_link.specs.Reports.{is_write_fault, written_before};
 
@@ -45,16 +45,8 @@ pub fn drive<C: Clock, N: Notes, S: PollSource, W: PollSink>(
     ensures ready { IsReady (C.told clock.now) link.new
         (S.remaining source.new) (S.failed source.new) }
     ensures drove { Drove (steps_of 32 result) (C.told clock.now)
-        link.old (record {
-          remaining = S.remaining source.old;
-          written = W.written sink.old;
-          events = N.events notes.old;
-        })
-        link.new (record {
-          remaining = S.remaining source.new;
-          written = W.written sink.new;
-          events = N.events notes.new;
-        }) }
+        link.old (ends_view (S.remaining source.old) (W.written sink.old) (N.events notes.old))
+        link.new (ends_view (S.remaining source.new) (W.written sink.new) (N.events notes.new)) }
     ensures progress { IfOk result (IsProgress (C.told clock.now) link.new
         (S.waits source.new) (W.waits sink.new) (W.due sink.new)) }
     ensures err { IfErr result (λ fault. (written_before fault ≡ link.new.written)
@@ -88,16 +80,8 @@ fn step<C: Clock, N: Notes, S: PollSource, W: PollSink>(
     ensures ready { IsReady (C.told clock.now) link.new
         (S.remaining source.new) (S.failed source.new) }
     ensures drove { Drove (steps_of 1 result) (C.told clock.now)
-        link.old (record {
-          remaining = S.remaining source.old;
-          written = W.written sink.old;
-          events = N.events notes.old;
-        })
-        link.new (record {
-          remaining = S.remaining source.new;
-          written = W.written sink.new;
-          events = N.events notes.new;
-        }) }
+        link.old (ends_view (S.remaining source.old) (W.written sink.old) (N.events notes.old))
+        link.new (ends_view (S.remaining source.new) (W.written sink.new) (N.events notes.new)) }
     ensures progress { IfOk result (IsProgress (C.told clock.now) link.new
         (S.waits source.new) (W.waits sink.new) (W.due sink.new)) }
     ensures err { IfErr result (λ fault. (written_before fault ≡ link.new.written)
@@ -130,16 +114,8 @@ fn act<C: Clock, N: Notes, S: PollSource>(
     ensures ready { IsReady (C.told clock.now) link.new
         (S.remaining source.new) (S.failed source.new) }
     ensures drove { (written : Option (List ℕ)) → Drove (steps_of 1 result) (C.told clock.now)
-        link.old (record {
-          remaining = S.remaining source.old;
-          written = written;
-          events = N.events notes.old;
-        })
-        link.new (record {
-          remaining = S.remaining source.new;
-          written = written;
-          events = N.events notes.new;
-        }) }
+        link.old (ends_view (S.remaining source.old) written (N.events notes.old))
+        link.new (ends_view (S.remaining source.new) written (N.events notes.new)) }
     ensures progress { (sink_waits : Bool) (due : Option ℕ) → IfOk result
         (IsProgress (C.told clock.now) link.new (S.waits source.new) sink_waits due) }
     ensures err { IfErr result (λ fault. (written_before fault ≡ link.new.written)
@@ -179,16 +155,8 @@ fn read_or_wait<C: Clock, N: Notes, S: PollSource>(
     ensures ready { IsReady (C.told clock.now) link.new
         (S.remaining source.new) (S.failed source.new) }
     ensures drove { (written : Option (List ℕ)) → Drove (steps_of 1 result) (C.told clock.now)
-        link.old (record {
-          remaining = S.remaining source.old;
-          written = written;
-          events = N.events notes.old;
-        })
-        link.new (record {
-          remaining = S.remaining source.new;
-          written = written;
-          events = N.events notes.new;
-        }) }
+        link.old (ends_view (S.remaining source.old) written (N.events notes.old))
+        link.new (ends_view (S.remaining source.new) written (N.events notes.new)) }
     ensures progress { (sink_waits : Bool) (due : Option ℕ) → IfOk result
         (IsProgress (C.told clock.now) link.new (S.waits source.new) sink_waits due) }
     ensures err { IfErr result (λ fault. (written_before fault ≡ link.new.written)

@@ -26,15 +26,14 @@ fn write_part<W: PollSink>(
     requires writing { link.old.unwritten ≡ Some unwritten.now }
     requires left { link.old.written < unwritten.now.slice.span.stop }
     requires working { W.failed sink.old ≡ false }
-    ensures core { link.new.core ≡ link.old.core }
-    ensures held { IsHeld link.new }
+    ensures held { (link.new.core ≡ link.old.core) × IsHeld link.new }
     ensures wrote { WritesOn link.old (W.written sink.old) [] link.new (W.written sink.new) }
     ensures on { link.old.written + steps_of_move result ≤ link.new.written }
     ensures waits { IfOk result (λ moved. moved ≡ false
         → (link.new ≡ link.old) × (W.waits sink.new ≡ true)) }
-    ensures err { IfErr result (λ fault. fault ≡ FaultOf.WriteFault link.new.written) }
+    ensures err { IfErr result (λ fault. (fault ≡ FaultOf.WriteFault link.new.written)
+        × (W.failed sink.new ≡ true)) }
     ensures working { OnOk result (W.failed sink.new ≡ false) }
-    ensures failed { OnErr result (W.failed sink.new ≡ true) }
 {
     let left = Span {
         start: link.written,

@@ -6,10 +6,10 @@ ghost use Rattle.tox_sockets.specs.Streams.{target_of};
 
 use std::alloc::Global;
 use std::sync::Arc;
-use tox_link::{Clock, Ends, Hangup, carry};
+use tox_link::{Ends, carry_timed};
 use tox_links::{Carried, Course, ProxyLinks, ServeRun, ServeRuntime, notes_of};
 use tox_sockets::{LinkSockets, LinkStart, SinceStart, UntilCut, UntilDue};
-use tox_time::{Ending, MAX_BYTES, Micros, Real};
+use tox_time::{MAX_BYTES, Micros, Real};
 
 /// One direction of a link, before it is carried.
 #[derive(Drop)]
@@ -45,23 +45,6 @@ fn writer_of<'a, 'r, R: ServeRuntime>(
     UntilDue::new(rt, target, clock, course.plan.ops())
 }
 
-/// What ends a stream's connections, and when it did by the link's clock.
-#[derive(Drop)]
-struct TimedHangup<'r, H, R> {
-    hangup: H,
-    clock: SinceStart<'r, R>,
-    reading: Micros,
-}
-
-impl<'r, H: Hangup, R: ServeRuntime> Hangup for TimedHangup<'r, H, R> {
-    ghost calls = { λ timed. H.calls timed.hangup };
-
-    fn hang_up(&mut self, ending: Ending, source_ended: bool) {
-        self.reading = self.clock.now();
-        self.hangup.hang_up(ending, source_ended);
-    }
-}
-
 /// Carries one direction to its end, which its log tells too. After a fault both sockets are reset, so that the other direction
 /// ends too.
 pub(crate) fn carry_stream<R: ServeRuntime>(
@@ -81,18 +64,14 @@ pub(crate) fn carry_stream<R: ServeRuntime>(
     let mut notes = notes_of(rt, run, links, number, course.stream);
     let mut ends = Ends {
         writer: Real::new(writer_of(rt, link, &course, clock)),
-        hangup: TimedHangup {
-            hangup: sockets,
-            clock,
-            reading: Micros::ZERO,
-        },
+        hangup: sockets,
     };
     let Course {
         stream,
         words,
         plan,
     } = course;
-    let done = carry(
+    let done = carry_timed(
         rt,
         run.alloc,
         Real::new(reader),
@@ -104,13 +83,16 @@ pub(crate) fn carry_stream<R: ServeRuntime>(
         &mut notes,
         &run.gate,
     );
-    let carried = match done {
-        Ok(report) => Carried::until_end(stream, &report, ends.hangup.hangup.was_stopped),
+    let (carried, reading) = match done {
+        Ok(timed) => (
+            Carried::until_end(stream, &timed.report, ends.hangup.was_stopped),
+            timed.reading,
+        ),
         Err(fault) => {
             sockets.reset();
-            Carried::until_fault(stream, &fault)
+            (Carried::until_fault(stream, &fault), Micros::ZERO)
         }
     };
-    notes.end(&carried.last_line(ends.hangup.reading));
+    notes.end(&carried.last_line(reading));
     carried
 }

@@ -1,5 +1,5 @@
 -- What the core says is one step of the link.
-use Rattle.std.proofs.Common.{◌≡◌, [], refl, ap, subst, sym}
+use Rattle.std.proofs.Common.{rules, ◌≡◌, [], refl, ap, subst, sym}
 use Rattle.std.proofs.lemmas.Result.{err_from_is_err_and}
 use Rattle.rtrb.specs.Ring.{received}
 use Rattle.tox_link.specs.declared.link_core.act.Act.{Act}
@@ -7,6 +7,7 @@ use Rattle.tox_link.specs.declared.link_core.act.Act.TheVariants.{Write, WaitUnt
 use Rattle.tox_link.specs.declared.ring.inbox.Inbox.{Inbox}
 use Rattle.tox_link.specs.declared.carrying.writer_side.WriterSide.{WriterSide}
 use Rattle.tox_link.specs.link_core.Acts.{After}
+use Rattle.tox_link.specs.log.Carried.{ReadsOn}
 use Rattle.tox_link.specs.carrying.Side.{IsSound}
 use Rattle.tox_link.proofs.Logs.{events-none}
 use Rattle.tox_link.proofs.LoggedLemmas.{logged-act, cut-within}
@@ -14,18 +15,25 @@ use Rattle.tox_link.proofs.SideLemmas.{sound-waited}
 use Rattle.tox_link.proofs.carrying.driving.act.Goals as goal
 use Rattle.tox_link.proofs.carrying.driving.act.Goals.{then-idle-2, else-idle-2}
 
-pub returns-in_err-write_next-in-Write-clause-err : goal.returns-in_err-write_next-in-Write-clause-err
-returns-in_err-write_next-in-Write-clause-err g c =
+pub returns-in_err-write_next-in-Write-clause-broken : goal.returns-in_err-write_next-in-Write-clause-broken
+returns-in_err-write_next-in-Write-clause-broken g c =
     let p = err_from_is_err_and c.from_residual.result c.from_residual.ensures.1 in
     let answered = c.decide-act.ensures.answered in
     let takes = subst (λ (act : Act). After c.args.side.now.core c.decide-act.result.1 act c.decide-act.new.core) c.in-Write.is answered.output in
-    rw (p.1, p.2) (c.in_err-write_next-in-Write.ensures.err, cut-within (g.C.Clock.told c.args.clock.now) c.args.side.now c.decide-act.new.core c.in-Write.slice _ takes.1 c.write_next.ensures.few)
+    let told = g.C.Clock.told c.args.clock.now in
+    let reads : ReadsOn told c.args.side.now.core.latest c.write_next.new.side.core.latest = search rules in
+    rw (p.1, p.2) (
+      c.in_err-write_next-in-Write.ensures.fault,
+      cut-within told c.args.side.now c.decide-act.new.core c.in-Write.slice _ takes.1 c.write_next.ensures.few,
+      reads,
+      c.in_err-write_next-in-Write.ensures.unnoted,
+    )
 
 pub returns-in_ok-write_next-in-Write-clause-log : goal.returns-in_ok-write_next-in-Write-clause-log
 returns-in_ok-write_next-in-Write-clause-log g c =
     let same = c.write_next.ensures.same in (
       _,
-      c.in_ok-write_next-in-Write.ensures.noted,
+      c.in_ok-write_next-in-Write.ensures.ok.3,
       logged-act (g.C.Clock.told c.args.clock.now) c.args.side.now c.write_next.new.side c.decide-act.new.core c.decide-act.result.0 (Write c.in-Write.slice) c.decide-act.result.1 c.decide-act.ensures.carried c.in-Write.is same.0 same.2,
     )
 
@@ -33,7 +41,7 @@ pub returns-after-idle-clause-ok : goal.returns-after-idle-clause-ok
 returns-after-idle-clause-ok g c =
     let answered = c.decide-act.ensures.answered in
     let leaves = subst (λ (act : Act). After c.args.side.now.core c.decide-act.result.1 act c.decide-act.new.core) c.in-WaitUntil.is answered.output in
-    sound-waited c.args.side.now c.args.side.now.inbox c.decide-act.new.core _ c.requires.sound answered.kept leaves.1.position
+    (sound-waited c.args.side.now c.args.side.now.inbox c.decide-act.new.core _ c.requires.sound answered.kept leaves.1.position, c.requires.working, tt)
 
 pub returns-after-idle-clause-log : goal.returns-after-idle-clause-log
 returns-after-idle-clause-log g c = (
@@ -47,10 +55,11 @@ returns-after-idle-2-clause-ok g c =
     let answered = c.decide-act.ensures.answered in
     let leaves = subst (λ (act : Act). After c.args.side.now.core c.decide-act.result.1 act c.decide-act.new.core) c.in-WaitForInput.is answered.output in
     let waited = λ (inbox : Inbox). sound-waited c.args.side.now inbox c.decide-act.new.core (received c.args.side.now.inbox.receiver) c.requires.sound answered.kept leaves.position in
-    elim c.if-idle-2.branch [
+    let sound : IsSound c.if-idle-2.side (received c.if-idle-2.side.inbox.receiver) = elim c.if-idle-2.branch [
       | then-idle-2 w ↦ subst (λ (side : WriterSide). IsSound side (received side.inbox.receiver)) (sym w.side-is) (subst (IsSound _) (ap received (sym w.wait.ensures)) (waited w.wait.new.self))
       | else-idle-2 w ↦ subst (λ (side : WriterSide). IsSound side (received side.inbox.receiver)) (sym w.side-is) (waited c.args.side.now.inbox)
-    ]
+    ] in
+    (sound, c.requires.working, tt)
 
 pub returns-after-idle-2-clause-log : goal.returns-after-idle-2-clause-log
 returns-after-idle-2-clause-log g c =
@@ -67,7 +76,7 @@ pub returns-in-End-clause-ok : goal.returns-in-End-clause-ok
 returns-in-End-clause-ok g c =
     let answered = c.decide-act.ensures.answered in
     let leaves = subst (λ (act : Act). After c.args.side.now.core c.decide-act.result.1 act c.decide-act.new.core) c.in-End.is answered.output in
-    sound-waited c.args.side.now c.args.side.now.inbox c.decide-act.new.core _ c.requires.sound answered.kept leaves.position
+    (sound-waited c.args.side.now c.args.side.now.inbox c.decide-act.new.core _ c.requires.sound answered.kept leaves.position, c.requires.working, search rules)
 
 pub returns-in-End-clause-log : goal.returns-in-End-clause-log
 returns-in-End-clause-log g c = (

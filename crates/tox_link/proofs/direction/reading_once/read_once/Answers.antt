@@ -10,14 +10,14 @@ returns-in_err-end_source-clause-drove g c =
     let left = g.S.PollSource.remaining c.poll_read.new.self in
     λ written.
     drove-read 1 _ (g.C.Clock.told c.args.clock.now) c.args.link.now c.end_source.new.link _ (prepend_known [] left) left written written _ _ (move-few c.from_residual.result)
-    (sym c.in_default.ensures.kept ∙ prepend-nil left) (c.end_source.ensures.drove [] left written (λ came long. refl))
+    (sym c.in_default.ensures.fault.1 ∙ prepend-nil left) (c.end_source.ensures.drove [] left written (λ came long. refl))
 
 pub returns-in_default-clause-drove : goal.returns-in_default-clause-drove
 returns-in_default-clause-drove g c =
     let left = g.S.PollSource.remaining c.poll_read.new.self in
     λ written.
     drove-read 1 1 (g.C.Clock.told c.args.clock.now) c.args.link.now c.end_source.new.link _ (prepend_known [] left) left written written _ _ (omega arith)
-    (sym c.in_default.ensures.kept ∙ prepend-nil left) (c.end_source.ensures.drove [] left written (λ came long. refl))
+    (sym c.in_default.ensures.fault.1 ∙ prepend-nil left) (c.end_source.ensures.drove [] left written (λ came long. refl))
 
 pub returns-in_default-got-clause-drove : goal.returns-in_default-got-clause-drove
 returns-in_default-got-clause-drove g c =

@@ -5,13 +5,13 @@ use Rattle.rtrb.specs.Ring.{received}
 use Rattle.tox_compile.specs.Meaning.{means}
 use Rattle.tox_link.specs.log.Logged.{IsCutOff}
 use Rattle.tox_link.specs.ring.Messages.{ReadsFrom}
-use Rattle.tox_link.specs.Reports.{WritesFirst}
+use Rattle.tox_link.specs.Reports.{ReportsAt, WritesFirst}
 use Rattle.tox_link.specs.carrying.Side.{came}
 use Rattle.tox_link.specs.Sources.{read_end_of}
 use Rattle.tox_link.proofs.CarryLemmas.{broke-unstarted, first-of, hung-up, link-reports, cut-nothing, writes-nothing, first-bytes, writes-first, source-told, reads-same}
 use Rattle.tox_link.proofs.Logs.{events-none}
 use Rattle.tox_link.proofs.LoggedLemmas.{logged-fresh}
-use Rattle.tox_link.proofs.carrying.carry.Goals as goal
+use Rattle.tox_link.proofs.carrying.carry_timed.Goals as goal
 
 pub returns-in_err-side-clause-broken : goal.returns-in_err-side-clause-broken
 returns-in_err-side-clause-broken g c =
@@ -33,8 +33,9 @@ returns-in-Ok-clause-carried g c =
     let side = c.drive-driven.new.side in
     let messages = received side.inbox.receiver in
     let logs = rw c.in-Ok.is at c.drive-driven.ensures.log in
-    let over = rw c.in-Ok.is at c.drive-driven.ensures.ended in
-    let sound = rw c.in-Ok.is at c.drive-driven.ensures.ok in
+    let ended = rw c.in-Ok.is at c.drive-driven.ensures.ok in
+    let sound = ended.0 in
+    let over = ended.2 in
     let logged = logs.2 plan (logged-fresh plan told c.in_ok-side.side c.in_ok-side.ensures.fresh c.in_ok-side.ensures.meaning) in
     let joined = c.join_reader-reader in
     let later = received joined.new.receiver in
@@ -49,10 +50,8 @@ returns-in-Ok-clause-carried g c =
     record {
       log = logs.0;
       noted = logs.1;
-      reports = (
-        side.core.latest,
-        link-reports plan told side.core side.ended logs.0 c.in-Ok.ending (read_end_of side.source) c.stop.result side.written logged.carried logged.closed over sound.written (c.stop.ensures.value ∙ sound.stop),
-      );
+      reports = subst (ReportsAt plan told logs.0 c.stop.result side.written c.in-Ok.ending (read_end_of side.source)) (sym c.latest.ensures)
+          (link-reports plan told side.core side.ended logs.0 c.in-Ok.ending (read_end_of side.source) c.stop.result side.written logged.carried logged.closed over sound.written (c.stop.ensures.value ∙ sound.stop));
       bytes = take side.core.bytes (came side);
       took = length-take-le side.core.bytes (came side) sound.few ∙ sym (c.stop.ensures.value ∙ sound.stop);
       wrote = writes-first given (g.W.Sink.written c.args.ends.now.writer) (g.W.Sink.written c.drive-driven.new.writer) first.0 (came side) side.core.bytes side.written (omega (arith, sound.written, sound.within)) sound.few first.1 c.drive-driven.ensures.written;
@@ -77,14 +76,14 @@ returns-clause-broken g c =
     let failed = g.S.Source.failed joined.result.0 in
     let sent : ReadsFrom given c.args.reads (later ++ left.0) joined.result.1 after failed
     = reads-same _ _ _ _ _ _ _ _ (ap g.S.Source.remaining c.in_ok-side.ensures.reads.0) c.in_ok-side.ensures.reads.1 left.1 in
-    let err = rw c.in-Err.is at c.drive-driven.ensures.err in
+    let err = rw c.in-Err.is at c.drive-driven.ensures.broken in
     let first = first-bytes messages later more.0 left.0 given after c.args.reads joined.result.1 failed (joined.ensures.received ∙ more.1) sent in
     record {
       log = err.1;
       noted = err.2;
-      cut_off = subst (λ written. IsCutOff plan told written err.1) (sym err.0) (err.3 plan (logged-fresh plan told c.in_ok-side.side c.in_ok-side.ensures.fresh c.in_ok-side.ensures.meaning));
+      cut_off = subst (λ written. IsCutOff plan told written err.1) (sym err.0.count) (err.3 plan (logged-fresh plan told c.in_ok-side.side c.in_ok-side.ensures.fresh c.in_ok-side.ensures.meaning));
       bytes = came side;
-      wrote = subst (WritesFirst given (g.W.Sink.written c.args.ends.now.writer) (g.W.Sink.written c.drive-driven.new.writer) (came side)) (sym err.0)
+      wrote = subst (WritesFirst given (g.W.Sink.written c.args.ends.now.writer) (g.W.Sink.written c.drive-driven.new.writer) (came side)) (sym err.0.count)
           (record { left = first.0; gave = first.1; few = c.drive-driven.ensures.few; wrote = c.drive-driven.ensures.written });
       reset = inr (side.core.latest, rw c.in-Err.is at c.hang_up.ensures.err, err.4);
     }
@@ -93,4 +92,4 @@ pub returns-in_err-side-clause-unstarted : goal.returns-in_err-side-clause-unsta
 returns-in_err-side-clause-unstarted g c = λ n same. (refl, refl)
 
 pub returns-clause-unstarted : goal.returns-clause-unstarted
-returns-clause-unstarted g c = λ n same. absurd ((rw c.in-Err.is at c.drive-driven.ensures.started) n (cc))
+returns-clause-unstarted g c = λ n same. absurd ((rw c.in-Err.is at c.drive-driven.ensures.broken).0.started n (cc))
