@@ -111,3 +111,11 @@ Writes-flushed (Err fault) first old new failed waiting text passed wrote = (
   },
   wrote.1,
 )
+
+-- all that was printed waits
+pub Passes-kept : (old : Option (List ℕ)) (waited waiting bytes : List ℕ) → waiting ≡ waited ++ bytes → Passes old waited old waiting bytes
+Passes-kept old waited waiting bytes kept = record { sent = []; whole = kept; written = append_known-nil old }
+
+-- all that waited was written, and all that was printed then waits
+pub Passes-flushed-kept : (old new : Option (List ℕ)) (waited waiting bytes : List ℕ) → new ≡ append_known old waited → waiting ≡ bytes → Passes old waited new waiting bytes
+Passes-flushed-kept old new waited waiting bytes written kept = record { sent = waited; whole = ap (λ xs. waited ++ xs) kept; written = written }

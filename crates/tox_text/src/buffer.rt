@@ -10,19 +10,22 @@ use arrayvec::ArrayVec;
 use std::marker::Model;
 use tox_time::{EndFault, Sink};
 
-/// How many bytes wait at most.
-const CAPACITY: usize = 8_192;
-
 /// How many bytes are turned into digits at once.
 const BYTES_AT_ONCE: usize = 64;
 
-/// Bytes that wait for a writer. It takes no memory.
+/// Bytes that wait for a writer, at most `ROOM`. It takes no memory.
 #[derive(Debug, Drop)]
-pub struct Buffer {
-    bytes: ArrayVec<u8, CAPACITY>,
+pub struct SizedBuffer<const ROOM: usize> {
+    bytes: ArrayVec<u8, ROOM>,
 }
 
-impl Model for Buffer {
+/// Bytes of a text that wait for a writer.
+pub type Buffer = SizedBuffer<8_192>;
+
+/// Bytes of a line that wait for a writer. Made faster than a `Buffer`, whose bytes are filled first.
+pub type LineBuffer = SizedBuffer<256>;
+
+impl<const ROOM: usize> Model for SizedBuffer<ROOM> {
     ghost use Rattle.std.specs.Prelude.{List, ℕ};
 
     ghost Value = { List ℕ };
@@ -30,12 +33,12 @@ impl Model for Buffer {
     ghost view = { λ b. b.bytes.items };
 }
 
-impl Buffer {
+impl<const ROOM: usize> SizedBuffer<ROOM> {
     /// Nothing waits.
-    pub fn new() -> Buffer
+    pub fn new() -> SizedBuffer<ROOM>
         ensures { result ≡ [] }
     {
-        Buffer {
+        SizedBuffer {
             bytes: ArrayVec::new(),
         }
     }
@@ -86,7 +89,7 @@ impl Buffer {
         if bytes.len() > self.bytes.remaining_capacity() {
             self.flush(writer)?;
         }
-        if bytes.len() > CAPACITY {
+        if bytes.len() > ROOM {
             return write_all(writer, bytes);
         }
         self.bytes.try_extend_from_slice(bytes).unwrap();

@@ -19,7 +19,7 @@ pub use arrivals::hex_pairs::decode_into;
 pub use arrivals::line::{Event, Line, line_of};
 pub use arrivals::list::list_arrivals;
 pub use arrivals::text_lines::first_line;
-pub use buffer::{Buffer, write_parts};
+pub use buffer::{Buffer, LineBuffer, SizedBuffer, write_parts};
 pub use fault::{DryFault, WriteFault};
 pub use json::{JsonItem, JsonValue, print_quoted};
 pub use json_line::{JsonField, print_event, print_fields, print_object, write_object};

@@ -5,7 +5,7 @@ ghost use Rattle.std.specs.Fmt.{WritesOnOk};
 ghost use Rattle.tox_text.specs.Names.{escaped, is_control, visible, visible_name};
 ghost use Rattle.tox_text.specs.Writing.{Prints};
 
-use crate::buffer::Buffer;
+use crate::buffer::SizedBuffer;
 use std::fmt;
 use tox_time::{EndFault, Sink};
 
@@ -49,8 +49,8 @@ fn display_code<W: fmt::Write>(byte: u8, f: &mut fmt::Formatter<W>) -> fmt::Resu
 }
 
 /// Prints a name that keeps to its line.
-pub(crate) fn print_name<W: Sink>(
-    buffer: &mut Buffer,
+pub(crate) fn print_name<W: Sink, const ROOM: usize>(
+    buffer: &mut SizedBuffer<ROOM>,
     writer: &mut W,
     name: &[u8],
 ) -> Result<(), EndFault>
@@ -64,7 +64,11 @@ pub(crate) fn print_name<W: Sink>(
     Ok(())
 }
 
-fn print_byte<W: Sink>(buffer: &mut Buffer, writer: &mut W, byte: u8) -> Result<(), EndFault>
+fn print_byte<W: Sink, const ROOM: usize>(
+    buffer: &mut SizedBuffer<ROOM>,
+    writer: &mut W,
+    byte: u8,
+) -> Result<(), EndFault>
     requires { W.failed writer.old ≡ false }
     ensures { Prints result (W.written writer.old) buffer.old (W.written writer.new) buffer.new
         (W.failed writer.new) (visible byte) }
@@ -82,7 +86,11 @@ fn is_control(byte: u8) -> bool
     byte < 32 || byte == 127
 }
 
-fn print_code<W: Sink>(buffer: &mut Buffer, writer: &mut W, byte: u8) -> Result<(), EndFault>
+fn print_code<W: Sink, const ROOM: usize>(
+    buffer: &mut SizedBuffer<ROOM>,
+    writer: &mut W,
+    byte: u8,
+) -> Result<(), EndFault>
     requires { W.failed writer.old ≡ false }
     ensures { Prints result (W.written writer.old) buffer.old (W.written writer.new) buffer.new
         (W.failed writer.new) (escaped byte) }

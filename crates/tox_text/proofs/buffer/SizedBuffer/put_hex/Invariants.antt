@@ -2,7 +2,7 @@
 use Rattle.std.proofs.Common.{◌≡◌, ◌≤◌, ◌-◌, false, length, take}
 use Rattle.hex.specs.Hex.{encode_lower}
 use Rattle.tox_text.specs.Writing.{Passes}
-use Rattle.tox_text.proofs.buffer.Buffer.put_hex.Given as goal
+use Rattle.tox_text.proofs.buffer.SizedBuffer.put_hex.Given as goal
 
 abbrev pub invariant-loop-done : goal.invariant-loop-done
 invariant-loop-done g l = record {

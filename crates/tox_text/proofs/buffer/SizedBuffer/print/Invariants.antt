@@ -2,7 +2,7 @@
 use Rattle.std.proofs.Common.{◌≡◌, false, take}
 use Rattle.tox_text.specs.Parts.{text_of}
 use Rattle.tox_text.specs.Writing.{Passes}
-use Rattle.tox_text.proofs.buffer.Buffer.print.Given as goal
+use Rattle.tox_text.proofs.buffer.SizedBuffer.print.Given as goal
 
 abbrev pub invariant-loop-part : goal.invariant-loop-part
 invariant-loop-part g l = record {

@@ -4,7 +4,7 @@ use Rattle.std.proofs.lemmas.Result.{err_from_is_err_and}
 use Rattle.hex.specs.Hex.{encode_lower}
 use Rattle.tox_text.proofs.HexParts.{encode_lower-nil, encode_lower_more, encode_lower_parts, within_some}
 use Rattle.tox_text.proofs.Writes.{AppendsFront-then, AppendsFront-more, Passes-none, Passes-then}
-use Rattle.tox_text.proofs.buffer.Buffer.put_hex.Goals as goal
+use Rattle.tox_text.proofs.buffer.SizedBuffer.put_hex.Goals as goal
 
 pub loop-done-init : goal.loop-done-init
 loop-done-init g c = record { working = c.requires; within = omega arith; passed = rw encode_lower-nil (Passes-none _ _) }

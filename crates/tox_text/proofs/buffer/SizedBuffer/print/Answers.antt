@@ -5,7 +5,7 @@ use Rattle.tox_text.specs.declared.parts.Part.TheVariants.{Word}
 use Rattle.tox_text.specs.Parts.{printed}
 use Rattle.tox_text.proofs.Listed.{IsAt-read, Passes-all, Passes-more, Prints-stopped}
 use Rattle.tox_text.proofs.Writes.{Passes-none}
-use Rattle.tox_text.proofs.buffer.Buffer.print.Goals as goal
+use Rattle.tox_text.proofs.buffer.SizedBuffer.print.Goals as goal
 
 pub loop-part-init : goal.loop-part-init
 loop-part-init g c = record { working = c.requires; passed = Passes-none _ _ }
