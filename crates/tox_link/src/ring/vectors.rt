@@ -10,7 +10,7 @@ const EMPTIED: usize = 8;
 /// The writer's end: vectors that are empty again, or not needed any more.
 pub type Emptied = Producer<Vec<u8>, Global>;
 
-/// The reader's end. It gives an emptied vector where one waits, and else a new one.
+/// The reader's end. It gives an emptied vector where one that fits waits, and else a new one.
 #[derive(Drop)]
 pub struct Vectors {
     alloc: Global,
@@ -24,15 +24,17 @@ impl Vectors {
         Ok((sender, Vectors { alloc, emptied }))
     }
 
-    /// A vector with these bytes.
+    /// A vector with these bytes: an emptied one, unless less than half of it would be used. So a small piece holds no large vector.
     pub fn with_bytes(&mut self, bytes: &[u8]) -> Result<Vec<u8>, AllocError>
         ensures { IfOk result (λ vector. vector.items ≡ bytes.now) }
     {
-        let Ok(mut vector) = self.emptied.pop() else {
-            return Vec::from_slice(self.alloc, bytes);
-        };
-        vector.clear();
-        vector.extend_from_slice(bytes)?;
-        Ok(vector)
+        if let Ok(mut vector) = self.emptied.pop() {
+            if vector.capacity() / 2 <= bytes.len() {
+                vector.clear();
+                vector.extend_from_slice(bytes)?;
+                return Ok(vector);
+            }
+        }
+        Vec::from_slice(self.alloc, bytes)
     }
 }
