@@ -20,30 +20,22 @@ pub record IsPictureIn (setting : Setting) (text : List ℕ) : Type 0 where
 abbrev pub IsPictureText : List ℕ → Type 0
 IsPictureText text = IsPictureIn Alone text
 
--- the text of a picture was written, and nothing else
-pub record WritesPicture (old new : Option (List ℕ)) : Type 0 where
-  pub text : List ℕ
-  pub drawn : IsPictureText text
-  pub written : new ≡ append_known old text
-
--- a prefix of the text of a picture was written
-pub record WritesFront (old new : Option (List ℕ)) : Type 0 where
-  pub text : List ℕ
-  pub drawn : IsPictureText text
-  pub front : AppendsFront old new text
+-- the text of a picture of these bytes that stands alone
+abbrev pub IsPictureAlone : Option (List ℕ) → List ℕ → Type 0
+IsPictureAlone given text = IsPictureOf given Alone text
 
 -- the text of a picture of these bytes that stands on a page under a number
 abbrev pub IsPictureOnPage : Option (List ℕ) → ℕ → List ℕ → Type 0
 IsPictureOnPage given number text = IsPictureOf given (OnPage number) text
 
--- the text of a picture of these bytes was written, and nothing else
-pub record WritesPictureOf (given old new : Option (List ℕ)) : Type 0 where
+-- the text of such a picture was written, and nothing else
+pub record WritesPicture (IsDrawn : List ℕ → Type 0) (old new : Option (List ℕ)) : Type 0 where
   pub text : List ℕ
-  pub drawn : IsPictureOf given Alone text
+  pub drawn : IsDrawn text
   pub written : new ≡ append_known old text
 
--- a prefix of the text of a picture of these bytes was written
-pub record WritesFrontOf (given old new : Option (List ℕ)) : Type 0 where
+-- a prefix of the text of such a picture was written
+pub record WritesFront (IsDrawn : List ℕ → Type 0) (old new : Option (List ℕ)) : Type 0 where
   pub text : List ℕ
-  pub drawn : IsPictureOf given Alone text
+  pub drawn : IsDrawn text
   pub front : AppendsFront old new text

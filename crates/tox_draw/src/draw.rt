@@ -35,11 +35,12 @@ pub fn draw_run<R: Source, W: Sink>(
 ) -> Result<(), DryFault>
     requires reader_works { R.failed reader.old ≡ false }
     requires writer_works { W.failed writer.old ≡ false }
-    ensures ok { OnOk result (WritesPicture (W.written writer.old) (W.written writer.new)) }
+    ensures ok { OnOk result
+        (WritesPicture IsPictureText (W.written writer.old) (W.written writer.new)) }
     ensures unwritten { OnErr result (W.failed writer.new ≡ false
         → W.written writer.new ≡ W.written writer.old) }
     ensures front { W.failed writer.new ≡ true
-        → WritesFront (W.written writer.old) (W.written writer.new) }
+        → WritesFront IsPictureText (W.written writer.old) (W.written writer.new) }
     ensures working { result ≢ Err WriteFault → W.failed writer.new ≡ false }
     ensures reading { result ≢ Err ReadFault → R.failed reader.new ≡ false }
     ensures most { TakesAtMost (16_777_216 + 1) (R.remaining reader.old) (R.remaining reader.new) }
