@@ -3,3 +3,4 @@ pub mod Serving
 pub mod proxy
 pub mod link
 pub mod lines
+pub mod Signals

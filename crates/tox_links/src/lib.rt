@@ -11,6 +11,7 @@ mod proxy;
 mod room;
 mod run;
 mod runtime;
+mod signals;
 mod stop;
 
 pub use addresses::connect_address;
@@ -30,4 +31,5 @@ pub use proxy::taking::{Taken, is_enough, number_link};
 pub use room::Room;
 pub use run::ServeRun;
 pub use runtime::ServeRuntime;
+pub use signals::tells_to_stop;
 pub use stop::Stop;

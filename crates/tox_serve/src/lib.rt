@@ -2,9 +2,9 @@
 #![tactic(auto)]
 
 mod serving;
-mod signals;
 mod threads;
 
 pub use serving::{serve, serve_with};
-pub use signals::tells_to_stop;
-pub use tox_links::{Gaps, LineForm, NoGaps, Room, ServeFault, ServeOptions, ServeRuntime, Stop};
+pub use tox_links::{
+    Gaps, LineForm, NoGaps, Room, ServeFault, ServeOptions, ServeRuntime, Stop, tells_to_stop,
+};

@@ -1,6 +1,6 @@
 //! The signals that tell a process to stop, as `/proc/self/status` shows them.
 ghost use Rattle.std.specs.Prelude.{◌≡◌, ◌≤◌, ◌<◌};
-ghost use Rattle.tox_serve.specs.Signals.{bytes_behind, has_bit, has_signal, stops, tells_to_stop};
+ghost use Rattle.tox_links.specs.Signals.{bytes_behind, has_bit, has_signal, stops, tells_to_stop};
 
 /// SIGINT and SIGTERM.
 const INTERRUPT: usize = 2;
