@@ -4,13 +4,13 @@ ghost use Rattle.tox_text.specs.Writing.{Prints};
 ghost use Rattle.tox_log.specs.EventText.{event_line};
 
 use tox_link::LinkEvent;
-use tox_text::Buffer;
 use tox_text::Part::{Number, Word};
+use tox_text::SizedBuffer;
 use tox_time::{EndFault, Micros, Sink, Slice};
 
 /// Prints the line of an event: `<reading> piece <bytes>`, `<reading> end` or `<reading> wrote <start>..<stop> <due>`.
-pub fn print_event<W: Sink>(
-    buffer: &mut Buffer,
+pub fn print_event<W: Sink, const ROOM: usize>(
+    buffer: &mut SizedBuffer<ROOM>,
     writer: &mut W,
     event: &LinkEvent,
 ) -> Result<(), EndFault>
@@ -36,8 +36,8 @@ pub fn print_event<W: Sink>(
 }
 
 /// Prints the line of a slice that was written.
-fn print_wrote<W: Sink>(
-    buffer: &mut Buffer,
+fn print_wrote<W: Sink, const ROOM: usize>(
+    buffer: &mut SizedBuffer<ROOM>,
     writer: &mut W,
     slice: &Slice,
     reading: &Micros,

@@ -3,8 +3,8 @@ ghost use Rattle.std.specs.Prelude.{◌≡◌, false};
 ghost use Rattle.tox_text.specs.Writing.{Prints};
 ghost use Rattle.tox_log.specs.LastText.{cause_name, last_line};
 
-use tox_text::Buffer;
 use tox_text::Part::{Number, Word};
+use tox_text::SizedBuffer;
 use tox_time::{EndFault, Ending, Micros, Sink};
 
 /// Why a stream broke off.
@@ -48,8 +48,8 @@ pub enum LastLine {
 
 /// Prints the last line: `<reading> open`, `<reading> closed <instant>`, `<reading> reset <instant>` or
 /// `broken <cause> <bytes>`.
-pub fn print_last<W: Sink>(
-    buffer: &mut Buffer,
+pub fn print_last<W: Sink, const ROOM: usize>(
+    buffer: &mut SizedBuffer<ROOM>,
     writer: &mut W,
     last: &LastLine,
 ) -> Result<(), EndFault>
@@ -73,8 +73,8 @@ pub fn print_last<W: Sink>(
 }
 
 /// Prints a reading and an ending.
-fn print_ended<W: Sink>(
-    buffer: &mut Buffer,
+fn print_ended<W: Sink, const ROOM: usize>(
+    buffer: &mut SizedBuffer<ROOM>,
     writer: &mut W,
     reading: &Micros,
     ending: &Ending,
