@@ -1,5 +1,5 @@
 -- How a log grows, and when it is told that it has ended.
-use Rattle.std.specs.Prelude.{◌≡◌, ℕ, ◌==◌, ◌≤◌, Bool, true, false, not, ◌||◌, ◌⊎◌, List, ◌++◌, length, take, if◌then◌else◌}
+use Rattle.std.specs.Prelude.{◌≡◌, ℕ, ◌*◌, ◌==◌, ◌≤◌, Bool, true, false, not, ◌||◌, ◌⊎◌, List, ◌++◌, length, take, if◌then◌else◌}
 use Rattle.tox_log_files.specs.declared.entry.Entry.{Entry}
 use Rattle.tox_log_files.specs.declared.entry.Entry.TheVariants.{Header, Event, Last}
 use Rattle.tox_log_files.specs.declared.log_state.LogState.{LogState}
@@ -49,3 +49,8 @@ pub record IsLogOf (most : ℕ) (told bytes : List ℕ) (state : LogState) : Typ
   pub lines : AreLines bytes
   pub few : length bytes ≤ most
   pub whole : state ≡ Goes → bytes ≡ told
+
+-- what waits of a log is counted, and at most as much again ahead of it
+pub record IsShareOf (share : ℕ) (waiting : List ℕ) : Type 0 where
+  pub held : length waiting ≤ share
+  pub ahead : share ≤ 2 * length waiting

@@ -1,13 +1,13 @@
 //! The lines of a log that wait for its file.
-ghost use Rattle.std.specs.Prelude.{◌≡◌, ◌≢◌, ℕ, ◌+◌, ◌-◌, ◌<◌, ◌≤◌, ◌^◌, ◌&&◌, ◌||◌, List, [], ◌++◌, false, length, not, if◌then◌else◌};
+ghost use Rattle.std.specs.Prelude.{◌≡◌, ◌≢◌, ℕ, ◌+◌, ◌-◌, ◌*◌, ◌<◌, ◌≤◌, ◌^◌, ◌&&◌, ◌||◌, List, [], ◌++◌, IsTrue, false, length, not, if◌then◌else◌};
 ghost use Rattle.tox_log_files.specs.WholeLines.{AreLines};
 ghost use Rattle.tox_log_files.specs.EntryText.{entry_text};
-ghost use Rattle.tox_log_files.specs.LogSteps.{Adds, IsLogOf, is_wanted, state_behind, tells};
+ghost use Rattle.tox_log_files.specs.LogSteps.{Adds, IsShareOf, IsLogOf, is_wanted, state_behind, tells};
 
 use crate::entry::Entry;
 use crate::entry_text::{print_entry, state_behind};
 use crate::log_state::LogState;
-use crate::waiting_bytes::WaitingBytes;
+use crate::waiting_bytes::{Share, WaitingBytes};
 use crate::whole_lines::lines_within;
 use std::alloc::Global;
 use std::mem;
@@ -20,18 +20,58 @@ const MAX_WAITING_PER_LOG: usize = 1_048_576;
 /// From how many bytes on a log goes to its file at once.
 const MANY_PER_LOG: usize = 262_144;
 
+/// How many bytes of one log are counted at once, before they wait.
+const MAX_AHEAD: usize = 4_096;
+
+/// Whether so many bytes of a log may wait. Counts what its share lacks, or as many more as waited before, up to 4,096.
+fn may_wait<R: Wait>(
+    rt: &R,
+    all: &WaitingBytes,
+    share: &mut Share,
+    before: usize,
+    end: usize,
+) -> bool
+    requires ahead { share.old.bytes ≤ 2 * before }
+    requires few { before ≤ 1048576 }
+    requires more { before ≤ end }
+    ensures few { IsTrue result → end ≤ 1048576 }
+    ensures held { IsTrue result → end ≤ share.new.bytes }
+    ensures ahead { IsTrue result → share.new.bytes ≤ 2 * end }
+    ensures same { result ≡ false → share.new ≡ share.old }
+{
+    if end > MAX_WAITING_PER_LOG {
+        return false;
+    }
+    let (held, end) = (share.bytes(), end as u64);
+    if end <= held {
+        return true;
+    }
+    let ahead = before.min(MAX_AHEAD) as u64;
+    match all.reserve(rt, end - held, ahead) {
+        Some(more) => {
+            share.join(more);
+            true
+        }
+        None => false,
+    }
+}
+
 /// Adds the lines of an entry that have room, if they may wait, and tells how the log is then.
 fn add_entry<R: Wait>(
     rt: &R,
     all: &WaitingBytes,
     waiting: &mut LogBytes,
+    share: &mut Share,
     entry: &Entry<'_>,
     room: u64,
 ) -> LogState
-    requires { waiting.old.1 ≡ false }
+    requires works { waiting.old.1 ≡ false }
+    requires few { length waiting.old.0 ≤ 1048576 }
+    requires counted { IsShareOf share.old.bytes waiting.old.0 }
     ensures adds { Adds room waiting.old.0 (entry_text entry.now) waiting.new.0
         (state_behind entry.now) result }
     ensures works { waiting.new.1 ≡ false }
+    ensures counted { IsShareOf share.new.bytes waiting.new.0 }
 {
     let before = waiting.bytes().len();
     let printed = print_entry(waiting, entry).is_ok();
@@ -39,7 +79,7 @@ fn add_entry<R: Wait>(
     let count = lines_within(text, room);
     let is_whole = count == text.len();
     let end = before + count;
-    if printed && end <= MAX_WAITING_PER_LOG && all.reserve(rt, count as u64) {
+    if printed && may_wait(rt, all, share, before, end) {
         waiting.cut(end);
         return if is_whole {
             state_behind(entry)
@@ -52,10 +92,11 @@ fn add_entry<R: Wait>(
 }
 
 /// The lines of a log that wait for its file, and what its file has.
-#[derive(Drop)]
 pub(crate) struct LogText {
     alloc: Global,
     waiting: LogBytes,
+    /// The part of the count of all logs that what waits has.
+    share: Share,
     /// How many bytes its writer has taken.
     taken: u64,
     /// How many bytes it may have.
@@ -69,6 +110,24 @@ pub(crate) struct LogText {
     ghost whole: { AreLines waiting.0 },
     ghost few: { length waiting.0 ≤ 1048576 },
     ghost within: { taken + length waiting.0 ≤ most },
+    ghost counted: { IsShareOf share.bytes waiting.0 },
+}
+
+impl Drop for LogText {
+    /// Only where its writer couldn't be called do lines wait then. They stay counted.
+    fn drop(self) {
+        let LogText {
+            alloc: _,
+            waiting: _,
+            share,
+            taken: _,
+            most: _,
+            lines: _,
+            state: _,
+            is_called: _,
+        } = self;
+        share.lose();
+    }
 }
 
 impl LogText {
@@ -81,6 +140,7 @@ impl LogText {
         LogText {
             alloc,
             waiting: LogBytes::new(alloc),
+            share: Share::none(),
             taken: 0,
             most,
             lines: 0,
@@ -135,7 +195,8 @@ impl LogText {
     {
         if self.state == LogState::Goes {
             let room = self.most - (self.taken + self.waiting() as u64);
-            self.state = add_entry(rt, all, &mut self.waiting, entry, room);
+            let (waiting, share) = (&mut self.waiting, &mut self.share);
+            self.state = add_entry(rt, all, waiting, share, entry, room);
         }
     }
 
@@ -152,16 +213,24 @@ impl LogText {
         calls
     }
 
-    /// The writer couldn't be called: the next entry calls it.
-    pub(crate) fn call_again(&mut self)
-        ensures { self.new ≡ record self.old { is_called = false } }
+    /// The writer couldn't be called: the next entry calls it. Gives back what was counted ahead.
+    pub(crate) fn call_again(&mut self) -> Share
+        ensures again { self.new.is_called ≡ false }
+        ensures kept { (self.new.waiting ≡ self.old.waiting) × (self.new.state ≡ self.old.state)
+            × (self.new.taken ≡ self.old.taken) × (self.new.most ≡ self.old.most)
+            × (self.new.lines ≡ self.old.lines) }
+        ensures share { (self.new.share.bytes ≡ length self.old.waiting.0)
+            × (self.new.share.bytes + result.bytes ≡ self.old.share.bytes) }
     {
         self.is_called = false;
+        let kept = self.waiting() as u64;
+        self.share.split(kept)
     }
 
-    /// Takes the lines that wait.
-    pub(crate) fn take(&mut self) -> LogBytes
-        ensures taken { result ≡ self.old.waiting }
+    /// Takes the lines that wait, with all that is counted of the log.
+    pub(crate) fn take(&mut self) -> (LogBytes, Share)
+        ensures taken { result.0 ≡ self.old.waiting }
+        ensures share { (result.1 ≡ self.old.share) × (result.1.bytes ≤ 2097152) }
         ensures counted { self.new.taken ≡ self.old.taken + length self.old.waiting.0 }
         ensures empty { (self.new.waiting ≡ ([], false)) × (self.new.is_called ≡ false) }
         ensures kept { (self.new.most ≡ self.old.most) × (self.new.lines ≡ self.old.lines)
@@ -169,11 +238,14 @@ impl LogText {
     {
         self.is_called = false;
         self.taken += self.waiting.bytes().len() as u64;
-        mem::replace(&mut self.waiting, LogBytes::new(self.alloc))
+        let waiting = mem::replace(&mut self.waiting, LogBytes::new(self.alloc));
+        (waiting, mem::replace(&mut self.share, Share::none()))
     }
 
     /// The file has so many more lines, or has failed behind them. Tells how many lines it has if the log ends there, once.
-    pub(crate) fn wrote(&mut self, lines: u64, failed: bool) -> Option<u64>
+    /// What is counted of the lines that are dropped joins what goes back.
+    pub(crate) fn wrote(&mut self, lines: u64, failed: bool, back: &mut Share) -> Option<u64>
+        requires { back.old.bytes ≤ 2097152 }
         ensures lines { self.old.lines + lines < 2 ^ 64 → self.new.lines ≡ self.old.lines + lines }
         ensures told { result ≡ (if tells self.old.waiting.0 self.old.state failed
             then Some self.new.lines else None) }
@@ -181,10 +253,12 @@ impl LogText {
             then LogState.Told else self.old.state) }
         ensures waits { self.new.waiting.0 ≡ (if failed then [] else self.old.waiting.0) }
         ensures kept { (self.new.taken ≡ self.old.taken) × (self.new.most ≡ self.old.most) }
+        ensures share { self.new.share.bytes + back.new.bytes ≡ self.old.share.bytes + back.old.bytes }
     {
         self.lines = self.lines.saturating_add(lines);
         if failed {
             self.waiting = LogBytes::new(self.alloc);
+            back.join(mem::replace(&mut self.share, Share::none()));
         }
         let is_over = failed || self.state == LogState::Cut && self.waiting.bytes().is_empty();
         if !is_over || self.state == LogState::Told {

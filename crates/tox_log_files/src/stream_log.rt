@@ -37,22 +37,20 @@ impl StreamLog {
     }
 
     /// The writer couldn't be called: the next entry calls it.
-    pub(crate) fn call_again<R: Wait>(&self, rt: &R) {
-        self.text.lock(rt).call_again();
+    pub(crate) fn call_again<R: Wait>(&self, rt: &R, all: &WaitingBytes) {
+        let ahead = self.text.lock(rt).call_again();
+        all.remove(rt, ahead);
     }
 
     /// Brings the lines that wait to the file. The lock is not held meanwhile, so that a slow disk holds no link.
     pub(crate) fn write<R: Wait, F: LogFiles>(&self, rt: &R, all: &WaitingBytes, files: &F) {
-        let lines = self.text.lock(rt).take();
+        let (lines, mut share) = self.text.lock(rt).take();
         let bytes = lines.bytes();
         let taken = self.append(bytes, files);
         let count = count_lines(&bytes[..taken]) as u64;
-        let mut text = self.text.lock(rt);
-        let before = text.waiting();
-        let told = text.wrote(count, taken < bytes.len());
-        let dropped = before.saturating_sub(text.waiting());
-        drop(text);
-        all.remove(rt, bytes.len().saturating_add(dropped) as u64);
+        let failed = taken < bytes.len();
+        let told = self.text.lock(rt).wrote(count, failed, &mut share);
+        all.remove(rt, share);
         if let Some(lines) = told {
             files.ended(&self.name, lines);
         }

@@ -62,8 +62,9 @@ impl<'r, R: Wait> StreamNotes<'r, R> {
         let Some(kept) = &self.kept else {
             return;
         };
-        if kept.log.add(self.rt, &kept.channel.bytes, entry) && !kept.call_writer(self.rt) {
-            kept.log.call_again(self.rt);
+        let all = &kept.channel.bytes;
+        if kept.log.add(self.rt, all, entry) && !kept.call_writer(self.rt) {
+            kept.log.call_again(self.rt, all);
         }
     }
 

@@ -1,5 +1,5 @@
 //! How many bytes of all logs wait for their files.
-ghost use Rattle.std.specs.Prelude.{◌≤◌, IsTrue};
+ghost use Rattle.std.specs.Prelude.{◌≡◌, ◌+◌, ◌<◌, ◌≤◌, ◌^◌, IfSome, max, min};
 
 use std::sync::Wait;
 use std::sync::atomic::{AtomicBool, AtomicIn, Ordering, Rule};
@@ -7,7 +7,7 @@ use std::sync::atomic::{AtomicBool, AtomicIn, Ordering, Rule};
 /// How many bytes of all logs may wait for their files.
 const MAX_WAITING_IN_ALL: u64 = 67_108_864;
 
-/// From how many bytes of all logs on they go to their files at once.
+/// From how many bytes of all logs on they go to their files at once, and none are counted ahead.
 const MANY_IN_ALL: u64 = 16_777_216;
 
 /// What is true of the number of bytes that wait.
@@ -26,6 +26,51 @@ pub(crate) struct WaitingBytes {
     urgent: AtomicBool,
 }
 
+/// A log's part of the count. It can't be copied, and isn't dropped: what was counted goes back once.
+pub(crate) struct Share {
+    bytes: u64,
+}
+
+impl Share {
+    /// No bytes.
+    pub(crate) fn none() -> Share
+        ensures { result.bytes ≡ 0 }
+    {
+        Share { bytes: 0 }
+    }
+
+    /// How many bytes are counted.
+    pub(crate) fn bytes(&self) -> u64
+        ensures { result ≡ self.now.bytes }
+    {
+        self.bytes
+    }
+
+    /// Adds those of another part.
+    pub(crate) fn join(&mut self, other: Share)
+        requires { self.old.bytes + other.bytes < 2 ^ 64 }
+        ensures { self.new.bytes ≡ self.old.bytes + other.bytes }
+    {
+        let Share { bytes } = other;
+        self.bytes += bytes;
+    }
+
+    /// Keeps so many bytes at most. The part of the others.
+    pub(crate) fn split(&mut self, kept: u64) -> Share
+        ensures parts { self.new.bytes + result.bytes ≡ self.old.bytes }
+        ensures kept { self.new.bytes ≡ min self.old.bytes kept }
+    {
+        let rest = self.bytes.saturating_sub(kept);
+        self.bytes -= rest;
+        Share { bytes: rest }
+    }
+
+    /// Leaves the bytes counted.
+    pub(crate) fn lose(self) {
+        let Share { bytes: _ } = self;
+    }
+}
+
 impl WaitingBytes {
     /// None wait.
     pub(crate) fn new() -> WaitingBytes {
@@ -35,24 +80,29 @@ impl WaitingBytes {
         }
     }
 
-    /// Counts so many more bytes, if all that wait are few enough then. False if they may not wait.
-    pub(crate) fn reserve<R: Wait>(&self, rt: &R, bytes: u64) -> bool
-        ensures { IsTrue result → bytes ≤ 67108864 }
+    /// Counts so many more bytes, or `ahead` if that is more and few wait in all. None if not even `bytes` may wait.
+    pub(crate) fn reserve<R: Wait>(&self, rt: &R, bytes: u64, ahead: u64) -> Option<Share>
+        ensures least { IfSome result (λ share. bytes ≤ share.bytes) }
+        ensures most { IfSome result (λ share. share.bytes ≤ max bytes ahead) }
+        ensures few { IfSome result (λ share. share.bytes ≤ 67108864) }
     {
         for _ in rt.forever() {
             let count = self.count.load(Ordering::SeqCst);
             if bytes > MAX_WAITING_IN_ALL - count {
-                return false;
+                return None;
             }
-            if self.set(count, count + bytes) {
-                return true;
+            let more = bytes.max(ahead.min(MANY_IN_ALL.saturating_sub(count)));
+            match self.add(count, more) {
+                Some(share) => return Some(share),
+                None => continue,
             }
         }
         unreachable!()
     }
 
-    /// So many have left.
-    pub(crate) fn remove<R: Wait>(&self, rt: &R, bytes: u64) {
+    /// Those of a share have left.
+    pub(crate) fn remove<R: Wait>(&self, rt: &R, share: Share) {
+        let Share { bytes } = share;
         for _ in rt.forever() {
             let count = self.count.load(Ordering::SeqCst);
             if self.set(count, count.saturating_sub(bytes)) {
@@ -75,6 +125,17 @@ impl WaitingBytes {
     /// Whether those of a log must go to its file at once, or there are many in all.
     pub(crate) fn is_urgent(&self) -> bool {
         self.urgent.load(Ordering::SeqCst) || self.count.load(Ordering::SeqCst) >= MANY_IN_ALL
+    }
+
+    /// Adds so many bytes to the count, if it is still the old one: their part of it.
+    fn add(&self, old: u64, bytes: u64) -> Option<Share>
+        requires { old + bytes ≤ 67108864 }
+        ensures { IfSome result (λ share. share.bytes ≡ bytes) }
+    {
+        if !self.set(old, old + bytes) {
+            return None;
+        }
+        Some(Share { bytes })
     }
 
     /// Writes a count, if it is still the old one.

@@ -7,8 +7,8 @@ use Rattle.tox_log_files.proofs.Printed.{keeps-cut, printed-front, printed-whole
 use Rattle.tox_log_files.proofs.log_text.add_entry.Goals as goal
 use Rattle.tox_log_files.proofs.log_text.add_entry.Goals.{then-is_whole, else-is_whole}
 
-pub returns-then-reserve-clause-adds : goal.returns-then-reserve-clause-adds
-returns-then-reserve-clause-adds g c =
+pub returns-then-may_wait-clause-adds : goal.returns-then-may_wait-clause-adds
+returns-then-may_wait-clause-adds g c =
     let old = c.args.waiting.now.0 in
     let text = entry_text c.args.entry.now in
     let next = state_behind c.args.entry.now in
@@ -21,7 +21,7 @@ returns-then-reserve-clause-adds g c =
     (ap₂ (λ (first all : List ℕ). take (length all - length first) (drop (length first) all)) before c.bytes.ensures)
     c.lines_within-count.ensures
     (ap (λ (log : List ℕ × Bool). log.0) c.cut.ensures ∙ ap (λ (some : List ℕ). take (length some + count) mid) before)
-    (omega (arith, ap length before, c.if-end-le-MAX_WAITING_PER_LOG.true))
+    (omega (arith, ap length before, c.may_wait.ensures.few c.if-may_wait.true))
     (elim c.if-is_whole.branch [
       | then-is_whole w ↦ w.result-is ∙ w.state_behind.ensures ∙ sym (ap (λ (whole : Bool). if whole then next else Done) (eq-eqb count _ w.if-is_whole.true))
       | else-is_whole w ↦ w.result-is ∙ sym (ap (λ (whole : Bool). if whole then next else Done) (ne_eqb count _ w.if-is_whole.false))
