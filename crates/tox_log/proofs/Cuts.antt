@@ -1,5 +1,5 @@
 -- A text is cut at its first such byte in one way.
-use Rattle.std.proofs.Common.{◌≡◌, ℕ, ◌^◌, ◌<◌, ◌≤◌, true, List, [], ◌∷◌, ◌++◌, refl, arith}
+use Rattle.std.proofs.Common.{◌≡◌, ℕ, ◌^◌, ◌<◌, ◌≤◌, true, List, [], ◌∷◌, ◌++◌, refl, subst, sym, arith}
 use Rattle.std.specs.Prelude.{◌≢◌, nat_le}
 use Rattle.std.specs.Char.{is_ascii_digit}
 use Rattle.std.specs.Fmt.{decimal}
@@ -30,6 +30,21 @@ cut-once byte (x ∷ a) b (y ∷ c) d lacks_a lacks_c same =
 pub stands : (byte : ℕ) (a b : List ℕ) → Lacks byte (a ++ byte ∷ b) → ⊥
 stands byte [] b lacks = All-head (λ other. other ≢ byte) byte b lacks refl
 stands byte (x ∷ a) b lacks = stands byte a b (All-tail (λ other. other ≢ byte) x (a ++ byte ∷ b) lacks)
+
+-- the parts before and behind the last such byte
+pub cut-last : (byte : ℕ) (a b c d : List ℕ) → Lacks byte b → Lacks byte d → a ++ byte ∷ b ≡ c ++ byte ∷ d → (a ≡ c) × (b ≡ d)
+cut-last byte [] b [] d lacks_b lacks_d same = (refl, cc)
+cut-last byte [] b (y ∷ c) d lacks_b lacks_d same =
+    let rest : b ≡ c ++ byte ∷ d = cc in
+    absurd (stands byte c d (subst (Lacks byte) rest lacks_b))
+cut-last byte (x ∷ a) b [] d lacks_b lacks_d same =
+    let rest : a ++ byte ∷ b ≡ d = cc in
+    absurd (stands byte a b (subst (Lacks byte) (sym rest) lacks_d))
+cut-last byte (x ∷ a) b (y ∷ c) d lacks_b lacks_d same =
+    let rest : a ++ byte ∷ b ≡ c ++ byte ∷ d = cc in
+    let first : x ≡ y = cc in
+    let parts = cut-last byte a b c d lacks_b lacks_d rest in
+    let front : a ≡ c = parts.0 in (cc, parts.1)
 
 digits-lack : (byte : ℕ) (digits : List ℕ) → byte < 48 → list_all is_ascii_digit digits ≡ true → Lacks byte digits
 digits-lack byte [] small all = All-nil (λ other. other ≢ byte)

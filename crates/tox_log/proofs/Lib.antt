@@ -1,10 +1,16 @@
 pub mod Blocks
 pub mod Cuts
 pub mod Decimals
+pub mod Faults
 pub mod HeaderParts
 pub mod Hearing
+pub mod HeadingLines
+pub mod Leaving
 pub mod LineParts
+pub mod LineBytes
 pub mod Lines
+pub mod NextLine
+pub mod ShortForms
 pub mod NoLines
 pub mod JudgedParts
 pub mod Opening
@@ -12,3 +18,4 @@ pub mod ReadsBack
 pub mod Refusing
 pub mod RefusingEndings
 pub mod Judging
+pub mod Written

@@ -9,10 +9,6 @@ use Rattle.tox_log.specs.declared.line_reader.LineReader.{LineReader}
 use Rattle.tox_log.specs.Numbers.{Lacks}
 use Rattle.tox_log.specs.Reading.{HasLine, Takes, TakesLine, TakesRest, to_take, waiting}
 
--- nothing was taken yet
-pub takes-none : (old new : LineReader) (remaining : Option (List ℕ)) → to_take old remaining ≡ to_take new remaining → new.line.items ≡ [] → Takes old new remaining remaining [] []
-takes-none old new remaining same empty = record { given = same ∙ prepend-nil (to_take new remaining); line = λ _. empty }
-
 -- a part more was taken, behind a block that was read
 takes-more : (old mid next new : LineReader) (before between after : Option (List ℕ)) (text part taken : List ℕ) → Takes old mid before between text text
     → to_take mid between ≡ to_take next after → (next.line ≡ mid.line) × (next.long ≡ mid.long) → waiting next ≡ taken ++ waiting new
@@ -20,7 +16,7 @@ takes-more : (old mid next new : LineReader) (before between after : Option (Lis
 takes-more old mid next new before between after text part taken takes filled same parts line = record {
   given = prepend_more text taken (to_take old before) (to_take mid between) (to_take new after) takes.given
       (filled ∙ ap (λ bytes. prepend_known bytes after) parts ∙ prepend-append taken (waiting new) after);
-  line = line text (λ short. ap (λ line. line.items) same.0 ∙ takes.line (sym same.1 ∙ short));
+  line = line text (λ short. ap (λ line. line.items) same.0 ∙ takes.line.0 (sym same.1 ∙ short), λ fits. same.1 ∙ takes.line.1 fits);
 }
 
 -- a part without a line feed
@@ -36,8 +32,11 @@ pub takes-line : (old mid next new : LineReader) (before between after : Option 
     → to_take mid between ≡ to_take next after → (next.line ≡ mid.line) × (next.long ≡ mid.long)
     → (part : List ℕ) × (waiting next ≡ part ++ 10 ∷ waiting new) × ((text : List ℕ) → HasLine next text → HasLine new (text ++ part)) × Lacks 10 part
     → TakesLine old new before after
-takes-line old mid next new before between after (text, takes, lacks) filled same (part, parts, line, part_lacks) =
-    (text ++ part, subst-taken (takes-more old mid next new before between after text part (part ++ 10 ∷ []) takes filled same (parts ∙ simp append_assoc) line))
+takes-line old mid next new before between after (text, takes, lacks) filled same (part, parts, line, part_lacks) = (
+  text ++ part,
+  subst-taken (takes-more old mid next new before between after text part (part ++ 10 ∷ []) takes filled same (parts ∙ simp append_assoc) line),
+  All-append (λ other. other ≢ 10) text part lacks part_lacks,
+)
   where
     subst-taken : Takes old new before after (text ++ part) (text ++ (part ++ 10 ∷ [])) → Takes old new before after (text ++ part) ((text ++ part) ++ 10 ∷ [])
     subst-taken = subst (Takes old new before after (text ++ part)) (sym (append_assoc text part (10 ∷ [])))

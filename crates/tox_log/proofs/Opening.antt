@@ -34,8 +34,8 @@ read-none log remaining same = record { toxics = []; chain = sym (append-nil log
 -- the line that was taken, in the bytes that it comes from
 line-taken : (old new : LineReader) (before after : Option (List ℕ)) → TakesLine old new before after → new.long ≡ false
     → to_take old before ≡ prepend_known (new.line.items ++ 10 ∷ []) (to_take new after)
-line-taken old new before after (text, takes) short =
-    takes.given ∙ ap (λ line. prepend_known (line ++ 10 ∷ []) (to_take new after)) (sym (takes.line short))
+line-taken old new before after (text, takes, lacks) short =
+    takes.given ∙ ap (λ line. prepend_known (line ++ 10 ∷ []) (to_take new after)) (sym (takes.line.0 short))
 
 -- one more
 pub read-one : (old mid next new : OpenLog) (before between after : Option (List ℕ)) → HasRead old mid before between → TakesLine mid.lines next.lines between after → next.chain ≡ mid.chain
@@ -83,19 +83,6 @@ read-ends old mid next before between after read rest kept going =
       given = prepend_more (named_lines read.toxics) rest.torn (to_take old.lines before) (to_take mid.lines between) (to_hand next after) read.given
           (rest.given ∙ ap (prepend_known rest.torn) (sym handed));
       rest = inr (subst IsAtEnd (sym handed) rest.ended);
-    }
-
--- no more lines are asked for
-pub read-stops : (old now : OpenLog) (before after : Option (List ℕ)) → HasRead old now before after → now.waits ≡ false → ReadsToxics old now before after
-read-stops old now before after read going =
-    let handed : to_hand now after ≡ to_take now.lines after =
-    ap (λ w. if w then prepend_known (now.lines.line.items ++ 10 ∷ []) (to_take now.lines after) else to_take now.lines after) going in record {
-      toxics = read.toxics;
-      torn = [];
-      unended = All-nil (λ other. other ≢ 10);
-      chain = read.chain;
-      given = read.given ∙ ap (prepend_known (named_lines read.toxics)) (sym handed) ∙ ap (λ bytes. prepend_known bytes (to_hand now after)) (sym (append-nil (named_lines read.toxics)));
-      rest = inl refl;
     }
 
 zip-pairs : {X Y : Type 0} (pairs : List (X × Y)) → zip (map (λ pair. pair.0) pairs) (map (λ pair. pair.1) pairs) ≡ pairs

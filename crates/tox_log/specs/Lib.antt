@@ -1,5 +1,6 @@
 pub mod EventText
 pub mod LastText
+pub mod HeaderLines
 pub mod HeaderText
 pub mod FaultText
 pub mod JudgedLine
@@ -11,3 +12,5 @@ pub mod Numbers
 pub mod Opening
 pub mod Order
 pub mod Reading
+pub mod WrittenLog
+pub mod Left

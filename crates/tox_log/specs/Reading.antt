@@ -6,7 +6,7 @@ use Rattle.tox_log.specs.declared.open_log.OpenLog.{OpenLog}
 use Rattle.tox_log.specs.declared.event_line.LogLine.{LogLine}
 use Rattle.tox_log.specs.declared.event_line.LogLine.TheVariants.{Event, Last}
 use Rattle.tox_log.specs.Lines.{IsWritable, line_words}
-use Rattle.tox_log.specs.Numbers.{Lacks}
+use Rattle.tox_log.specs.Numbers.{KeepsText, Lacks}
 
 -- the bytes of the block that were not taken yet
 abbrev pub waiting : LineReader → List ℕ
@@ -18,7 +18,11 @@ to_take lines remaining = prepend_known (waiting lines) remaining
 
 -- the line has these bytes, unless it is too long
 abbrev pub HasLine : LineReader → List ℕ → Type 0
-HasLine lines text = lines.long ≡ false → lines.line.items ≡ text
+HasLine lines text = KeepsText lines.line.items lines.long text
+
+-- the line that was read is this one
+abbrev pub IsLineRead : LineReader → List ℕ → Type 0
+IsLineRead lines line = (lines.line.items ≡ line) × (lines.long ≡ false)
 
 -- bytes were taken, and the line has them
 pub record Takes (old new : LineReader) (before after : Option (List ℕ)) (text taken : List ℕ) : Type 0 where
@@ -27,7 +31,7 @@ pub record Takes (old new : LineReader) (before after : Option (List ℕ)) (text
 
 -- a line was taken with its line feed
 abbrev pub TakesLine : LineReader → LineReader → Option (List ℕ) → Option (List ℕ) → Type 0
-TakesLine old new before after = (text : List ℕ) × Takes old new before after text (text ++ 10 ∷ [])
+TakesLine old new before after = (text : List ℕ) × Takes old new before after text (text ++ 10 ∷ []) × Lacks 10 text
 
 -- no further line came: what was left has no line feed, and the reader is at its end
 pub record TakesRest (old new : LineReader) (before after : Option (List ℕ)) : Type 0 where

@@ -1,10 +1,15 @@
 //! The header of a log, line by line.
-ghost use Rattle.std.specs.Prelude.{◌≡◌, ◌++◌, ◌∷◌, [], ◌≤◌, ℕ, List, codes, decimal, IfSome, IfOk, IsTrue, ◌↔◌};
+ghost use Rattle.std.specs.Prelude.{◌≡◌, ◌≢◌, ◌++◌, ◌∷◌, [], ◌<◌, ◌≤◌, ◌^◌, ℕ, List, codes, decimal, IfSome, IfOk, IsSomeAnd, IsTrue, MatchOption, Some, ◌↔◌};
 ghost use Rattle.tox_defs.specs.short.Printed.{printed_short};
 ghost use Rattle.tox_time.specs.streams.StreamName.{stream_name};
 ghost use Rattle.tox_words.specs.Draw.{lane_count};
 ghost use Rattle.tox_log.specs.HeaderText.{title_line, link_line, seed_line, toxic_line};
 ghost use Rattle.tox_defs.specs.chain.Chain.{IsEntry};
+ghost use Rattle.tox_defs.specs.declared.chain.Entry.{Entry as OneEntry};
+ghost use Rattle.tox_time.specs.declared.streams.stream.Stream.{Stream as OneStream};
+ghost use Rattle.tox_words.specs.declared.lanes.Lanes.{Lanes as OneLanes};
+ghost use Rattle.tox_log.specs.HeaderLines.{BeginsToxic, IsWritableName, PrintsLink, PrintsToxic};
+ghost use Rattle.tox_log.specs.Numbers.{Lacks};
 
 use crate::log_bytes::LogBytes;
 use crate::numbers::{cut_at, cut_at_last, number_of};
@@ -38,7 +43,7 @@ pub(crate) struct LinkWords<'a> {
 
 /// Whether this is the first line.
 pub(crate) fn is_title(line: &[u8]) -> bool
-    ensures { IsTrue result → line.now ++ 10 ∷ [] ≡ title_line }
+    ensures { IsTrue result ↔ (line.now ++ 10 ∷ [] ≡ title_line) }
 {
     line == b"toxi log 1".as_slice()
 }
@@ -48,6 +53,9 @@ pub(crate) fn read_link(line: &[u8]) -> Option<LinkWords<'_>>
     ensures numbered { IfSome result (λ link. (1 ≤ link.number) × (link.number ≤ 1_000_000)) }
     ensures line { IfSome result
         (λ link. line.now ++ 10 ∷ [] ≡ link_line link.proxy.now link.number link.stream) }
+    ensures back { (name : List ℕ) (number : ℕ) (stream : OneStream)
+        → PrintsLink line.now name number stream → IsSomeAnd result
+        (λ link. (link.proxy.now ≡ name) × (link.number ≡ number) × (link.stream ≡ stream)) }
 {
     let rest = line.strip_prefix(b"link ")?;
     let (rest, stream) = cut_at_last(rest, b' ')?;
@@ -66,7 +74,8 @@ pub(crate) fn read_link(line: &[u8]) -> Option<LinkWords<'_>>
 }
 
 fn stream_of(name: &[u8]) -> Option<Stream>
-    ensures { IfSome result (λ stream. name.now ≡ stream_name stream) }
+    ensures { MatchOption result ((stream : OneStream) → name.now ≢ stream_name stream)
+        (λ stream. name.now ≡ stream_name stream) }
 {
     let Ok(name) = str::from_utf8(name) else {
         return None;
@@ -76,7 +85,8 @@ fn stream_of(name: &[u8]) -> Option<Stream>
 
 /// The name that a text is: not empty, and without control characters.
 fn name_of(text: &[u8]) -> Option<&str>
-    ensures { IfSome result (λ name. name.now ≡ text.now) }
+    ensures { MatchOption result (¬ IsWritableName text.now)
+        (λ name. (name.now ≡ text.now) × IsWritableName text.now) }
 {
     if text.is_empty() || text.iter().any(|byte| byte.is_ascii_control()) {
         return None;
@@ -89,7 +99,9 @@ fn name_of(text: &[u8]) -> Option<&str>
 
 /// What the third line says: `lanes <lanes> seed <seed>`.
 pub(crate) fn read_seed(line: &[u8]) -> Option<(Lanes, u64)>
-    ensures { IfSome result (λ read. line.now ++ 10 ∷ [] ≡ seed_line read.0 read.1) }
+    ensures line { IfSome result (λ read. line.now ++ 10 ∷ [] ≡ seed_line read.0 read.1) }
+    ensures back { (lanes : OneLanes) (seed : ℕ) → seed < 2 ^ 64
+        → line.now ++ 10 ∷ [] ≡ seed_line lanes seed → result ≡ Some (lanes, seed) }
 {
     let rest = line.strip_prefix(b"lanes ")?;
     let (count, rest) = cut_at(rest, b' ')?;
@@ -100,17 +112,23 @@ pub(crate) fn read_seed(line: &[u8]) -> Option<(Lanes, u64)>
 }
 
 fn lanes_of(count: &[u8]) -> Option<Lanes>
-    ensures { IfSome result (λ lanes. count.now ≡ decimal (lane_count lanes)) }
+    ensures { MatchOption result ((lanes : OneLanes) → count.now ≢ decimal (lane_count lanes))
+        (λ lanes. count.now ≡ decimal (lane_count lanes)) }
 {
-    match number_of(count, 32)? {
-        16 => Some(Lanes::Sixteen),
-        32 => Some(Lanes::ThirtyTwo),
-        _ => None,
+    let count = number_of(count, 32)?;
+    if count == 16 {
+        return Some(Lanes::Sixteen);
     }
+    if count == 32 {
+        return Some(Lanes::ThirtyTwo);
+    }
+    None
 }
 
 /// Whether a line is to be a toxic's.
-pub(crate) fn is_toxic(line: &[u8]) -> bool {
+pub(crate) fn is_toxic(line: &[u8]) -> bool
+    ensures { IsTrue result ↔ BeginsToxic line.now }
+{
     line.starts_with(b"toxic ")
 }
 
@@ -119,6 +137,8 @@ pub(crate) fn read_toxic(alloc: Global, line: &[u8]) -> Result<Option<Entry>, Al
     ensures entry { IfOk result (λ read. IfSome read (λ entry. IsEntry entry)) }
     ensures line { IfOk result (λ read. IfSome read (λ entry. (name : List ℕ)
         × (line.now ++ 10 ∷ [] ≡ toxic_line entry name))) }
+    ensures back { (named : OneEntry × List ℕ) → PrintsToxic line.now named
+        → IfOk result (λ read. read ≡ Some named.0) }
 {
     let Some((short, name)) = toxic_words(line) else {
         return Ok(None);
@@ -138,8 +158,10 @@ pub(crate) fn read_toxic(alloc: Global, line: &[u8]) -> Result<Option<Entry>, Al
 
 /// The short form and the name of a toxic's line.
 fn toxic_words(line: &[u8]) -> Option<(&[u8], &[u8])>
-    ensures { IfSome result
-        (λ words. line.now ≡ codes "toxic " ++ words.0.now ++ 32 ∷ words.1.now) }
+    ensures { MatchOption result
+        ((short name : List ℕ) → line.now ≢ codes "toxic " ++ short ++ 32 ∷ name)
+        (λ words. Lacks 32 words.0.now
+        × (line.now ≡ codes "toxic " ++ words.0.now ++ 32 ∷ words.1.now)) }
 {
     let rest = line.strip_prefix(b"toxic ")?;
     cut_at(rest, b' ')
@@ -147,7 +169,9 @@ fn toxic_words(line: &[u8]) -> Option<(&[u8], &[u8])>
 
 /// The toxic of a short form.
 fn entry_of(short: &[u8]) -> Option<Entry>
-    ensures { IfSome result (λ entry. IsEntry entry) }
+    ensures entry { IfSome result (λ entry. IsEntry entry) }
+    ensures back { (entry : OneEntry) → IsEntry entry
+        → short.now ≡ printed_short entry.toxic entry.toxicity → result ≡ Some entry }
 {
     let Ok(short) = str::from_utf8(short) else {
         return None;
@@ -161,7 +185,7 @@ fn entry_of(short: &[u8]) -> Option<Entry>
 /// Whether a toxic is printed so.
 fn is_printed(alloc: Global, entry: &Entry, short: &[u8]) -> Result<bool, AllocError>
     ensures { IfOk result (λ same. IsTrue same
-        → short.now ≡ printed_short entry.now.toxic entry.now.toxicity) }
+        ↔ (short.now ≡ printed_short entry.now.toxic entry.now.toxicity)) }
 {
     let mut buffer = Buffer::new();
     let mut printed = LogBytes::new(alloc);

@@ -60,8 +60,10 @@ pub(crate) fn begin(alloc: Global, plan: Plan, words: Words) -> Result<Judge, Al
 
 /// Whether a piece may be heard next: a log's reader hands out no other.
 pub(crate) fn takes_piece(judge: &Judge, len: u64, instant: &Micros) -> bool
-    ensures { IsTrue result → (judge.now.latest ≤ instant.now) × IsInstant instant.now × (0 < len)
-        × (judge.now.heard + len ≤ 2 ^ 40) × (judge.now.ended ≡ false) }
+    ensures fits { IsTrue result → (judge.now.latest ≤ instant.now) × IsInstant instant.now
+        × (0 < len) × (judge.now.heard + len ≤ 2 ^ 40) × (judge.now.ended ≡ false) }
+    ensures takes { judge.now.latest ≤ instant.now → 0 < len → judge.now.heard + len ≤ 2 ^ 40
+        → judge.now.ended ≡ false → IsTrue result }
 {
     takes_at(judge, instant)
         && !judge.ended
@@ -72,7 +74,8 @@ pub(crate) fn takes_piece(judge: &Judge, len: u64, instant: &Micros) -> bool
 
 /// Whether the clock may be read so next.
 pub(crate) fn takes_at(judge: &Judge, reading: &Micros) -> bool
-    ensures { IsTrue result → (judge.now.latest ≤ reading.now) × IsInstant reading.now }
+    ensures fits { IsTrue result → (judge.now.latest ≤ reading.now) × IsInstant reading.now }
+    ensures takes { judge.now.latest ≤ reading.now → IsTrue result }
 {
     judge.latest.get() <= reading.get()
 }

@@ -1,6 +1,7 @@
 //! The lines of a log, one at a time.
 ghost use Rattle.std.specs.Prelude.{◌≡◌, ◌≤◌, ◌<◌, ◌++◌, ◌∷◌, [], List, ℕ, length, false, true, if◌then◌else◌, IfOk, IsFalse, IsTrue, OnOk, MatchOption};
 ghost use Rattle.std.specs.Io.KnownBytes.{IsAtEnd};
+ghost use Rattle.tox_log.specs.Numbers.{KeepsText};
 
 use arrayvec::ArrayVec;
 use memchr::memchr;
@@ -26,7 +27,7 @@ pub(crate) struct LineReader {
 
 impl LineReader {
     ghost use Rattle.tox_log.specs.Numbers.{Lacks};
-    ghost use Rattle.tox_log.specs.Reading.{HasLine, TakesLine, TakesRest, to_take, waiting};
+    ghost use Rattle.tox_log.specs.Reading.{HasLine, IsLineRead, TakesLine, TakesRest, to_take, waiting};
 
     pub(crate) fn new(alloc: Global) -> Result<LineReader, AllocError>
         ensures { IfOk result (λ lines. waiting lines ≡ []) }
@@ -64,8 +65,7 @@ impl LineReader {
 
     /// The line, without its line feed. None if it is longer than any line of the form.
     pub(crate) fn line(&self) -> Option<&[u8]>
-        ensures { MatchOption result (self.now.long ≡ true) (λ line. HasLine self.now line.now
-            × (self.now.long ≡ false)) }
+        ensures { MatchOption result (self.now.long ≡ true) (λ line. IsLineRead self.now line.now) }
     {
         if self.long {
             None
@@ -117,8 +117,8 @@ impl LineReader {
 
 /// Adds a part to a line, if it fits.
 fn add(line: &mut ArrayVec<u8, MAX_LINE>, long: &mut bool, part: &[u8])
-    ensures { (text : List ℕ) → (long.old ≡ false → line.old.items ≡ text) → long.new ≡ false
-        → line.new.items ≡ text ++ part.now }
+    ensures { (text : List ℕ) → KeepsText line.old.items long.old text
+        → KeepsText line.new.items long.new (text ++ part.now) }
 {
     if line.try_extend_from_slice(part).is_err() {
         *long = true;

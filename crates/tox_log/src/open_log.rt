@@ -1,14 +1,20 @@
 //! A log that is being read: its header, and then line by line.
-ghost use Rattle.std.specs.Prelude.{◌≡◌, ◌≤◌, ◌+◌, true, false, OnOk, OnSome, IfOk, IfSome, IfNone, IsFalse, IsTrue, MatchOption, string_bytes};
+ghost use Rattle.std.specs.Prelude.{◌≡◌, ℕ, ◌<◌, ◌≤◌, ◌+◌, ◌++◌, ◌∷◌, [], List, true, false, length, OnOk, OnSome, IfErr, IfOk, IfSome, IfNone, IsFalse, IsTrue, MatchOption, MatchResult, Some, string_bytes, ◌↔◌};
 ghost use Rattle.tox_log.specs.Lines.{IsWritable, line_words};
 ghost use Rattle.std.specs.Io.KnownBytes.{prepend_known};
 ghost use Rattle.tox_words.specs.Seeded.{seeded_words};
 ghost use Rattle.tox_log.specs.HeaderText.{heading_lines, link_line, seed_line, title_line};
 ghost use Rattle.tox_log.specs.Opening.{AddsToxic, Opens, ReadsToxics, SameHeading};
-ghost use Rattle.tox_log.specs.Order.{GoesOnWith};
+ghost use Rattle.tox_log.specs.Order.{ComesNext, GoesOnWith};
 ghost use Rattle.tox_log.specs.declared.event_line.LogLine.TheVariants as OneLine;
 ghost use Rattle.tox_link.specs.declared.notes.LinkEvent.TheVariants as OneEvent;
-ghost use Rattle.tox_log.specs.Reading.{Hands, HasLine, LacksLine, TakesLine, TakesRest, is_last, to_hand, to_take};
+ghost use Rattle.tox_log.specs.Reading.{Hands, IsLineRead, LacksLine, TakesLine, TakesRest, is_last, to_hand, to_take};
+ghost use Rattle.tox_log.specs.Left.{HandsFirst, HasLinesLeft, HasToxicsLeft, IsHeadingOf, IsNextLine, IsNoBadLine, OpensWritten};
+ghost use Rattle.tox_log.specs.HeaderLines.{PrintsToxic};
+ghost use Rattle.tox_log.specs.WrittenLog.{IsWritableLog, IsWrittenText, WrittenLog};
+ghost use Rattle.tox_log.specs.declared.event_line.LogLine.{LogLine as AnyLine};
+ghost use Rattle.tox_defs.specs.declared.chain.Entry.{Entry as OneEntry};
+ghost use Rattle.tox_words.specs.Draw.{lane_count};
 
 use crate::event_line::{LogLine, read_line};
 use crate::fault::LogFault;
@@ -43,6 +49,8 @@ impl OpenLog {
         requires { R.failed reader.old ≡ false }
         ensures working { OnOk result (R.failed reader.new ≡ false) }
         ensures opens { IfOk result (Opens (R.remaining reader.old) (R.remaining reader.new)) }
+        ensures reads { (written : WrittenLog) → IsWrittenText (R.remaining reader.old) written
+            → MatchResult result (λ log. OpensWritten log (R.remaining reader.new) written) IsNoBadLine }
     {
         let mut lines = LineReader::new(alloc)?;
         let heading = read_heading(alloc, &mut lines, reader)?;
@@ -83,8 +91,8 @@ impl OpenLog {
 
     /// The words of the stream.
     pub fn words(&self, alloc: Global) -> Result<Words, LogFault>
-        ensures { IfOk result (λ words. words ≡ seeded_words self.now.heading.seed
-            self.now.heading.number self.now.heading.stream) }
+        ensures { MatchResult result (λ words. words ≡ seeded_words self.now.heading.seed
+            self.now.heading.number self.now.heading.stream) IsNoBadLine }
     {
         let heading = &self.heading;
         match Words::from_seed(alloc, heading.seed, heading.number, heading.stream) {
@@ -110,6 +118,9 @@ impl OpenLog {
             (λ line. GoesOnWith self.old.heard line self.new.heard)) }
         ensures ends { IfOk result (λ handed.
             IfNone handed (LacksLine (to_hand self.old (R.remaining reader.old)))) }
+        ensures reads { (lines : List AnyLine) → HasLinesLeft self.old (R.remaining reader.old) lines
+            → MatchResult result (λ handed. HandsFirst handed self.new (R.remaining reader.new) lines)
+            IsNoBadLine }
     {
         if self.waits {
             self.waits = false;
@@ -130,6 +141,10 @@ impl OpenLog {
         ensures same { OnOk result (SameHeading self.old self.new) }
         ensures toxics { OnOk result
             (ReadsToxics self.old self.new (R.remaining reader.old) (R.remaining reader.new)) }
+        ensures reads { (entries : List OneEntry) (lines : List AnyLine)
+            → HasToxicsLeft self.old (R.remaining reader.old) entries lines
+            → MatchResult result (λ _. (self.new.chain.entries ≡ entries)
+            × HasLinesLeft self.new (R.remaining reader.new) lines) IsNoBadLine }
     {
         'toxics: for _ in 0..u64::MAX {
             if !self.advance(reader)? {
@@ -140,7 +155,7 @@ impl OpenLog {
                 return Ok(());
             }
         }
-        Ok(())
+        Err(LogFault::ReadFault)
     }
 
     /// Adds the toxic of the line that was read. False if it is no toxic's line.
@@ -150,6 +165,13 @@ impl OpenLog {
         ensures added { IfOk result (λ added. IsTrue added → AddsToxic self.old self.new) }
         ensures other { IfOk result (λ added. IsFalse added
             → (self.new.chain ≡ self.old.chain) × (self.old.lines.long ≡ false)) }
+        ensures takes { (line : List ℕ) (named : OneEntry × List ℕ) → IsLineRead self.old.lines line
+            → PrintsToxic line named
+            → length self.old.chain.entries < lane_count self.old.chain.lanes
+            → MatchResult result (λ added. IsTrue added
+            × (self.new.chain.entries ≡ self.old.chain.entries ++ named.0 ∷ [])) IsNoBadLine }
+        ensures skips { (line : AnyLine) → IsLineRead self.old.lines (line_words line)
+            → IsWritable line → MatchResult result IsFalse IsNoBadLine }
     {
         let Some(line) = self.lines.line() else {
             return Err(LogFault::BadLine(self.number));
@@ -176,6 +198,7 @@ impl OpenLog {
             (R.remaining reader.old) (R.remaining reader.new)) }
         ensures kept { (self.new.waits ≡ self.old.waits) × SameHeading self.old self.new
             × (self.new.chain ≡ self.old.chain) }
+        ensures fault { IfErr result IsNoBadLine }
     {
         if !self.lines.advance(reader)? {
             return Ok(false);
@@ -189,11 +212,12 @@ impl OpenLog {
         ensures kept { OnSome result ((self.new.lines ≡ self.old.lines)
             × (self.new.waits ≡ self.old.waits) × (self.new.heading ≡ self.old.heading)
             × (self.new.chain ≡ self.old.chain)) }
-        ensures reads { IfSome result (λ line. HasLine self.old.lines (line_words line)
-            × (self.old.lines.long ≡ false) × IsWritable line) }
+        ensures reads { IfSome result (λ line. IsLineRead self.old.lines (line_words line)
+            × IsWritable line) }
         ensures order { IfSome result (λ line. (self.old.over ≡ false)
             × (self.new.over ≡ is_last line)
             × GoesOnWith self.old.heard line self.new.heard) }
+        ensures back { (line : AnyLine) → IsNextLine self.old line → result ≡ Some line }
     {
         let line = read_line(self.lines.line()?)?;
         if self.over || !comes_next(&mut self.heard, &line) {
@@ -216,7 +240,8 @@ fn is_last(line: &LogLine) -> bool
 /// Whether a line may come next, behind what was heard: readings never fall, positions stay within 2^40, and nothing comes behind
 /// the source's end.
 fn comes_next(heard: &mut StreamPosition, line: &LogLine) -> bool
-    ensures { IsTrue result → GoesOnWith heard.old line.now heard.new }
+    ensures goes { IsTrue result → GoesOnWith heard.old line.now heard.new }
+    ensures takes { ComesNext heard.old line.now → IsTrue result }
 {
     match line {
         LogLine::Event(LinkEvent::Piece(len, instant)) => hear_piece(heard, *len, instant),
@@ -228,8 +253,10 @@ fn comes_next(heard: &mut StreamPosition, line: &LogLine) -> bool
 }
 
 fn hear_piece(heard: &mut StreamPosition, len: u64, instant: &Micros) -> bool
-    ensures { IsTrue result
+    ensures goes { IsTrue result
         → GoesOnWith heard.old (OneLine.Event (OneEvent.Piece len instant.now)) heard.new }
+    ensures takes { ComesNext heard.old (OneLine.Event (OneEvent.Piece len instant.now))
+        → IsTrue result }
 {
     if heard.with_piece(len, *instant).is_err() {
         return false;
@@ -239,8 +266,10 @@ fn hear_piece(heard: &mut StreamPosition, len: u64, instant: &Micros) -> bool
 }
 
 fn hear_end(heard: &mut StreamPosition, instant: &Micros) -> bool
-    ensures { IsTrue result
+    ensures goes { IsTrue result
         → GoesOnWith heard.old (OneLine.Event (OneEvent.SourceEnd instant.now)) heard.new }
+    ensures takes { ComesNext heard.old (OneLine.Event (OneEvent.SourceEnd instant.now))
+        → IsTrue result }
 {
     let Ok(next) = heard.with_end(*instant) else {
         return false;
@@ -251,8 +280,9 @@ fn hear_end(heard: &mut StreamPosition, instant: &Micros) -> bool
 
 /// The clock was read. Readings never fall.
 fn read_at(heard: &mut StreamPosition, reading: &Micros) -> bool
-    ensures { IsTrue result → (heard.old.latest ≤ reading.now)
+    ensures goes { IsTrue result → (heard.old.latest ≤ reading.now)
         × (heard.new ≡ record heard.old { latest = reading.now }) }
+    ensures takes { heard.old.latest ≤ reading.now → IsTrue result }
 {
     if *reading < heard.latest {
         return false;
@@ -272,6 +302,11 @@ fn read_heading<R: Source>(
     ensures lines { IfOk result (λ heading. to_take lines.old (R.remaining reader.old)
         ≡ prepend_known (heading_lines (string_bytes heading.proxy) heading.number heading.stream
         heading.lanes heading.seed) (to_take lines.new (R.remaining reader.new))) }
+    ensures reads { (log : WrittenLog) (more : List ℕ) → IsWritableLog log
+        → to_take lines.old (R.remaining reader.old)
+        ≡ Some (heading_lines log.name log.number log.stream log.chain.lanes log.seed ++ more)
+        → MatchResult result (λ heading. IsHeadingOf heading log
+        × (to_take lines.new (R.remaining reader.new) ≡ Some more)) IsNoBadLine }
 {
     read_title(lines, reader)?;
     let (proxy, number, stream) = read_link_line(alloc, lines, reader)?;
@@ -291,6 +326,10 @@ fn read_title<R: Source>(lines: &mut LineReader, reader: &mut R) -> Result<(), L
     ensures working { OnOk result (R.failed reader.new ≡ false) }
     ensures line { OnOk result (to_take lines.old (R.remaining reader.old)
         ≡ prepend_known title_line (to_take lines.new (R.remaining reader.new))) }
+    ensures reads { (more : List ℕ)
+        → to_take lines.old (R.remaining reader.old) ≡ Some (title_line ++ more)
+        → MatchResult result (λ _. to_take lines.new (R.remaining reader.new) ≡ Some more)
+        IsNoBadLine }
 {
     if !lines.advance(reader)? {
         return Err(LogFault::BadLine(1));
@@ -313,11 +352,20 @@ fn read_link_line<R: Source>(
     ensures line { IfOk result (λ link. to_take lines.old (R.remaining reader.old)
         ≡ prepend_known (link_line (string_bytes link.0) link.1 link.2)
         (to_take lines.new (R.remaining reader.new))) }
+    ensures reads { (log : WrittenLog) (more : List ℕ) → IsWritableLog log
+        → to_take lines.old (R.remaining reader.old)
+        ≡ Some (link_line log.name log.number log.stream ++ more)
+        → MatchResult result (λ link. (string_bytes link.0 ≡ log.name) × (link.1 ≡ log.number)
+        × (link.2 ≡ log.stream) × (to_take lines.new (R.remaining reader.new) ≡ Some more))
+        IsNoBadLine }
 {
     if !lines.advance(reader)? {
         return Err(LogFault::BadLine(2));
     }
-    let Some(link) = lines.line().and_then(read_link) else {
+    let Some(line) = lines.line() else {
+        return Err(LogFault::BadLine(2));
+    };
+    let Some(link) = read_link(line) else {
         return Err(LogFault::BadLine(2));
     };
     Ok((link.proxy.to_string(alloc)?, link.number, link.stream))
@@ -332,11 +380,19 @@ fn read_seed_line<R: Source>(
     ensures working { OnOk result (R.failed reader.new ≡ false) }
     ensures line { IfOk result (λ read. to_take lines.old (R.remaining reader.old)
         ≡ prepend_known (seed_line read.0 read.1) (to_take lines.new (R.remaining reader.new))) }
+    ensures reads { (log : WrittenLog) (more : List ℕ) → IsWritableLog log
+        → to_take lines.old (R.remaining reader.old)
+        ≡ Some (seed_line log.chain.lanes log.seed ++ more)
+        → MatchResult result (λ read. (read.0 ≡ log.chain.lanes) × (read.1 ≡ log.seed)
+        × (to_take lines.new (R.remaining reader.new) ≡ Some more)) IsNoBadLine }
 {
     if !lines.advance(reader)? {
         return Err(LogFault::BadLine(3));
     }
-    match lines.line().and_then(read_seed) {
+    let Some(line) = lines.line() else {
+        return Err(LogFault::BadLine(3));
+    };
+    match read_seed(line) {
         Some(settings) => Ok(settings),
         None => Err(LogFault::BadLine(3)),
     }

@@ -1,5 +1,5 @@
 //! What a log says, judged: whether the plan of its header means it, and how late its writes were.
-ghost use Rattle.std.specs.Prelude.{◌≡◌, ℕ, ◌++◌, List, [], Option, false, IfOk, OnOk};
+ghost use Rattle.std.specs.Prelude.{◌≡◌, ◌≢◌, ℕ, ◌++◌, List, [], Option, false, IfErr, IfOk, OnOk};
 ghost use Rattle.std.specs.Io.KnownBytes.{prepend_known};
 ghost use Rattle.tox_compile.specs.Meaning.{means};
 ghost use Rattle.tox_time.specs.declared.streams.item.Item.{Item as OneItem};
@@ -7,6 +7,10 @@ ghost use Rattle.tox_log.specs.Hearing.{Begins, HasHeard, HearsLine, IsFaithfulT
 ghost use Rattle.tox_time.specs.declared.streams.ending.Ending.{Ending as OneEnding};
 ghost use Rattle.tox_log.specs.Judging.{IsHeld};
 ghost use Rattle.tox_log.specs.Reading.{to_hand};
+ghost use Rattle.tox_log.specs.Left.{AcceptsNext, ComesWith, HasLinesLeft, IsHeardTo, IsNoBadLine};
+ghost use Rattle.tox_log.specs.WrittenLog.{IsWrittenText, WrittenLog};
+ghost use Rattle.tox_time.specs.streams.StreamPosition.{first_position};
+ghost use Rattle.tox_log.specs.declared.event_line.LogLine.{LogLine as AnyLine};
 ghost use Rattle.tox_log.specs.declared.replay.Verdict.TheVariants as TheVerdict;
 ghost use Rattle.tox_log.specs.declared.event_line.LogLine.TheVariants as OneLine;
 ghost use Rattle.tox_log.specs.declared.last_line.LastLine.TheVariants as TheLast;
@@ -79,6 +83,8 @@ pub fn judge_log<R: Source>(alloc: Global, reader: &mut R) -> Result<JudgedLog, 
     ensures refused { IfOk result (λ judged. (number : ℕ)
         → judged.verdict ≡ TheVerdict.Unfaithful number
         → IsRefusedText (R.remaining reader.old) judged) }
+    ensures reads { (written : WrittenLog) → IsWrittenText (R.remaining reader.old) written
+        → IfErr result IsNoBadLine }
 {
     let mut log = OpenLog::new(alloc, reader)?;
     let mut hearing = begin(alloc, &log)?;
@@ -126,6 +132,8 @@ pub fn write_judged<'a, R: Source, W: Sink>(
 fn begin(alloc: Global, log: &OpenLog) -> Result<Hearing, LogFault>
     ensures held { IfOk result (λ hearing. IsHeld hearing.judge) }
     ensures begins { IfOk result (Begins log.now.heading log.now.chain) }
+    ensures start { IfOk result (λ hearing. IsHeardTo hearing.judge first_position) }
+    ensures fault { IfErr result IsNoBadLine }
 {
     let words = log.words(alloc)?;
     let plan = compile(log.chain(), &words);
@@ -148,11 +156,14 @@ fn hear_lines<R: Source>(
     requires works { R.failed reader.old ≡ false }
     requires held { IsHeld hearing.old.judge }
     requires first { (hearing.old.verdict ≡ TheVerdict.Unfinished) × (log.old.over ≡ false) }
-    ensures { OnOk result ((text : List ℕ) × (left : Option (List ℕ))
+    ensures says { OnOk result ((text : List ℕ) × (left : Option (List ℕ))
         × (to_hand log.old (R.remaining reader.old) ≡ prepend_known text left)
         × ((means : List OneItem → List OneItem) → HasHeard means [] hearing.old.judge
         → SaysSo means text log.new.over hearing.new.judge hearing.new.verdict)
         × (log.new.heading ≡ log.old.heading) × (log.new.chain ≡ log.old.chain)) }
+    ensures reads { (lines : List AnyLine)
+        → HasLinesLeft log.old (R.remaining reader.old) lines
+        → IsHeardTo hearing.old.judge log.old.heard → IfErr result IsNoBadLine }
 {
     'lines: for _ in 0..u64::MAX {
         let Some(line) = log.next_line(reader)? else {
@@ -177,6 +188,8 @@ fn hear_line(
     requires going { hearing.old.verdict ≡ TheVerdict.Unfinished }
     ensures held { IsHeld hearing.new.judge }
     ensures hears { OnOk result (HearsLine hearing.old line.now hearing.new) }
+    ensures reads { AcceptsNext hearing.old line.now result }
+    ensures follows { OnOk result (ComesWith hearing.old line.now hearing.new) }
 {
     match line {
         LogLine::Event(LinkEvent::Piece(len, instant)) => {
@@ -207,6 +220,8 @@ fn hear_piece(
     ensures held { IsHeld hearing.new.judge }
     ensures hears { OnOk result (HearsLine hearing.old
         (OneLine.Event (OneEvent.Piece len instant.now)) hearing.new) }
+    ensures reads { AcceptsNext hearing.old (OneLine.Event (OneEvent.Piece len instant.now)) result }
+    ensures follows { OnOk result (ComesWith hearing.old (OneLine.Event (OneEvent.Piece len instant.now)) hearing.new) }
 {
     if !takes_piece(&hearing.judge, len, instant) {
         return Err(LogFault::BadLine(number));
@@ -223,6 +238,8 @@ fn hear_source_end(hearing: &mut Hearing, instant: &Micros, number: u64) -> Resu
     ensures held { IsHeld hearing.new.judge }
     ensures hears { OnOk result (HearsLine hearing.old
         (OneLine.Event (OneEvent.SourceEnd instant.now)) hearing.new) }
+    ensures reads { AcceptsNext hearing.old (OneLine.Event (OneEvent.SourceEnd instant.now)) result }
+    ensures follows { OnOk result (ComesWith hearing.old (OneLine.Event (OneEvent.SourceEnd instant.now)) hearing.new) }
 {
     if hearing.judge.ended || !takes_at(&hearing.judge, instant) {
         return Err(LogFault::BadLine(number));
@@ -243,6 +260,8 @@ fn hear_wrote(
     ensures held { IsHeld hearing.new.judge }
     ensures hears { OnOk result (HearsLine hearing.old
         (OneLine.Event (OneEvent.Wrote slice.now reading.now)) hearing.new) }
+    ensures reads { AcceptsNext hearing.old (OneLine.Event (OneEvent.Wrote slice.now reading.now)) result }
+    ensures follows { OnOk result (ComesWith hearing.old (OneLine.Event (OneEvent.Wrote slice.now reading.now)) hearing.new) }
 {
     if !takes_at(&hearing.judge, reading) {
         return Err(LogFault::BadLine(number));
@@ -269,6 +288,8 @@ fn hear_ending(
     ensures held { IsHeld hearing.new.judge }
     ensures hears { OnOk result (HearsLine hearing.old
         (OneLine.Last (TheLast.Ended reading.now ending.now)) hearing.new) }
+    ensures reads { AcceptsNext hearing.old (OneLine.Last (TheLast.Ended reading.now ending.now)) result }
+    ensures over { OnOk result (hearing.new.verdict ≢ TheVerdict.Unfinished) }
 {
     if !takes_at(&hearing.judge, reading) {
         return Err(LogFault::BadLine(number));

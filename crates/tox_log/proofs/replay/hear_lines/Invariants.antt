@@ -1,9 +1,13 @@
--- The reader works, the judge is held, and what was read so far is what the verdict is of.
+-- The reader works, the judge is held, and what was read so far is what the verdict is of. Until it is known the judge is as far as the
+-- log, and of a log that a link can write some lines are left.
 use Rattle.std.proofs.Common.{◌≡◌, ℕ, List, [], false}
 use Rattle.std.specs.Io.KnownBytes.{prepend_known}
 use Rattle.tox_time.specs.declared.streams.item.Item.{Item}
 use Rattle.tox_log.specs.Hearing.{HasHeard, SaysSo}
 use Rattle.tox_log.specs.Judging.{IsHeld}
+use Rattle.tox_log.specs.Left.{HasLinesLeft, IsHeardTo}
+use Rattle.tox_log.specs.declared.event_line.LogLine.{LogLine}
+use Rattle.tox_log.specs.declared.replay.Verdict.TheVariants.{Unfinished}
 use Rattle.tox_log.specs.Reading.{to_hand}
 use Rattle.tox_log.proofs.replay.hear_lines.Given as goal
 
@@ -15,4 +19,7 @@ invariant-lines g l = record {
   text : (text : List ℕ)
       × (to_hand l.fn.log (g.R.Source.remaining l.fn.reader) ≡ prepend_known text (to_hand l.log (g.R.Source.remaining l.reader)))
       × ((means : List Item → List Item) → HasHeard means [] l.fn.hearing.judge → SaysSo means text l.log.over l.hearing.judge l.hearing.verdict);
+  follows : IsHeardTo l.fn.hearing.judge l.fn.log.heard → l.hearing.verdict ≡ Unfinished → IsHeardTo l.hearing.judge l.log.heard;
+  left : (lines : List LogLine) → HasLinesLeft l.fn.log (g.R.Source.remaining l.fn.reader) lines
+      → (rest : List LogLine) × HasLinesLeft l.log (g.R.Source.remaining l.reader) rest;
 }

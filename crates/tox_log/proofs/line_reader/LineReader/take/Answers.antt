@@ -1,7 +1,7 @@
 -- The line feed is cut off.
 use Rattle.std.proofs.Common.{false, ◌≡◌, ◌<◌, ◌+◌, ◌++◌, ◌∷◌, List, ℕ, length, take, slice_range, get_or, ap, sym, ◌∙◌, append-nil, arith, subst}
 use Rattle.std.proofs.lemmas.Bool.Decides.{nat_tests}
-use Rattle.tox_log.specs.Numbers.{Lacks}
+use Rattle.tox_log.specs.Numbers.{KeepsText, Lacks}
 use Rattle.tox_log.specs.Reading.{waiting}
 use Rattle.tox_log.proofs.Blocks.{lacks-before, lacks-nowhere, parts-at, range-rest, range-within, range-none}
 use Rattle.tox_log.proofs.line_reader.LineReader.take.Goals as goal
@@ -28,6 +28,6 @@ returns-in-None c =
     let lines = c.args.self.now in (
       waiting lines,
       sym (append-nil (waiting lines)) ∙ ap (λ rest. waiting lines ++ rest) (sym (range-none lines.block.items lines.stop)),
-      subst (λ b. (text : List ℕ) → (lines.long ≡ false → lines.line.items ≡ text) → c.add-in-None.new.long ≡ false → c.add-in-None.new.line.items ≡ text ++ slice_range b lines.start lines.stop) c.deref.ensures.value c.add-in-None.ensures,
+      subst (λ b. (text : List ℕ) → KeepsText lines.line.items lines.long text → KeepsText c.add-in-None.new.line.items c.add-in-None.new.long (text ++ slice_range b lines.start lines.stop)) c.deref.ensures.value c.add-in-None.ensures,
       subst (λ b. Lacks 10 (slice_range b lines.start lines.stop)) c.deref.ensures.value (lacks-nowhere 10 (slice_range c.deref.result.now lines.start lines.stop) c.in-None.ensures),
     )
