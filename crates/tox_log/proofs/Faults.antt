@@ -1,5 +1,5 @@
 -- A call that failed, and called no line bad.
-use Rattle.std.proofs.Common.{◌≡◌, ℕ, Ok, Err, Result, sym, ◌∙◌}
+use Rattle.std.proofs.Common.{◌≡◌, Ok, Err, Result, sym, ◌∙◌}
 use Rattle.std.specs.Prelude.{MatchResult, IsErrAnd}
 use Rattle.tox_log.specs.declared.fault.LogFault.{LogFault}
 use Rattle.tox_log.specs.declared.fault.LogFault.TheVariants.{BadLine, OutOfMemory, ReadFault}

@@ -1,5 +1,5 @@
 -- The lines of a header are read as they are printed.
-use Rattle.std.proofs.Common.{◌≡◌, ℕ, ◌^◌, ◌<◌, ◌≤◌, Bool, true, false, Option, Some, None, MatchOption, IsUtf8, List, [], ◌∷◌, ◌++◌, codes, drop, refl, ap, sym, subst, ◌∙◌, append_assoc, arith}
+use Rattle.std.proofs.Common.{◌≡◌, ℕ, ◌^◌, ◌<◌, Bool, true, false, Option, Some, None, MatchOption, IsUtf8, List, [], ◌∷◌, ◌++◌, codes, drop, refl, ap, sym, subst, ◌∙◌, append_assoc, arith}
 use Rattle.std.specs.Fmt.{decimal}
 use Rattle.std.specs.Prelude.{◌≢◌, is_some}
 use Rattle.std.proofs.lemmas.Fmt.{decimal_injective}
@@ -10,15 +10,16 @@ use Rattle.tox_time.specs.streams.StreamName.{stream_name}
 use Rattle.tox_words.specs.declared.lanes.Lanes.{Lanes}
 use Rattle.tox_words.specs.declared.lanes.Lanes.TheVariants.{Sixteen, ThirtyTwo}
 use Rattle.tox_words.specs.Draw.{lane_count}
+use Rattle.tox_words.proofs.LaneCounts.{lane_count-most}
 use Rattle.tox_defs.specs.declared.chain.Entry.{Entry}
 use Rattle.tox_defs.specs.short.Printed.{printed_short}
-use Rattle.tox_log.specs.HeaderText.{link_line, seed_line, title_line, toxic_line}
+use Rattle.tox_log.specs.HeaderText.{seed_line, title_line}
 use Rattle.tox_log.specs.HeaderLines.{BeginsToxic, IsWritableName, PrintsLink, PrintsToxic}
 use Rattle.tox_log.specs.Left.{HasLineNext}
 use Rattle.tox_log.specs.Numbers.{Lacks}
 use Rattle.tox_log.specs.WrittenLog.{IsWritableLog, WrittenLog}
 use Rattle.tox_log.proofs.Cuts.{cut-last, cut-once, number-lacks, stands}
-use Rattle.tox_log.proofs.LineBytes.{both-lack, lanes-fit, link-parts, link_words, seed-parts, seed_words, toxic-parts, toxic_words}
+use Rattle.tox_log.proofs.LineBytes.{link-parts, link_words, seed-parts, seed_words, toxic-parts, toxic_words}
 use Rattle.tox_log.proofs.NoLines.{lacks-by, other-word}
 use Rattle.tox_log.proofs.ShortForms.{short-signs, signs-lack, signs-utf8}
 
@@ -39,10 +40,6 @@ same-lanes Sixteen Sixteen same = refl
 same-lanes Sixteen ThirtyTwo same = absurd (omega (arith, same))
 same-lanes ThirtyTwo Sixteen same = absurd (omega (arith, same))
 same-lanes ThirtyTwo ThirtyTwo same = refl
-
--- numbers that fit a machine's word
-pub same-number : (a b : ℕ) → a < 2 ^ 64 → b < 2 ^ 64 → decimal a ≡ decimal b → a ≡ b
-same-number a b a_fits b_fits same = decimal_injective a b a_fits b_fits same
 
 pub link-is : (line name : List ℕ) (number : ℕ) (direction : Stream) → PrintsLink line name number direction → line ≡ link_words name number direction
 link-is line name number direction prints = append_cancel_right line (link_words name number direction) (10 ∷ []) (prints.printed ∙ sym (link-parts name number direction))
@@ -72,7 +69,7 @@ seed-is line lanes seed same = append_cancel_right line (seed_words lanes seed) 
 pub seed-cut : (rest count more : List ℕ) (lanes : Lanes) (seed : ℕ) → rest ≡ decimal (lane_count lanes) ++ 32 ∷ (codes "seed " ++ decimal seed) → Lacks 32 count → rest ≡ count ++ 32 ∷ more
     → (count ≡ decimal (lane_count lanes)) × (more ≡ codes "seed " ++ decimal seed)
 seed-cut rest count more lanes seed is lacks cut =
-    cut-once 32 count more (decimal (lane_count lanes)) (codes "seed " ++ decimal seed) lacks (number-lacks 32 (lane_count lanes) (omega arith) (omega (arith, lanes-fit lanes))) (sym cut ∙ is)
+    cut-once 32 count more (decimal (lane_count lanes)) (codes "seed " ++ decimal seed) lacks (number-lacks 32 (lane_count lanes) (omega arith) (omega (arith, lane_count-most lanes))) (sym cut ∙ is)
 
 pub toxic-is : (line : List ℕ) (named : Entry × List ℕ) → PrintsToxic line named → line ≡ toxic_words named
 toxic-is line named prints = append_cancel_right line (toxic_words named) (10 ∷ []) (prints.printed ∙ sym (toxic-parts named))
@@ -123,7 +120,7 @@ pub seed-whole : (line rest count more : List ℕ) (lanes : Lanes) (seed : ℕ) 
 seed-whole line rest count more lanes seed same is cut = seed-cut rest count more lanes seed (is ∙ ap (drop 6) (seed-is line lanes seed same)) cut.0 cut.1
 
 pub lanes-read : (a b : Lanes) → decimal (lane_count a) ≡ decimal (lane_count b) → a ≡ b
-lanes-read a b same = same-lanes a b (same-number (lane_count a) (lane_count b) (omega (arith, lanes-fit a)) (omega (arith, lanes-fit b)) same)
+lanes-read a b same = same-lanes a b (decimal_injective (lane_count a) (lane_count b) (omega (arith, lane_count-most a)) (omega (arith, lane_count-most b)) same)
 
 pub value-of : {A : Type 0} (a b : A) → Some a ≡ Some b → a ≡ b
 value-of a b same = cc

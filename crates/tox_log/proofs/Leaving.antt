@@ -7,7 +7,6 @@ use Rattle.tox_words.specs.Draw.{lane_count}
 use Rattle.tox_defs.specs.declared.chain.Entry.{Entry}
 use Rattle.tox_log.specs.declared.event_line.LogLine.{LogLine}
 use Rattle.tox_log.specs.declared.fault.LogFault.{LogFault}
-use Rattle.tox_log.specs.declared.line_reader.LineReader.{LineReader}
 use Rattle.tox_log.specs.declared.open_log.OpenLog.{OpenLog}
 use Rattle.tox_log.specs.HeaderText.{toxic_line}
 use Rattle.tox_log.specs.HeaderLines.{IsWritableToxic, PrintsToxic}
@@ -19,7 +18,7 @@ use Rattle.tox_log.specs.Order.{ComesNext, GoesOnWith, heard_with}
 use Rattle.tox_log.specs.Reading.{IsLineRead, TakesLine, TakesRest, is_last, to_hand, to_take}
 use Rattle.tox_log.specs.WrittenLog.{AreInOrder, log_lines}
 use Rattle.tox_log.proofs.LineBytes.{line-feedless, log-line-next, toxic-line-next, toxic-parts, toxic_words}
-use Rattle.tox_log.proofs.NextLine.{line-of, next-line, no-line, no-rest, no-torn, torn-taken}
+use Rattle.tox_log.proofs.NextLine.{line-of, next-line, no-line, no-rest, torn-taken}
 
 -- what the text of lines begins with
 lines-first : (line : LogLine) (more : List LogLine) (torn : List ℕ) → log_lines (line ∷ more) ++ torn ≡ (line_words line ++ 10 ∷ []) ++ (log_lines more ++ torn)
@@ -322,3 +321,15 @@ hands-none new remaining lines none = subst (HandsFirst None new remaining) (sym
 -- the same, wherever it stands
 pub next-moved : (log other : OpenLog) (remaining bytes : Option (List ℕ)) (lines : List LogLine) → other ≡ log → bytes ≡ remaining → NextLeft log remaining lines → NextLeft other bytes lines
 next-moved log other remaining bytes lines same left next = subst (λ log. NextLeft log bytes lines) (sym same) (subst (λ bytes. NextLeft log bytes lines) (sym left) next)
+
+-- the others are left behind the one that was handed out
+pub rest-left : (log : OpenLog) (remaining : Option (List ℕ)) (lines : List LogLine) (line : LogLine) → HandsFirst (Some line) log remaining lines
+    → (rest : List LogLine) × (lines ≡ line ∷ rest) × HasLinesLeft log remaining rest
+rest-left log remaining [] line hands = absurd (no-first hands)
+  where
+    no-first : Some line ≡ None → ⊥
+    no-first same = cc
+rest-left log remaining (first ∷ rest) line hands = (rest, first-is hands.0, hands.1)
+  where
+    first-is : Some line ≡ Some first → first ∷ rest ≡ line ∷ rest
+    first-is same = cc

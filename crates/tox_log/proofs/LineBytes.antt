@@ -7,7 +7,6 @@ use Rattle.std.specs.List.{list_all}
 use Rattle.std.proofs.lemmas.Fmt.{digits_decimal, length-decimal-le}
 use Rattle.std.proofs.lemmas.List.Elements.{All-append, All-cons, All-head, All-nil, All-tail}
 use Rattle.tox_time.proofs.Numbers.{ascii_digits}
-use Rattle.tox_time.specs.Time.{IsInstant}
 use Rattle.tox_time.specs.declared.streams.ending.Ending.{Ending}
 use Rattle.tox_time.specs.declared.streams.ending.Ending.TheVariants.{StillOpen, Closed as ClosedAt, Reset as ResetAt}
 use Rattle.tox_time.specs.declared.streams.stream.Stream.{Stream}
@@ -16,8 +15,8 @@ use Rattle.tox_time.specs.streams.StreamName.{stream_name}
 use Rattle.tox_link.specs.declared.notes.LinkEvent.TheVariants.{Piece, SourceEnd, Wrote}
 use Rattle.tox_text.specs.ResultText.{ending_words}
 use Rattle.tox_words.specs.declared.lanes.Lanes.{Lanes}
-use Rattle.tox_words.specs.declared.lanes.Lanes.TheVariants.{Sixteen, ThirtyTwo}
 use Rattle.tox_words.specs.Draw.{lane_count}
+use Rattle.tox_words.proofs.LaneCounts.{lane_count-most}
 use Rattle.tox_defs.specs.declared.chain.Entry.{Entry}
 use Rattle.tox_defs.specs.short.Printed.{printed_short}
 use Rattle.tox_log.specs.declared.last_line.BreakCause.{BreakCause}
@@ -32,7 +31,7 @@ use Rattle.tox_log.specs.Left.{HasLineNext}
 use Rattle.tox_log.specs.Lines.{IsWritable, IsWritableEnding, line_words}
 use Rattle.tox_log.specs.Numbers.{Lacks}
 use Rattle.tox_log.proofs.Cuts.{number-lacks}
-use Rattle.tox_log.proofs.NoLines.{first-lacks, first_words, lacks-by, line-cut, line-parts, no-word, other-word, rest_words}
+use Rattle.tox_log.proofs.NoLines.{first_words, lacks-by, line-cut, line-parts, other-word, rest_words}
 use Rattle.tox_log.proofs.ShortForms.{short-signs, signs-lack}
 
 -- texts without such a byte, one behind the other
@@ -190,13 +189,9 @@ seed-word lanes seed lanes_fit seed_fits =
     (two-words (decimal (lane_count lanes)) (codes " seed " ++ decimal seed) 20 40 60 (omega arith) (number-word (lane_count lanes) lanes_fit)
     (two-words (codes " seed ") (decimal seed) 20 20 40 (omega arith) (word-by (codes " seed ") 20 refl (omega arith)) (number-word seed seed_fits)))
 
-pub lanes-fit : (lanes : Lanes) → lane_count lanes ≤ 32
-lanes-fit Sixteen = omega arith
-lanes-fit ThirtyTwo = omega arith
-
 pub seed-line-next : (given : Option (List ℕ)) (lanes : Lanes) (seed : ℕ) (more : List ℕ) → seed < 2 ^ 64 → given ≡ Some (seed_line lanes seed ++ more) → HasLineNext given (seed_words lanes seed) more
 seed-line-next given lanes seed more fits is =
-    let word = seed-word lanes seed (omega (arith, lanes-fit lanes)) fits in record {
+    let word = seed-word lanes seed (omega (arith, lane_count-most lanes)) fits in record {
       bytes = is ∙ ap (λ line. Some (line ++ more)) (sym (seed-parts lanes seed));
       unended = word.lacks;
       short = omega (arith, word.short);

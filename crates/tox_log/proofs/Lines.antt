@@ -3,7 +3,6 @@ use Rattle.std.proofs.Common.{◌≡◌, ℕ, List, [], ◌∷◌, ◌++◌, Opt
 use Rattle.std.specs.Io.KnownBytes.{IsAtEnd, prepend_known}
 use Rattle.std.specs.Prelude.{◌≢◌}
 use Rattle.std.proofs.lemmas.List.Elements.{All-append}
-use Rattle.tox_link.proofs.CarryLemmas.{prepend-nil}
 use Rattle.tox_link.proofs.Sent.{prepend-append, prepend_more}
 use Rattle.tox_log.specs.declared.line_reader.LineReader.{LineReader}
 use Rattle.tox_log.specs.Numbers.{Lacks}

@@ -8,7 +8,6 @@ use Rattle.tox_log.specs.declared.fault.LogFault.{LogFault}
 use Rattle.tox_log.specs.declared.fault.LogFault.TheVariants.{BadLine}
 use Rattle.tox_log.specs.declared.heading.Heading.{Heading}
 use Rattle.tox_log.specs.declared.judge.Judge.{Judge}
-use Rattle.tox_log.specs.declared.line_reader.LineReader.{LineReader}
 use Rattle.tox_log.specs.declared.open_log.OpenLog.{OpenLog}
 use Rattle.tox_log.specs.declared.replay.Hearing.{Hearing}
 use Rattle.tox_log.specs.declared.replay.Verdict.TheVariants.{Unfinished}

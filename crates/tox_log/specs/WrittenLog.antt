@@ -1,5 +1,5 @@
 -- A log as a link writes it, or the front of one behind its header.
-use Rattle.std.specs.Prelude.{◌≡◌, ℕ, ◌<◌, ◌≤◌, ◌^◌, true, false, List, [], ◌∷◌, ◌++◌, All, codes, flat_map, length, Option, Some}
+use Rattle.std.specs.Prelude.{◌≡◌, ℕ, ◌<◌, ◌≤◌, ◌^◌, true, List, [], ◌∷◌, ◌++◌, All, codes, flat_map, length, Option, Some}
 use Rattle.std.specs.List.{zip}
 use Rattle.tox_time.specs.declared.streams.position.StreamPosition.{StreamPosition}
 use Rattle.tox_time.specs.declared.streams.stream.Stream.{Stream}

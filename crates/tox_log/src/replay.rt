@@ -220,8 +220,10 @@ fn hear_piece(
     ensures held { IsHeld hearing.new.judge }
     ensures hears { OnOk result (HearsLine hearing.old
         (OneLine.Event (OneEvent.Piece len instant.now)) hearing.new) }
-    ensures reads { AcceptsNext hearing.old (OneLine.Event (OneEvent.Piece len instant.now)) result }
-    ensures follows { OnOk result (ComesWith hearing.old (OneLine.Event (OneEvent.Piece len instant.now)) hearing.new) }
+    ensures reads { AcceptsNext hearing.old
+        (OneLine.Event (OneEvent.Piece len instant.now)) result }
+    ensures follows { OnOk result (ComesWith hearing.old
+        (OneLine.Event (OneEvent.Piece len instant.now)) hearing.new) }
 {
     if !takes_piece(&hearing.judge, len, instant) {
         return Err(LogFault::BadLine(number));
@@ -238,8 +240,10 @@ fn hear_source_end(hearing: &mut Hearing, instant: &Micros, number: u64) -> Resu
     ensures held { IsHeld hearing.new.judge }
     ensures hears { OnOk result (HearsLine hearing.old
         (OneLine.Event (OneEvent.SourceEnd instant.now)) hearing.new) }
-    ensures reads { AcceptsNext hearing.old (OneLine.Event (OneEvent.SourceEnd instant.now)) result }
-    ensures follows { OnOk result (ComesWith hearing.old (OneLine.Event (OneEvent.SourceEnd instant.now)) hearing.new) }
+    ensures reads { AcceptsNext hearing.old
+        (OneLine.Event (OneEvent.SourceEnd instant.now)) result }
+    ensures follows { OnOk result (ComesWith hearing.old
+        (OneLine.Event (OneEvent.SourceEnd instant.now)) hearing.new) }
 {
     if hearing.judge.ended || !takes_at(&hearing.judge, instant) {
         return Err(LogFault::BadLine(number));
@@ -260,8 +264,10 @@ fn hear_wrote(
     ensures held { IsHeld hearing.new.judge }
     ensures hears { OnOk result (HearsLine hearing.old
         (OneLine.Event (OneEvent.Wrote slice.now reading.now)) hearing.new) }
-    ensures reads { AcceptsNext hearing.old (OneLine.Event (OneEvent.Wrote slice.now reading.now)) result }
-    ensures follows { OnOk result (ComesWith hearing.old (OneLine.Event (OneEvent.Wrote slice.now reading.now)) hearing.new) }
+    ensures reads { AcceptsNext hearing.old
+        (OneLine.Event (OneEvent.Wrote slice.now reading.now)) result }
+    ensures follows { OnOk result (ComesWith hearing.old
+        (OneLine.Event (OneEvent.Wrote slice.now reading.now)) hearing.new) }
 {
     if !takes_at(&hearing.judge, reading) {
         return Err(LogFault::BadLine(number));
@@ -288,7 +294,8 @@ fn hear_ending(
     ensures held { IsHeld hearing.new.judge }
     ensures hears { OnOk result (HearsLine hearing.old
         (OneLine.Last (TheLast.Ended reading.now ending.now)) hearing.new) }
-    ensures reads { AcceptsNext hearing.old (OneLine.Last (TheLast.Ended reading.now ending.now)) result }
+    ensures reads { AcceptsNext hearing.old
+        (OneLine.Last (TheLast.Ended reading.now ending.now)) result }
     ensures over { OnOk result (hearing.new.verdict ≢ TheVerdict.Unfinished) }
 {
     if !takes_at(&hearing.judge, reading) {

@@ -1,9 +1,10 @@
 -- The line is cut at its last two spaces.
-use Rattle.std.proofs.Common.{◌≡◌, ◌++◌, ◌∷◌, List, ℕ, ap, sym, subst, ◌∙◌, arith}
+use Rattle.std.proofs.Common.{◌++◌, ◌∷◌, sym, subst, ◌∙◌, arith}
 use Rattle.std.specs.Fmt.{decimal}
 use Rattle.tox_time.specs.streams.StreamName.{stream_name}
 use Rattle.tox_log.specs.HeaderLines.{IsWritableName}
-use Rattle.tox_log.proofs.HeadingLines.{link-cut, link-rest, link-whole, no-cut, same-number, same-stream}
+use Rattle.std.proofs.lemmas.Fmt.{decimal_injective}
+use Rattle.tox_log.proofs.HeadingLines.{link-cut, link-rest, link-whole, no-cut, same-stream}
 use Rattle.tox_log.proofs.heading.read_link.Goals as goal
 
 pub returns-in_err-rest-2-clause-back : goal.returns-in_err-rest-2-clause-back
@@ -29,7 +30,7 @@ returns-in_err-number-clause-back c = λ name number direction prints.
 pub returns-then-number-eq0-clause-back : goal.returns-then-number-eq0-clause-back
 returns-then-number-eq0-clause-back c = λ name number direction prints.
     let parts = link-whole c.args.line.now c.in_ok-rest.rest.now c.in_ok-rest-2.rest.now c.in_ok-rest-2.stream.now c.in_ok-name.name.now c.in_ok-name.number.now name number direction prints c.in_ok-rest.ensures.cases.1 c.in_ok-rest-2.ensures.cut c.in_ok-name.ensures.cut in
-    let same = same-number c.in_ok-number.number number (omega (arith, c.in_ok-number.ensures.0)) (omega (arith, prints.numbered.1)) (sym c.in_ok-number.ensures.1 ∙ parts.1) in
+    let same = decimal_injective c.in_ok-number.number number (omega (arith, c.in_ok-number.ensures.0)) (omega (arith, prints.numbered.1)) (sym c.in_ok-number.ensures.1 ∙ parts.1) in
     omega (arith, same, c.if-number-eq0.true, prints.numbered.0)
 
 pub returns-in_err-stream-clause-back : goal.returns-in_err-stream-clause-back
@@ -41,6 +42,6 @@ pub returns-clause-back : goal.returns-clause-back
 returns-clause-back c = λ name number direction prints.
     let parts = link-whole c.args.line.now c.in_ok-rest.rest.now c.in_ok-rest-2.rest.now c.in_ok-rest-2.stream.now c.in_ok-name.name.now c.in_ok-name.number.now name number direction prints c.in_ok-rest.ensures.cases.1 c.in_ok-rest-2.ensures.cut c.in_ok-name.ensures.cut in (
       c.in_ok-proxy.ensures.0 ∙ parts.0,
-      same-number c.in_ok-number.number number (omega (arith, c.in_ok-number.ensures.0)) (omega (arith, prints.numbered.1)) (sym c.in_ok-number.ensures.1 ∙ parts.1),
+      decimal_injective c.in_ok-number.number number (omega (arith, c.in_ok-number.ensures.0)) (omega (arith, prints.numbered.1)) (sym c.in_ok-number.ensures.1 ∙ parts.1),
       same-stream c.in_ok-stream.stream direction (sym c.in_ok-stream.ensures ∙ parts.2),
     )

@@ -1,10 +1,11 @@
 -- The line is cut into its words.
-use Rattle.std.proofs.Common.{◌≡◌, ◌++◌, ap, sym, ◌∙◌, arith, codes, drop, rules, take}
+use Rattle.std.proofs.Common.{◌++◌, ap, sym, ◌∙◌, arith, codes, drop, rules, take}
 use Rattle.std.specs.Cmp.Lexicographic.{other_text}
 use Rattle.std.specs.Fmt.{decimal}
 use Rattle.tox_words.specs.Draw.{lane_count}
 use Rattle.tox_log.proofs.HeaderParts.{seed-read}
-use Rattle.tox_log.proofs.HeadingLines.{lanes-read, no-cut, same-number, seed-is, seed-whole}
+use Rattle.std.proofs.lemmas.Fmt.{decimal_injective}
+use Rattle.tox_log.proofs.HeadingLines.{lanes-read, no-cut, seed-is, seed-whole}
 use Rattle.tox_log.proofs.heading.read_seed.Goals as goal
 
 pub returns-clause-line : goal.returns-clause-line
@@ -33,5 +34,5 @@ pub returns-clause-back : goal.returns-clause-back
 returns-clause-back c = λ lanes seed fits same.
     let parts = seed-whole c.args.line.now c.in_ok-rest.rest.now c.in_ok-count.count.now c.in_ok-count.rest.now lanes seed same c.in_ok-rest.ensures.cases.1 c.in_ok-count.ensures.cut in
     let digits = c.in_ok-seed.ensures.cases.1 ∙ ap (drop 5) parts.1 in
-    let number = same-number c.in_ok-seed-2.seed seed (omega (arith, c.in_ok-seed-2.ensures.0)) fits (sym c.in_ok-seed-2.ensures.1 ∙ digits) in
+    let number = decimal_injective c.in_ok-seed-2.seed seed (omega (arith, c.in_ok-seed-2.ensures.0)) fits (sym c.in_ok-seed-2.ensures.1 ∙ digits) in
     let count = lanes-read c.in_ok-lanes.lanes lanes (sym c.in_ok-lanes.ensures ∙ parts.0) in cc

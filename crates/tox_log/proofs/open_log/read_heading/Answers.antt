@@ -1,5 +1,5 @@
 -- Line by line.
-use Rattle.std.proofs.Common.{◌≡◌, ◌++◌, Some, ap, sym, ◌∙◌, append_assoc}
+use Rattle.std.proofs.Common.{◌++◌, Some, ap, ◌∙◌}
 use Rattle.tox_log.specs.HeaderText.{link_line, seed_line, title_line}
 use Rattle.tox_log.proofs.Faults.{failed-so, same-fault}
 use Rattle.tox_log.proofs.HeadingLines.{three-parts}

@@ -1,5 +1,5 @@
 -- The second line comes next.
-use Rattle.std.proofs.Common.{◌≡◌, sym, ◌∙◌, rules}
+use Rattle.std.proofs.Common.{sym, ◌∙◌, rules}
 use Rattle.tox_log.specs.Reading.{to_take}
 use Rattle.tox_log.proofs.HeadingLines.{long-line, prints-link}
 use Rattle.tox_log.proofs.LineBytes.{link-line-next, link_words}

@@ -1,5 +1,5 @@
 -- The third line comes next.
-use Rattle.std.proofs.Common.{◌≡◌, Some, None, sym, ◌∙◌, rules}
+use Rattle.std.proofs.Common.{sym, ◌∙◌, rules}
 use Rattle.tox_log.specs.Reading.{to_take}
 use Rattle.tox_log.proofs.HeadingLines.{long-line, pair-parts, prints-seed}
 use Rattle.tox_log.proofs.LineBytes.{seed-line-next, seed_words}

@@ -1,10 +1,14 @@
 -- Line by line.
-use Rattle.std.proofs.Common.{rules, ◌≡◌, ◌++◌, ◌∷◌, [], ◌∙◌, MatchOption, subst}
+use Rattle.std.proofs.Common.{rules, ◌≡◌, ◌++◌, ◌∷◌, [], ◌∙◌, MatchOption, subst, sym}
 use Rattle.tox_link.proofs.Sent.{prepend_more}
+use Rattle.tox_log.specs.Left.{HandsFirst, IsHeardTo}
 use Rattle.tox_log.specs.Lines.{line_words}
+use Rattle.tox_log.specs.Order.{GoesOnWith}
 use Rattle.tox_log.specs.Reading.{Hands, to_hand}
 use Rattle.tox_log.specs.declared.replay.Verdict.TheVariants.{Unfinished}
+use Rattle.tox_log.proofs.Faults.{failed-so, same-fault}
 use Rattle.tox_log.proofs.Hearing.{says-line, says-skipped}
+use Rattle.tox_log.proofs.Leaving.{rest-left}
 use Rattle.tox_log.proofs.replay.hear_lines.Goals as goal
 
 pub lines-preserved-then-ne : goal.lines-preserved-then-ne
@@ -23,6 +27,11 @@ lines-preserved-then-ne g c =
         prepend_more text (line_words c.in-Some.line ++ 10 ∷ []) (to_hand c.args.log.now (g.R.Source.remaining c.args.reader.now)) (to_hand c.lines.log before) (to_hand c.next_line.new.self after) given handed.given,
         λ means heard. says-skipped means text (line_words c.in-Some.line ++ 10 ∷ []) c.lines.log.over c.next_line.new.self.over c.lines.hearing.judge c.lines.hearing.verdict (search rules) handed.going (says means heard),
       );
+      follows = λ begun unfinished. let known : c.lines.hearing.verdict ≡ Unfinished → ⊥ = search rules in absurd (known unfinished);
+      left = λ lines left.
+          let (rest, remains) = c.lines.invariant.left lines left in
+          let hands = subst (λ handed. HandsFirst handed c.next_line.new.self after rest) c.in-Some.is (c.in_ok-line.ensures.reads rest remains) in
+          let (more, first, others) = rest-left c.next_line.new.self after rest c.in-Some.line hands in (more, others);
     }
 
 pub lines-preserved : goal.lines-preserved
@@ -32,6 +41,8 @@ lines-preserved g c =
     let after = g.R.Source.remaining c.next_line.new.reader in
     let handed : Hands c.lines.log c.next_line.new.self before after c.in-Some.line =
     subst (λ handed. MatchOption handed (c.next_line.new.self.over ≡ c.lines.log.over) (Hands c.lines.log c.next_line.new.self before after)) c.in-Some.is c.in_ok-line.ensures.hands in
+    let order : GoesOnWith c.lines.log.heard c.in-Some.line c.next_line.new.self.heard =
+    subst (λ handed. MatchOption handed (c.next_line.new.self.heard ≡ c.lines.log.heard) (λ line. GoesOnWith c.lines.log.heard line c.next_line.new.self.heard)) c.in-Some.is c.in_ok-line.ensures.order in
     let unfinished : c.lines.hearing.verdict ≡ Unfinished = search rules in record {
       working = c.in_ok-line.ensures.working;
       held = c.hear_line.ensures.held;
@@ -41,4 +52,23 @@ lines-preserved g c =
         prepend_more text (line_words c.in-Some.line ++ 10 ∷ []) (to_hand c.args.log.now (g.R.Source.remaining c.args.reader.now)) (to_hand c.lines.log before) (to_hand c.next_line.new.self after) given handed.given,
         λ means heard. says-line means text c.lines.log.over c.next_line.new.self.over c.lines.hearing c.hear_line.new.hearing c.in-Some.line unfinished handed.going handed.over c.in_ok-hear_line.ensures.hears (says means heard),
       );
+      follows = λ begun still. subst (IsHeardTo c.hear_line.new.hearing.judge) (sym order.heard)
+          (c.in_ok-hear_line.ensures.follows c.lines.log.heard (c.lines.invariant.follows begun unfinished) still);
+      left = λ lines left.
+          let (rest, remains) = c.lines.invariant.left lines left in
+          let hands = subst (λ handed. HandsFirst handed c.next_line.new.self after rest) c.in-Some.is (c.in_ok-line.ensures.reads rest remains) in
+          let (more, first, others) = rest-left c.next_line.new.self after rest c.in-Some.line hands in (more, others);
     }
+
+pub returns-in_err-line-clause-reads : goal.returns-in_err-line-clause-reads
+returns-in_err-line-clause-reads g c = λ lines left begun.
+    let (rest, remains) = c.lines.invariant.left lines left in
+    failed-so c.from_residual.result _ _ _ c.from_residual.ensures.1 (λ fault is. same-fault fault c.in_err-line.field-0.0 is (c.in_err-line.ensures.reads rest remains))
+
+pub returns-in_err-hear_line-clause-reads : goal.returns-in_err-hear_line-clause-reads
+returns-in_err-hear_line-clause-reads g c = λ lines left begun.
+    let order : GoesOnWith c.lines.log.heard c.in-Some.line c.next_line.new.self.heard =
+    subst (λ handed. MatchOption handed (c.next_line.new.self.heard ≡ c.lines.log.heard) (λ line. GoesOnWith c.lines.log.heard line c.next_line.new.self.heard)) c.in-Some.is c.in_ok-line.ensures.order in
+    let unfinished : c.lines.hearing.verdict ≡ Unfinished = search rules in
+    failed-so c.from_residual-in_err-hear_line.result _ _ _ c.from_residual-in_err-hear_line.ensures.1 (λ fault is. same-fault fault c.in_err-hear_line.field-0.0 is
+    (c.in_err-hear_line.ensures.reads c.lines.log.heard (c.lines.invariant.follows begun unfinished) order.next))

@@ -1,5 +1,7 @@
 -- The header, and then the lines behind it.
-use Rattle.std.proofs.Common.{refl, ◌∙◌}
+use Rattle.std.proofs.Common.{refl, sym, subst, ◌∙◌}
+use Rattle.tox_log.specs.Left.{IsHeardTo}
+use Rattle.tox_log.proofs.Faults.{failed-so, same-fault}
 use Rattle.tox_log.proofs.Hearing.{faithful-text, refused-text}
 use Rattle.tox_log.proofs.replay.judge_log.Goals as goal
 
@@ -14,3 +16,12 @@ returns-clause-refused g c =
     let (text, left, given, says, heading, chain) = c.in_ok-hear_lines.ensures.says in λ number unfaithful.
     refused-text (g.R.Source.remaining c.args.reader.now) (g.R.Source.remaining c.new.new.reader) c.in_ok-log.log c.in_ok-hearing.hearing _ text left c.hear_lines.new.log.over c.hear_lines.new.hearing.judge
     c.in_ok-log.ensures.opens c.in_ok-hearing.ensures.begins given says (c.into_parts-heading.ensures.0 ∙ heading) (c.into_parts-heading.ensures.1 ∙ chain) number unfaithful
+
+pub returns-in_err-log-clause-reads : goal.returns-in_err-log-clause-reads
+returns-in_err-log-clause-reads g c = λ written text. failed-so c.from_residual.result _ _ _ c.from_residual.ensures.1 (λ fault is. same-fault fault c.in_err-log.field-0.0 is (c.in_err-log.ensures.reads written text))
+
+pub returns-in_err-hear_lines-clause-reads : goal.returns-in_err-hear_lines-clause-reads
+returns-in_err-hear_lines-clause-reads g c = λ written text.
+    let opened = c.in_ok-log.ensures.reads written text in
+    failed-so c.from_residual-in_err-hear_lines.result _ _ _ c.from_residual-in_err-hear_lines.ensures.1 (λ fault is. same-fault fault c.in_err-hear_lines.field-0.0 is
+    (c.in_err-hear_lines.ensures.reads written.lines opened.left (subst (IsHeardTo c.in_ok-hearing.hearing.judge) (sym c.in_ok-log.ensures.opens.start) c.in_ok-hearing.ensures.start)))

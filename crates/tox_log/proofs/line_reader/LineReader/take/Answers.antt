@@ -1,5 +1,5 @@
 -- The line feed is cut off.
-use Rattle.std.proofs.Common.{false, ◌≡◌, ◌<◌, ◌+◌, ◌++◌, ◌∷◌, List, ℕ, length, take, slice_range, get_or, ap, sym, ◌∙◌, append-nil, arith, subst}
+use Rattle.std.proofs.Common.{◌≡◌, ◌<◌, ◌+◌, ◌++◌, ◌∷◌, List, ℕ, length, take, slice_range, get_or, ap, sym, ◌∙◌, append-nil, arith, subst}
 use Rattle.std.proofs.lemmas.Bool.Decides.{nat_tests}
 use Rattle.tox_log.specs.Numbers.{KeepsText, Lacks}
 use Rattle.tox_log.specs.Reading.{waiting}

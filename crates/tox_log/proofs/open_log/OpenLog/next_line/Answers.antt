@@ -1,7 +1,5 @@
 -- The first line that is left is the one that waits, or the next one.
-use Rattle.std.proofs.Common.{◌≡◌, false, rules, ap, refl, ◌∙◌, List, ℕ}
-use Rattle.tox_log.specs.declared.event_line.LogLine.{LogLine}
-use Rattle.tox_log.specs.Left.{HasLinesLeft}
+use Rattle.std.proofs.Common.{◌≡◌, false, rules, ap, ◌∙◌}
 use Rattle.tox_log.proofs.Faults.{failed-so, same-fault}
 use Rattle.tox_log.proofs.Leaving.{NextLeft, hands-first, hands-none, next-moved, next-read, next-waits, none-left}
 use Rattle.tox_log.proofs.open_log.OpenLog.next_line.Goals as goal
@@ -17,11 +15,11 @@ returns-then-not-branch-clause-reads g c = λ lines left. hands-none c.advance.n
 pub returns-in-Some-clause-reads : goal.returns-in-Some-clause-reads
 returns-in-Some-clause-reads g c = λ lines left.
     let waits : c.if-self.self.waits ≡ false = elim c.if-self.branch [
-      then-self w ↦ ap (λ log. log.waits) w.self-is
+      | then-self w ↦ ap (λ log. log.waits) w.self-is
       | else-self+in_ok-advance+else-not-branch w ↦ ap (λ log. log.waits) w.self-is ∙ w.advance.ensures.kept.0 ∙ w.if-self.false
     ] in
     let next : NextLeft c.if-self.self (g.R.Source.remaining c.if-self.reader) lines = elim c.if-self.branch [
-      then-self w ↦ next-moved (record c.args.self.now { waits = false }) c.if-self.self (g.R.Source.remaining c.args.reader.now) (g.R.Source.remaining c.if-self.reader) lines w.self-is (ap g.R.Source.remaining w.reader-is)
+      | then-self w ↦ next-moved (record c.args.self.now { waits = false }) c.if-self.self (g.R.Source.remaining c.args.reader.now) (g.R.Source.remaining c.if-self.reader) lines w.self-is (ap g.R.Source.remaining w.reader-is)
           (next-waits c.args.self.now (g.R.Source.remaining c.args.reader.now) lines left w.if-self.true)
       | else-self+in_ok-advance+else-not-branch w ↦ next-moved w.advance.new.self c.if-self.self (g.R.Source.remaining w.advance.new.reader) (g.R.Source.remaining c.if-self.reader) lines w.self-is (ap g.R.Source.remaining w.reader-is)
           (next-read c.args.self.now w.advance.new.self (g.R.Source.remaining c.args.reader.now) (g.R.Source.remaining w.advance.new.reader) w.if-self.false lines left (w.in_ok-advance.ensures.line w.if-not-branch.false) w.advance.ensures.kept.1.3 w.advance.ensures.kept.1.1)
@@ -31,7 +29,7 @@ returns-in-Some-clause-reads g c = λ lines left.
 pub returns-in-None-clause-reads : goal.returns-in-None-clause-reads
 returns-in-None-clause-reads g c = λ lines left number same.
     let next : NextLeft c.if-self.self (g.R.Source.remaining c.if-self.reader) lines = elim c.if-self.branch [
-      then-self w ↦ next-moved (record c.args.self.now { waits = false }) c.if-self.self (g.R.Source.remaining c.args.reader.now) (g.R.Source.remaining c.if-self.reader) lines w.self-is (ap g.R.Source.remaining w.reader-is)
+      | then-self w ↦ next-moved (record c.args.self.now { waits = false }) c.if-self.self (g.R.Source.remaining c.args.reader.now) (g.R.Source.remaining c.if-self.reader) lines w.self-is (ap g.R.Source.remaining w.reader-is)
           (next-waits c.args.self.now (g.R.Source.remaining c.args.reader.now) lines left w.if-self.true)
       | else-self+in_ok-advance+else-not-branch w ↦ next-moved w.advance.new.self c.if-self.self (g.R.Source.remaining w.advance.new.reader) (g.R.Source.remaining c.if-self.reader) lines w.self-is (ap g.R.Source.remaining w.reader-is)
           (next-read c.args.self.now w.advance.new.self (g.R.Source.remaining c.args.reader.now) (g.R.Source.remaining w.advance.new.reader) w.if-self.false lines left (w.in_ok-advance.ensures.line w.if-not-branch.false) w.advance.ensures.kept.1.3 w.advance.ensures.kept.1.1)
