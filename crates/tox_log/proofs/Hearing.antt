@@ -13,7 +13,7 @@ use Rattle.tox_log.specs.declared.replay.JudgedLog.{JudgedLog}
 use Rattle.tox_log.specs.HeaderText.{header_text}
 use Rattle.tox_log.specs.Opening.{Opens}
 use Rattle.std.proofs.lemmas.Grind.{flat_map-append}
-use Rattle.std.proofs.lemmas.List.Elements.{All-cons, All-head, All-nil, All-tail}
+use Rattle.std.proofs.lemmas.List.Elements.{All-append, All-cons, All-head, All-nil, All-tail}
 use Rattle.tox_time.specs.declared.streams.item.Item.{Item}
 use Rattle.tox_time.specs.declared.streams.ending.Ending.{Ending}
 use Rattle.tox_link.specs.declared.notes.LinkEvent.{LinkEvent}
@@ -27,7 +27,7 @@ use Rattle.tox_log.specs.declared.event_line.LogLine.TheVariants.{Event, Last}
 use Rattle.tox_log.specs.declared.last_line.LastLine.TheVariants.{Ended}
 use Rattle.tox_log.specs.EventText.{event_line, event_words}
 use Rattle.tox_log.specs.LastText.{last_words}
-use Rattle.tox_log.specs.Lines.{line_words}
+use Rattle.tox_log.specs.Lines.{IsWritable, line_words}
 use Rattle.tox_log.specs.Judging.{Hears, Judged, Refuses, RefusesEnding, source_heard}
 use Rattle.tox_log.specs.declared.replay.Verdict.{Verdict}
 use Rattle.tox_log.specs.declared.replay.Verdict.TheVariants.{Faithful, Unfinished, Unfaithful}
@@ -52,24 +52,27 @@ line-more text words events event lines is =
     rw (lines, is, flat_map-append event_line events (event ∷ []), one) refl
 
 -- an event more
-pub hears-event : (means : List Item → List Item) (text : List ℕ) (old new : Judge) (event : LinkEvent) → HasHeard means text old → Hears old event new
+pub hears-event : (means : List Item → List Item) (text : List ℕ) (old new : Judge) (event : LinkEvent) → IsWritable (Event event) → HasHeard means text old → Hears old event new
     → HasHeard means (text ++ (line_words (Event event) ++ 10 ∷ [])) new
-hears-event means text old new event heard hears = record {
+hears-event means text old new event writable heard hears = record {
   events = heard.events ++ event ∷ [];
+  written = All-append (λ event. IsWritable (Event event)) heard.events (event ∷ []) heard.written (All-cons (λ event. IsWritable (Event event)) event [] writable (All-nil (λ event. IsWritable (Event event))));
   lines = line-more text (event_words event) heard.events event heard.lines refl;
   judged = λ told all. hears means told heard.events (told-last told heard.events event all) (heard.judged told (told-front told heard.events event all));
 }
 
 -- a verdict that stays open after an event
 pub says-event : (means : List Item → List Item) (text : List ℕ) (old new : Judge) (event : LinkEvent) (verdict : Verdict) → verdict ≡ Unfinished → Hears old event new
-    → HasHeard means text old → SaysSo means (text ++ (line_words (Event event) ++ 10 ∷ [])) false new verdict
-says-event means text old new event verdict going hears heard =
-    subst (SaysSo means (text ++ (line_words (Event event) ++ 10 ∷ [])) false new) (sym going) (λ _. hears-event means text old new event heard hears)
+    → IsWritable (Event event) → HasHeard means text old → SaysSo means (text ++ (line_words (Event event) ++ 10 ∷ [])) false new verdict
+says-event means text old new event verdict going hears writable heard =
+    subst (SaysSo means (text ++ (line_words (Event event) ++ 10 ∷ [])) false new) (sym going) (λ _. hears-event means text old new event writable heard hears)
 
 -- an event that no faithful log has here
 pub says-refused : (means : List Item → List Item) (text : List ℕ) (old new : Judge) (event : LinkEvent) (number : ℕ) → Refuses old event
-    → HasHeard means text old → SaysSo means (text ++ (line_words (Event event) ++ 10 ∷ [])) false new (Unfaithful number)
-says-refused means text old new event number refuses heard = record {
+    → IsWritable (Event event) → HasHeard means text old → SaysSo means (text ++ (line_words (Event event) ++ 10 ∷ [])) false new (Unfaithful number)
+says-refused means text old new event number refuses writable heard = record {
+  written = heard.written;
+  writable = writable;
   events = heard.events;
   line = Event event;
   more = [];
@@ -80,11 +83,13 @@ says-refused means text old new event number refuses heard = record {
 
 -- an ending that no link with these events reports
 pub says-other-end : (means : List Item → List Item) (text : List ℕ) (old new : Judge) (reading : ℕ) (last : Ending) (number : ℕ) → RefusesEnding old reading last
-    → HasHeard means text old → SaysSo means (text ++ (line_words (Last (Ended reading last)) ++ 10 ∷ [])) true new (Unfaithful number)
-says-other-end means text old new reading last number refuses heard =
+    → IsWritable (Last (Ended reading last)) → HasHeard means text old → SaysSo means (text ++ (line_words (Last (Ended reading last)) ++ 10 ∷ [])) true new (Unfaithful number)
+says-other-end means text old new reading last number refuses writable heard =
     let words : List ℕ = line_words (Last (Ended reading last)) ++ 10 ∷ [] in
     record {
       events = heard.events;
+      written = heard.written;
+      writable = writable;
       line = Last (Ended reading last);
       more = [];
       lines = ap (λ lines. lines ++ words) heard.lines ∙ ap (λ line. event_lines heard.events ++ line) (sym (append-nil words));
@@ -114,6 +119,8 @@ says-skipped means text line over now judge (Faithful ending) known going says =
 says-skipped means text line over now judge Unfinished known going says = absurd (known refl)
 says-skipped means text line over now judge (Unfaithful number) known going says = record {
   events = says.events;
+  written = says.written;
+  writable = says.writable;
   line = says.line;
   more = says.more ++ line;
   lines = ap (λ text. text ++ line) says.lines ∙ append_assoc (event_lines says.events) ((line_words says.line ++ 10 ∷ []) ++ says.more) line
@@ -123,10 +130,10 @@ says-skipped means text line over now judge (Unfaithful number) known going says
 
 -- a line that is heard
 pub says-line : (means : List Item → List Item) (text : List ℕ) (over now : Bool) (old new : Hearing) (line : LogLine) → old.verdict ≡ Unfinished → over ≡ false → now ≡ is_last line
-    → HearsLine old line new → SaysSo means text over old.judge old.verdict → SaysSo means (text ++ (line_words line ++ 10 ∷ [])) now new.judge new.verdict
-says-line means text over now old new line unfinished going last hears says =
+    → IsWritable line → HearsLine old line new → SaysSo means text over old.judge old.verdict → SaysSo means (text ++ (line_words line ++ 10 ∷ [])) now new.judge new.verdict
+says-line means text over now old new line unfinished going last writable hears says =
     let heard : HasHeard means text old.judge = subst (SaysSo means text over old.judge) unfinished says going in
-    subst (λ now. SaysSo means (text ++ (line_words line ++ 10 ∷ [])) now new.judge new.verdict) (sym last) (hears means text heard)
+    subst (λ now. SaysSo means (text ++ (line_words line ++ 10 ∷ [])) now new.judge new.verdict) (sym last) (hears means text writable heard)
 
 -- a text with a line feed isn't empty
 not-empty : (front words more : List ℕ) → front ++ ((words ++ 10 ∷ []) ++ more) ≡ [] → ⊥

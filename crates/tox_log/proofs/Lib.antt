@@ -5,6 +5,7 @@ pub mod Faults
 pub mod HeaderParts
 pub mod Hearing
 pub mod HeadingLines
+pub mod Keeping
 pub mod Leaving
 pub mod LineParts
 pub mod LineBytes

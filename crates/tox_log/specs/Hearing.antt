@@ -22,7 +22,7 @@ use Rattle.tox_log.specs.declared.replay.Verdict.TheVariants.{Faithful, Unfinish
 use Rattle.tox_log.specs.declared.replay.Hearing.{Hearing}
 use Rattle.tox_log.specs.EventText.{event_line}
 use Rattle.tox_log.specs.LastText.{last_line}
-use Rattle.tox_log.specs.Lines.{line_words}
+use Rattle.tox_log.specs.Lines.{IsWritable, line_words}
 use Rattle.tox_log.specs.Reading.{is_last}
 use Rattle.tox_log.specs.Judging.{HasNoReport, Judged, source_heard}
 
@@ -37,6 +37,7 @@ IsTold told events = All (λ event. told (reading_of event) ≡ true) events
 -- the text is the lines of these events, and the judge is one after them
 pub record HasHeard (means : List Item → List Item) (text : List ℕ) (judge : Judge) : Type 0 where
   pub events : List LinkEvent
+  pub written : All (λ event. IsWritable (Event event)) events
   pub lines : text ≡ event_lines events
   pub judged : (told : ℕ → Bool) → IsTold told events → Judged means told judge events
 
@@ -61,6 +62,8 @@ pub record HasRefusal (means : List Item → List Item) (text : List ℕ) : Type
   pub events : List LinkEvent
   pub line : LogLine
   pub more : List ℕ
+  pub written : All (λ event. IsWritable (Event event)) events
+  pub writable : IsWritable line
   pub lines : text ≡ event_lines events ++ ((line_words line ++ 10 ∷ []) ++ more)
   pub refused : IsRefused means events line
 
@@ -70,9 +73,9 @@ SaysSo means text over judge (Faithful ending) = (over ≡ true) × HasReport me
 SaysSo means text over judge Unfinished = over ≡ false → HasHeard means text judge
 SaysSo means text over judge (Unfaithful number) = HasRefusal means text
 
--- a line is heard
+-- a line that can be written is heard
 abbrev pub HearsLine : Hearing → LogLine → Hearing → Type 0
-HearsLine old line new = (means : List Item → List Item) (text : List ℕ) → HasHeard means text old.judge
+HearsLine old line new = (means : List Item → List Item) (text : List ℕ) → IsWritable line → HasHeard means text old.judge
     → SaysSo means (text ++ (line_words line ++ 10 ∷ [])) (is_last line) new.judge new.verdict
 
 -- this is what a chain with these words does to a stream

@@ -14,3 +14,4 @@ pub mod Order
 pub mod Reading
 pub mod WrittenLog
 pub mod Left
+pub mod LinkLog

@@ -8,6 +8,7 @@ ghost use Rattle.tox_time.specs.declared.streams.ending.Ending.{Ending as OneEnd
 ghost use Rattle.tox_log.specs.Judging.{IsHeld};
 ghost use Rattle.tox_log.specs.Reading.{to_hand};
 ghost use Rattle.tox_log.specs.Left.{AcceptsNext, ComesWith, HasLinesLeft, IsHeardTo, IsNoBadLine};
+ghost use Rattle.tox_log.specs.LinkLog.{IsLinkLog};
 ghost use Rattle.tox_log.specs.WrittenLog.{IsWrittenText, WrittenLog};
 ghost use Rattle.tox_time.specs.streams.StreamPosition.{first_position};
 ghost use Rattle.tox_log.specs.declared.event_line.LogLine.{LogLine as AnyLine};
@@ -85,6 +86,9 @@ pub fn judge_log<R: Source>(alloc: Global, reader: &mut R) -> Result<JudgedLog, 
         → IsRefusedText (R.remaining reader.old) judged) }
     ensures reads { (written : WrittenLog) → IsWrittenText (R.remaining reader.old) written
         → IfErr result IsNoBadLine }
+    ensures keeps { (written : WrittenLog) → IsWrittenText (R.remaining reader.old) written
+        → IsLinkLog written → IfOk result (λ judged. (number : ℕ)
+        → judged.verdict ≢ TheVerdict.Unfaithful number) }
 {
     let mut log = OpenLog::new(alloc, reader)?;
     let mut hearing = begin(alloc, &log)?;

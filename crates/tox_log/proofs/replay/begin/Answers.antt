@@ -2,6 +2,9 @@
 use Rattle.std.proofs.Common.{[], refl, ◌∙◌, ap}
 use Rattle.tox_compile.specs.Meaning.{means}
 use Rattle.tox_defs.specs.Flow.{chain_flow}
+use Rattle.std.proofs.lemmas.List.Elements.{All-nil}
+use Rattle.tox_log.specs.declared.event_line.LogLine.TheVariants.{Event}
+use Rattle.tox_log.specs.Lines.{IsWritable}
 use Rattle.tox_log.proofs.replay.begin.Goals as goal
 
 pub returns-clause-begins : goal.returns-clause-begins
@@ -10,6 +13,6 @@ returns-clause-begins c = record {
   meaning = λ items stream. c.compile-plan.ensures.means items stream
       ∙ ap (λ chain. chain_flow chain c.in_ok-words.words items) c.chain.ensures
       ∙ ap (λ words. chain_flow c.args.log.now.chain words items) c.in_ok-words.ensures;
-  heard = record { events = []; lines = refl; judged = λ told all. c.in_ok-begin.ensures.judged told };
+  heard = record { events = []; written = All-nil (λ event. IsWritable (Event event)); lines = refl; judged = λ told all. c.in_ok-begin.ensures.judged told };
   unfinished = refl;
 }

@@ -5,10 +5,10 @@ use Rattle.tox_log.proofs.Hearing.{hears-last, says-other-end}
 use Rattle.tox_log.proofs.replay.hear_ending.Goals as goal
 
 pub returns-in_default-clause-hears : goal.returns-in_default-clause-hears
-returns-in_default-clause-hears c = λ means text heard. (refl, hears-last means text c.args.hearing.now.judge c.has_ended.new.judge c.args.reading.now c.args.ending.now heard c.has_ended.ensures.counts (c.has_ended.ensures.reports (search rules)))
+returns-in_default-clause-hears c = λ means text writable heard. (refl, hears-last means text c.args.hearing.now.judge c.has_ended.new.judge c.args.reading.now c.args.ending.now heard c.has_ended.ensures.counts (c.has_ended.ensures.reports (search rules)))
 
 pub returns-in_ok-add-clause-hears : goal.returns-in_ok-add-clause-hears
-returns-in_ok-add-clause-hears c = λ means text heard. (refl, hears-last means text c.args.hearing.now.judge c.has_ended.new.judge c.args.reading.now c.args.ending.now heard c.has_ended.ensures.counts (c.has_ended.ensures.reports (search rules)))
+returns-in_ok-add-clause-hears c = λ means text writable heard. (refl, hears-last means text c.args.hearing.now.judge c.has_ended.new.judge c.args.reading.now c.args.ending.now heard c.has_ended.ensures.counts (c.has_ended.ensures.reports (search rules)))
 
 pub returns-then-not-has_ended-clause-hears : goal.returns-then-not-has_ended-clause-hears
-returns-then-not-has_ended-clause-hears c = λ means text heard. says-other-end means text c.args.hearing.now.judge c.has_ended.new.judge c.args.reading.now c.args.ending.now c.args.number (c.has_ended.ensures.refuses (search rules)) heard
+returns-then-not-has_ended-clause-hears c = λ means text writable heard. says-other-end means text c.args.hearing.now.judge c.has_ended.new.judge c.args.reading.now c.args.ending.now c.args.number (c.has_ended.ensures.refuses (search rules)) writable heard

@@ -50,7 +50,7 @@ lines-preserved g c =
       text = (
         text ++ (line_words c.in-Some.line ++ 10 ∷ []),
         prepend_more text (line_words c.in-Some.line ++ 10 ∷ []) (to_hand c.args.log.now (g.R.Source.remaining c.args.reader.now)) (to_hand c.lines.log before) (to_hand c.next_line.new.self after) given handed.given,
-        λ means heard. says-line means text c.lines.log.over c.next_line.new.self.over c.lines.hearing c.hear_line.new.hearing c.in-Some.line unfinished handed.going handed.over c.in_ok-hear_line.ensures.hears (says means heard),
+        λ means heard. says-line means text c.lines.log.over c.next_line.new.self.over c.lines.hearing c.hear_line.new.hearing c.in-Some.line unfinished handed.going handed.over handed.writable c.in_ok-hear_line.ensures.hears (says means heard),
       );
       follows = λ begun still. subst (IsHeardTo c.hear_line.new.hearing.judge) (sym order.heard)
           (c.in_ok-hear_line.ensures.follows c.lines.log.heard (c.lines.invariant.follows begun unfinished) still);

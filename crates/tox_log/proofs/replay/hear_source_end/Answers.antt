@@ -4,4 +4,4 @@ use Rattle.tox_log.proofs.Hearing.{says-event}
 use Rattle.tox_log.proofs.replay.hear_source_end.Goals as goal
 
 pub returns-clause-hears : goal.returns-clause-hears
-returns-clause-hears c = λ means text heard. says-event means text c.args.hearing.now.judge c.hear_end.new.judge (SourceEnd c.args.instant.now) c.args.hearing.now.verdict c.requires.going c.hear_end.ensures.hears heard
+returns-clause-hears c = λ means text writable heard. says-event means text c.args.hearing.now.judge c.hear_end.new.judge (SourceEnd c.args.instant.now) c.args.hearing.now.verdict c.requires.going c.hear_end.ensures.hears writable heard

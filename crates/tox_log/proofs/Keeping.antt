@@ -1,0 +1,138 @@
+-- No line of a link's log is refused.
+use Rattle.std.proofs.Common.{◌≡◌, ℕ, Bool, true, List, [], ◌∷◌, ◌++◌, length, map, take, drop, Option, Some, None, refl, ap, ap₂, sym, subst, ◌∙◌, append_assoc, append-nil}
+use Rattle.std.specs.Io.KnownBytes.{prepend_known}
+use Rattle.std.specs.Prelude.{All, Contains}
+use Rattle.std.proofs.Math.Seq.{take-append_seam}
+use Rattle.std.proofs.lemmas.List.{take-append-drop}
+use Rattle.std.proofs.lemmas.List.Elements.{All-head, All-tail, Contains-push}
+use Rattle.tox_time.specs.declared.streams.item.Item.{Item}
+use Rattle.tox_time.specs.declared.streams.position.StreamPosition.{StreamPosition}
+use Rattle.tox_link.specs.declared.notes.LinkEvent.{LinkEvent}
+use Rattle.tox_link.specs.declared.notes.LinkEvent.TheVariants.{Piece, SourceEnd, Wrote}
+use Rattle.tox_link.specs.log.Log.{Agrees, HearsNothing, IsFaithful, IsHeardInOrder, IsTimely, reading_of}
+use Rattle.tox_log.specs.declared.event_line.LogLine.{LogLine}
+use Rattle.tox_log.specs.declared.event_line.LogLine.TheVariants.{Event, Last}
+use Rattle.tox_log.specs.declared.last_line.LastLine.TheVariants.{Ended, Broken}
+use Rattle.tox_log.specs.EventText.{event_words}
+use Rattle.tox_log.specs.declared.open_log.OpenLog.{OpenLog}
+use Rattle.tox_words.specs.Seeded.{seeded_words}
+use Rattle.tox_defs.specs.Flow.{chain_flow}
+use Rattle.tox_log.specs.Hearing.{HasRefusal, IsMeaningOf, IsRefused, event_lines}
+use Rattle.tox_log.specs.Left.{IsHeadingOf}
+use Rattle.tox_log.specs.Lines.{IsWritable, line_words}
+use Rattle.tox_log.specs.LinkLog.{AreLinkLines, IsReported, events_in}
+use Rattle.tox_log.specs.Numbers.{Lacks}
+use Rattle.tox_log.specs.Order.{heard_with}
+use Rattle.tox_log.specs.Reading.{is_last}
+use Rattle.tox_log.specs.WrittenLog.{AreInOrder, WrittenLog, log_lines}
+use Rattle.tox_log.proofs.Cuts.{cut-once, stands}
+use Rattle.tox_log.proofs.LineBytes.{line-feedless}
+use Rattle.tox_log.proofs.ReadsBack.{same-line}
+
+-- The lines of a text
+
+lines-cut : (first : LogLine) (lines : List LogLine) (torn : List ℕ) → log_lines (first ∷ lines) ++ torn ≡ line_words first ++ 10 ∷ (log_lines lines ++ torn)
+lines-cut first lines torn = append_assoc (line_words first ++ 10 ∷ []) (log_lines lines) torn ∙ append_assoc (line_words first) (10 ∷ []) (log_lines lines ++ torn)
+
+events-cut : (event : LinkEvent) (events : List LinkEvent) (rest : List ℕ) → event_lines (event ∷ events) ++ rest ≡ event_words event ++ 10 ∷ (event_lines events ++ rest)
+events-cut event events rest = append_assoc (event_words event ++ 10 ∷ []) (event_lines events) rest ∙ append_assoc (event_words event) (10 ∷ []) (event_lines events ++ rest)
+
+-- a text has one list of lines
+pub same-lines : (events : List LinkEvent) (line : LogLine) (more torn : List ℕ) (lines : List LogLine) (heard : StreamPosition) → All (λ event. IsWritable (Event event)) events → IsWritable line
+    → AreInOrder heard lines → Lacks 10 torn → event_lines events ++ ((line_words line ++ 10 ∷ []) ++ more) ≡ log_lines lines ++ torn → (rest : List LogLine) × (lines ≡ map Event events ++ line ∷ rest)
+same-lines [] line more torn [] heard written writable order lacks same =
+    absurd (stands 10 (line_words line) more (subst (Lacks 10) (sym same ∙ append_assoc (line_words line) (10 ∷ []) more) lacks))
+same-lines [] line more torn (first ∷ lines) heard written writable order lacks same =
+    let parts = cut-once 10 (line_words line) more (line_words first) (log_lines lines ++ torn) (line-feedless line writable) (line-feedless first order.0)
+    (sym (append_assoc (line_words line) (10 ∷ []) more) ∙ same ∙ lines-cut first lines torn) in
+    (lines, ap (λ line. line ∷ lines) (sym (same-line line first writable order.0 parts.0)))
+same-lines (event ∷ events) line more torn [] heard written writable order lacks same =
+    let rest = (line_words line ++ 10 ∷ []) ++ more in
+    absurd (stands 10 (event_words event) (event_lines events ++ rest) (subst (Lacks 10) (sym same ∙ events-cut event events rest) lacks))
+same-lines (event ∷ events) line more torn (first ∷ lines) heard written writable order lacks same =
+    let rest = (line_words line ++ 10 ∷ []) ++ more in
+    let here = All-head (λ event. IsWritable (Event event)) event events written in
+    let parts = cut-once 10 (event_words event) (event_lines events ++ rest) (line_words first) (log_lines lines ++ torn) (line-feedless (Event event) here) (line-feedless first order.0)
+    (sym (events-cut event events rest) ∙ same ∙ lines-cut first lines torn) in
+    let is = same-line (Event event) first here order.0 parts.0 in
+    let (left, others) = same-lines events line more torn lines (heard_with heard first) (All-tail (λ event. IsWritable (Event event)) event events written) writable order.3 lacks parts.1 in
+    (left, ap₂ (λ line lines. line ∷ lines) (sym is) others)
+
+events-of : (events : List LinkEvent) (lines : List LogLine) → events_in (map Event events ++ lines) ≡ events ++ events_in lines
+events-of [] lines = refl
+events-of (event ∷ events) lines = ap (λ rest. event ∷ rest) (events-of events lines)
+
+-- behind a last line stands none
+none-behind : (events : List LinkEvent) (line : LogLine) (rest : List LogLine) (heard : StreamPosition) → AreInOrder heard (map Event events ++ line ∷ rest) → is_last line ≡ true → rest ≡ []
+none-behind [] line rest heard order last = order.2 last
+none-behind (event ∷ events) line rest heard order last = none-behind events line rest (heard_with heard (Event event)) order.3 last
+
+-- The front of a faithful log
+
+timely-front : (told : ℕ → Type 0) (since : ℕ) (front back : List LinkEvent) → IsTimely told since (front ++ back) → IsTimely told since front
+timely-front told since [] back timely = tt
+timely-front told since (event ∷ front) back timely = (timely.0, timely.1, timely.2, timely-front told (reading_of event) front back timely.3)
+
+nothing-front : (front back : List LinkEvent) → HearsNothing (front ++ back) → HearsNothing front
+nothing-front [] back none = tt
+nothing-front (Piece len instant ∷ front) back none = none
+nothing-front (SourceEnd instant ∷ front) back none = none
+nothing-front (Wrote slice reading ∷ front) back none = nothing-front front back none
+
+ordered-front : (front back : List LinkEvent) → IsHeardInOrder (front ++ back) → IsHeardInOrder front
+ordered-front [] back ordered = tt
+ordered-front (Piece len instant ∷ front) back ordered = (ordered.0, ordered-front front back ordered.1)
+ordered-front (SourceEnd instant ∷ front) back ordered = nothing-front front back ordered
+ordered-front (Wrote slice reading ∷ front) back ordered = ordered-front front back ordered
+
+-- it is faithful too
+pub faithful-front : (means : List Item → List Item) (told : ℕ → Type 0) (front back : List LinkEvent) → IsFaithful means told (front ++ back) → IsFaithful means told front
+faithful-front means told front back faithful = record {
+  agrees = λ n.
+      let whole : front ++ back ≡ take n front ++ (drop n front ++ back) = ap (λ events. events ++ back) (sym (take-append-drop n front)) ∙ append_assoc (take n front) (drop n front) back in
+      subst (Agrees means) (ap (take (length (take n front))) whole ∙ take-append_seam (take n front) (drop n front ++ back)) (faithful.agrees (length (take n front)));
+  timely = timely-front told 0 front back faithful.timely;
+  ordered = ordered-front front back faithful.ordered;
+}
+
+-- so no line of a link is refused
+module _ (means : List Item → List Item) (told : ℕ → Bool) (lines : List LogLine) (heard : StreamPosition) (order : AreInOrder heard lines) (kept : AreLinkLines means told lines) where
+  none-refused : (events : List LinkEvent) (line : LogLine) (rest : List LogLine) → lines ≡ map Event events ++ line ∷ rest → IsRefused means events line → ⊥
+  none-refused events (Event event) rest is refused =
+      let whole : events_in lines ≡ (events ++ event ∷ []) ++ events_in rest = ap events_in is ∙ events-of events (Event event ∷ rest) ∙ sym (append_assoc events (event ∷ []) (events_in rest)) in
+      refused told (faithful-front means (λ t. told t ≡ true) (events ++ event ∷ []) (events_in rest) (subst (IsFaithful means (λ t. told t ≡ true)) whole kept.faithful))
+  none-refused events (Last (Ended reading last)) rest is refused =
+      let line : LogLine = Last (Ended reading last) in
+      let none : rest ≡ [] = none-behind events line rest heard (subst (AreInOrder heard) is order) refl in
+      let whole : events_in lines ≡ events = ap events_in is ∙ events-of events (line ∷ rest) ∙ ap (λ rest. events ++ events_in rest) none ∙ append-nil events in
+      let report : IsReported means told events reading last = subst (λ events. IsReported means told events reading last) whole
+      (kept.reported reading last (subst (λ lines. Contains lines line) (sym (is ∙ ap (λ rest. map Event events ++ line ∷ rest) none)) (Contains-push (map Event events) line))) in
+      refused told report.taken report.written report.source report.report
+  none-refused events (Last (Broken cause bytes)) rest is refused = refused
+
+  -- nor has its text a refusal
+  pub no-refusal : (text torn : List ℕ) (handed left : Option (List ℕ)) → handed ≡ Some (log_lines lines ++ torn) → handed ≡ prepend_known text left → Lacks 10 torn → HasRefusal means text → ⊥
+  no-refusal text torn handed None bytes given lacks refusal = no-bytes (sym bytes ∙ given)
+    where
+      no-bytes : Some (log_lines lines ++ torn) ≡ None → ⊥
+      no-bytes same = cc
+  no-refusal text torn handed (Some left) bytes given lacks refusal =
+      let line = line_words refusal.line ++ 10 ∷ [] in
+      let whole : log_lines lines ++ torn ≡ text ++ left = bytes-of (sym bytes ∙ given) in
+      let read : event_lines refusal.events ++ (line ++ (refusal.more ++ left)) ≡ log_lines lines ++ torn =
+      sym (whole ∙ ap (λ text. text ++ left) refusal.lines ∙ append_assoc (event_lines refusal.events) (line ++ refusal.more) left ∙ ap (λ rest. event_lines refusal.events ++ rest) (append_assoc line refusal.more left)) in
+      let (rest, is) = same-lines refusal.events refusal.line (refusal.more ++ left) torn lines heard refusal.written refusal.writable order lacks read in
+      none-refused refusal.events refusal.line rest is refusal.refused
+    where
+      bytes-of : Some (log_lines lines ++ torn) ≡ Some (text ++ left) → log_lines lines ++ torn ≡ text ++ left
+      bytes-of same = cc
+
+-- the meaning of the chain that was read
+pub meaning-of : (log : OpenLog) (written : WrittenLog) (means : List Item → List Item) → IsHeadingOf log.heading written → log.chain ≡ written.chain
+    → IsMeaningOf means log.chain (seeded_words log.heading.seed log.heading.number log.heading.stream) → IsMeaningOf means written.chain (seeded_words written.seed written.number written.stream)
+meaning-of log written means heading chain meaning = λ items stream.
+    meaning items stream
+    ∙ ap (λ chain. chain_flow chain (seeded_words log.heading.seed log.heading.number log.heading.stream) items) chain
+    ∙ ap (λ seed. chain_flow written.chain (seeded_words seed log.heading.number log.heading.stream) items) heading.seed
+    ∙ ap (λ number. chain_flow written.chain (seeded_words written.seed number log.heading.stream) items) heading.number
+    ∙ ap (λ stream. chain_flow written.chain (seeded_words written.seed written.number stream) items) heading.stream
