@@ -104,7 +104,8 @@ pub(crate) fn decide<C: Clock>(core: &mut DirectionCore<'_>, clock: &C) -> (Act,
     requires { (core.old.latest ≡ 0) ⊎ C.told clock.now core.old.latest }
     ensures told { C.told clock.now result.1 × (core.old.latest ≤ result.1) }
     ensures answered { Answered core.old core.new result.1 result.0 }
-    ensures carried { KeepsCarried (C.told clock.now) core.old (noted_of result.0 result.1) core.new }
+    ensures carried { KeepsCarried (C.told clock.now) core.old (noted_of result.0 result.1)
+        core.new }
 {
     let now = reading(clock, core.latest());
     (core.on_clock(now), now)

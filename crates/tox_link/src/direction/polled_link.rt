@@ -54,8 +54,8 @@ impl PolledLink {
     /// A direction under a plan that draws no words, at which nothing has arrived. It keeps none but a table of one word.
     pub fn without_words(alloc: Global, plan: Plan) -> Result<PolledLink, AllocError>
         requires { plan_draws plan.ops ≡ false }
-        ensures meaning { IfOk result (λ link. (words : List ℕ) (items : List OneItem) → IsStream items
-            → remaining_output link.core items ≡ means plan words items) }
+        ensures meaning { IfOk result (λ link. (words : List ℕ) (items : List OneItem)
+            → IsStream items → remaining_output link.core items ≡ means plan words items) }
         ensures fresh { IfOk result IsNew }
         ensures held { IfOk result IsHeld }
         ensures room { IfOk result (HasRoomOf plan.ops) }

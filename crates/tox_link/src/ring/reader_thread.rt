@@ -24,7 +24,8 @@ pub struct ReadingOf<S> {
 
 impl<S: Source> Promise<Reading<S>> for ReadingOf<S> {
     ghost kept_by = { λ promise reading. SameProducer promise.sender.value reading.sender
-        × ReadsFrom (S.remaining promise.reader.value) promise.reads (sent reading.sender) reading.end (S.remaining reading.reader) (S.failed reading.reader) };
+        × ReadsFrom (S.remaining promise.reader.value) promise.reads (sent reading.sender)
+        reading.end (S.remaining reading.reader) (S.failed reading.reader) };
 }
 
 /// The reader's thread.
@@ -61,7 +62,8 @@ pub fn start_reader<
         move || -> Reading<S>
             requires { (S.failed reader ≡ false) × (sent sender ≡ []) }
             ensures { SameProducer sender result.sender
-                × ReadsFrom (S.remaining reader) reads (sent result.sender) result.end (S.remaining result.reader) (S.failed result.reader) }
+                × ReadsFrom (S.remaining reader) reads (sent result.sender) result.end
+                (S.remaining result.reader) (S.failed result.reader) }
         { read_all(&rt_there, vectors, reader, sender, reads, &parkers, &*gate) },
     )
     .ok()
@@ -76,7 +78,8 @@ pub fn join_reader<R: Threads, S: Source + Drop>(
     requires pair { IsPair thread.promise.sender.value receiver.old }
     ensures received { received receiver.new ≡ received receiver.old }
     ensures sent { (left : List OneMessage)
-        × ReadsFrom (S.remaining thread.promise.reader.value) thread.promise.reads (received receiver.new ++ left) result.1 (S.remaining result.0) (S.failed result.0) }
+        × ReadsFrom (S.remaining thread.promise.reader.value) thread.promise.reads
+        (received receiver.new ++ left) result.1 (S.remaining result.0) (S.failed result.0) }
 {
     let Reading {
         reader,

@@ -57,9 +57,11 @@ fn read_pieces<R: Wait, S: Source, G: Gate>(
     requires fresh { sent sender.old ≡ [] }
     ensures ring { SameProducer sender.old sender.new }
     ensures pieces { ArePieces (sent sender.new) }
-    ensures bytes { HandsOn (S.remaining reader.old) (bytes_of (sent sender.new)) result (S.remaining reader.new) }
+    ensures bytes { HandsOn (S.remaining reader.old) (bytes_of (sent sender.new)) result
+        (S.remaining reader.new) }
     ensures spent { result ≡ ReadsUsedUp → length (sent sender.new) ≡ reads }
-    ensures end { EndsFor result reads (length (bytes_of (sent sender.new))) (S.remaining reader.new) (S.failed reader.new) }
+    ensures end { EndsFor result reads (length (bytes_of (sent sender.new)))
+        (S.remaining reader.new) (S.failed reader.new) }
 {
     let mut buffer = [0; READ_SIZE];
     let mut total = 0u64;
@@ -97,7 +99,8 @@ pub fn read_all<R: Wait, S: Source, G: Gate>(
     requires working { S.failed reader ≡ false }
     requires fresh { sent sender ≡ [] }
     ensures ring { SameProducer sender result.sender }
-    ensures reads { ReadsFrom (S.remaining reader) reads (sent result.sender) result.end (S.remaining result.reader) (S.failed result.reader) }
+    ensures reads { ReadsFrom (S.remaining reader) reads (sent result.sender) result.end
+        (S.remaining result.reader) (S.failed result.reader) }
 {
     let mut vectors = vectors;
     let mut reader = reader;
