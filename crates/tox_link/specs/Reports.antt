@@ -53,10 +53,6 @@ pub record ReportsAt (means : List Item → List Item) (told : ℕ → Type 0) (
   pub settled : IsSettledFrom means now log
   pub hears : HeardSo source (ending (heard log))
 
--- the same at some instant
-abbrev pub Reports : (List Item → List Item) → (ℕ → Type 0) → List LinkEvent → ℕ → ℕ → Ending → Option ReadEnd → Type 0
-Reports means told log taken written last source = (now : ℕ) × ReportsAt means told log taken written last source now
-
 -- so many of these bytes were written, which are the first that there were to give
 pub record WritesFirst (given before after : Option (List ℕ)) (bytes : List ℕ) (written : ℕ) : Type 0 where
   pub left : Option (List ℕ)
