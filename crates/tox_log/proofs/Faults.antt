@@ -2,20 +2,11 @@
 use Rattle.std.proofs.Common.{◌≡◌, Ok, Err, Result, sym, ◌∙◌}
 use Rattle.std.specs.Prelude.{MatchResult, IsErrAnd}
 use Rattle.tox_log.specs.declared.fault.LogFault.{LogFault}
-use Rattle.tox_log.specs.declared.fault.LogFault.TheVariants.{BadLine, OutOfMemory, ReadFault}
 use Rattle.tox_log.specs.Left.{IsNoBadLine}
 
 pub failed-so : {T E : Type 0} (result : Result T E) (P : T → Type 0) (Q R : E → Type 0) → IsErrAnd result R → ((fault : E) → R fault → Q fault) → MatchResult result P Q
 failed-so (Ok x) P Q R errs implies = absurd errs
 failed-so (Err fault) P Q R errs implies = implies fault errs
-
-pub no-read : (fault : LogFault) → fault ≡ ReadFault → IsNoBadLine fault
-no-read fault is number same =
-    let other : ReadFault ≡ BadLine number = sym is ∙ same in cc
-
-pub no-memory : (fault : LogFault) → fault ≡ OutOfMemory → IsNoBadLine fault
-no-memory fault is number same =
-    let other : OutOfMemory ≡ BadLine number = sym is ∙ same in cc
 
 pub same-fault : (fault other : LogFault) → fault ≡ other → IsNoBadLine other → IsNoBadLine fault
 same-fault fault other is none number same = none number (sym is ∙ same)

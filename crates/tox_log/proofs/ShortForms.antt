@@ -28,20 +28,21 @@ are_signs text = list_all is_sign text
 both-signs : (xs ys : List ℕ) → are_signs xs ≡ true → are_signs ys ≡ true → are_signs (xs ++ ys) ≡ true
 both-signs xs ys first second = list_all-append is_sign xs ys ∙ rw first second
 
+-- bytes of one kind are signs where each byte of that kind is
+signs-of : (kind : ℕ → Bool) → ((byte : ℕ) → kind byte ≡ true → is_sign byte ≡ true) → (text : List ℕ) → list_all kind text ≡ true → are_signs text ≡ true
+signs-of kind sign [] all = refl
+signs-of kind sign (byte ∷ text) all =
+    let parts = and_parts (kind byte) (list_all kind text) all in
+    rw (sign byte parts.0) (signs-of kind sign text parts.1)
+
 word-signs : (text : List ℕ) → list_all is_word_byte text ≡ true → are_signs text ≡ true
-word-signs [] all = refl
-word-signs (byte ∷ text) all =
-    let parts = and_parts (is_word_byte byte) (list_all is_word_byte text) all in
-    rw (sign byte parts.0) (word-signs text parts.1)
+word-signs = signs-of is_word_byte sign
   where
     sign : (byte : ℕ) → is_word_byte byte ≡ true → is_sign byte ≡ true
     sign byte is = grind (arith, nat_tests)
 
 digit-signs : (text : List ℕ) → list_all is_ascii_digit text ≡ true → are_signs text ≡ true
-digit-signs [] all = refl
-digit-signs (byte ∷ text) all =
-    let parts = and_parts (is_ascii_digit byte) (list_all is_ascii_digit text) all in
-    rw (sign byte parts.0) (digit-signs text parts.1)
+digit-signs = signs-of is_ascii_digit sign
   where
     sign : (byte : ℕ) → is_ascii_digit byte ≡ true → is_sign byte ≡ true
     sign byte is = grind (arith, nat_tests)
