@@ -29,7 +29,7 @@ use Rattle.tox_link.specs.carrying.Side.{IsSound, TookAll}
 use Rattle.tox_link.specs.Sources.{read_end_of}
 use Rattle.tox_link.proofs.Logs.{gapless-bytes}
 use Rattle.tox_link.proofs.Sent.{bytes_of-append, prepend-append}
-use Rattle.tox_link.proofs.StepLemmas.{faithful-nil}
+use Rattle.tox_link.proofs.StepLemmas.{faithful-nil, says-heard}
 
 -- how what was heard ends
 heard-closed : (start : ℕ) (log : List LinkEvent) (rest : List Item) → has_source_end log ≡ true → (t : ℕ) × (ending (heard_from start log rest) ≡ ClosedAt t)
@@ -58,6 +58,7 @@ link-reports means told core ended log last source taken written carried closed 
   took = carried.bytes ∙ sym took;
   wrote = let long = gapless-bytes 0 (said log) (core_position core) carried.gapless in omega (arith, long, wrote);
   says = over.says;
+  by = carried.by;
   reached = over.reached;
   settled = λ rest stream.
       let goes_on : IsStreamFrom core.bytes core.latest rest = subst (λ at. IsStreamFrom at core.latest rest) carried.bytes stream in
@@ -78,7 +79,7 @@ append-nothing (Some bytes) = ap Some (sym (append-nil bytes))
 
 -- a link that did nothing
 pub cut-nothing : (means : List Item → List Item) (told : ℕ → Type 0) (written : ℕ) → written ≡ 0 → IsCutOff means told written []
-cut-nothing means told written none = record { faithful = faithful-nil means told; few = omega (arith, none) }
+cut-nothing means told written none = record { faithful = faithful-nil means told; few = omega (arith, none); of_heard = record { few = omega arith; heard = omega arith }; within = omega (arith, none) }
 
 pub writes-nothing : (given before : Option (List ℕ)) (written : ℕ) → written ≡ 0 → WritesFirst given before before [] written
 writes-nothing given before written none = record { left = given; gave = prepend-nil given; few = omega (arith, none); wrote = append-nothing before ∙ ap (append_known before) (sym (take-nil written)) }
@@ -154,7 +155,7 @@ reads-same before given after reads asked messages end failed same count sent =
 
 -- a link that was refused before its reader's thread started
 pub broke-unstarted : (told : ℕ → Type 0) (calls : Option (List Call)) (fault : LinkFault) → written_before fault ≡ 0 → is_write_fault fault ≡ false → BreaksOff told [] calls calls fault
-broke-unstarted told calls fault none cause = inl (refl, none, cause)
+broke-unstarted told calls fault none cause = inl (refl, refl, none, cause)
 
 -- where a link learnt why the reading ended, it took the source's end
 took-end : (side : WriterSide) (messages : List Message) (source : Option ReadEnd) → ((end : ReadEnd) → source ≡ Some end → TookAll side messages end) → IfSome source (λ _. side.ended ≡ true)

@@ -23,20 +23,21 @@ use Rattle.tox_link.specs.link_core.Acts.{Answered, After, Says, end_act, idle_a
 use Rattle.tox_link.specs.link_core.Core.{CoreView, KeepsCore, LeavesOutput, remaining_output, next_instant, core_ending, core_deadline, core_position}
 use Rattle.tox_link.specs.log.Carried.{Carried, KeepsCarried, noted_of}
 use Rattle.tox_link.specs.log.Events.{with_events}
-use Rattle.tox_link.specs.log.Log.{has_source_end, heard, IsFaithful}
+use Rattle.tox_link.specs.log.Log.{has_source_end, heard, heard_bytes, said, IsFaithful, SaysHeard}
 use Rattle.tox_link.specs.log.Logged.{IsCutOff, IsReached}
 use Rattle.tox_link.specs.Reports.{WritesFirst}
 use Rattle.tox_time.specs.streams.Stream.{IsStream}
-use Rattle.tox_time.specs.streams.Table.{table}
+use Rattle.tox_time.specs.streams.Table.{table, slices_table}
+use Rattle.tox_plan.proofs.Deliveries.{slices_table-append}
 use Rattle.std.proofs.Math.Seq.{take-nil}
 use Rattle.tox_link.specs.ring.Messages.{IsUnsent, EndsFor, HandsOn}
 use Rattle.tox_link.specs.declared.ring.message.ReadEnd.{ReadEnd}
 use Rattle.tox_link.specs.Sources.{read_end_of}
 use Rattle.tox_link.proofs.CarryLemmas.{append-nothing, prepend-nil}
 use Rattle.tox_link.proofs.FollowLemmas.{bare, clad, drives-ended, unsent-none}
-use Rattle.tox_link.proofs.StepLemmas.{start-carried}
+use Rattle.tox_link.proofs.StepLemmas.{start-carried, says-heard}
 use Rattle.tox_link.proofs.LoggedLemmas.{said-within}
-use Rattle.tox_link.proofs.Logs.{heard-wrote, end-same, events-append, events-none, has_source_end-append}
+use Rattle.tox_link.proofs.Logs.{heard-wrote, heard_bytes-append, said-append, end-same, events-append, events-none, has_source_end-append}
 use Rattle.tox_link.proofs.Sent.{prepend_more}
 use Rattle.tox_link.proofs.SideLemmas.{unknown-before}
 
@@ -199,13 +200,33 @@ written-up_to : (slice : Option Unwritten) (written position : ℕ) → IsUpTo s
 written-up_to None written position up_to = omega (arith, up_to)
 written-up_to (Some unwritten) written position up_to = up_to.2
 
+heard_bytes-unsaid : (log : List LinkEvent) (slice : Option Unwritten) → heard_bytes (log ++ unsaid slice) ≡ heard_bytes log
+heard_bytes-unsaid log None = ap heard_bytes (append-nil log)
+heard_bytes-unsaid log (Some unwritten) = let more = heard_bytes-append log (Wrote unwritten.slice unwritten.reading ∷ []) in omega (arith, more)
+
+-- the slice that is being written is of bytes that were heard
+said-of_heard : (log : List LinkEvent) (slice : Option Unwritten) → SaysHeard (log ++ unsaid slice) → SaysHeard log
+said-of_heard log None all = subst SaysHeard (append-nil log) all
+said-of_heard log (Some unwritten) all =
+    let more = Wrote unwritten.slice unwritten.reading ∷ [] in
+    let heard_is = heard_bytes-append log more in
+    let said_is = ap (λ slices. length (slices_table slices)) (said-append log more) ∙ ap length (slices_table-append (said log) (said more)) ∙ length-append (slices_table (said log)) (slices_table (said more)) in
+    record { few = omega (arith, heard_is, all.few); heard = omega (arith, heard_is, said_is, all.heard) }
+
 -- a direction that broke off
 pub cut-follows : (means : List Item → List Item) (told : ℕ → Type 0) (link : PolledLink) (log : List LinkEvent) (came : List ℕ) (before after : Option (List ℕ)) → IsHeld link → Follows means told link log came before after
     → IsCutOff means told link.written log
 cut-follows means told link log came before after held follows =
     let within = said-within means told link.core (log ++ unsaid link.unwritten) follows.carried in
     let same = ap (λ items. length (table (means items))) (heard-unsaid log link.unwritten) in
-    record { faithful = follows.faithful; few = omega (arith, within, same, written-up_to link.unwritten link.written (core_position link.core) held.up_to) }
+    let up_to = written-up_to link.unwritten link.written (core_position link.core) held.up_to in
+    let heard_is = heard_bytes-unsaid log link.unwritten in
+    record {
+      faithful = follows.faithful;
+      few = omega (arith, within, same, up_to);
+      of_heard = said-of_heard log link.unwritten (says-heard means told link.core (log ++ unsaid link.unwritten) follows.carried);
+      within = omega (arith, up_to, held.within, heard_is, follows.carried.bytes);
+    }
 
 -- it wrote the first bytes of those that came
 pub writes-came : (link : PolledLink) (given before after left : Option (List ℕ)) (came : List ℕ) → IsHeld link → link.core.bytes ≤ length came → given ≡ prepend_known came left → after ≡ append_known before (take link.written came)

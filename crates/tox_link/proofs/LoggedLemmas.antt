@@ -20,7 +20,7 @@ use Rattle.tox_link.specs.log.Logged.{Logged, KeepsLogged, LogsFrom, CutsOff, Cu
 use Rattle.tox_link.specs.carrying.Side.{IsFresh}
 use Rattle.tox_link.specs.Sources.{read_end_of}
 use Rattle.tox_link.proofs.Logs.{gapless-bytes, has_source_end-append, end-same, by-later}
-use Rattle.tox_link.proofs.StepLemmas.{start-carried}
+use Rattle.tox_link.proofs.StepLemmas.{start-carried, says-heard}
 
 pub or-false_left : (b c : Bool) → b ≡ false → (b || c) ≡ c
 or-false_left true c none = cc
@@ -77,16 +77,16 @@ said-within means told core log carried =
 pub cut-here : (told : ℕ → Type 0) (old : WriterSide) (written : ℕ) → written ≡ core_position old.core → CutsOff told old written
 cut-here told old written at means log logged =
     let within = said-within means told old.core log logged.carried in
-    record { faithful = logged.carried.faithful; few = omega (arith, within, at) }
+    record { faithful = logged.carried.faithful; few = omega (arith, within, at); of_heard = says-heard means told old.core log logged.carried; within = omega (arith, at, logged.carried.arrived, logged.carried.bytes) }
 
 -- it broke off in a slice
-pub cut-within : (told : ℕ → Type 0) (old : WriterSide) (core : CoreView) (slice : Slice) (written : ℕ) → TakesSlice old.core core slice → written ≤ slice.span.stop → CutsOff told old written
-cut-within told old core slice written takes few means log logged =
+pub cut-within : (told : ℕ → Type 0) (old : WriterSide) (core : CoreView) (slice : Slice) (written : ℕ) → TakesSlice old.core core slice → core.bytes ≡ old.core.bytes → written ≤ slice.span.stop → CutsOff told old written
+cut-within told old core slice written takes same few means log logged =
     let within = said-within means told old.core log logged.carried in
     let next = ap length (takes.tables (Quiet ∷ [])) in
     let parts = length-append (replicate (span_len slice.span) slice.instant) (table (remaining_output core (Quiet ∷ []))) in
     let part = length-replicate (span_len slice.span) slice.instant in
-    record { faithful = logged.carried.faithful; few = omega (arith, within, next, parts, part, few, takes.starts, takes.within.some) }
+    record { faithful = logged.carried.faithful; few = omega (arith, within, next, parts, part, few, takes.starts, takes.within.some); of_heard = says-heard means told old.core log logged.carried; within = omega (arith, few, takes.arrived, same, logged.carried.bytes) }
 
 -- nothing was heard yet
 pub logged-fresh : (means : List Item → List Item) (told : ℕ → Type 0) (side : WriterSide) → IsFresh side → ((items : List Item) → IsStream items → remaining_output side.core items ≡ means items) → Logged means told side []

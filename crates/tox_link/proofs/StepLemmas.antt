@@ -1,5 +1,5 @@
 -- The steps of a link that is carried.
-use Rattle.std.proofs.Common.{◌≡◌, ℕ, ◌+◌, ◌<◌, ◌≤◌, inl, inr, true, false, List, [], ◌∷◌, ◌++◌, replicate, refl, ap, sym, ◌∙◌, subst, append_assoc, append-nil, zero-add, arith}
+use Rattle.std.proofs.Common.{◌≡◌, ℕ, ◌+◌, ◌<◌, ◌≤◌, ◌^◌, inl, inr, true, false, List, [], ◌∷◌, ◌++◌, replicate, refl, ap, sym, ◌∙◌, subst, append_assoc, append-nil, zero-add, arith}
 use Rattle.std.proofs.Math.Seq.{take-nil}
 use Rattle.tox_time.specs.declared.streams.slice.Slice.{Slice}
 use Rattle.tox_time.specs.declared.streams.item.Item.{Item}
@@ -14,9 +14,9 @@ use Rattle.tox_link.specs.declared.notes.LinkEvent.{LinkEvent}
 use Rattle.tox_link.specs.declared.notes.LinkEvent.TheVariants.{Piece, SourceEnd, Wrote}
 use Rattle.tox_link.specs.link_core.Core.{CoreView, TakesSlice, LeavesOutput, remaining_output, core_position}
 use Rattle.tox_link.specs.link_core.Acts.{After}
-use Rattle.tox_link.specs.log.Log.{heard_from, said, heard_bytes, has_source_end, Agrees, IsGapless, IsFaithful}
+use Rattle.tox_link.specs.log.Log.{heard_from, said, heard_bytes, has_source_end, Agrees, IsGapless, IsFaithful, SaysHeard}
 use Rattle.tox_link.specs.log.Carried.{Carried, KeepsCarried, noted_of}
-use Rattle.tox_link.proofs.Logs.{stream-earlier, heard-piece, heard-end, heard-wrote, said-append, heard_bytes-append, gapless-append, by-later, by-append, faithful-append, end-same, open-log, ordered-piece, ordered-end, ordered-wrote}
+use Rattle.tox_link.proofs.Logs.{stream-earlier, heard-piece, heard-end, heard-wrote, said-append, heard_bytes-append, gapless-append, gapless-bytes, by-later, by-append, faithful-append, end-same, open-log, ordered-piece, ordered-end, ordered-wrote}
 
 -- what stands now agrees with the plan
 agrees-now : (means : List Item → List Item) (core : CoreView) (log : List LinkEvent)
@@ -32,10 +32,10 @@ module _ (told : ℕ → Type 0) (old new : CoreView) (len instant : ℕ) where
   abbrev piece : Item
   piece = Chunk (record { start = old.bytes; stop = old.bytes + len }) instant
 
-  pub piece-carried : old.latest ≤ instant → IsInstant instant → told instant → 0 < len → old.ended ≡ false → new.latest ≡ instant → new.bytes ≡ old.bytes + len → core_position new ≡ core_position old
+  pub piece-carried : old.latest ≤ instant → IsInstant instant → told instant → 0 < len → old.bytes + len ≤ 2 ^ 40 → old.ended ≡ false → new.latest ≡ instant → new.bytes ≡ old.bytes + len → core_position new ≡ core_position old
       → ((items : List Item) → remaining_output new items ≡ remaining_output old (Chunk (record { start = old.bytes; stop = old.bytes + len }) instant ∷ items))
       → KeepsCarried told old (Piece len instant ∷ []) new
-  piece-carried later fits says some going latest bytes position output means log carried = record {
+  piece-carried later fits says some few going latest bytes position output means log carried = record {
     tables = tables;
     endings = λ rest stream. ap (λ items. ending (means items)) (heard_is rest) ∙ carried.endings (piece ∷ rest) (goes_on rest stream) ∙ ap ending (sym (output rest));
     stream = λ rest stream. subst IsStream (sym (heard_is rest)) (carried.stream (piece ∷ rest) (goes_on rest stream));
@@ -45,6 +45,8 @@ module _ (told : ℕ → Type 0) (old new : CoreView) (len instant : ℕ) where
     gapless = gapless;
     bytes = let more = heard_bytes-append log (Piece len instant ∷ []) in omega (arith, more, carried.bytes, bytes);
     closed = λ has. let none = end-same log (Piece len instant ∷ []) refl ∙ unended in absurd (cc);
+    arrived = omega (arith, carried.arrived, bytes, position);
+    few = omega (arith, bytes, few);
     read = inr (subst told (sym latest) says);
   }
     where
@@ -82,6 +84,8 @@ module _ (told : ℕ → Type 0) (old new : CoreView) (instant : ℕ) where
     gapless = gapless;
     bytes = let more = heard_bytes-append log (SourceEnd instant ∷ []) in omega (arith, more, carried.bytes, bytes);
     closed = λ has. ended;
+    arrived = omega (arith, carried.arrived, bytes, position);
+    few = omega (arith, bytes, carried.few);
     read = inr (subst told (sym latest) says);
   }
     where
@@ -119,6 +123,8 @@ module _ (told : ℕ → Type 0) (old new : CoreView) (now : ℕ) (later : old.l
     gapless = subst (IsGapless 0 (said log)) (sym leaves.position) carried.gapless;
     bytes = carried.bytes ∙ sym bytes;
     closed = λ has. stays (carried.closed has);
+    arrived = omega (arith, carried.arrived, bytes, leaves.position);
+    few = omega (arith, bytes, carried.few);
     read = inr (subst told (sym latest) says);
   })
 
@@ -133,6 +139,8 @@ module _ (told : ℕ → Type 0) (old new : CoreView) (now : ℕ) (later : old.l
     gapless = gapless;
     bytes = let more = heard_bytes-append log (Wrote slice now ∷ []) in omega (arith, more, carried.bytes, bytes);
     closed = λ has. stays (carried.closed (sym (end-same log (Wrote slice now ∷ []) refl) ∙ has));
+    arrived = omega (arith, takes.arrived, takes.stops);
+    few = omega (arith, bytes, carried.few);
     read = inr (subst told (sym latest) says);
   }
     where
@@ -162,6 +170,12 @@ module _ (told : ℕ → Type 0) (old new : CoreView) (now : ℕ) (later : old.l
   act-carried WaitForInput leaves = wait-carried leaves
   act-carried (End last) leaves = wait-carried leaves
 
+-- what a carried link said is of bytes that it heard
+pub says-heard : (means : List Item → List Item) (told : ℕ → Type 0) (core : CoreView) (log : List LinkEvent) → Carried means told core log → SaysHeard log
+says-heard means told core log carried =
+    let long = gapless-bytes 0 (said log) (core_position core) carried.gapless in
+    record { few = omega (arith, carried.bytes, carried.few); heard = omega (arith, long, carried.bytes, carried.arrived) }
+
 -- an empty log is faithful
 pub faithful-nil : (means : List Item → List Item) (told : ℕ → Type 0) → IsFaithful means told []
 faithful-nil means told = record {
@@ -182,6 +196,8 @@ start-carried means told core bytes latest position output = record {
   gapless = sym position;
   bytes = sym bytes;
   closed = λ has. absurd (cc);
+  arrived = omega (arith, position);
+  few = omega (arith, bytes);
   read = inl latest;
 }
   where

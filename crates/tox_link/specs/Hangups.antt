@@ -31,8 +31,9 @@ pub record IsResetAt (told : ℕ → Type 0) (log : List LinkEvent) (t : ℕ) : 
   pub read : (t ≡ 0) ⊎ told t
   pub by : IsBy t log
 
--- a link with this log that broke off was hung up once, by a reset; or not at all, before anything was written, and then no write failed
+-- a link with this log that broke off was hung up once, by a reset; or not at all, before anything was noted or written, and then no
+-- write failed
 abbrev pub BreaksOff : (ℕ → Type 0) → List LinkEvent → Option (List Call) → Option (List Call) → LinkFault → Type 0
 BreaksOff told log old new fault =
-    ((new ≡ old) × (written_before fault ≡ 0) × (is_write_fault fault ≡ false))
+    ((new ≡ old) × (log ≡ []) × (written_before fault ≡ 0) × (is_write_fault fault ≡ false))
     ⊎ ((t : ℕ) × (new ≡ with_call old (Reset t) false) × IsResetAt told log t)

@@ -11,6 +11,7 @@ use Rattle.tox_link.specs.declared.link_fault.LinkFault.TheVariants.{OutOfMemory
 use Rattle.tox_link.specs.declared.ring.message.ReadEnd.{ReadEnd}
 use Rattle.tox_link.specs.declared.notes.LinkEvent.{LinkEvent}
 use Rattle.tox_link.specs.log.Log.{heard_from, heard, heard_bytes, said, IsFaithful}
+use Rattle.tox_link.specs.log.Carried.{IsBy}
 use Rattle.tox_link.specs.log.Logged.{IsReached}
 
 -- how many bytes were written before the fault
@@ -41,7 +42,7 @@ abbrev pub IsSettledFrom : (List Item → List Item) → ℕ → List LinkEvent 
 IsSettledFrom means now log = (rest : List Item) → IsStreamFrom (heard_bytes log) now rest → SameResult (means (heard_from 0 log rest)) (means (heard log))
 
 -- a link with this log took and wrote so many bytes, and ended so and with its source so: it said all that the plan means for
--- what was heard, and the clock told this instant, at or past its ending, from which on nothing changes it
+-- what was heard, and the clock told this instant, at or past its ending and each reading, from which on nothing changes it
 pub record ReportsAt (means : List Item → List Item) (told : ℕ → Type 0) (log : List LinkEvent) (taken written : ℕ) (last : Ending) (source : Option ReadEnd) (now : ℕ) : Type 0 where
   pub faithful : IsFaithful means told log
   pub whole : slices_table (said log) ≡ table (means (heard log))
@@ -49,6 +50,7 @@ pub record ReportsAt (means : List Item → List Item) (told : ℕ → Type 0) (
   pub took : heard_bytes log ≡ taken
   pub wrote : length (slices_table (said log)) ≡ written
   pub says : told now
+  pub by : IsBy now log
   pub reached : IsReached now last
   pub settled : IsSettledFrom means now log
   pub hears : HeardSo source (ending (heard log))

@@ -15,6 +15,9 @@ pub trait Clock {
 
     /// Waits for a while, at most until this instant. Promises nothing.
     fn rest(&self, until: Micros);
+
+    /// Its readings are instants: at most 10^15 microseconds.
+    ghost instants: { (clock : Self) (t : ℕ) → told clock t → IsInstant t };
 }
 
 /// The greatest reading so far, `latest` or the present instant.

@@ -233,6 +233,7 @@ follows-reports means told core heard_to latest ended start log last follows onl
   took = follows.bytes;
   wrote = let long = gapless-bytes 0 (said log) start follows.gapless in omega (arith, long);
   says = says;
+  by = follows.by;
   reached = reached;
   settled = λ items stream.
       let goes_on : IsStreamFrom heard_to latest items = subst (λ at. IsStreamFrom at latest items) follows.bytes stream in

@@ -58,7 +58,7 @@ same-lines (event ∷ events) line more torn (first ∷ lines) heard written wri
     let (left, others) = same-lines events line more torn lines (heard_with heard first) (All-tail (λ event. IsWritable (Event event)) event events written) writable order.3 lacks parts.1 in
     (left, ap₂ (λ line lines. line ∷ lines) (sym is) others)
 
-events-of : (events : List LinkEvent) (lines : List LogLine) → events_in (map Event events ++ lines) ≡ events ++ events_in lines
+pub events-of : (events : List LinkEvent) (lines : List LogLine) → events_in (map Event events ++ lines) ≡ events ++ events_in lines
 events-of [] lines = refl
 events-of (event ∷ events) lines = ap (λ rest. event ∷ rest) (events-of events lines)
 

@@ -13,6 +13,7 @@ pub mod Lines
 pub mod NextLine
 pub mod ShortForms
 pub mod NoLines
+pub mod NotedLines
 pub mod JudgedParts
 pub mod Opening
 pub mod ReadsBack

@@ -15,3 +15,4 @@ pub mod Reading
 pub mod WrittenLog
 pub mod Left
 pub mod LinkLog
+pub mod NotedLines

@@ -7,6 +7,7 @@ use Rattle.tox_link.specs.declared.notes.LinkEvent.{LinkEvent}
 use Rattle.tox_link.specs.declared.ring.message.Message.{Message}
 use Rattle.tox_link.specs.declared.ring.message.ReadEnd.{ReadEnd}
 use Rattle.tox_link.specs.log.Events.{with_events}
+use Rattle.tox_link.specs.log.Log.{SaysHeard}
 use Rattle.tox_link.specs.log.Logged.{IsCutOff}
 use Rattle.tox_link.specs.ring.Messages.{AreFirstOf, HandsOn, EndsFor}
 use Rattle.tox_link.specs.Hangups.{Call, HangsUp, BreaksOff}
@@ -35,6 +36,7 @@ pub record Carries (means : List Item → List Item) (told : ℕ → Type 0) (re
   pub log : List LinkEvent
   pub noted : after.events ≡ with_events before.events log
   pub reports : ReportsAt means told log taken written ending source reading
+  pub of_heard : SaysHeard log
   pub bytes : List ℕ
   pub took : length bytes ≡ taken
   pub wrote : WritesFirst given.remaining before.written after.written bytes written

@@ -37,6 +37,10 @@ pub record IsReady (told : ℕ → Type 0) (link : PolledLink) (left : Option (L
   pub working : link.ended ≡ false → failed ≡ false
   pub cause : IfSome (read_end_of link.source) (λ end. (reads count : ℕ) → EndsFor end reads count left failed)
 
+-- nothing more is read exactly where the core has heard the source's end
+abbrev pub EndsWithCore : PolledLink → Type 0
+EndsWithCore link = link.ended ≡ link.core.ended
+
 -- how far a direction is: how much of its output is found and how much written, and whether it reads no more
 abbrev pub done_of : PolledLink → ℕ
 done_of link = core_position link.core + link.written + (if link.ended then 1 else 0)

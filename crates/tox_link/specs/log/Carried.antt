@@ -1,5 +1,5 @@
 -- A link that is carried: its log beside its core.
-use Rattle.std.specs.Prelude.{◌≡◌, ℕ, ◌≤◌, ◌⊎◌, true, List, [], ◌∷◌, ◌++◌}
+use Rattle.std.specs.Prelude.{◌≡◌, ℕ, ◌≤◌, ◌^◌, ◌⊎◌, true, List, [], ◌∷◌, ◌++◌}
 use Rattle.tox_time.specs.declared.streams.item.Item.{Item}
 use Rattle.tox_time.specs.streams.Stream.{IsStream, IsStreamFrom}
 use Rattle.tox_time.specs.streams.Table.{table, slices_table, ending}
@@ -16,7 +16,7 @@ IsBy latest [] = Unit {0}
 IsBy latest (event ∷ log) = (reading_of event ≤ latest) × IsBy latest log
 
 -- what was said and what is to come are together what the plan means for what was heard and goes on from there;
--- the log is faithful, and its numbers are the core's
+-- the log is faithful, and its numbers are the core's: no slice passes the bytes that arrived, at most 2^40
 pub record Carried (means : List Item → List Item) (told : ℕ → Type 0) (core : CoreView) (log : List LinkEvent) : Type 0 where
   pub tables : (rest : List Item) → IsStreamFrom core.bytes core.latest rest → table (means (heard_from 0 log rest)) ≡ slices_table (said log) ++ table (remaining_output core rest)
   pub endings : (rest : List Item) → IsStreamFrom core.bytes core.latest rest → ending (means (heard_from 0 log rest)) ≡ ending (remaining_output core rest)
@@ -25,6 +25,8 @@ pub record Carried (means : List Item → List Item) (told : ℕ → Type 0) (co
   pub by : IsBy core.latest log
   pub gapless : IsGapless 0 (said log) (core_position core)
   pub bytes : heard_bytes log ≡ core.bytes
+  pub arrived : core_position core ≤ core.bytes
+  pub few : core.bytes ≤ 2 ^ 40
   pub closed : has_source_end log ≡ true → core.ended ≡ true
   pub read : (core.latest ≡ 0) ⊎ told core.latest
 

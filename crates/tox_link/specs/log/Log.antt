@@ -1,5 +1,5 @@
 -- The log of a link: what was heard, what was said, and when a log is faithful to a plan.
-use Rattle.std.specs.Prelude.{◌≡◌, ℕ, ◌+◌, ◌<◌, ◌≤◌, Bool, true, false, List, [], ◌∷◌, take}
+use Rattle.std.specs.Prelude.{◌≡◌, ℕ, ◌+◌, ◌<◌, ◌≤◌, ◌^◌, Bool, true, false, List, [], ◌∷◌, length, take}
 use Rattle.tox_time.specs.declared.streams.slice.Slice.{Slice}
 use Rattle.tox_time.specs.declared.streams.item.Item.{Item}
 use Rattle.tox_time.specs.declared.streams.item.Item.TheVariants.{Chunk, Closed, Quiet}
@@ -66,6 +66,11 @@ IsGapless start (slice ∷ slices) stop = (slice.span.start ≡ start) × (start
 pub record Agrees (means : List Item → List Item) (log : List LinkEvent) : Type 0 where
   pub gapless : (stop : ℕ) × IsGapless 0 (said log) stop
   pub prefix : IsPrefix (slices_table (said log)) (table (means (heard log)))
+
+-- what was said is of bytes that were heard, at most 2^40 of them
+pub record SaysHeard (log : List LinkEvent) : Type 0 where
+  pub few : heard_bytes log ≤ 2 ^ 40
+  pub heard : length (slices_table (said log)) ≤ heard_bytes log
 
 -- neither a piece nor an end is heard
 abbrev pub HearsNothing : List LinkEvent → Type 0

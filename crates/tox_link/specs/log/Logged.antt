@@ -8,7 +8,7 @@ use Rattle.tox_link.specs.declared.notes.LinkEvent.{LinkEvent}
 use Rattle.tox_link.specs.declared.carrying.writer_side.WriterSide.{WriterSide}
 use Rattle.tox_link.specs.log.Carried.{Carried}
 use Rattle.tox_link.specs.link_core.Core.{CoreView, remaining_output}
-use Rattle.tox_link.specs.log.Log.{heard, has_source_end, IsFaithful}
+use Rattle.tox_link.specs.log.Log.{heard, heard_bytes, has_source_end, IsFaithful, SaysHeard}
 use Rattle.tox_link.specs.Sources.{read_end_of}
 
 -- the log is carried, and has the source's end where that came in time
@@ -24,6 +24,8 @@ KeepsLogged told old more new = (means : List Item → List Item) (log : List Li
 pub record IsCutOff (means : List Item → List Item) (told : ℕ → Type 0) (written : ℕ) (log : List LinkEvent) : Type 0 where
   pub faithful : IsFaithful means told log
   pub few : written ≤ length (table (means (heard log)))
+  pub of_heard : SaysHeard log
+  pub within : written ≤ heard_bytes log
 
 -- a step that broke off leaves the log as it was
 abbrev pub CutsOff : (ℕ → Type 0) → WriterSide → ℕ → Type 0

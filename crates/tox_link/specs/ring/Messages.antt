@@ -58,7 +58,8 @@ pub record ReadsFrom (before : Option (List ℕ)) (reads : ℕ) (messages : List
   pub ended : IsEndedBy end messages
   pub hands_on : HandsOn before (bytes_of messages) end left
   pub cause : EndsFor end reads (length (bytes_of messages)) left failed
-  -- where the reads were used up, each sent one piece
+  -- each read sent at most one piece, and the end comes behind; where the reads were used up, each sent one
+  pub few : length messages ≤ reads + 1
   pub spent : end ≡ ReadsUsedUp → length messages ≡ reads + 1
 
 -- these are the first messages that such a reading sent

@@ -3,7 +3,7 @@ ghost use Rattle.std.specs.Prelude.{◌≡◌, ℕ, ◌+◌, ◌<◌, ◌≤◌,
 ghost use Rattle.std.specs.Io.KnownBytes.{prepend_known};
 ghost use Rattle.tox_link.specs.declared.source_ending.SourceEnding.TheVariants.{TooManyBytes as AtLimit};
 ghost use Rattle.tox_link.specs.carrying.Held.{MayTake};
-ghost use Rattle.tox_link.specs.direction.Driven.{Drove, ends_view};
+ghost use Rattle.tox_link.specs.direction.Driven.{Drove, EndsWithCore, ends_view};
 ghost use Rattle.tox_link.specs.direction.Follows.{IsHeld, AreLeftOver};
 ghost use Rattle.tox_link.specs.link_core.Core.{core_ending};
 ghost use Rattle.tox_link.specs.log.Carried.{ReadsOn};
@@ -36,7 +36,7 @@ fn keep_bytes<C: Clock, N: Notes>(
     ensures reads { ReadsOn (C.told clock.now) link.old.core.latest link.new.core.latest }
     ensures same { (link.new.source ≡ link.old.source) × (link.new.unwritten ≡ None)
         × (link.new.written ≡ link.old.written) }
-    ensures ok { OnOk result (link.new.ended ≡ false) }
+    ensures ok { OnOk result ((link.new.ended ≡ false) × (link.new.core.ended ≡ false)) }
     ensures drove { (left written : Option (List ℕ)) → Drove 1 (C.told clock.now)
         link.old (ends_view (prepend_known bytes.items left) written (N.events notes.old))
         link.new (ends_view left written (N.events notes.new)) }
@@ -66,6 +66,7 @@ pub(crate) fn end_source<C: Clock, N: Notes>(
     ensures same { (link.new.ended ≡ true) × (link.new.unwritten ≡ None)
         × (link.new.written ≡ link.old.written) }
     ensures source { (link.new.source ≡ source) ⊎ (link.new.source ≡ link.old.source) }
+    ensures ok { OnOk result (link.new.core.ended ≡ true) }
     ensures drove { (bytes : List ℕ) (left written : Option (List ℕ))
         → AreLeftOver link.old source bytes → Drove 1 (C.told clock.now)
         link.old (ends_view (prepend_known bytes left) written (N.events notes.old))
@@ -100,6 +101,7 @@ pub(crate) fn keep_read<C: Clock, N: Notes>(
     ensures same { (link.new.unwritten ≡ None) × (link.new.written ≡ link.old.written) }
     ensures source { (link.new.source ≡ link.old.source)
         ⊎ ((link.new.source ≡ AtLimit) × (link.new.ended ≡ true)) }
+    ensures ends { OnOk result (EndsWithCore link.old → EndsWithCore link.new) }
     ensures drove { (left written : Option (List ℕ)) → Drove 1 (C.told clock.now)
         link.old (ends_view (prepend_known bytes.now left) written (N.events notes.old))
         link.new (ends_view left written (N.events notes.new)) }

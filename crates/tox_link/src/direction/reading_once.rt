@@ -1,7 +1,7 @@
 //! Reading once, where the core waits.
-ghost use Rattle.std.specs.Prelude.{◌≡◌, ℕ, List, false, true, None, Option, IfOk};
+ghost use Rattle.std.specs.Prelude.{◌≡◌, ℕ, List, false, true, None, Option, IfOk, OnOk};
 ghost use Rattle.tox_link.specs.carrying.Held.{MayTake};
-ghost use Rattle.tox_link.specs.direction.Driven.{Drove, IsReady, steps_of_move, ends_view};
+ghost use Rattle.tox_link.specs.direction.Driven.{Drove, EndsWithCore, IsReady, steps_of_move, ends_view};
 
 use crate::clock::Clock;
 use crate::direction::poll_ends::PollSource;
@@ -29,6 +29,7 @@ pub(crate) fn read_once<C: Clock, N: Notes, S: PollSource>(
     ensures ready { IsReady (C.told clock.now) link.new
         (S.remaining source.new) (S.failed source.new) }
     ensures same { (link.new.unwritten ≡ None) × (link.new.written ≡ link.old.written) }
+    ensures ends { OnOk result (EndsWithCore link.old → EndsWithCore link.new) }
     ensures waits { IfOk result (λ moved. moved ≡ false
         → (link.new ≡ link.old) × (S.waits source.new ≡ true)) }
     ensures drove { (written : Option (List ℕ)) → Drove (steps_of_move result) (C.told clock.now)

@@ -2,6 +2,7 @@
 ghost use Rattle.std.specs.Prelude.{◌≡◌, ℕ, List, Option, IfOk, IfErr, IfSome, MatchResult, length, take};
 ghost use Rattle.tox_link.specs.direction.Driven.{IsAtEnd, History};
 ghost use Rattle.tox_link.specs.direction.Follows.{IsHeld};
+ghost use Rattle.tox_link.specs.log.Log.{SaysHeard};
 ghost use Rattle.tox_link.specs.log.Logged.{IsCutOff};
 ghost use Rattle.tox_link.specs.Reports.{ReportsAt, WritesFirst, written_before};
 ghost use Rattle.tox_link.specs.ring.Messages.{HandsOn};
@@ -32,6 +33,8 @@ pub fn finish<C: Clock, S: Drop>(
         → ReportsAt history.means (C.told clock.now) history.log
         timed.report.taken timed.report.written timed.report.ending
         (read_end_of timed.report.source) timed.reading) }
+    ensures of_heard { IfOk result (λ _. (left : Option (List ℕ))
+        (history : History (C.told clock.now) link left) → SaysHeard history.log) }
     ensures bytes { IfOk result (λ timed. (left : Option (List ℕ))
         (history : History (C.told clock.now) link left)
         → WritesFirst history.given history.before history.after

@@ -1,8 +1,8 @@
 //! Driving a direction: as many steps as its ends allow.
 ghost use Rattle.std.specs.Prelude.{◌≡◌, ℕ, Bool, List, false, None, Option, IfOk, IfErr, OnOk};
-ghost use Rattle.tox_link.specs.direction.Driven.{Drove, IsReady, IsProgress, steps_of, ends_view};
+ghost use Rattle.tox_link.specs.direction.Driven.{Drove, EndsWithCore, IsReady, IsProgress, steps_of, ends_view};
 ghost use Rattle.tox_link.specs.link_core.Acts.{Says, wait_act};
-ghost use Rattle.tox_link.specs.Reports.{is_write_fault, written_before};
+ghost use Rattle.tox_link.specs.Reports.{IsFaultAt};
 
 use crate::carrying::steps::may_take;
 use crate::clock::Clock;
@@ -49,8 +49,8 @@ pub fn drive<C: Clock, N: Notes, S: PollSource, W: PollSink>(
         link.new (ends_view (S.remaining source.new) (W.written sink.new) (N.events notes.new)) }
     ensures progress { IfOk result (IsProgress (C.told clock.now) link.new
         (S.waits source.new) (W.waits sink.new) (W.due sink.new)) }
-    ensures err { IfErr result (λ fault. (written_before fault ≡ link.new.written)
-        × (W.failed sink.new ≡ is_write_fault fault)) }
+    ensures ends { OnOk result (EndsWithCore link.old → EndsWithCore link.new) }
+    ensures err { IfErr result (IsFaultAt link.new.written (W.failed sink.new)) }
     ensures working { OnOk result (W.failed sink.new ≡ false) }
 {
     for _nth in 0..STEPS {
@@ -84,8 +84,8 @@ fn step<C: Clock, N: Notes, S: PollSource, W: PollSink>(
         link.new (ends_view (S.remaining source.new) (W.written sink.new) (N.events notes.new)) }
     ensures progress { IfOk result (IsProgress (C.told clock.now) link.new
         (S.waits source.new) (W.waits sink.new) (W.due sink.new)) }
-    ensures err { IfErr result (λ fault. (written_before fault ≡ link.new.written)
-        × (W.failed sink.new ≡ is_write_fault fault)) }
+    ensures ends { OnOk result (EndsWithCore link.old → EndsWithCore link.new) }
+    ensures err { IfErr result (IsFaultAt link.new.written (W.failed sink.new)) }
     ensures working { OnOk result (W.failed sink.new ≡ false) }
 {
     let unwritten = link.unwritten;
@@ -118,8 +118,8 @@ fn act<C: Clock, N: Notes, S: PollSource>(
         link.new (ends_view (S.remaining source.new) written (N.events notes.new)) }
     ensures progress { (sink_waits : Bool) (due : Option ℕ) → IfOk result
         (IsProgress (C.told clock.now) link.new (S.waits source.new) sink_waits due) }
-    ensures err { IfErr result (λ fault. (written_before fault ≡ link.new.written)
-        × (is_write_fault fault ≡ false)) }
+    ensures ends { OnOk result (EndsWithCore link.old → EndsWithCore link.new) }
+    ensures err { IfErr result (IsFaultAt link.new.written false) }
 {
     let act = ask(link, clock);
     match &act {
@@ -159,8 +159,8 @@ fn read_or_wait<C: Clock, N: Notes, S: PollSource>(
         link.new (ends_view (S.remaining source.new) written (N.events notes.new)) }
     ensures progress { (sink_waits : Bool) (due : Option ℕ) → IfOk result
         (IsProgress (C.told clock.now) link.new (S.waits source.new) sink_waits due) }
-    ensures err { IfErr result (λ fault. (written_before fault ≡ link.new.written)
-        × (is_write_fault fault ≡ false)) }
+    ensures ends { OnOk result (EndsWithCore link.old → EndsWithCore link.new) }
+    ensures err { IfErr result (IsFaultAt link.new.written false) }
 {
     if !may_take(&link.core, &link.window, link.ended) {
         return Ok(Progress::Waits(until));

@@ -2,7 +2,7 @@
 ghost use Rattle.std.specs.Prelude.{◌≡◌, ◌+◌, ◌<◌, ◌≤◌, length, List, [], ◌∷◌, ◌⊎◌, false, true, None, Some, IfErr, IfOk, OnOk, OnErr, filter, nat_lt};
 ghost use Rattle.tox_lend.specs.Run.{stop_of};
 ghost use Rattle.tox_link.specs.log.Events.{with_events};
-ghost use Rattle.tox_link.specs.Reports.{is_write_fault, written_before};
+ghost use Rattle.tox_link.specs.Reports.{IsFaultAt};
 ghost use Rattle.tox_link.specs.declared.link_fault.LinkFault.TheVariants as FaultOf;
 ghost use Rattle.tox_link.specs.declared.notes.LinkEvent.{LinkEvent as OneEvent};
 ghost use Rattle.tox_link.specs.direction.Driven.{steps_of_move};
@@ -94,8 +94,7 @@ pub(crate) fn write_on<N: Notes, W: PollSink>(
         × (link.old.written + steps_of_move result ≤ link.new.written + length more) }
     ensures waits { IfOk result (λ moved. moved ≡ false
         → (link.new ≡ link.old) × (W.waits sink.new ≡ true)) }
-    ensures err { IfErr result (λ fault. (written_before fault ≡ link.new.written)
-        × (W.failed sink.new ≡ is_write_fault fault)) }
+    ensures err { IfErr result (IsFaultAt link.new.written (W.failed sink.new)) }
     ensures working { OnOk result (W.failed sink.new ≡ false) }
 {
     if link.written < unwritten.slice.span.stop {

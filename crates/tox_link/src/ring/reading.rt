@@ -1,5 +1,5 @@
 //! Reading: sends what each read gave, and then how the reading ended.
-ghost use Rattle.std.specs.Prelude.{◌≡◌, [], ◌∷◌, ◌++◌, length, false};
+ghost use Rattle.std.specs.Prelude.{◌≡◌, ◌≤◌, [], ◌∷◌, ◌++◌, length, false};
 ghost use Rattle.rtrb.specs.Ring.{sent, SameProducer};
 ghost use Rattle.tox_link.specs.ring.Messages.{Allows, ArePieces, ReadsFrom, HandsOn, EndsFor, bytes_of};
 ghost use Rattle.tox_link.specs.declared.ring.message.ReadEnd.TheVariants.{ReadsUsedUp};
@@ -59,6 +59,7 @@ fn read_pieces<R: Wait, S: Source, G: Gate>(
     ensures pieces { ArePieces (sent sender.new) }
     ensures bytes { HandsOn (S.remaining reader.old) (bytes_of (sent sender.new)) result
         (S.remaining reader.new) }
+    ensures few { length (sent sender.new) ≤ reads }
     ensures spent { result ≡ ReadsUsedUp → length (sent sender.new) ≡ reads }
     ensures end { EndsFor result reads (length (bytes_of (sent sender.new)))
         (S.remaining reader.new) (S.failed reader.new) }

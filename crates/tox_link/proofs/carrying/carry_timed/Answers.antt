@@ -11,6 +11,7 @@ use Rattle.tox_link.specs.Sources.{read_end_of}
 use Rattle.tox_link.proofs.CarryLemmas.{broke-unstarted, first-of, hung-up, link-reports, cut-nothing, writes-nothing, first-bytes, writes-first, source-told, reads-same}
 use Rattle.tox_link.proofs.Logs.{events-none}
 use Rattle.tox_link.proofs.LoggedLemmas.{logged-fresh}
+use Rattle.tox_link.proofs.StepLemmas.{says-heard}
 use Rattle.tox_link.proofs.carrying.carry_timed.Goals as goal
 
 pub returns-in_err-side-clause-broken : goal.returns-in_err-side-clause-broken
@@ -52,6 +53,7 @@ returns-in-Ok-clause-carried g c =
       noted = logs.1;
       reports = subst (ReportsAt plan told logs.0 c.stop.result side.written c.in-Ok.ending (read_end_of side.source)) (sym c.latest.ensures)
           (link-reports plan told side.core side.ended logs.0 c.in-Ok.ending (read_end_of side.source) c.stop.result side.written logged.carried logged.closed over sound.written (c.stop.ensures.value ∙ sound.stop));
+      of_heard = says-heard plan told side.core logs.0 logged.carried;
       bytes = take side.core.bytes (came side);
       took = length-take-le side.core.bytes (came side) sound.few ∙ sym (c.stop.ensures.value ∙ sound.stop);
       wrote = writes-first given (g.W.Sink.written c.args.ends.now.writer) (g.W.Sink.written c.drive-driven.new.writer) first.0 (came side) side.core.bytes side.written (omega (arith, sound.written, sound.within)) sound.few first.1 c.drive-driven.ensures.written;

@@ -24,7 +24,7 @@ returns-in_err-write_next-in-Write-clause-broken g c =
     let reads : ReadsOn told c.args.side.now.core.latest c.write_next.new.side.core.latest = search rules in
     rw (p.1, p.2) (
       c.in_err-write_next-in-Write.ensures.fault,
-      cut-within told c.args.side.now c.decide-act.new.core c.in-Write.slice _ takes.1 c.write_next.ensures.few,
+      cut-within told c.args.side.now c.decide-act.new.core c.in-Write.slice _ takes.1 answered.kept.bytes c.write_next.ensures.few,
       reads,
       c.in_err-write_next-in-Write.ensures.unnoted,
     )

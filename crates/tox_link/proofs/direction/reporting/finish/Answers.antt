@@ -10,6 +10,7 @@ use Rattle.tox_link.specs.Sources.{read_end_of}
 use Rattle.tox_link.proofs.CarryLemmas.{link-reports, writes-first}
 use Rattle.tox_link.proofs.DriveLemmas.{cut-follows, hands-on, writes-came}
 use Rattle.tox_link.proofs.FollowLemmas.{bare}
+use Rattle.tox_link.proofs.StepLemmas.{says-heard}
 use Rattle.tox_link.proofs.direction.reporting.finish.Goals as goal
 
 pub returns-in-Ok-clause-log : goal.returns-in-Ok-clause-log
@@ -22,6 +23,12 @@ returns-in-Ok-clause-log g c =
     subst (ReportsAt history.means told history.log c.stop.result link.written c.in-Ok.ending (read_end_of link.source)) (sym c.latest.ensures)
     (link-reports history.means told link.core link.ended history.log c.in-Ok.ending (read_end_of link.source) c.stop.result link.written
     (bare history.means told link.core link.unwritten history.log over.idle history.follows.carried) history.follows.closed over.ended written (c.stop.ensures.value ∙ c.requires.held.stop))
+
+pub returns-in-Ok-clause-of_heard : goal.returns-in-Ok-clause-of_heard
+returns-in-Ok-clause-of_heard g c =
+    let link = c.args.link in
+    let over = rw c.in-Ok.is at c.requires.driven in
+    λ left history. says-heard history.means (g.C.Clock.told c.args.clock.now) link.core history.log (bare history.means (g.C.Clock.told c.args.clock.now) link.core link.unwritten history.log over.idle history.follows.carried)
 
 pub returns-in-Ok-clause-bytes : goal.returns-in-Ok-clause-bytes
 returns-in-Ok-clause-bytes g c =

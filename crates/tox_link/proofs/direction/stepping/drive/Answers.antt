@@ -6,7 +6,7 @@ use Rattle.tox_link.proofs.DriveLemmas.{drove-less, drove-none, drove-then}
 use Rattle.tox_link.proofs.direction.stepping.drive.Goals as goal
 
 pub loop-nth-init : goal.loop-nth-init
-loop-nth-init g c = record { ready = c.requires.ready; working = c.requires.working; drove = drove-none (g.C.Clock.told c.args.clock.now) c.args.link.now _ }
+loop-nth-init g c = record { ready = c.requires.ready; ends = λ same. same; working = c.requires.working; drove = drove-none (g.C.Clock.told c.args.clock.now) c.args.link.now _ }
 
 pub returns-in-Ok-Waits-clause-drove : goal.returns-in-Ok-Waits-clause-drove
 returns-in-Ok-Waits-clause-drove g c =
@@ -29,6 +29,7 @@ loop-nth-preserved g c =
     let one : steps_of 1 c.step.result ≡ 1 = ap (steps_of 1) c.in-Ok-Again.is ∙ ap (λ (progress : Progress). steps_of 1 (Ok progress)) c.in-Ok-Again.field-0-is in
     record {
       ready = c.step.ensures.ready;
+      ends = λ same. c.in-Ok-Again.ensures.ends (c.loop-nth.invariant.ends same);
       working = c.in-Ok-Again.ensures.working;
       drove = drove-less (c.loop-nth._nth + steps_of 1 c.step.result) (c.loop-nth._nth + 1) told c.args.link.now c.step.new.link _ _ (omega (arith, one))
           (drove-then told c.loop-nth._nth (steps_of 1 c.step.result) c.args.link.now c.loop-nth.link c.step.new.link _ _ _ c.loop-nth.invariant.drove c.step.ensures.drove);
