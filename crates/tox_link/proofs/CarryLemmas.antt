@@ -29,7 +29,7 @@ use Rattle.tox_link.specs.carrying.Side.{IsSound, TookAll}
 use Rattle.tox_link.specs.Sources.{read_end_of}
 use Rattle.tox_link.proofs.Logs.{gapless-bytes}
 use Rattle.tox_link.proofs.Sent.{bytes_of-append, prepend-append}
-use Rattle.tox_link.proofs.StepLemmas.{faithful-nil, says-heard}
+use Rattle.tox_link.proofs.StepLemmas.{faithful-nil}
 
 -- how what was heard ends
 heard-closed : (start : ℕ) (log : List LinkEvent) (rest : List Item) → has_source_end log ≡ true → (t : ℕ) × (ending (heard_from start log rest) ≡ ClosedAt t)

@@ -1,8 +1,8 @@
 -- A link's notes and its report are the lines of a log.
-use Rattle.std.proofs.Common.{◌≡◌, ℕ, ◌+◌, ◌<◌, ◌≤◌, ◌^◌, inl, inr, Bool, true, false, List, [], ◌∷◌, ◌++◌, length, map, take, drop, refl, ap, sym, subst, ◌∙◌, add-zero, zero-add, append-nil, arith}
-use Rattle.std.specs.Prelude.{Contains, Option}
+use Rattle.std.proofs.Common.{◌≡◌, ℕ, ◌+◌, ◌<◌, ◌≤◌, ◌^◌, ◌⊎◌, inl, inr, Bool, true, false, List, [], ◌∷◌, ◌++◌, length, map, take, drop, refl, ap, sym, subst, ◌∙◌, add-zero, zero-add, append-nil, arith}
+use Rattle.std.specs.Prelude.{All, Contains, Option}
 use Rattle.std.proofs.lemmas.List.{take-append-drop, take_all}
-use Rattle.std.proofs.lemmas.List.Elements.{All-cons, All-nil, All-contains, Contains-push_cases}
+use Rattle.std.proofs.lemmas.List.Elements.{All-cons, All-nil, All-contains, Contains-append_cases, Contains-append_left, Contains-push_cases}
 use Rattle.tox_time.specs.declared.streams.ending.Ending.{Ending}
 use Rattle.tox_time.specs.declared.streams.ending.Ending.TheVariants.{StillOpen, Closed as ClosedAt, Reset as ResetAt}
 use Rattle.tox_time.specs.declared.streams.item.Item.{Item}
@@ -185,16 +185,16 @@ noted-ended told instants means events taken written reading last source report 
           = record { taken = taken; written = written; source = source; report = reports-other told instants means other same events taken written reading last source report } in
           record {
             faithful = subst (IsFaithful other (λ t. true ≡ true)) (sym here) (faithful-other told instants means other same events report.faithful);
-            reported = λ at ending has. subst (λ events. IsReported other (λ reading. true) events at ending) (sym here) (is-last at ending reported (Contains-push_cases (map Event events) line (Last (Ended at ending)) has));
+            reported = λ at end has. subst (λ events. IsReported other (λ reading. true) events at end) (sym here) (is-last (IsReported other (λ reading. true) events) at end reported (Contains-push_cases (map Event events) line (Last (Ended at end)) has));
           };
     }
   where
-    is-last : {P : ℕ → Ending → Type 0} (at : ℕ) (ending : Ending) → P reading last → Contains (map Event events) (Last (Ended at ending)) ⊎ (Last (Ended reading last) ≡ Last (Ended at ending)) → P at ending
-    is-last {P} at ending here (inl among) = let event = all-events events (Last (Ended at ending)) among in cc
-    is-last {P} at ending here (inr same) =
+    is-last : (P : ℕ → Ending → Type 0) (at : ℕ) (end : Ending) → P reading last → Contains (map Event events) (Last (Ended at end)) ⊎ (Last (Ended reading last) ≡ Last (Ended at end)) → P at end
+    is-last P at end here (inl among) = let event = all-events events (Last (Ended at end)) among in cc
+    is-last P at end here (inr same) =
         let at_is : reading ≡ at = cc in
-        let ending_is : last ≡ ending = cc in
-        subst (λ at. P at ending) at_is (subst (P reading) ending_is here)
+        let end_is : last ≡ end = cc in
+        subst (λ at. P at end) at_is (subst (P reading) end_is here)
 
 -- the lines of a link that broke off
 pub noted-broken : (told : ℕ → Type 0) → ((t : ℕ) → told t → IsInstant t) → (means : List Item → List Item) (events : List LinkEvent) (written : ℕ) (cause : BreakCause) → IsCutOff means told written events
@@ -209,10 +209,52 @@ noted-broken told instants means events written cause cut =
           let here : events_in (map Event events ++ line ∷ []) ≡ events = events-behind events (line ∷ []) refl in
           record {
             faithful = subst (IsFaithful other (λ t. true ≡ true)) (sym here) (faithful-other told instants means other same events cut.faithful);
-            reported = λ at ending has. absurd (no-last at ending (Contains-push_cases (map Event events) line (Last (Ended at ending)) has));
+            reported = λ at end has. absurd (no-last at end (Contains-push_cases (map Event events) line (Last (Ended at end)) has));
           };
     }
   where
-    no-last : (at : ℕ) (ending : Ending) → Contains (map Event events) (Last (Ended at ending)) ⊎ (Last (Broken cause written) ≡ Last (Ended at ending)) → ⊥
-    no-last at ending (inl among) = let event = all-events events (Last (Ended at ending)) among in cc
-    no-last at ending (inr same) = cc
+    no-last : (at : ℕ) (end : Ending) → Contains (map Event events) (Last (Ended at end)) ⊎ (Last (Broken cause written) ≡ Last (Ended at end)) → ⊥
+    no-last at end (inl among) = let event = all-events events (Last (Ended at end)) among in cc
+    no-last at end (inr same) = cc
+
+-- The front of a log
+
+front-nil : (front back : List LogLine) → front ++ back ≡ [] → (front ≡ []) × (back ≡ [])
+front-nil [] back none = (refl, none)
+front-nil (line ∷ front) back none = absurd (cc)
+
+order-front : (heard : StreamPosition) (front back : List LogLine) → AreInOrder heard (front ++ back) → AreInOrder heard front
+order-front heard [] back order = tt
+order-front heard (line ∷ front) back order = (order.0, order.1, (λ last. (front-nil front back (order.2 last)).0), order-front (heard_with heard line) front back order.3)
+
+-- nothing stands behind a last line
+last-behind : (heard : StreamPosition) (front back : List LogLine) (line : LogLine) → AreInOrder heard (front ++ back) → Contains front line → is_last line ≡ true → back ≡ []
+last-behind heard [] back line order has last = absurd (let less = has.1 in omega (arith, less))
+last-behind heard (first ∷ front) back line order has last = by (λ among. last-behind (heard_with heard first) front back line order.3 among last) (Contains-append_cases (first ∷ []) front line has)
+  where
+    here : Contains [] line ⊎ (first ≡ line) → back ≡ []
+    here (inl none) = absurd (let less = none.1 in omega (arith, less))
+    here (inr same) = (front-nil front back (order.2 (ap is_last same ∙ last))).1
+
+    by : (Contains front line → back ≡ []) → Contains (first ∷ []) line ⊎ Contains front line → back ≡ []
+    by later (inl one) = here (Contains-push_cases [] first line one)
+    by later (inr among) = later among
+
+events-front : (front back : List LogLine) → events_in (front ++ back) ≡ events_in front ++ events_in back
+events-front [] back = refl
+events-front (Event event ∷ front) back = ap (λ rest. event ∷ rest) (events-front front back)
+events-front (Last last ∷ front) back = events-front front back
+
+pub noted-front : (means : List Item → List Item) (front back : List LogLine) → AreNoted means (front ++ back) → AreNoted means front
+noted-front means front back noted = record {
+  in_order = order-front first_position front back noted.in_order;
+  linked = λ other same.
+      let kept = noted.linked other same in
+      record {
+        faithful = faithful-front other (λ t. true ≡ true) (events_in front) (events_in back) (subst (IsFaithful other (λ t. true ≡ true)) (events-front front back) kept.faithful);
+        reported = λ at end has.
+            let none : back ≡ [] = last-behind first_position front back (Last (Ended at end)) noted.in_order has refl in
+            let here : events_in (front ++ back) ≡ events_in front = ap (λ back. events_in (front ++ back)) none ∙ ap events_in (append-nil front) in
+            subst (λ events. IsReported other (λ reading. true) events at end) here (kept.reported at end (Contains-append_left front back (Last (Ended at end)) has));
+      };
+}

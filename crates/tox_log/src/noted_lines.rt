@@ -1,5 +1,5 @@
 //! That what a link notes and reports is a log.
-ghost use Rattle.std.specs.Prelude.{◌≡◌, ℕ, List, Option};
+ghost use Rattle.std.specs.Prelude.{ℕ, ◌++◌, List, Option};
 ghost use Rattle.tox_time.specs.declared.streams.ending.Ending.{Ending as OneEnding};
 ghost use Rattle.tox_time.specs.declared.streams.item.Item.{Item as OneItem};
 ghost use Rattle.tox_link.specs.declared.notes.LinkEvent.{LinkEvent as OneEvent};
@@ -8,11 +8,13 @@ ghost use Rattle.tox_link.specs.log.Log.{SaysHeard};
 ghost use Rattle.tox_link.specs.log.Logged.{IsCutOff};
 ghost use Rattle.tox_link.specs.Reports.{ReportsAt};
 ghost use Rattle.tox_log.specs.declared.last_line.BreakCause.{BreakCause as OneCause};
+ghost use Rattle.tox_log.specs.declared.event_line.LogLine.{LogLine as OneLine};
 ghost use Rattle.tox_log.specs.NotedLines.{AreNoted, broken_lines, ended_lines};
 
 use tox_link::Clock;
 
-/// A law, and no work: the events and the report of a link by this clock, written as lines, are a link's log that can be read back.
+/// A law, and no work: the events and the report of a link by this clock, written as lines, are a link's log, and so is each
+/// front of them.
 ///
 /// Behind a header that can be written, [`judge_log`](crate::judge_log) finds no bad line in them and doesn't call them
 /// unfaithful.
@@ -24,5 +26,7 @@ pub fn noted_lines_are_a_log<C: Clock>(_clock: &C)
     ensures broken { (means : List OneItem → List OneItem) (events : List OneEvent)
         (written : ℕ) (cause : OneCause) → IsCutOff means (C.told _clock.now) written events
         → AreNoted means (broken_lines events cause written) }
+    ensures front { (means : List OneItem → List OneItem) (front back : List OneLine)
+        → AreNoted means (front ++ back) → AreNoted means front }
 {
 }

@@ -1,5 +1,5 @@
 -- The clock's readings are instants.
-use Rattle.tox_log.proofs.NotedLines.{noted-broken, noted-ended}
+use Rattle.tox_log.proofs.NotedLines.{noted-broken, noted-ended, noted-front}
 use Rattle.tox_log.proofs.noted_lines.noted_lines_are_a_log.Goals as goal
 
 pub returns-clause-ended : goal.returns-clause-ended
@@ -9,3 +9,6 @@ returns-clause-ended g c = λ means events taken written reading ending source r
 pub returns-clause-broken : goal.returns-clause-broken
 returns-clause-broken g c = λ means events written cause cut.
     noted-broken (g.C.Clock.told c.args._clock.now) (g.met.C.Clock.instants c.args._clock.now) means events written cause cut
+
+pub returns-clause-front : goal.returns-clause-front
+returns-clause-front g c = λ means front back noted. noted-front means front back noted
