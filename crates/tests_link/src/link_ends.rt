@@ -1,5 +1,6 @@
 //! What a link is carried with in tests: a clock, notes and ends that remember.
 ghost use Rattle.std.specs.Prelude.{Some, None};
+ghost use Rattle.tox_time.specs.Time.{IsInstant};
 
 use std::alloc::{AllocError, Global};
 use std::sync::Arc;
@@ -15,7 +16,7 @@ pub struct RestingClock {
 }
 
 impl Clock for RestingClock {
-    ghost told = { λ _ _. Unit {0} };
+    ghost told = { λ _ instant. IsInstant instant };
 
     fn now(&self) -> Micros {
         Micros::ZERO.after(self.micros.load(Ordering::SeqCst))
@@ -24,6 +25,8 @@ impl Clock for RestingClock {
     fn rest(&self, until: Micros) {
         self.micros.store(until.get(), Ordering::SeqCst);
     }
+
+    ghost instants = { λ _ _ told. told };
 }
 
 /// Notes that keep their events.

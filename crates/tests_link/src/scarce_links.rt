@@ -1,5 +1,6 @@
 //! Links in memory, with too little memory and too few threads.
 ghost use Rattle.std.specs.Prelude.{None};
+ghost use Rattle.tox_time.specs.Time.{IsInstant};
 
 use std::alloc::Global;
 use std::sync::atomic::{AtomicU64, Ordering};
@@ -21,13 +22,15 @@ const PAGES: usize = 100;
 struct StandingClock;
 
 impl Clock for StandingClock {
-    ghost told = { λ _ _. Unit {0} };
+    ghost told = { λ _ instant. IsInstant instant };
 
     fn now(&self) -> Micros {
         Micros::ZERO
     }
 
     fn rest(&self, _until: Micros) {}
+
+    ghost instants = { λ _ _ told. told };
 }
 
 /// Nothing hangs on these ends.

@@ -1,7 +1,7 @@
 //! The clock of a served link.
 ghost use Rattle.std.specs.Prelude.{◌≡◌, ◌-◌, ◌/◌, min};
 ghost use Rattle.std.specs.Time.{instant_nanos};
-ghost use Rattle.tox_time.specs.Time.{plus};
+ghost use Rattle.tox_time.specs.Time.{IsInstant, plus};
 
 use crate::link_sockets::LinkSockets;
 use std::thread;
@@ -85,7 +85,7 @@ fn rest_before(now: Micros, until: Micros) -> u64
 }
 
 impl<'r, R: Clock> LinkClock for SinceStart<'r, R> {
-    ghost told = { λ clock instant. Unit {0} };
+    ghost told = { λ clock instant. IsInstant instant };
 
     fn now(&self) -> Micros {
         self.micros()
@@ -98,4 +98,6 @@ impl<'r, R: Clock> LinkClock for SinceStart<'r, R> {
             thread::sleep(self.rt, Duration::from_micros(micros));
         }
     }
+
+    ghost instants = { λ clock instant told. told };
 }
