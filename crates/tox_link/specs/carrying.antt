@@ -2,3 +2,4 @@
 pub mod Held
 pub mod Side
 pub mod Results
+pub mod Steps

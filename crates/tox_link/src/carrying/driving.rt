@@ -4,11 +4,10 @@ ghost use Rattle.std.specs.Io.KnownBytes.{append_known};
 ghost use Rattle.rtrb.specs.Ring.{received, SameConsumer};
 ghost use Rattle.tox_lend.specs.Run.{stop_of};
 ghost use Rattle.tox_link.specs.declared.notes.LinkEvent.{LinkEvent as OneEvent};
-ghost use Rattle.tox_link.specs.log.Carried.{ReadsOn};
 ghost use Rattle.tox_link.specs.log.Events.{with_events};
-ghost use Rattle.tox_link.specs.Hangups.{IsResetAt};
-ghost use Rattle.tox_link.specs.log.Logged.{KeepsLogged, LogsFrom, CutsOff, CutsOffFrom, HasEnded};
+ghost use Rattle.tox_link.specs.log.Logged.{HasEnded};
 ghost use Rattle.tox_link.specs.Reports.{IsFaultAt};
+ghost use Rattle.tox_link.specs.carrying.Steps.{NotesAll, NotesOn, StopsAfter, StopsAt};
 ghost use Rattle.tox_link.specs.carrying.Side.{IsFresh, IsSound, GivesSlice, came};
 
 use crate::carrying::steps::decide;
@@ -80,13 +79,10 @@ fn act<R: Wait, C: Clock, N: Notes, W: Sink>(
     ensures ok { IfOk result (λ ending. IsSound side.new (received side.new.inbox.receiver)
         × (W.failed writer.new ≡ false)
         × IfSome ending (HasEnded (C.told clock.now) side.new.core side.new.ended)) }
-    ensures log { OnOk result ((more : List OneEvent)
-        × (N.events notes.new ≡ with_events (N.events notes.old) more)
-        × KeepsLogged (C.told clock.now) side.old more side.new) }
-    ensures broken { IfErr result (λ fault. IsFaultAt side.new.written (W.failed writer.new) fault
-        × CutsOff (C.told clock.now) side.old side.new.written
-        × ReadsOn (C.told clock.now) side.old.core.latest side.new.core.latest
-        × (N.events notes.new ≡ N.events notes.old)) }
+    ensures log { OnOk result (NotesOn (C.told clock.now)
+        (N.events notes.old) (N.events notes.new) side.old side.new) }
+    ensures broken { IfErr result (StopsAt (C.told clock.now)
+        (N.events notes.old) (N.events notes.new) side.old side.new (W.failed writer.new)) }
 {
     let (act, now) = decide(&mut side.core, clock);
     match act {
@@ -128,14 +124,10 @@ pub(crate) fn drive<R: Wait, C: Clock, N: Notes, W: Sink, G: Gate>(
     ensures ok { IfOk result (λ ending. IsSound side.new (received side.new.inbox.receiver)
         × (W.failed writer.new ≡ false)
         × HasEnded (C.told clock.now) side.new.core side.new.ended ending) }
-    ensures log { OnOk result ((log : List OneEvent)
-        × (N.events notes.new ≡ with_events (N.events notes.old) log)
-        × LogsFrom (C.told clock.now) side.old log side.new) }
-    ensures broken { IfErr result (λ fault. IsFaultAt side.new.written (W.failed writer.new) fault
-        × (log : List OneEvent)
-        × (N.events notes.new ≡ with_events (N.events notes.old) log)
-        × CutsOffFrom (C.told clock.now) side.old log side.new.written
-        × IsResetAt (C.told clock.now) log side.new.core.latest) }
+    ensures log { OnOk result (NotesAll (C.told clock.now)
+        (N.events notes.old) (N.events notes.new) side.old side.new) }
+    ensures broken { IfErr result (StopsAfter (C.told clock.now)
+        (N.events notes.old) (N.events notes.new) side.old side.new (W.failed writer.new)) }
 {
     for _ in rt.forever() {
         let Ok(took) = take_message(side, clock, notes, gate) else {

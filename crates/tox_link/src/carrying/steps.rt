@@ -1,12 +1,10 @@
 //! The steps of a link: a piece, the source's end or a reading of the clock reaches the core.
 ghost use Rattle.std.specs.Prelude.{◌≡◌, ◌+◌, ◌<◌, ◌≤◌, ◌^◌, ◌⊎◌, ◌↔◌, List, length, vec_capacity, IsTrue, false, true, None, IsSome, is_none, OnOk, OnErr};
 ghost use Rattle.tox_link.specs.carrying.Held.{MayTake, with_piece};
-ghost use Rattle.tox_link.specs.log.Events.{with_events};
-ghost use Rattle.tox_link.specs.log.Log.{has_source_end};
-ghost use Rattle.tox_link.specs.link_core.Core.{core_ending, core_position, kept_count, KeepsCore};
+ghost use Rattle.tox_link.specs.link_core.Core.{core_ending, kept_count};
 ghost use Rattle.tox_link.specs.link_core.Acts.{Answered};
 ghost use Rattle.tox_link.specs.log.Carried.{KeepsCarried, ReadsOn, noted_of};
-ghost use Rattle.tox_link.specs.declared.notes.LinkEvent.{LinkEvent as OneEvent};
+ghost use Rattle.tox_link.specs.carrying.Steps.{CarriesOn, TakesIn};
 
 use crate::clock::{Clock, reading};
 use crate::link_core::act::Act;
@@ -37,12 +35,11 @@ pub(crate) fn take_piece<C: Clock, N: Notes>(
     requires goes_on { (core.old.ended ≡ false) × (core_ending core.old ≡ None) }
     requires fits { (0 < length bytes.items) × (core.old.bytes + length bytes.items ≤ 2 ^ 40) }
     requires starts { window.old.stop ≡ core.old.bytes }
-    ensures counts { OnOk result ((core.new.bytes ≡ core.old.bytes + length bytes.items)
-        × (core.new.ended ≡ false) × (core_position core.new ≡ core_position core.old)) }
+    ensures counts { OnOk result
+        (TakesIn core.old core.new (core.old.bytes + length bytes.items) false) }
     ensures reads { ReadsOn (C.told clock.now) core.old.latest core.new.latest }
-    ensures carried { OnOk result ((more : List OneEvent)
-        × (N.events notes.new ≡ with_events (N.events notes.old) more)
-        × KeepsCarried (C.told clock.now) core.old more core.new × (has_source_end more ≡ false)) }
+    ensures carried { OnOk result (CarriesOn (C.told clock.now)
+        (N.events notes.old) (N.events notes.new) core.old core.new false) }
     ensures kept { OnOk result (window.new ≡ with_piece window.old (record {
       start = window.old.stop;
       bytes = bytes.items;
@@ -74,13 +71,11 @@ pub(crate) fn take_end<C: Clock, N: Notes>(
 ) -> Result<(), AllocError>
     requires first { core.old.ended ≡ false }
     requires read { (core.old.latest ≡ 0) ⊎ C.told clock.now core.old.latest }
-    ensures counts { OnOk result ((core.new.bytes ≡ core.old.bytes)
-        × (core.new.ended ≡ true) × (core_position core.new ≡ core_position core.old)) }
+    ensures counts { OnOk result (TakesIn core.old core.new core.old.bytes true) }
     ensures reads { ReadsOn (C.told clock.now) core.old.latest core.new.latest }
-    ensures carried { OnOk result ((more : List OneEvent)
-        × (N.events notes.new ≡ with_events (N.events notes.old) more)
-        × KeepsCarried (C.told clock.now) core.old more core.new
-        × (has_source_end more ≡ is_none (core_ending core.old))) }
+    ensures carried { OnOk result (CarriesOn (C.told clock.now)
+        (N.events notes.old) (N.events notes.new) core.old core.new
+        (is_none (core_ending core.old))) }
     ensures known { IsSome (core_ending core.old) → N.events notes.new ≡ N.events notes.old }
     ensures err { OnErr result
         ((N.events notes.new ≡ N.events notes.old) × (core.new ≡ core.old)) }

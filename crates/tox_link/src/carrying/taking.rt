@@ -3,11 +3,9 @@ ghost use Rattle.std.specs.Prelude.{◌≡◌, ◌+◌, ◌<◌, ◌≤◌, ◌^
 ghost use Rattle.rtrb.specs.Ring.{received, SameConsumer};
 ghost use Rattle.tox_link.specs.declared.ring.message.Message.{Message as OneMessage};
 ghost use Rattle.tox_link.specs.declared.ring.message.Message.TheVariants.{Piece as PieceOf, End as EndOf};
-ghost use Rattle.tox_link.specs.declared.notes.LinkEvent.{LinkEvent as OneEvent};
 ghost use Rattle.tox_link.specs.log.Carried.{ReadsOn};
 ghost use Rattle.tox_link.specs.link_core.Core.{core_ending, kept_count};
-ghost use Rattle.tox_link.specs.log.Events.{with_events};
-ghost use Rattle.tox_link.specs.log.Logged.{KeepsLogged};
+ghost use Rattle.tox_link.specs.carrying.Steps.{NotesOn};
 ghost use Rattle.tox_link.specs.carrying.Side.{IsSound, Comes, came};
 
 use crate::carrying::steps::{take_end, take_piece};
@@ -33,9 +31,8 @@ fn keep_piece<C: Clock, N: Notes>(
     requires read { (side.old.core.latest ≡ 0) ⊎ C.told clock.now side.old.core.latest }
     ensures same { (side.new.inbox ≡ side.old.inbox) × (side.new.written ≡ side.old.written) }
     ensures ok { OnOk result (IsSound side.new (received side.new.inbox.receiver)) }
-    ensures log { OnOk result ((more : List OneEvent)
-        × (N.events notes.new ≡ with_events (N.events notes.old) more)
-        × KeepsLogged (C.told clock.now) side.old more side.new) }
+    ensures log { OnOk result (NotesOn (C.told clock.now)
+        (N.events notes.old) (N.events notes.new) side.old side.new) }
     ensures known { IsSome (core_ending side.old.core)
         → N.events notes.new ≡ N.events notes.old }
     ensures reads { OnErr result
@@ -60,9 +57,8 @@ fn keep_end<C: Clock, N: Notes>(
     requires read { (side.old.core.latest ≡ 0) ⊎ C.told clock.now side.old.core.latest }
     ensures same { (side.new.inbox ≡ side.old.inbox) × (side.new.written ≡ side.old.written) }
     ensures ok { OnOk result (IsSound side.new (received side.new.inbox.receiver)) }
-    ensures log { OnOk result ((more : List OneEvent)
-        × (N.events notes.new ≡ with_events (N.events notes.old) more)
-        × KeepsLogged (C.told clock.now) side.old more side.new) }
+    ensures log { OnOk result (NotesOn (C.told clock.now)
+        (N.events notes.old) (N.events notes.new) side.old side.new) }
     ensures known { IsSome (core_ending side.old.core)
         → N.events notes.new ≡ N.events notes.old }
     ensures reads { OnErr result
@@ -96,9 +92,8 @@ pub(crate) fn take_message<C: Clock, N: Notes, G: Gate>(
         (received side.new.inbox.receiver ≡ received side.old.inbox.receiver)) }
     ensures came { (more : List _) × (came side.new ≡ came side.old ++ more) }
     ensures ok { OnOk result (IsSound side.new (received side.new.inbox.receiver)) }
-    ensures log { OnOk result ((more : List OneEvent)
-        × (N.events notes.new ≡ with_events (N.events notes.old) more)
-        × KeepsLogged (C.told clock.now) side.old more side.new) }
+    ensures log { OnOk result (NotesOn (C.told clock.now)
+        (N.events notes.old) (N.events notes.new) side.old side.new) }
     ensures err { OnErr result (ReadsOn (C.told clock.now) side.old.core.latest side.new.core.latest
         × (N.events notes.new ≡ N.events notes.old)) }
 {

@@ -37,7 +37,7 @@ returns-in-Ok-clause-carried g c =
     let ended = rw c.in-Ok.is at c.drive-driven.ensures.ok in
     let sound = ended.0 in
     let over = ended.2 in
-    let logged = logs.2 plan (logged-fresh plan told c.in_ok-side.side c.in_ok-side.ensures.fresh c.in_ok-side.ensures.meaning) in
+    let logged = logs.logs plan (logged-fresh plan told c.in_ok-side.side c.in_ok-side.ensures.fresh c.in_ok-side.ensures.meaning) in
     let joined = c.join_reader-reader in
     let later = received joined.new.receiver in
     let more = c.drain.ensures.received in
@@ -49,11 +49,11 @@ returns-in-Ok-clause-carried g c =
     = reads-same _ _ _ _ _ _ _ _ (ap g.S.Source.remaining c.in_ok-side.ensures.reads.0) c.in_ok-side.ensures.reads.1 left.1 in
     let first = first-bytes messages later more.0 left.0 given after c.args.reads joined.result.1 failed grown sent in
     record {
-      log = logs.0;
-      noted = logs.1;
-      reports = subst (ReportsAt plan told logs.0 c.stop.result side.written c.in-Ok.ending (read_end_of side.source)) (sym c.latest.ensures)
-          (link-reports plan told side.core side.ended logs.0 c.in-Ok.ending (read_end_of side.source) c.stop.result side.written logged.carried logged.closed over sound.written (c.stop.ensures.value ∙ sound.stop));
-      of_heard = says-heard plan told side.core logs.0 logged.carried;
+      log = logs.log;
+      noted = logs.noted;
+      reports = subst (ReportsAt plan told logs.log c.stop.result side.written c.in-Ok.ending (read_end_of side.source)) (sym c.latest.ensures)
+          (link-reports plan told side.core side.ended logs.log c.in-Ok.ending (read_end_of side.source) c.stop.result side.written logged.carried logged.closed over sound.written (c.stop.ensures.value ∙ sound.stop));
+      of_heard = says-heard plan told side.core logs.log logged.carried;
       bytes = take side.core.bytes (came side);
       took = length-take-le side.core.bytes (came side) sound.few ∙ sym (c.stop.ensures.value ∙ sound.stop);
       wrote = writes-first given (g.W.Sink.written c.args.ends.now.writer) (g.W.Sink.written c.drive-driven.new.writer) first.0 (came side) side.core.bytes side.written (omega (arith, sound.written, sound.within)) sound.few first.1 c.drive-driven.ensures.written;
@@ -81,17 +81,17 @@ returns-clause-broken g c =
     let err = rw c.in-Err.is at c.drive-driven.ensures.broken in
     let first = first-bytes messages later more.0 left.0 given after c.args.reads joined.result.1 failed (joined.ensures.received ∙ more.1) sent in
     record {
-      log = err.1;
-      noted = err.2;
-      cut_off = subst (λ written. IsCutOff plan told written err.1) (sym err.0.count) (err.3 plan (logged-fresh plan told c.in_ok-side.side c.in_ok-side.ensures.fresh c.in_ok-side.ensures.meaning));
+      log = err.log;
+      noted = err.noted;
+      cut_off = subst (λ written. IsCutOff plan told written err.log) (sym err.at.count) (err.cuts plan (logged-fresh plan told c.in_ok-side.side c.in_ok-side.ensures.fresh c.in_ok-side.ensures.meaning));
       bytes = came side;
-      wrote = subst (WritesFirst given (g.W.Sink.written c.args.ends.now.writer) (g.W.Sink.written c.drive-driven.new.writer) (came side)) (sym err.0.count)
+      wrote = subst (WritesFirst given (g.W.Sink.written c.args.ends.now.writer) (g.W.Sink.written c.drive-driven.new.writer) (came side)) (sym err.at.count)
           (record { left = first.0; gave = first.1; few = c.drive-driven.ensures.few; wrote = c.drive-driven.ensures.written });
-      reset = inr (side.core.latest, rw c.in-Err.is at c.hang_up.ensures.err, err.4);
+      reset = inr (side.core.latest, rw c.in-Err.is at c.hang_up.ensures.err, err.reset);
     }
 
 pub returns-in_err-side-clause-unstarted : goal.returns-in_err-side-clause-unstarted
 returns-in_err-side-clause-unstarted g c = λ n same. (refl, refl)
 
 pub returns-clause-unstarted : goal.returns-clause-unstarted
-returns-clause-unstarted g c = λ n same. absurd ((rw c.in-Err.is at c.drive-driven.ensures.broken).0.started n (cc))
+returns-clause-unstarted g c = λ n same. absurd ((rw c.in-Err.is at c.drive-driven.ensures.broken).at.started n (cc))

@@ -22,20 +22,21 @@ returns-in_err-write_next-in-Write-clause-broken g c =
     let takes = subst (λ (act : Act). After c.args.side.now.core c.decide-act.result.1 act c.decide-act.new.core) c.in-Write.is answered.output in
     let told = g.C.Clock.told c.args.clock.now in
     let reads : ReadsOn told c.args.side.now.core.latest c.write_next.new.side.core.latest = search rules in
-    rw (p.1, p.2) (
-      c.in_err-write_next-in-Write.ensures.fault,
-      cut-within told c.args.side.now c.decide-act.new.core c.in-Write.slice _ takes.1 answered.kept.bytes c.write_next.ensures.few,
-      reads,
-      c.in_err-write_next-in-Write.ensures.unnoted,
-    )
+    rw (p.1, p.2) (record {
+      at = c.in_err-write_next-in-Write.ensures.fault;
+      cuts = cut-within told c.args.side.now c.decide-act.new.core c.in-Write.slice _ takes.1 answered.kept.bytes c.write_next.ensures.few;
+      reads = reads;
+      unnoted = c.in_err-write_next-in-Write.ensures.unnoted;
+    })
 
 pub returns-in_ok-write_next-in-Write-clause-log : goal.returns-in_ok-write_next-in-Write-clause-log
 returns-in_ok-write_next-in-Write-clause-log g c =
-    let same = c.write_next.ensures.same in (
-      _,
-      c.in_ok-write_next-in-Write.ensures.ok.3,
-      logged-act (g.C.Clock.told c.args.clock.now) c.args.side.now c.write_next.new.side c.decide-act.new.core c.decide-act.result.0 (Write c.in-Write.slice) c.decide-act.result.1 c.decide-act.ensures.carried c.in-Write.is same.0 same.2,
-    )
+    let same = c.write_next.ensures.same in
+    record {
+      more = _;
+      noted = c.in_ok-write_next-in-Write.ensures.ok.3;
+      keeps = logged-act (g.C.Clock.told c.args.clock.now) c.args.side.now c.write_next.new.side c.decide-act.new.core c.decide-act.result.0 (Write c.in-Write.slice) c.decide-act.result.1 c.decide-act.ensures.carried c.in-Write.is same.0 same.2;
+    }
 
 pub returns-after-idle-clause-ok : goal.returns-after-idle-clause-ok
 returns-after-idle-clause-ok g c =
@@ -44,11 +45,11 @@ returns-after-idle-clause-ok g c =
     (sound-waited c.args.side.now c.args.side.now.inbox c.decide-act.new.core _ c.requires.sound answered.kept leaves.1.position, c.requires.working, tt)
 
 pub returns-after-idle-clause-log : goal.returns-after-idle-clause-log
-returns-after-idle-clause-log g c = (
-  [],
-  events-none (g.N.Notes.events c.args.notes.now),
-  logged-act (g.C.Clock.told c.args.clock.now) c.args.side.now _ c.decide-act.new.core c.decide-act.result.0 (WaitUntil c.in-WaitUntil.instant) c.decide-act.result.1 c.decide-act.ensures.carried c.in-WaitUntil.is refl refl,
-)
+returns-after-idle-clause-log g c = record {
+  more = [];
+  noted = events-none (g.N.Notes.events c.args.notes.now);
+  keeps = logged-act (g.C.Clock.told c.args.clock.now) c.args.side.now _ c.decide-act.new.core c.decide-act.result.0 (WaitUntil c.in-WaitUntil.instant) c.decide-act.result.1 c.decide-act.ensures.carried c.in-WaitUntil.is refl refl;
+}
 
 pub returns-after-idle-2-clause-ok : goal.returns-after-idle-2-clause-ok
 returns-after-idle-2-clause-ok g c =
@@ -66,11 +67,12 @@ returns-after-idle-2-clause-log g c =
     let same : (c.if-idle-2.side.core ≡ c.decide-act.new.core) × (c.if-idle-2.side.source ≡ c.args.side.now.source) = elim c.if-idle-2.branch [
       | then-idle-2 w ↦ (ap (λ (side : WriterSide). side.core) w.side-is, ap (λ (side : WriterSide). side.source) w.side-is)
       | else-idle-2 w ↦ (ap (λ (side : WriterSide). side.core) w.side-is, ap (λ (side : WriterSide). side.source) w.side-is)
-    ] in (
-      [],
-      events-none (g.N.Notes.events c.args.notes.now),
-      logged-act (g.C.Clock.told c.args.clock.now) c.args.side.now c.if-idle-2.side c.decide-act.new.core c.decide-act.result.0 WaitForInput c.decide-act.result.1 c.decide-act.ensures.carried c.in-WaitForInput.is same.0 same.1,
-    )
+    ] in
+    record {
+      more = [];
+      noted = events-none (g.N.Notes.events c.args.notes.now);
+      keeps = logged-act (g.C.Clock.told c.args.clock.now) c.args.side.now c.if-idle-2.side c.decide-act.new.core c.decide-act.result.0 WaitForInput c.decide-act.result.1 c.decide-act.ensures.carried c.in-WaitForInput.is same.0 same.1;
+    }
 
 pub returns-in-End-clause-ok : goal.returns-in-End-clause-ok
 returns-in-End-clause-ok g c =
@@ -79,8 +81,8 @@ returns-in-End-clause-ok g c =
     (sound-waited c.args.side.now c.args.side.now.inbox c.decide-act.new.core _ c.requires.sound answered.kept leaves.position, c.requires.working, search rules)
 
 pub returns-in-End-clause-log : goal.returns-in-End-clause-log
-returns-in-End-clause-log g c = (
-  [],
-  events-none (g.N.Notes.events c.args.notes.now),
-  logged-act (g.C.Clock.told c.args.clock.now) c.args.side.now _ c.decide-act.new.core c.decide-act.result.0 (End c.in-End.field-0) c.decide-act.result.1 c.decide-act.ensures.carried c.in-End.is refl refl,
-)
+returns-in-End-clause-log g c = record {
+  more = [];
+  noted = events-none (g.N.Notes.events c.args.notes.now);
+  keeps = logged-act (g.C.Clock.told c.args.clock.now) c.args.side.now _ c.decide-act.new.core c.decide-act.result.0 (End c.in-End.field-0) c.decide-act.result.1 c.decide-act.ensures.carried c.in-End.is refl refl;
+}

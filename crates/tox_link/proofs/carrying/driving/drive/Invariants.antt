@@ -1,10 +1,8 @@
 -- The link is carried so far.
-use Rattle.std.proofs.Common.{◌≡◌, List, take, false}
+use Rattle.std.proofs.Common.{◌≡◌, take, false}
 use Rattle.std.specs.Io.KnownBytes.{append_known}
 use Rattle.rtrb.specs.Ring.{received, SameConsumer}
-use Rattle.tox_link.specs.declared.notes.LinkEvent.{LinkEvent}
-use Rattle.tox_link.specs.log.Events.{with_events}
-use Rattle.tox_link.specs.log.Logged.{LogsFrom}
+use Rattle.tox_link.specs.carrying.Steps.{NotesAll}
 use Rattle.tox_link.specs.carrying.Side.{IsSound, came}
 use Rattle.tox_link.proofs.carrying.driving.drive.Given as goal
 
@@ -14,5 +12,5 @@ invariant-loop g l = record {
   sound : IsSound l.side (received l.side.inbox.receiver);
   written : g.W.Sink.written l.writer ≡ append_known (g.W.Sink.written l.initial.writer) (take l.side.written (came l.side));
   working : g.W.Sink.failed l.writer ≡ false;
-  log : (log : List LinkEvent) × (g.N.Notes.events l.notes ≡ with_events (g.N.Notes.events l.initial.notes) log) × LogsFrom (g.C.Clock.told l.clock) l.initial.side log l.side;
+  log : NotesAll (g.C.Clock.told l.clock) (g.N.Notes.events l.initial.notes) (g.N.Notes.events l.notes) l.initial.side l.side;
 }

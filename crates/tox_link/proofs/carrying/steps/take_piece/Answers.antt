@@ -7,11 +7,12 @@ use Rattle.tox_link.proofs.carrying.steps.take_piece.Goals as goal
 
 pub returns-clause-carried : goal.returns-clause-carried
 returns-clause-carried g c =
-    let taken = c.in-Ok.ensures.taken in (
-      Piece c.len-len.result c.reading-instant.result ∷ [],
-      c.in_ok-note.ensures.noted,
-      piece-carried (g.C.Clock.told c.args.clock.now) c.args.core.now c.on_piece.new.self c.len-len.result c.reading-instant.result
+    let taken = c.in-Ok.ensures.taken in
+    record {
+      more = Piece c.len-len.result c.reading-instant.result ∷ [];
+      noted = c.in_ok-note.ensures.noted;
+      keeps = piece-carried (g.C.Clock.told c.args.clock.now) c.args.core.now c.on_piece.new.self c.len-len.result c.reading-instant.result
           (omega (arith, c.reading-instant.ensures.later, c.latest.ensures)) c.reading-instant.ensures.bound c.reading-instant.ensures.told (omega (arith, c.len-len.ensures, c.requires.fits.0)) (omega (arith, c.len-len.ensures, c.requires.fits.1)) c.requires.goes_on.0
-          (ap (λ (core : CoreView). core.latest) taken) (ap (λ (core : CoreView). core.bytes) taken) (ap core_position taken) c.in-Ok.ensures.output,
-      refl,
-    )
+          (ap (λ (core : CoreView). core.latest) taken) (ap (λ (core : CoreView). core.bytes) taken) (ap core_position taken) c.in-Ok.ensures.output;
+      end = refl;
+    }

@@ -10,28 +10,29 @@ pub returns-in_default-clause-ok : goal.returns-in_default-clause-ok
 returns-in_default-clause-ok g c =
     let came = c.requires.came in
     let counts = c.in_ok-take_end.ensures.counts in
-    sound-ended c.args.side.now _ came.before _ c.args.end came.sound came.going came.came refl counts.0 counts.2 refl refl
+    sound-ended c.args.side.now _ came.before _ c.args.end came.sound came.going came.came refl counts.bytes_are counts.position refl refl
     (λ last told. absurd (open-source c.args.side.now came.before last came.sound came.going told))
 
 pub returns-in_default-clause-log : goal.returns-in_default-clause-log
 returns-in_default-clause-log g c =
     let noted = c.in_ok-take_end.ensures.carried in
     let none : is_none (core_ending c.args.side.now.core) ≡ false = known-some _ (λ none. c.in_default.not-None (c.ending.ensures.value ∙ none)) in
-    (noted.0, noted.1, logged-on (g.C.Clock.told c.args.clock.now) c.args.side.now _ noted.0 noted.2 (noted.3 ∙ none) refl)
+    record { more = noted.more; noted = noted.noted; keeps = logged-on (g.C.Clock.told c.args.clock.now) c.args.side.now _ noted.more noted.keeps (noted.end ∙ none) refl }
 
 pub returns-clause-ok : goal.returns-clause-ok
 returns-clause-ok g c =
     let came = c.requires.came in
     let counts = c.in_ok-take_end-2.ensures.counts in
-    sound-ended c.args.side.now _ came.before _ c.args.end came.sound came.going came.came refl counts.0 counts.2 refl refl
+    sound-ended c.args.side.now _ came.before _ c.args.end came.sound came.going came.came refl counts.bytes_are counts.position refl refl
     (λ last told. ((cc (told, c.in_ok-side.ensures)), sym c.ending.ensures.value ∙ c.in-None.is))
 
 pub returns-clause-log : goal.returns-clause-log
 returns-clause-log g c =
     let came = c.requires.came in
-    let noted = c.in_ok-take_end-2.ensures.carried in (
-      noted.0,
-      noted.1,
-      logged-end (g.C.Clock.told c.args.clock.now) c.args.side.now _ noted.0 noted.2 (open-none c.args.side.now came.before came.sound came.going)
-          (noted.3 ∙ ap is_none (sym c.ending.ensures.value ∙ c.in-None.is) ∙ sym (ap is_some c.in_ok-side.ensures)),
-    )
+    let noted = c.in_ok-take_end-2.ensures.carried in
+    record {
+      more = noted.more;
+      noted = noted.noted;
+      keeps = logged-end (g.C.Clock.told c.args.clock.now) c.args.side.now _ noted.more noted.keeps (open-none c.args.side.now came.before came.sound came.going)
+          (noted.end ∙ ap is_none (sym c.ending.ensures.value ∙ c.in-None.is) ∙ sym (ap is_some c.in_ok-side.ensures));
+    }

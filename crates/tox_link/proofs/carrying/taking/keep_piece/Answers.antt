@@ -15,9 +15,9 @@ returns-clause-ok g c =
     let came = c.requires.came in
     let counts = c.in_ok-take_piece.ensures.counts in
     sound-kept c.args.side.now _ came.before _ (Piece c.args.bytes) c.args.bytes.items _ came.sound came.going (sym c.ending.ensures.value ∙ c.in-None.is) came.came refl
-    (append-nil c.args.bytes.items) came.allowed.1 counts.0 counts.1 counts.2 c.in_ok-take_piece.ensures.kept refl refl refl refl refl
+    (append-nil c.args.bytes.items) came.allowed.1 counts.bytes_are counts.ended_is counts.position c.in_ok-take_piece.ensures.kept refl refl refl refl refl
 
 pub returns-clause-log : goal.returns-clause-log
 returns-clause-log g c =
     let noted = c.in_ok-take_piece.ensures.carried in
-    (noted.0, noted.1, logged-on (g.C.Clock.told c.args.clock.now) c.args.side.now _ noted.0 noted.2 noted.3 refl)
+    record { more = noted.more; noted = noted.noted; keeps = logged-on (g.C.Clock.told c.args.clock.now) c.args.side.now _ noted.more noted.keeps noted.end refl }

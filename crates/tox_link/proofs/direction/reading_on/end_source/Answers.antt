@@ -19,8 +19,8 @@ returns-in_default-clause-drove g c =
     let never = λ (none : core_ending c.args.link.now.core ≡ None). c.in_default.not-None (c.ending.ensures.value ∙ none) in
     let open_source = c.requires.held.unheard c.requires.going in
     λ bytes left written over.
-    drove-ended (g.C.Clock.told c.args.clock.now) c.args.link.now _ bytes left written (g.N.Notes.events c.args.notes.now) _ c.requires.held c.requires.idle c.requires.going refl refl refl refl noted.0 counts.0 counts.2 noted.1 noted.2
-    (noted.3 ∙ known-some _ never ∙ sym (ap is_some open_source)) (λ none. absurd (never none)) (λ known. open_source)
+    drove-ended (g.C.Clock.told c.args.clock.now) c.args.link.now _ bytes left written (g.N.Notes.events c.args.notes.now) _ c.requires.held c.requires.idle c.requires.going refl refl refl refl noted.more counts.bytes_are counts.position noted.noted noted.keeps
+    (noted.end ∙ known-some _ never ∙ sym (ap is_some open_source)) (λ none. absurd (never none)) (λ known. open_source)
 
 pub returns-in_err-take_end-2-clause-drove : goal.returns-in_err-take_end-2-clause-drove
 returns-in_err-take_end-2-clause-drove g c =
@@ -34,5 +34,5 @@ returns-clause-drove g c =
     let noted = c.in_ok-take_end-2.ensures.carried in
     let unknown = sym c.ending.ensures.value ∙ c.in-None.is in
     λ bytes left written over.
-    drove-ended (g.C.Clock.told c.args.clock.now) c.args.link.now _ bytes left written (g.N.Notes.events c.args.notes.now) _ c.requires.held c.requires.idle c.requires.going refl refl refl refl noted.0 counts.0 counts.2 noted.1 noted.2
-    (noted.3 ∙ ap is_none unknown ∙ sym c.requires.why) (λ none. over) (λ never. absurd (never unknown))
+    drove-ended (g.C.Clock.told c.args.clock.now) c.args.link.now _ bytes left written (g.N.Notes.events c.args.notes.now) _ c.requires.held c.requires.idle c.requires.going refl refl refl refl noted.more counts.bytes_are counts.position noted.noted noted.keeps
+    (noted.end ∙ ap is_none unknown ∙ sym c.requires.why) (λ none. over) (λ never. absurd (never unknown))

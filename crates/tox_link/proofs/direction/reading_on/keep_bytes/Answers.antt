@@ -16,7 +16,7 @@ pub returns-clause-held : goal.returns-clause-held
 returns-clause-held g c =
     let counts = c.in-Ok.ensures.counts in
     let run : Run = record { start = c.args.link.now.window.stop; bytes = c.args.bytes.items; instant = c.take_piece.new.core.latest; room = vec_capacity c.args.bytes } in
-    held-kept c.args.link.now _ run c.requires.held c.requires.idle c.requires.fits.0 refl counts.0 counts.2 c.in-Ok.ensures.kept refl refl refl refl counts.1 (omega (arith, counts.0, c.requires.fits.1))
+    held-kept c.args.link.now _ run c.requires.held c.requires.idle c.requires.fits.0 refl counts.bytes_are counts.position c.in-Ok.ensures.kept refl refl refl refl counts.ended_is (omega (arith, counts.bytes_are, c.requires.fits.1))
 
 pub returns-clause-drove : goal.returns-clause-drove
 returns-clause-drove g c =
@@ -24,6 +24,6 @@ returns-clause-drove g c =
     let noted = c.in-Ok.ensures.carried in
     let run : Run = record { start = c.args.link.now.window.stop; bytes = c.args.bytes.items; instant = c.take_piece.new.core.latest; room = vec_capacity c.args.bytes } in
     λ left written.
-    drove-took (g.C.Clock.told c.args.clock.now) c.args.link.now _ c.args.bytes.items left written (g.N.Notes.events c.args.notes.now) _ noted.0 noted.1
-    (drives-kept c.args.link.now _ run c.requires.held c.requires.idle c.requires.fits.0 refl counts.0 counts.2 c.in-Ok.ensures.kept refl refl refl refl (g.C.Clock.told c.args.clock.now) noted.0 written c.requires.room.0
-    c.requires.unknown noted.2 noted.3) (omega (arith, counts.2, c.requires.fits.0))
+    drove-took (g.C.Clock.told c.args.clock.now) c.args.link.now _ c.args.bytes.items left written (g.N.Notes.events c.args.notes.now) _ noted.more noted.noted
+    (drives-kept c.args.link.now _ run c.requires.held c.requires.idle c.requires.fits.0 refl counts.bytes_are counts.position c.in-Ok.ensures.kept refl refl refl refl (g.C.Clock.told c.args.clock.now) noted.more written c.requires.room.0
+    c.requires.unknown noted.keeps noted.end) (omega (arith, counts.position, c.requires.fits.0))

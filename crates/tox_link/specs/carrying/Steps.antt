@@ -1,0 +1,52 @@
+-- What a step of a link's writer did to its log, and a step of its core.
+use Rattle.std.specs.Prelude.{◌≡◌, ℕ, Bool, List, Option}
+use Rattle.tox_link.specs.declared.carrying.writer_side.WriterSide.{WriterSide}
+use Rattle.tox_link.specs.declared.link_fault.LinkFault.{LinkFault}
+use Rattle.tox_link.specs.declared.notes.LinkEvent.{LinkEvent}
+use Rattle.tox_link.specs.Hangups.{IsResetAt}
+use Rattle.tox_link.specs.link_core.Core.{CoreView, core_position}
+use Rattle.tox_link.specs.log.Carried.{KeepsCarried, ReadsOn}
+use Rattle.tox_link.specs.log.Events.{with_events}
+use Rattle.tox_link.specs.log.Log.{has_source_end}
+use Rattle.tox_link.specs.log.Logged.{CutsOff, CutsOffFrom, KeepsLogged, LogsFrom}
+use Rattle.tox_link.specs.Reports.{IsFaultAt}
+
+-- so many bytes have arrived at a core afterwards, its source has ended or not, and its next slice starts where it did
+pub record TakesIn (old new : CoreView) (bytes : ℕ) (ended : Bool) : Type 0 where
+  pub bytes_are : new.bytes ≡ bytes
+  pub ended_is : new.ended ≡ ended
+  pub position : core_position new ≡ core_position old
+
+-- these events were noted of a step of a core, which is carried on with them; the source's end is among them or not
+pub record CarriesOn (told : ℕ → Type 0) (before after : Option (List LinkEvent)) (old new : CoreView) (has_end : Bool) : Type 0 where
+  pub more : List LinkEvent
+  pub noted : after ≡ with_events before more
+  pub keeps : KeepsCarried told old more new
+  pub end : has_source_end more ≡ has_end
+
+-- these events were noted of a step of a link, which keeps its log with them
+pub record NotesOn (told : ℕ → Type 0) (before after : Option (List LinkEvent)) (old new : WriterSide) : Type 0 where
+  pub more : List LinkEvent
+  pub noted : after ≡ with_events before more
+  pub keeps : KeepsLogged told old more new
+
+-- these events were noted since a link began, and are its log
+pub record NotesAll (told : ℕ → Type 0) (before after : Option (List LinkEvent)) (old new : WriterSide) : Type 0 where
+  pub log : List LinkEvent
+  pub noted : after ≡ with_events before log
+  pub logs : LogsFrom told old log new
+
+-- a step of a link broke off by this fault and noted nothing
+pub record StopsAt (told : ℕ → Type 0) (before after : Option (List LinkEvent)) (old new : WriterSide) (writer_failed : Bool) (fault : LinkFault) : Type 0 where
+  pub at : IsFaultAt new.written writer_failed fault
+  pub cuts : CutsOff told old new.written
+  pub reads : ReadsOn told old.core.latest new.core.latest
+  pub unnoted : after ≡ before
+
+-- a link broke off by this fault: its log is cut off there, and none of it is above the last reading
+pub record StopsAfter (told : ℕ → Type 0) (before after : Option (List LinkEvent)) (old new : WriterSide) (writer_failed : Bool) (fault : LinkFault) : Type 0 where
+  pub at : IsFaultAt new.written writer_failed fault
+  pub log : List LinkEvent
+  pub noted : after ≡ with_events before log
+  pub cuts : CutsOffFrom told old log new.written
+  pub reset : IsResetAt told log new.core.latest
