@@ -21,5 +21,5 @@ runner_view runner = record {
   pieces = runner.pieces;
 }
 
-abbrev pub IsKept : Inside → Type 0
-IsKept runner = IsRunning (runner_view runner)
+abbrev pub KeepsRunner : Inside → Type 0
+KeepsRunner runner = IsRunning (runner_view runner)

@@ -47,11 +47,11 @@ impl<'w> Model for Runner<'w> {
 
     ghost Value = { RunnerView };
 
-    ghost use Rattle.tox_plan.specs.RunnerInside.{runner_view, IsKept};
+    ghost use Rattle.tox_plan.specs.RunnerInside.{runner_view, KeepsRunner};
 
     ghost view = { runner_view };
 
-    ghost invariant = { IsKept };
+    ghost invariant = { KeepsRunner };
 }
 
 impl<'w> Runner<'w> {
