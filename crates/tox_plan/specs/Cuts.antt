@@ -1,5 +1,5 @@
 -- The cuts that a slice is made of.
-use Rattle.std.specs.Prelude.{◌≡◌, ◌≢◌, ◌⊎◌, ℕ, ◌+◌, ◌<◌, ◌≤◌, List, [], ◌∷◌, ◌++◌, map, length}
+use Rattle.std.specs.Prelude.{◌≡◌, ◌≢◌, ◌⊎◌, ℕ, ◌+◌, ◌<◌, ◌≤◌, List, [], ◌∷◌, ◌++◌, map, length, false, true}
 use Rattle.tox_time.specs.declared.streams.slice.Slice.{Slice}
 use Rattle.tox_time.specs.declared.streams.item.Item.{Item}
 use Rattle.tox_time.specs.declared.streams.item.Item.TheVariants.{Chunk, Closed, Reset, Quiet}
@@ -37,16 +37,6 @@ pub record IsOneCut (old new : RunnerView) (cut : Slice) : Type 0 where
   pub gives : (items : List Item) → to_come old items ≡ as_chunk cut ∷ to_come new items
   pub counted : new.cuts ≡ old.cuts + 1
 
--- the offers, the words and the plan's operations stay
-pub record KeepsOffers (old new : RunnerView) : Type 0 where
-  pub drawing : new.drawing ≡ old.drawing
-  pub piece : new.piece ≡ old.piece
-  pub latest : new.latest ≡ old.latest
-  pub finished : new.finished ≡ old.finished
-  pub pieces : new.pieces ≡ old.pieces
-  pub cursors : length new.cursors ≡ length old.cursors
-  pub ops : ops_of new.cursors ≡ ops_of old.cursors
-
 -- the next chunk to come, if there is one, has bytes, and leaves at another instant
 abbrev pub BeginsApart : ℕ → List Item → Type 0
 BeginsApart instant [] = Unit {0}
@@ -60,3 +50,29 @@ abbrev pub EndsHere : ℕ → RunnerView → Type 0
 EndsHere instant runner =
     (runner.position ≡ runner.piece.span.stop)
     ⊎ ((items : List Item) → BeginsApart instant (to_come runner items))
+
+-- the runner gave this slice and isn't idle; whatever else is left of the piece leaves at another instant
+pub record GivesCut (old new : RunnerView) (slice : Slice) : Type 0 where
+  pub cut : IsCut old new slice
+  pub begins : slice.span.start ≡ old.position
+  pub stands : new.position ≡ slice.span.stop
+  pub busy : new.idle ≡ false
+  pub apart : BeginsApart slice.instant (to_come new (Quiet ∷ []))
+  pub ends : EndsHere slice.instant new
+
+-- the runner had nothing to give: it is idle, and stands where it stood
+pub record GivesNoCut (old new : RunnerView) : Type 0 where
+  pub idle : new.idle ≡ true
+  pub position : new.position ≡ old.position
+  pub cuts : new.cuts ≡ old.cuts
+  pub to_come : (items : List Item) → to_come new items ≡ to_come old items
+
+-- the offers, the words and the plan's operations stay
+pub record KeepsOffers (old new : RunnerView) : Type 0 where
+  pub drawing : new.drawing ≡ old.drawing
+  pub piece : new.piece ≡ old.piece
+  pub latest : new.latest ≡ old.latest
+  pub finished : new.finished ≡ old.finished
+  pub pieces : new.pieces ≡ old.pieces
+  pub cursors : length new.cursors ≡ length old.cursors
+  pub ops : ops_of new.cursors ≡ ops_of old.cursors

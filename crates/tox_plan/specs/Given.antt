@@ -1,11 +1,11 @@
 -- What a runner has given so far, beside its plan's meaning.
-use Rattle.std.specs.Prelude.{◌≡◌, ℕ, ◌<◌, List, [], ◌∷◌, ◌++◌}
+use Rattle.std.specs.Prelude.{◌≡◌, ℕ, ◌<◌, List, [], ◌∷◌, ◌++◌, Option, IfSome, IfNone, MatchOption}
 use Rattle.tox_time.specs.declared.streams.slice.Slice.{Slice}
 use Rattle.tox_time.specs.declared.streams.item.Item.{Item}
 use Rattle.tox_time.specs.declared.streams.item.Item.TheVariants.{Quiet}
 use Rattle.tox_time.specs.streams.Stream.{IsStream, IsPrefix}
 use Rattle.tox_time.specs.streams.Table.{table, slices_table, ending}
-use Rattle.tox_compile.specs.Meaning.{Ops, means}
+use Rattle.tox_compile.specs.Meaning.{Ops, IsPlan, means}
 use Rattle.tox_plan.specs.RunnerView.{RunnerView, to_come}
 
 -- the slices that were given of the offered pieces, and what is still to come, are the plan's meaning, whatever comes later
@@ -39,3 +39,17 @@ abbrev pub IsWhole : Ops → List ℕ → List Item → List Slice → Type 0
 IsWhole plan words offered given =
     IsStream (offered ++ Quiet ∷ [])
     → slices_table given ≡ table (means plan words (offered ++ Quiet ∷ []))
+
+-- what was given of the plan's meaning goes on with a call's result, and lasts: what is left of a piece behind a slice leaves later,
+-- and where no slice is left all that the offered pieces bring was given
+pub record GivesMeaning (old new : RunnerView) (result : Option Slice) : Type 0 where
+  pub goes_on : MatchOption result (GoesOn old [] [] new) (λ slice. GoesOn old [] (slice ∷ []) new)
+  pub lasting : (plan : Ops) (offered : List Item) (given : List Slice)
+      → HasGiven plan offered given new → IsLasting plan new.drawing.words offered given
+  pub later : IfSome result
+      (λ slice. (plan : Ops) (offered : List Item) (given : List Slice) → IsPlan plan
+      → IsStream (offered ++ Quiet ∷ []) → HasGiven plan offered given old
+      → AreAfter slice.instant (table (to_come new (Quiet ∷ []))))
+  pub whole : IfNone result
+      ((plan : Ops) (offered : List Item) (given : List Slice) → HasGiven plan offered given old
+      → IsWhole plan old.drawing.words offered given)

@@ -1,5 +1,5 @@
 -- What is still to come from the cursors of a plan, the last operation first.
-use Rattle.std.specs.Prelude.{◌≡◌, ◌≢◌, ℕ, ◌^◌, ◌<◌, ◌≤◌, Bool, false, List, [], ◌∷◌, ◌++◌, Option, Some, None, IsSome, ◌⊎◌}
+use Rattle.std.specs.Prelude.{◌≡◌, ◌≢◌, ℕ, ◌+◌, ◌^◌, ◌<◌, ◌≤◌, Bool, false, List, [], ◌∷◌, ◌++◌, Option, Some, None, IsSome, ◌⊎◌}
 use Rattle.tox_time.specs.declared.streams.slice.Slice.{Slice}
 use Rattle.tox_time.specs.declared.streams.item.Item.{Item}
 use Rattle.tox_time.specs.declared.streams.ending.Ending.{Ending}
@@ -109,6 +109,12 @@ IsFrom start None = Unit {0}
 IsFrom start (Some (Piece piece)) =
     (piece.span.start ≡ start) × (start < piece.span.stop) × (piece.span.stop ≤ 2 ^ 40)
 IsFrom start (Some (End ending)) = Unit {0}
+
+-- a pull looked at some of so many cursors, each at most once, and at one at least where there is one
+pub record LooksOnce (cursors before after : ℕ) : Type 0 where
+  pub most : after ≤ before + cursors
+  pub more : before ≤ after
+  pub some : 0 < cursors → before < after
 
 -- what a pull brought
 abbrev pub MatchPulled : Draws → ℕ → List OpCursor → List OpCursor → Slice → Option Emission → Type 0

@@ -118,6 +118,17 @@ abbrev pub next_piece : RunnerView → ℕ → ℕ → Slice
 next_piece runner len instant =
     record { span = record { start = runner.piece.span.stop; stop = runner.piece.span.stop + len }; instant = instant }
 
+-- a runner after an accepted offer of a piece
+abbrev pub with_offer : RunnerView → ℕ → ℕ → RunnerView
+with_offer runner len instant =
+    record runner {
+      piece = next_piece runner len instant;
+      latest = instant;
+      drained = false;
+      idle = false;
+      pieces = runner.pieces + 1;
+    }
+
 -- what an offer is answered: the first fault, if there is one
 abbrev pub answer_of : Option ArrivalFault → Result (Unit {0}) ArrivalFault
 answer_of None = Ok tt

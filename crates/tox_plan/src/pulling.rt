@@ -6,7 +6,7 @@ ghost use Rattle.tox_words.specs.Draw.{Draws, draws_of};
 ghost use Rattle.tox_defs.specs.declared.operations.op_cursor.OpCursor.{OpCursor as OneCursor};
 ghost use Rattle.tox_defs.specs.operations.Op.{is_mute};
 ghost use Rattle.tox_defs.specs.operations.OpCursor.{IsSoundCursor, MatchEmission};
-ghost use Rattle.tox_plan.specs.OpCursors.{AreNested, AreOpenUnless, IsRead, BeginsUnread, IsFrom, MatchPulled, ops_of};
+ghost use Rattle.tox_plan.specs.OpCursors.{AreNested, AreOpenUnless, IsRead, BeginsUnread, IsFrom, LooksOnce, MatchPulled, ops_of};
 
 use tox_defs::{Emission, OpCursor};
 use tox_time::{Slice, Span};
@@ -54,9 +54,7 @@ pub(crate) fn pull(
     requires room { looks.old.turns + length cursors.old < 2 ^ 64 }
     ensures pulled { MatchPulled (draws_of drawing.now) start cursors.old cursors.new source.now result }
     ensures ops { ops_of cursors.new ≡ ops_of cursors.old }
-    ensures turns { looks.new.turns ≤ looks.old.turns + length cursors.old }
-    ensures more { looks.old.turns ≤ looks.new.turns }
-    ensures looked { 0 < length cursors.old → looks.old.turns < looks.new.turns }
+    ensures turns { LooksOnce (length cursors.old) looks.old.turns looks.new.turns }
     ensures ended { AreOpenUnless looks.old.ended cursors.old
         → AreOpenUnless looks.new.ended cursors.new }
 {
@@ -97,9 +95,7 @@ fn pull_nearest(
     ensures pulled { MatchPulled (draws_of drawing.now) start cursors.old cursors.new source.now result }
     ensures from { source.now.span.stop ≤ 2 ^ 40 → IsFrom start result }
     ensures ops { ops_of cursors.new ≡ ops_of cursors.old }
-    ensures turns { looks.new.turns ≤ looks.old.turns + length cursors.old }
-    ensures more { looks.old.turns ≤ looks.new.turns }
-    ensures looked { 0 < length cursors.old → looks.old.turns < looks.new.turns }
+    ensures turns { LooksOnce (length cursors.old) looks.old.turns looks.new.turns }
     ensures ended { AreOpenUnless looks.old.ended cursors.old
         → AreOpenUnless looks.new.ended cursors.new }
 {

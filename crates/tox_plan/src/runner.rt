@@ -1,16 +1,15 @@
 //! The runner of a plan: pieces in, slices out, one at a time.
-ghost use Rattle.std.specs.Prelude.{◌≡◌, ◌≢◌, ℕ, ◌+◌, ◌*◌, ◌^◌, ◌<◌, ◌≤◌, ◌↔◌, ◌⊎◌, List, [], ◌∷◌, ◌++◌, length, true, false, None, Some, IsSome, IsNone, IfSome, IfNone, MatchOption, OnOk, OnErr};
+ghost use Rattle.std.specs.Prelude.{◌≡◌, ◌≢◌, ℕ, ◌+◌, ◌*◌, ◌^◌, ◌<◌, ◌≤◌, ◌↔◌, ◌⊎◌, List, [], ◌∷◌, length, true, false, None, Some, IsSome, IsNone, IfSome, IfNone, OnOk, OnErr};
 ghost use Rattle.tox_time.specs.declared.streams.item.Item.{Item as OneItem};
 ghost use Rattle.tox_time.specs.declared.streams.item.Item.TheVariants.{Closed, Quiet};
-ghost use Rattle.tox_time.specs.declared.streams.slice.Slice.{Slice as OneSlice};
-ghost use Rattle.tox_time.specs.streams.Stream.{IsStream, IsStreamFrom};
-ghost use Rattle.tox_time.specs.streams.Table.{final_of, table};
+ghost use Rattle.tox_time.specs.streams.Stream.{IsStreamFrom};
+ghost use Rattle.tox_time.specs.streams.Table.{final_of};
 ghost use Rattle.tox_defs.specs.operations.Look.{as_chunk};
-ghost use Rattle.tox_compile.specs.Meaning.{Ops, IsPlan, deadline_of};
+ghost use Rattle.tox_compile.specs.Meaning.{deadline_of};
 ghost use Rattle.tox_plan.specs.OpCursors.{ops_of};
-ghost use Rattle.tox_plan.specs.RunnerView.{to_come, HasNoChunk, known_ending, next_piece, offer_answer};
-ghost use Rattle.tox_plan.specs.Cuts.{IsCut, IsOneCut, KeepsOffers, BeginsApart, EndsHere};
-ghost use Rattle.tox_plan.specs.Given.{HasGiven, GoesOn, IsLasting, IsWhole, AreAfter};
+ghost use Rattle.tox_plan.specs.RunnerView.{to_come, HasNoChunk, known_ending, next_piece, offer_answer, with_offer};
+ghost use Rattle.tox_plan.specs.Cuts.{IsOneCut, GivesCut, GivesNoCut, KeepsOffers, BeginsApart, EndsHere};
+ghost use Rattle.tox_plan.specs.Given.{GoesOn, GivesMeaning};
 ghost use Rattle.tox_plan.specs.NewRunner.{IsNewRunner};
 ghost use Rattle.tox_plan.specs.Unended.{IsBeforeDeadline, IsUnended};
 
@@ -114,20 +113,12 @@ impl<'w> Runner<'w> {
     pub fn offer(&mut self, len: u64, instant: Micros) -> Result<(), ArrivalFault>
         requires { self.old.idle ≡ true }
         ensures answer { result ≡ offer_answer self.old len instant }
-        ensures offered { OnOk result
-            ((self.new.idle ≡ false) × (self.new.position ≡ self.old.position)
-            × (self.new.piece ≡ next_piece self.old len instant) × (self.new.latest ≡ instant)) }
+        ensures offered { OnOk result (self.new ≡ with_offer self.old len instant) }
         ensures unread { OnOk result (self.new.position ≡ self.new.piece.span.start) }
         ensures to_come { OnOk result
             ((items : List OneItem)
             → to_come self.new items
             ≡ to_come self.old (as_chunk (next_piece self.old len instant) ∷ items)) }
-        ensures counters { OnOk result
-            ((self.new.turns ≡ self.old.turns) × (self.new.cuts ≡ self.old.cuts)
-            × (self.new.pieces ≡ self.old.pieces + 1)) }
-        ensures kept { OnOk result
-            ((self.new.drawing ≡ self.old.drawing) × (self.new.finished ≡ self.old.finished)
-            × (self.new.ending ≡ self.old.ending) × (self.new.cursors ≡ self.old.cursors)) }
         ensures given { OnOk result
             (GoesOn self.old (as_chunk (next_piece self.old len instant) ∷ []) [] self.new) }
         ensures err { OnErr result (self.new ≡ self.old) }
@@ -155,36 +146,13 @@ impl<'w> Runner<'w> {
     /// The next slice of the offered piece: all that is left of it at one instant. None exactly when nothing is left;
     /// the runner is then idle. Looks at each operation at most once for each cut that it gives, and once more.
     pub fn next_cut(&mut self) -> Option<Slice>
-        ensures some { IfSome result (IsCut self.old self.new) }
-        ensures place { IfSome result
-            (λ slice. (slice.span.start ≡ self.old.position) × (self.new.position ≡ slice.span.stop)
-            × (self.new.idle ≡ false)) }
-        ensures apart { IfSome result
-            (λ slice. BeginsApart slice.instant (to_come self.new (Quiet ∷ []))) }
-        ensures ends { IfSome result (λ slice. EndsHere slice.instant self.new) }
+        ensures some { IfSome result (GivesCut self.old self.new) }
         ensures none { IsNone result ↔ HasNoChunk (to_come self.old (Quiet ∷ [])) }
-        ensures idle { IfNone result
-            ((self.new.idle ≡ true) × (self.new.position ≡ self.old.position)
-            × (self.new.cuts ≡ self.old.cuts)
-            × ((items : List OneItem) → to_come self.new items ≡ to_come self.old items)) }
-        ensures kept { (self.new.drawing ≡ self.old.drawing) × (self.new.finished ≡ self.old.finished)
-            × (self.new.piece ≡ self.old.piece) × (self.new.latest ≡ self.old.latest)
-            × (self.new.pieces ≡ self.old.pieces)
-            × (length self.new.cursors ≡ length self.old.cursors) }
-        ensures ops { ops_of self.new.cursors ≡ ops_of self.old.cursors }
+        ensures idle { IfNone result (GivesNoCut self.old self.new) }
+        ensures kept { KeepsOffers self.old self.new }
         ensures turns { self.new.turns + length self.old.cursors * self.old.cuts
             ≤ self.old.turns + length self.old.cursors * (self.new.cuts + 1) }
-        ensures given { MatchOption result (GoesOn self.old [] [] self.new)
-            (λ slice. GoesOn self.old [] (slice ∷ []) self.new) }
-        ensures lasting { (plan : Ops) (offered : List OneItem) (given : List OneSlice)
-            → HasGiven plan offered given self.new → IsLasting plan self.new.drawing.words offered given }
-        ensures later { IfSome result
-            (λ slice. (plan : Ops) (offered : List OneItem) (given : List OneSlice) → IsPlan plan
-            → IsStream (offered ++ Quiet ∷ []) → HasGiven plan offered given self.old
-            → AreAfter slice.instant (table (to_come self.new (Quiet ∷ [])))) }
-        ensures whole { IfNone result
-            ((plan : Ops) (offered : List OneItem) (given : List OneSlice)
-            → HasGiven plan offered given self.old → IsWhole plan self.old.drawing.words offered given) }
+        ensures given { GivesMeaning self.old self.new result }
     {
         let mut slice = self.cut()?;
         while let Some(stop) = self.cut_at(&slice.instant) {
@@ -198,10 +166,7 @@ impl<'w> Runner<'w> {
         ensures some { IfSome result
             (λ cut. IsOneCut self.old self.new cut × (self.new.idle ≡ false)) }
         ensures none { IsNone result ↔ HasNoChunk (to_come self.old (Quiet ∷ [])) }
-        ensures idle { IfNone result
-            ((self.new.idle ≡ true) × (self.new.position ≡ self.old.position)
-            × (self.new.cuts ≡ self.old.cuts)
-            × ((items : List OneItem) → to_come self.new items ≡ to_come self.old items)) }
+        ensures idle { IfNone result (GivesNoCut self.old self.new) }
         ensures turns { self.new.turns ≤ self.old.turns + length self.old.cursors }
         ensures kept { KeepsOffers self.old self.new }
     {

@@ -1,16 +1,24 @@
 -- Cuts at one instant are together a slice, and what was given goes on with it.
 use Rattle.std.proofs.Common.{[], ◌∷◌, ◌++◌, length, refl, sym, subst, ◌∙◌}
-use Rattle.std.specs.Prelude.{IsNone}
+use Rattle.std.specs.Prelude.{IsNone, IfNone}
 use Rattle.std.proofs.lemmas.List.{append-nil}
-use Rattle.tox_plan.specs.Given.{HasGiven}
+use Rattle.tox_plan.specs.Cuts.{GivesNoCut}
+use Rattle.tox_plan.specs.Given.{HasGiven, GoesOn}
 use Rattle.tox_plan.proofs.Orders.{left-after}
-use Rattle.tox_plan.proofs.Givens.{given-cut, whole}
+use Rattle.tox_plan.proofs.Givens.{given-cut, given-none, lasting, whole}
 use Rattle.tox_plan.proofs.GivenCuts.{one-round, more-rounds, IsCut-one, IsCut-longer, IsCut-same, keeps-both}
 use Rattle.tox_plan.proofs.runner.Runner.next_cut.Goals as goal
 
-pub returns-in_err-slice-clause-whole : goal.returns-in_err-slice-clause-whole
-returns-in_err-slice-clause-whole c =
-    rw c.from_residual.ensures (λ plan offered given. whole plan offered given c.args.self.now (c.cut.ensures.none.0 (subst IsNone (sym c.in_err-slice.was) refl)))
+pub returns-in_err-slice-clause-given : goal.returns-in_err-slice-clause-given
+returns-in_err-slice-clause-given c =
+    let nothing : GivesNoCut c.args.self.now c.cut.new.self = subst (λ cut. IfNone cut (GivesNoCut c.args.self.now c.cut.new.self)) c.in_err-slice.was c.cut.ensures.idle in
+    rw c.from_residual.ensures
+    (record {
+      goes_on = given-none c.args.self.now c.cut.new.self c.cut.ensures.kept.drawing nothing.to_come;
+      lasting = λ plan offered given. lasting plan offered given c.cut.new.self;
+      later = tt;
+      whole = λ plan offered given. whole plan offered given c.args.self.now (c.cut.ensures.none.0 (subst IsNone (sym c.in_err-slice.was) refl));
+    })
 
 pub loop-stop-init : goal.loop-stop-init
 loop-stop-init c = record {
@@ -38,12 +46,15 @@ pub returns-clause-given : goal.returns-clause-given
 returns-clause-given c =
     let on = c.loop-stop.invariant in
     let none = c.in_default.ensures.none in
-    given-cut c.args.self.now c.cut_at.new.self c.loop-stop.slice (c.cut_at.ensures.kept.drawing ∙ on.kept.drawing)
-    (IsCut-same c.args.self.now c.loop-stop.self c.cut_at.new.self c.loop-stop.slice on.cut none.0 none.2)
-
-pub returns-clause-later : goal.returns-clause-later
-returns-clause-later c =
-    λ plan offered given fits stream has.
-    left-after plan offered given c.loop-stop.slice c.cut_at.new.self fits stream
-    (subst (λ offered. HasGiven plan offered (given ++ c.loop-stop.slice ∷ []) c.cut_at.new.self) (append-nil offered) (returns-clause-given c plan offered given has))
-    c.loop-stop.invariant.cut.within.some c.in_default.ensures.none.3
+    let goes_on : GoesOn c.args.self.now [] (c.loop-stop.slice ∷ []) c.cut_at.new.self
+    = given-cut c.args.self.now c.cut_at.new.self c.loop-stop.slice (c.cut_at.ensures.kept.drawing ∙ on.kept.drawing)
+    (IsCut-same c.args.self.now c.loop-stop.self c.cut_at.new.self c.loop-stop.slice on.cut none.0 none.2) in
+    record {
+      goes_on = goes_on;
+      lasting = λ plan offered given. lasting plan offered given c.cut_at.new.self;
+      later = λ plan offered given fits stream has.
+          left-after plan offered given c.loop-stop.slice c.cut_at.new.self fits stream
+          (subst (λ offered. HasGiven plan offered (given ++ c.loop-stop.slice ∷ []) c.cut_at.new.self) (append-nil offered) (goes_on plan offered given has))
+          on.cut.within.some none.3;
+      whole = tt;
+    }
