@@ -10,6 +10,11 @@ pub record IsLinkStream (items : List Item) : Type 0 where
   pub stream : IsStream items
   pub few : arrived items ≤ 2 ^ 40
 
+-- all of such a stream was sent, and nothing else
+pub record SendsAll (items given : List Item) : Type 0 where
+  pub stream : IsLinkStream items
+  pub whole : given ≡ items
+
 -- the first items of such a stream
 abbrev pub BeginsStream : List Item → Type 0
 BeginsStream items = (rest : List Item) × IsLinkStream (items ++ rest)

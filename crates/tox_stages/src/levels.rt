@@ -9,7 +9,7 @@ ghost use Rattle.tox_words.specs.Draw.{draw_in};
 ghost use Rattle.tox_defs.specs.Flow.{IsPlaced, applied, chain_flow, placed_reaction};
 ghost use Rattle.tox_network.specs.Shown.{shown};
 ghost use Rattle.tox_stages.specs.AtRest.{IsNetworkAtRest};
-ghost use Rattle.tox_stages.specs.Passing.{Delivers, IsLinkStream, SendsFlow};
+ghost use Rattle.tox_stages.specs.Passing.{Delivers, SendsAll, SendsFlow};
 ghost use Rattle.tox_stages.specs.Workers.{IsWorkerOf};
 ghost use Rattle.tox_stages.specs.declared.fault.StageFault.TheVariants.{SpawnRefused};
 
@@ -148,8 +148,8 @@ fn level<'s, E: 's, R: Threads + Wait + Sync, G: Gate>(
     requires stages { stage_number + length toxics.now ≤ 32 }
     ensures first { SameProducer first.old first.new }
     ensures consumer { IfOk result (λ ended. SameConsumer consumer ended.0) }
-    ensures stream { IfOk result (λ _. IsLinkStream (arrival_list pipeline.now.arrivals.now)) }
-    ensures sent { IfOk result (λ _. sent first.new ≡ arrival_list pipeline.now.arrivals.now) }
+    ensures sent { IfOk result
+        (λ _. SendsAll (arrival_list pipeline.now.arrivals.now) (sent first.new)) }
     ensures delivered { IfOk result
         (λ ended. Delivers (map (placed_reaction (draw_in pipeline.now.lanes pipeline.now.words.now)) toxics.now)
         (received ended.0) (shown ended.1.slices (Some ended.1.ending))) }

@@ -4,7 +4,7 @@ ghost use Rattle.rtrb.specs.Ring.{sent, received, SameProducer, SameConsumer};
 ghost use Rattle.tox_time.specs.streams.Arrivals.{arrival_list};
 ghost use Rattle.tox_network.specs.Shown.{shown};
 ghost use Rattle.tox_stages.specs.Collecting.{Collects};
-ghost use Rattle.tox_stages.specs.Passing.{Delivers, IsLinkStream};
+ghost use Rattle.tox_stages.specs.Passing.{Delivers, SendsAll};
 ghost use Rattle.tox_stages.specs.declared.fault.StageFault.TheVariants.{OutOfMemory};
 
 use crate::collected::Collected;
@@ -67,8 +67,7 @@ pub(crate) fn feed_and_drain<R: Wait>(
     requires { (sent first.old ≡ []) × (received consumer ≡ []) }
     ensures first { SameProducer first.old first.new }
     ensures consumer { IfOk result (λ ended. SameConsumer consumer ended.0) }
-    ensures stream { IsLinkStream (arrival_list arrivals.now) }
-    ensures sent { sent first.new ≡ arrival_list arrivals.now }
+    ensures sent { SendsAll (arrival_list arrivals.now) (sent first.new) }
     ensures delivered { IfOk result
         (λ ended. Delivers [] (received ended.0) (shown ended.1.slices (Some ended.1.ending))) }
     ensures err { IfErr result (λ fault. fault ≡ OutOfMemory) }

@@ -22,7 +22,7 @@ level-below-requires-clause-toxics g t c =
     λ _ _. All-tail (IsPlaced lanes) toxic later (subst (All (IsPlaced lanes)) split c.requires.toxics)
 
 pub returns-in_default-clause-ended : goal.returns-in_default-clause-ended
-returns-in_default-clause-ended g t c = ap has_final c.feed_and_drain.ensures.sent ∙ final_of_stream 0 0 _ c.feed_and_drain.ensures.stream.stream
+returns-in_default-clause-ended g t c = let sends = c.feed_and_drain.ensures.sent in ap has_final sends.whole ∙ final_of_stream 0 0 _ sends.stream.stream
 
 pub returns-clause-delivered : goal.returns-clause-delivered
 returns-clause-delivered g t c =
