@@ -17,7 +17,7 @@ use Rattle.tox_time.proofs.StreamLemmas.{table-append}
 use Rattle.tox_defs.specs.operations.Look.{as_chunk}
 use Rattle.tox_plan.specs.RunnerView.{RunnerView, to_come, no_piece}
 use Rattle.tox_plan.specs.Cuts.{Reach, IsCut, IsWithin}
-use Rattle.tox_plan.specs.Delivering.{PreservesOutput, stop_from, MayFollow, EndsAt, StandsAt, StandsBehind}
+use Rattle.tox_plan.specs.Delivering.{PreservesOutput, stop_from, IsNextFor, EndsAt, StandsAt, StandsBehind}
 
 pub slices_table-append : (xs ys : List Slice) → slices_table (xs ++ ys) ≡ slices_table xs ++ slices_table ys
 slices_table-append [] ys = refl
@@ -114,13 +114,17 @@ pub record IsAhead (runner : RunnerView) (items : List Item) : Type 0 where
   pub stands : runner.ending ≡ None → StandsAt runner last
 
 -- the next item may follow
-pub next_follows : (runner : RunnerView) (item : Item) (items : List Item) → IsAhead runner (item ∷ items)
-    → (last : Slice) × MayFollow last item × (runner.latest ≤ last.instant) × (runner.ending ≡ None → StandsAt runner last)
+pub next_follows : (runner : RunnerView) (item : Item) (items : List Item) → IsAhead runner (item ∷ items) → IsNextFor runner item
 next_follows runner (Chunk span t) items ahead =
-    (ahead.last, (ahead.stream.0, omega (arith, ahead.stream.0, ahead.stream.1), omega (arith, ahead.stream.0, ahead.stream.1, ahead.few), ahead.stream.2), ahead.latest, ahead.stands)
-next_follows runner (Closed t) items ahead = (ahead.last, ahead.stream.0, ahead.latest, ahead.stands)
+    record {
+      last = ahead.last;
+      follows = (ahead.stream.0, omega (arith, ahead.stream.0, ahead.stream.1), omega (arith, ahead.stream.0, ahead.stream.1, ahead.few), ahead.stream.2);
+      latest = ahead.latest;
+      stands = ahead.stands;
+    }
+next_follows runner (Closed t) items ahead = record { last = ahead.last; follows = ahead.stream.0; latest = ahead.latest; stands = ahead.stands }
 next_follows runner (Reset t) items ahead = absurd (ahead.no_reset tt)
-next_follows runner Quiet items ahead = (ahead.last, tt, ahead.latest, ahead.stands)
+next_follows runner Quiet items ahead = record { last = ahead.last; follows = tt; latest = ahead.latest; stands = ahead.stands }
 
 -- nothing comes after a final
 pub ends_at : (runner : RunnerView) (item : Item) (items : List Item) → IsAhead runner (item ∷ items) → EndsAt item items

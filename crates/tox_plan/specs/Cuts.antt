@@ -65,7 +65,21 @@ pub record GivesNoCut (old new : RunnerView) : Type 0 where
   pub idle : new.idle ≡ true
   pub position : new.position ≡ old.position
   pub cuts : new.cuts ≡ old.cuts
-  pub to_come : (items : List Item) → to_come new items ≡ to_come old items
+  pub same : (items : List Item) → to_come new items ≡ to_come old items
+
+-- no cut that leaves at this instant was left to give
+pub record GivesNoMore (instant : ℕ) (old new : RunnerView) : Type 0 where
+  pub same : (items : List Item) → to_come new items ≡ to_come old items
+  pub position : new.position ≡ old.position
+  pub cuts : new.cuts ≡ old.cuts
+  pub apart : BeginsApart instant (to_come new (Quiet ∷ []))
+  pub ends : EndsHere instant new
+
+-- all that was left of the offered piece was given
+pub record GivesAll (old new : RunnerView) : Type 0 where
+  pub idle : new.idle ≡ true
+  pub piece : new.piece ≡ old.piece
+  pub latest : new.latest ≡ old.latest
 
 -- the offers, the words and the plan's operations stay
 pub record KeepsOffers (old new : RunnerView) : Type 0 where

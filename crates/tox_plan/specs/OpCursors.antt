@@ -116,8 +116,20 @@ pub record LooksOnce (cursors before after : ℕ) : Type 0 where
   pub more : before ≤ after
   pub some : 0 < cursors → before < after
 
+-- where no ending was found behind these cursors before, none is kept in front of it now
+abbrev pub StayOpen : Bool → Bool → List OpCursor → Type 0
+StayOpen before after cursors =
+    (upstream : List OpCursor) → AreOpenUnless before upstream → AreOpenUnless after (cursors ++ upstream)
+
 -- what a pull brought
 abbrev pub MatchPulled : Draws → ℕ → List OpCursor → List OpCursor → Slice → Option Emission → Type 0
 MatchPulled draws start old new source None = (new ≡ old) × AreDrained start old source
 MatchPulled draws start old new source (Some (Piece piece)) = IsNext draws start old new source piece
 MatchPulled draws start old new source (Some (End ending)) = IsTheEnd draws start old new source ending
+
+-- what was pulled through the cursors behind these went on through these
+abbrev pub PullsThrough : Draws → ℕ → List OpCursor → List OpCursor → Option Emission
+    → Option Emission → Type 0
+PullsThrough draws start before after pulled passed =
+    (source : Slice) (old new : List OpCursor) → MatchPulled draws start old new source pulled
+    → MatchPulled draws start (before ++ old) (after ++ new) source passed

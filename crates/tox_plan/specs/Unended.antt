@@ -1,10 +1,14 @@
 -- When a link hasn't ended yet.
-use Rattle.std.specs.Prelude.{◌≢◌, ℕ, ◌<◌, List, [], ◌∷◌, Option, Some, None}
+use Rattle.std.specs.Prelude.{◌≡◌, ◌≢◌, ℕ, ◌<◌, ◌≤◌, List, [], ◌∷◌, Option, Some, None}
 use Rattle.tox_time.specs.declared.streams.item.Item.{Item}
 use Rattle.tox_time.specs.declared.streams.item.Item.TheVariants.{Closed, Quiet}
 use Rattle.tox_time.specs.declared.streams.ending.Ending.{Ending}
 use Rattle.tox_time.specs.declared.streams.ending.Ending.TheVariants.{StillOpen, Closed as ClosedAt, Reset as ResetAt}
+use Rattle.tox_time.specs.streams.Stream.{IsStreamFrom}
 use Rattle.tox_time.specs.streams.Table.{ending}
+use Rattle.tox_compile.specs.Meaning.{deadline_of}
+use Rattle.tox_plan.specs.OpCursors.{ops_of}
+use Rattle.tox_plan.specs.RunnerView.{RunnerView, to_come}
 
 -- there is no deadline, or it is later
 abbrev pub IsBeforeDeadline : ℕ → Option ℕ → Type 0
@@ -22,3 +26,9 @@ IsOpenAt now (ResetAt t) = now < t
 pub record IsUnended (output : List Item → List Item) (now : ℕ) : Type 0 where
   pub quiet : IsOpenAt now (ending (output (Quiet ∷ [])))
   pub closed : ending (output (Closed now ∷ [])) ≢ StillOpen
+
+-- where the plan has a deadline, this is to come whatever arrives at or after it
+abbrev pub LeavesPastDeadline : RunnerView → List Item → Type 0
+LeavesPastDeadline runner last =
+    (d position since : ℕ) (items : List Item) → deadline_of (ops_of runner.cursors) ≡ Some d
+    → d ≤ since → IsStreamFrom position since items → to_come runner items ≡ last

@@ -1,7 +1,6 @@
 //! What a whole list of arrivals comes to.
 ghost use Rattle.std.specs.Prelude.{◌≡◌, ◌≤◌, List, [], ◌∷◌, Any, IfOk, OnOk, true, None};
 ghost use Rattle.tox_time.specs.declared.streams.item.Item.{Item as OneItem};
-ghost use Rattle.tox_time.specs.declared.streams.slice.Slice.{Slice as OneSlice};
 ghost use Rattle.tox_time.specs.streams.Arrivals.{arrival_list};
 ghost use Rattle.tox_time.specs.streams.Stream.{IsStream, latest_from};
 ghost use Rattle.tox_time.specs.streams.Table.{IsOutcomeOf};
@@ -9,7 +8,8 @@ ghost use Rattle.tox_time.specs.streams.Neighbours.{AreNeighbours, LiesInChunk};
 ghost use Rattle.tox_defs.specs.Flow.{chain_flow};
 ghost use Rattle.tox_compile.specs.Meaning.{means};
 ghost use Rattle.tox_network.specs.runs.Runs.{OfEveryRest};
-ghost use Rattle.tox_plan.specs.Delivering.{MayFollow, EndsAt, StandsAt, StandsBehind, PreservesOutput, stop_from};
+ghost use Rattle.tox_plan.specs.Cuts.{GivesAll};
+ghost use Rattle.tox_plan.specs.Delivering.{EndsAt, IsNextFor, LeadTo, PreservesOutput, StandsBehind};
 
 use crate::runner::Runner;
 use std::alloc::{AllocError, Global};
@@ -23,13 +23,11 @@ fn take_cuts(runner: &mut Runner, slices: &mut SliceList) -> Result<(), AllocErr
     ensures goes { OnOk result
         ((items : List OneItem)
         → PreservesOutput runner.old slices.old items runner.new slices.new items) }
-    ensures idle { OnOk result
-        ((runner.new.idle ≡ true) × (runner.new.piece ≡ runner.old.piece)
-        × (runner.new.latest ≡ runner.old.latest)) }
+    ensures all { OnOk result (GivesAll runner.old runner.new) }
     ensures neighbours { OnOk result
         ((items : List OneItem) → Any (LiesInChunk runner.old.piece.span) items
-        → AreNeighbours items 0 slices.old → stop_from 0 slices.old ≡ runner.old.position
-        → AreNeighbours items 0 slices.new × (stop_from 0 slices.new ≡ runner.new.position)) }
+        → LeadTo items slices.old runner.old.position
+        → LeadTo items slices.new runner.new.position) }
 {
     while let Some(slice) = runner.next_cut() {
         slices.push(slice)?;
@@ -40,9 +38,7 @@ fn take_cuts(runner: &mut Runner, slices: &mut SliceList) -> Result<(), AllocErr
 /// Gives the runner the next arrival, and takes the slices that it makes of it.
 fn take_item(runner: &mut Runner, slices: &mut SliceList, item: &Item) -> Result<(), AllocError>
     requires idle { runner.old.idle ≡ true }
-    requires follows { (last : OneSlice) × MayFollow last item.now
-        × (runner.old.latest ≤ last.instant)
-        × (runner.old.ending ≡ None → StandsAt runner.old last) }
+    requires follows { IsNextFor runner.old item.now }
     ensures goes { OnOk result
         ((items : List OneItem) → EndsAt item.now items
         → PreservesOutput runner.old slices.old
@@ -53,8 +49,8 @@ fn take_item(runner: &mut Runner, slices: &mut SliceList, item: &Item) -> Result
     ensures stands { OnOk result (runner.new.ending ≡ None → StandsBehind runner.new item.now) }
     ensures neighbours { OnOk result
         ((items : List OneItem) → Any (λ other. other ≡ item.now) items
-        → AreNeighbours items 0 slices.old → stop_from 0 slices.old ≡ runner.old.position
-        → AreNeighbours items 0 slices.new × (stop_from 0 slices.new ≡ runner.new.position)) }
+        → LeadTo items slices.old runner.old.position
+        → LeadTo items slices.new runner.new.position) }
 {
     match item {
         Item::Chunk(span, instant) => {

@@ -1,12 +1,11 @@
 //! The next piece through the cursors of a plan. The cursors stand last operation first, and their ends nest: cursor k's
 //! unread bytes are `cursor[k-1].stop..cursor[k].stop`.
-ghost use Rattle.std.specs.Prelude.{◌≡◌, ℕ, ◌+◌, ◌^◌, ◌<◌, ◌≤◌, List, [], ◌∷◌, ◌++◌, length, take, drop, All, None, Some, false};
+ghost use Rattle.std.specs.Prelude.{◌≡◌, ◌+◌, ◌^◌, ◌<◌, ◌≤◌, [], ◌∷◌, length, take, drop, All, None, Some, false};
 ghost use Rattle.tox_time.specs.declared.streams.slice.Slice.{Slice as OneSlice};
 ghost use Rattle.tox_words.specs.Draw.{Draws, draws_of};
-ghost use Rattle.tox_defs.specs.declared.operations.op_cursor.OpCursor.{OpCursor as OneCursor};
 ghost use Rattle.tox_defs.specs.operations.Op.{is_mute};
 ghost use Rattle.tox_defs.specs.operations.OpCursor.{IsSoundCursor, MatchEmission};
-ghost use Rattle.tox_plan.specs.OpCursors.{AreNested, AreOpenUnless, IsRead, BeginsUnread, IsFrom, LooksOnce, MatchPulled, ops_of};
+ghost use Rattle.tox_plan.specs.OpCursors.{AreNested, AreOpenUnless, IsRead, BeginsUnread, IsFrom, LooksOnce, MatchPulled, PullsThrough, StayOpen, ops_of};
 
 use tox_defs::{Emission, OpCursor};
 use tox_time::{Slice, Span};
@@ -120,13 +119,11 @@ fn pass(
     requires read { All (IsRead start) cursors.old }
     requires from { IsFrom start pulled.old }
     requires room { looks.old.turns + length cursors.old < 2 ^ 64 }
-    ensures pulled { (source : OneSlice) (old new : List OneCursor)
-        → MatchPulled (draws_of drawing.now) start old new source pulled.old
-        → MatchPulled (draws_of drawing.now) start (cursors.old ++ old) (cursors.new ++ new) source pulled.new }
+    ensures pulled { PullsThrough (draws_of drawing.now) start cursors.old cursors.new
+        pulled.old pulled.new }
     ensures ops { ops_of cursors.new ≡ ops_of cursors.old }
     ensures turns { looks.new.turns ≡ looks.old.turns + length cursors.old }
-    ensures ended { (upstream : List OneCursor) → AreOpenUnless looks.old.ended upstream
-        → AreOpenUnless looks.new.ended (cursors.new ++ upstream) }
+    ensures ended { StayOpen looks.old.ended looks.new.ended cursors.new }
 {
     if let Some((cursor, downstream)) = cursors.split_last_mut() {
         pass_one(cursor, start, pulled, drawing, looks);
@@ -145,14 +142,12 @@ fn pass_one(
     requires read { IsRead start cursor.old }
     requires from { IsFrom start pulled.old }
     requires room { looks.old.turns + 1 < 2 ^ 64 }
-    ensures pulled { (source : OneSlice) (old new : List OneCursor)
-        → MatchPulled (draws_of drawing.now) start old new source pulled.old
-        → MatchPulled (draws_of drawing.now) start (cursor.old ∷ old) (cursor.new ∷ new) source pulled.new }
+    ensures pulled { PullsThrough (draws_of drawing.now) start (cursor.old ∷ []) (cursor.new ∷ [])
+        pulled.old pulled.new }
     ensures from { IsFrom start pulled.new }
     ensures op { cursor.new.op ≡ cursor.old.op }
     ensures turns { looks.new.turns ≡ looks.old.turns + 1 }
-    ensures ended { (upstream : List OneCursor) → AreOpenUnless looks.old.ended upstream
-        → AreOpenUnless looks.new.ended (cursor.new ∷ upstream) }
+    ensures ended { StayOpen looks.old.ended looks.new.ended (cursor.new ∷ []) }
 {
     looks.turns += 1;
     match *pulled {
@@ -186,8 +181,7 @@ fn advance(
     ensures from { IsFrom start (Some result) }
     ensures op { cursor.new.op ≡ cursor.old.op }
     ensures turns { looks.new.turns ≡ looks.old.turns }
-    ensures ended { (upstream : List OneCursor) → AreOpenUnless looks.old.ended upstream
-        → AreOpenUnless looks.new.ended (cursor.new ∷ upstream) }
+    ensures ended { StayOpen looks.old.ended looks.new.ended (cursor.new ∷ []) }
 {
     let emission = cursor.advance(start, drawing);
     looks.ended |= cursor.ending.is_some();

@@ -2,16 +2,15 @@
 ghost use Rattle.std.specs.Prelude.{◌≡◌, ◌≢◌, ℕ, ◌+◌, ◌*◌, ◌^◌, ◌<◌, ◌≤◌, ◌↔◌, ◌⊎◌, List, [], ◌∷◌, length, true, false, None, Some, IsSome, IsNone, IfSome, IfNone, OnOk, OnErr};
 ghost use Rattle.tox_time.specs.declared.streams.item.Item.{Item as OneItem};
 ghost use Rattle.tox_time.specs.declared.streams.item.Item.TheVariants.{Closed, Quiet};
-ghost use Rattle.tox_time.specs.streams.Stream.{IsStreamFrom};
 ghost use Rattle.tox_time.specs.streams.Table.{final_of};
 ghost use Rattle.tox_defs.specs.operations.Look.{as_chunk};
 ghost use Rattle.tox_compile.specs.Meaning.{deadline_of};
 ghost use Rattle.tox_plan.specs.OpCursors.{ops_of};
 ghost use Rattle.tox_plan.specs.RunnerView.{to_come, HasNoChunk, known_ending, next_piece, offer_answer, with_offer};
-ghost use Rattle.tox_plan.specs.Cuts.{IsOneCut, GivesCut, GivesNoCut, KeepsOffers, BeginsApart, EndsHere};
+ghost use Rattle.tox_plan.specs.Cuts.{IsOneCut, GivesCut, GivesNoCut, GivesNoMore, KeepsOffers};
 ghost use Rattle.tox_plan.specs.Given.{GoesOn, GivesMeaning};
 ghost use Rattle.tox_plan.specs.NewRunner.{IsNewRunner};
-ghost use Rattle.tox_plan.specs.Unended.{IsBeforeDeadline, IsUnended};
+ghost use Rattle.tox_plan.specs.Unended.{IsBeforeDeadline, IsUnended, LeavesPastDeadline};
 
 use crate::cursor_endings::{ending_of_read, last_of};
 use crate::phase::Phase;
@@ -184,11 +183,7 @@ impl<'w> Runner<'w> {
         ensures some { IfSome result
             (λ stop. IsOneCut self.old self.new
             (record { span = record { start = self.old.position; stop = stop }; instant = instant.now })) }
-        ensures none { IfNone result
-            (((items : List OneItem) → to_come self.new items ≡ to_come self.old items)
-            × (self.new.position ≡ self.old.position) × (self.new.cuts ≡ self.old.cuts)
-            × BeginsApart instant.now (to_come self.new (Quiet ∷ []))) }
-        ensures ends { IfNone result (EndsHere instant.now self.new) }
+        ensures none { IfNone result (GivesNoMore instant.now self.old self.new) }
         ensures idle { self.new.idle ≡ self.old.idle }
         ensures turns { self.new.turns ≤ self.old.turns + length self.old.cursors }
         ensures kept { KeepsOffers self.old self.new }
@@ -264,10 +259,7 @@ impl<'w> Runner<'w> {
         requires { self.old.idle ≡ true }
         ensures last { to_come self.old (Quiet ∷ []) ≡ final_of result ∷ [] }
         ensures ended { self.new ≡ record self.old { ending = Some result; finished = true } }
-        ensures deadline { (d position since : ℕ) (items : List OneItem)
-            → deadline_of (ops_of self.old.cursors) ≡ Some d → d ≤ since
-            → IsStreamFrom position since items
-            → to_come self.old items ≡ final_of result ∷ [] }
+        ensures deadline { LeavesPastDeadline self.old (final_of result ∷ []) }
     {
         self.end_with(&Ending::StillOpen)
     }
@@ -276,10 +268,7 @@ impl<'w> Runner<'w> {
         requires { self.old.idle ≡ true }
         ensures last { to_come self.old (final_of ending.now ∷ []) ≡ final_of result ∷ [] }
         ensures ended { self.new ≡ record self.old { ending = Some result; finished = true } }
-        ensures deadline { (d position since : ℕ) (items : List OneItem)
-            → deadline_of (ops_of self.old.cursors) ≡ Some d → d ≤ since
-            → IsStreamFrom position since items
-            → to_come self.old items ≡ to_come self.old (Quiet ∷ []) }
+        ensures deadline { LeavesPastDeadline self.old (to_come self.old (Quiet ∷ [])) }
     {
         let last = &match self.phase.ending() {
             Some(known) => known,

@@ -23,10 +23,10 @@ loop-item-preserved c =
       ahead = ahead_next c.loop-item.runner c.take_item.new.runner item later ahead c.in_ok-take_item.ensures.latest c.in_ok-take_item.ensures.stands;
       goes = goes-on c.new-runner.result c.loop-item.runner c.take_item.new.runner [] c.loop-item.slices c.take_item.new.slices (arrival_list items) (arrival_list (item ∷ later)) (arrival_list later)
           so_far (c.in_ok-take_item.ensures.goes later (ends_at c.loop-item.runner item later ahead));
-      neighbours = c.in_ok-take_item.ensures.neighbours items among c.loop-item.invariant.neighbours.0 c.loop-item.invariant.neighbours.1;
+      neighbours = c.in_ok-take_item.ensures.neighbours items among c.loop-item.invariant.neighbours;
     }
 
 pub returns-clause-neighbours : goal.returns-clause-neighbours
 returns-clause-neighbours c =
     let stored : c.items-item-items.result.now ≡ c.args.arrivals.now = c.items-item-items.ensures.stored in
-    neighbours-stored c.args.arrivals.now 0 c.loop-item.slices (subst (λ items. AreNeighbours items 0 c.loop-item.slices) stored c.loop-item.invariant.neighbours.0)
+    neighbours-stored c.args.arrivals.now 0 c.loop-item.slices (subst (λ items. AreNeighbours items 0 c.loop-item.slices) stored c.loop-item.invariant.neighbours.neighbours)

@@ -4,5 +4,5 @@ use Rattle.tox_plan.proofs.delivery.take_item.Goals as goal
 
 pub finish-requires-clause-later : goal.finish-requires-clause-later
 finish-requires-clause-later c =
-    let order : c.requires.follows.0.instant ≤ c.in-Closed.instant = rw c.in-Closed.is at c.requires.follows.1 in
-    omega (arith, order, c.requires.follows.2)
+    let order : c.requires.follows.last.instant ≤ c.in-Closed.instant = rw c.in-Closed.is at c.requires.follows.follows in
+    omega (arith, order, c.requires.follows.latest)

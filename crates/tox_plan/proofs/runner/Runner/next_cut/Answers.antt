@@ -14,7 +14,7 @@ returns-in_err-slice-clause-given c =
     let nothing : GivesNoCut c.args.self.now c.cut.new.self = subst (λ cut. IfNone cut (GivesNoCut c.args.self.now c.cut.new.self)) c.in_err-slice.was c.cut.ensures.idle in
     rw c.from_residual.ensures
     (record {
-      goes_on = given-none c.args.self.now c.cut.new.self c.cut.ensures.kept.drawing nothing.to_come;
+      goes_on = given-none c.args.self.now c.cut.new.self c.cut.ensures.kept.drawing nothing.same;
       lasting = λ plan offered given. lasting plan offered given c.cut.new.self;
       later = tt;
       whole = λ plan offered given. whole plan offered given c.args.self.now (c.cut.ensures.none.0 (subst IsNone (sym c.in_err-slice.was) refl));
@@ -48,13 +48,13 @@ returns-clause-given c =
     let none = c.in_default.ensures.none in
     let goes_on : GoesOn c.args.self.now [] (c.loop-stop.slice ∷ []) c.cut_at.new.self
     = given-cut c.args.self.now c.cut_at.new.self c.loop-stop.slice (c.cut_at.ensures.kept.drawing ∙ on.kept.drawing)
-    (IsCut-same c.args.self.now c.loop-stop.self c.cut_at.new.self c.loop-stop.slice on.cut none.0 none.2) in
+    (IsCut-same c.args.self.now c.loop-stop.self c.cut_at.new.self c.loop-stop.slice on.cut none.same none.cuts) in
     record {
       goes_on = goes_on;
       lasting = λ plan offered given. lasting plan offered given c.cut_at.new.self;
       later = λ plan offered given fits stream has.
           left-after plan offered given c.loop-stop.slice c.cut_at.new.self fits stream
           (subst (λ offered. HasGiven plan offered (given ++ c.loop-stop.slice ∷ []) c.cut_at.new.self) (append-nil offered) (goes_on plan offered given has))
-          on.cut.within.some none.3;
+          on.cut.within.some none.apart;
       whole = tt;
     }
