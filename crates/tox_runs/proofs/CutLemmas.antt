@@ -11,7 +11,7 @@ use Rattle.tox_time.specs.streams.Table.{ending, final_of, table}
 use Rattle.tox_lend.specs.Run.{LiesIn, Run, bytes_at, stop_of}
 use Rattle.tox_plan.specs.Cuts.{BeginsApart, EndsHere, IsCut}
 use Rattle.tox_plan.specs.RunnerView.{RunnerView, to_come}
-use Rattle.tox_plan.specs.Delivering.{MayFollow, StandsAt, StandsBehind}
+use Rattle.tox_plan.specs.Delivering.{IsNextFor, StandsBehind}
 use Rattle.tox_plan.specs.Slices.{IsOffered}
 use Rattle.tox_plan.proofs.RunnerOutput.{no_chunk-table}
 use Rattle.tox_plan.proofs.Deliveries.{ahead_next, goes-cut, next_follows}
@@ -88,22 +88,13 @@ ended_text arrived runner items StillOpen is = ap (λ items. lines_text (deliver
 ended_text arrived runner items (ClosedAt t) is = ap (λ items. lines_text (delivered_from arrived runner.position (table items)) ++ ending_line (ending items)) is
 ended_text arrived runner items (ResetAt t) is = ap (λ items. lines_text (delivered_from arrived runner.position (table items)) ++ ending_line (ending items)) is
 
--- the item may come after the piece that was offered last, at which the runner stands unless its ending is known
-pub record IsNextFor (runner : RunnerView) (item : Item) : Type 0 where
-  pub last : Slice
-  pub follows : MayFollow last item
-  pub latest : runner.latest ≤ last.instant
-  pub stands : runner.ending ≡ None → StandsAt runner last
-
 -- the runner stands at the item, unless its ending is known
 pub record HasTaken (runner : RunnerView) (item : Item) : Type 0 where
   pub latest : (since : ℕ) → runner.latest ≤ latest_from since (item ∷ [])
   pub stands : runner.ending ≡ None → StandsBehind runner item
 
 pub next_for : (runner : RunnerView) (item : Item) (items : List Item) → MayComeNext runner (item ∷ items) → IsNextFor runner item
-next_for runner item items ready =
-    let next = next_follows runner item items ready.ahead in
-    record { last = next.0; follows = next.1; latest = next.2; stands = next.3 }
+next_for runner item items ready = next_follows runner item items ready.ahead
 
 -- behind the item that was taken the others come next
 pub MayComeNext-next : (old new : RunnerView) (item : Item) (items : List Item) → MayComeNext old (item ∷ items) → new.idle ≡ true → HasTaken new item → MayComeNext new items

@@ -17,7 +17,7 @@ use Rattle.tox_runs.specs.declared.files.pick_request.PickFault.{PickFault}
 use Rattle.tox_runs.specs.declared.files.pick_request.PickFault.TheVariants.{BadStream, Setup, UnknownProxy, Print}
 
 -- the two files were read, and by them this text answers a question
-pub record Answers (known : List ℕ → KnownFile) (request : PickRequest)
+pub record AnswersPick (known : List ℕ → KnownFile) (request : PickRequest)
     (text : List ℕ) : Type 0 where
   pub stream : Stream
   pub named : stream_named request.stream.now ≡ Some stream
@@ -32,7 +32,7 @@ pub record Answers (known : List ℕ → KnownFile) (request : PickRequest)
 pub record WritesPick (known : List ℕ → KnownFile) (request : PickRequest)
     (old new : Option (List ℕ)) : Type 0 where
   pub text : List ℕ
-  pub answers : Answers known request text
+  pub answers : AnswersPick known request text
   pub written : new ≡ append_known old text
 
 -- the two files were read, and define no such proxy
@@ -46,7 +46,7 @@ pub record LacksProxy (known : List ℕ → KnownFile) (request : PickRequest) :
 pub record StopsPrinting (known : List ℕ → KnownFile) (request : PickRequest)
     (old new : Option (List ℕ)) (failed : Bool) (fault : PrintPickFault) : Type 0 where
   pub text : List ℕ
-  pub answers : Answers known request text
+  pub answers : AnswersPick known request text
   pub left : PickLeaves old new failed text fault
 
 -- why a pick request failed, and what was written: nothing, or a prefix of the answer where the writer has failed

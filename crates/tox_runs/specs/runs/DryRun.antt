@@ -1,5 +1,5 @@
 -- What a dry run reads, answers and writes.
-use Rattle.std.specs.Prelude.{◌≡◌, ℕ, List, Option, Ok}
+use Rattle.std.specs.Prelude.{◌≡◌, ℕ, Bool, List, Option, Ok}
 use Rattle.std.specs.Io.KnownBytes.{append_known}
 use Rattle.tox_time.specs.streams.Arrivals.{arrival_list}
 use Rattle.tox_time.specs.streams.Table.{table, ending}
@@ -9,7 +9,7 @@ use Rattle.tox_network.specs.runs.Runs.{OfEveryRest}
 use Rattle.tox_text.specs.declared.fault.DryFault.{DryFault}
 use Rattle.tox_text.specs.declared.fault.DryFault.TheVariants.{OutOfMemory, BadLine, TooLong, ReadFault, WriteFault, Arrival}
 use Rattle.tox_text.specs.arrivals.ArrivalsText.{Arrived, arrivals_of}
-use Rattle.tox_runs.specs.runs.Reading.{ReadsWhole}
+use Rattle.tox_runs.specs.runs.Reading.{HasCause, ReadsWhole}
 use Rattle.tox_text.specs.ResultText.{result_text}
 use Rattle.tox_text.specs.Writing.{AppendsFront}
 
@@ -43,7 +43,7 @@ pub record WritesEveryRest (chain : Toxics) (words : List ℕ)
       (result_text arrived (table network.delivered) (ending network.delivered)))
 
 -- a prefix of the result was written
-pub record WritesFront (chain : Toxics) (words : List ℕ)
+pub record WritesResultFront (chain : Toxics) (words : List ℕ)
     (before after old new : Option (List ℕ)) : Type 0 where
   pub arrived : Arrived
   pub read : ParsesInput before after arrived
@@ -56,5 +56,11 @@ DryLeaves chain words before after old new OutOfMemory = new ≡ old
 DryLeaves chain words before after old new (BadLine n) = new ≡ old
 DryLeaves chain words before after old new TooLong = new ≡ old
 DryLeaves chain words before after old new ReadFault = new ≡ old
-DryLeaves chain words before after old new WriteFault = WritesFront chain words before after old new
+DryLeaves chain words before after old new WriteFault = WritesResultFront chain words before after old new
 DryLeaves chain words before after old new (Arrival fault n) = new ≡ old
+
+-- why a dry run answers this fault, and what it then leaves written
+pub record StopsDry (chain : Toxics) (words : List ℕ) (before after old new : Option (List ℕ))
+    (read_failed write_failed : Bool) (fault : DryFault) : Type 0 where
+  pub cause : HasCause before after read_failed write_failed fault
+  pub left : DryLeaves chain words before after old new fault

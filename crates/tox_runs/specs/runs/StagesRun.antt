@@ -20,3 +20,9 @@ abbrev pub StagesLeave : Toxics → List ℕ → Option (List ℕ) → Option (L
 StagesLeave chain words before after old new (Dry fault) =
     DryLeaves chain words before after old new fault
 StagesLeave chain words before after old new (Stages fault) = new ≡ old
+
+-- why a run of stages answers this fault, and what it then leaves written
+pub record StopsStages (chain : Toxics) (words : List ℕ) (before after old new : Option (List ℕ))
+    (read_failed write_failed : Bool) (fault : StagesFault) : Type 0 where
+  pub cause : HasStagesCause before after read_failed write_failed fault
+  pub left : StagesLeave chain words before after old new fault

@@ -1,8 +1,8 @@
 //! The dry run: arrivals in, the result of a chain out, with no clock and no socket.
 ghost use Rattle.std.specs.Prelude.{◌≡◌, ◌≢◌, ◌+◌, [], false, vec_capacity, OnOk, IfErr, Err};
 ghost use Rattle.std.specs.Result.{ForOk};
-ghost use Rattle.tox_runs.specs.runs.DryRun.{DryLeaves, WritesEveryRest, WritesResult, flow_text};
-ghost use Rattle.tox_runs.specs.runs.Reading.{HasCause, TakesAtMost};
+ghost use Rattle.tox_runs.specs.runs.DryRun.{StopsDry, WritesEveryRest, WritesResult, flow_text};
+ghost use Rattle.tox_runs.specs.runs.Reading.{TakesAtMost};
 ghost use Rattle.tox_text.specs.arrivals.ArrivalsText.{arrivals_of};
 ghost use Rattle.tox_text.specs.arrivals.Checked.{IsChecked};
 ghost use Rattle.tox_text.specs.Writing.{Writes};
@@ -39,14 +39,11 @@ pub fn dry_run<R: Source, W: Sink>(
     ensures every_run { OnOk result
         (WritesEveryRest chain.now words.now (R.remaining reader.old) (R.remaining reader.new)
         (W.written writer.old) (W.written writer.new)) }
-    ensures cause { IfErr result
-        (HasCause (R.remaining reader.old) (R.remaining reader.new) (R.failed reader.new)
-        (W.failed writer.new)) }
+    ensures fault { IfErr result
+        (StopsDry chain.now words.now (R.remaining reader.old) (R.remaining reader.new)
+        (W.written writer.old) (W.written writer.new) (R.failed reader.new) (W.failed writer.new)) }
     ensures working { result ≢ Err WriteFault → W.failed writer.new ≡ false }
     ensures reading { result ≢ Err ReadFault → R.failed reader.new ≡ false }
-    ensures left { IfErr result
-        (DryLeaves chain.now words.now (R.remaining reader.old) (R.remaining reader.new)
-        (W.written writer.old) (W.written writer.new)) }
     ensures most { TakesAtMost (16_777_216 + 1) (R.remaining reader.old) (R.remaining reader.new) }
 {
     let CheckedInput { text, room } = read_checked(alloc, reader)?;

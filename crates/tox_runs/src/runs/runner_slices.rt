@@ -1,7 +1,8 @@
 //! The slices of a plan's runner, piece by piece.
-ghost use Rattle.std.specs.Prelude.{◌≡◌, ◌<◌, ◌^◌, List, false, true, OnOk};
+ghost use Rattle.std.specs.Prelude.{◌≡◌, ◌<◌, ◌^◌, List, false, OnOk};
 ghost use Rattle.tox_time.specs.declared.streams.item.Item.{Item as OneItem};
 ghost use Rattle.tox_lend.specs.Run.{stop_of};
+ghost use Rattle.tox_plan.specs.Cuts.{GivesAll};
 ghost use Rattle.tox_plan.specs.Slices.{IsOffered};
 ghost use Rattle.tox_text.specs.arrivals.ArrivalsText.{Arrived};
 ghost use Rattle.tox_runs.specs.runs.RunnerSlices.{text_to_come};
@@ -58,9 +59,7 @@ fn print_cuts<W: Sink>(
         → PrintsDownTo result (W.written writer.old) buffer.old (W.written writer.new) buffer.new
         (W.failed writer.new) (text_to_come arrived runner.old items)
         (text_to_come arrived runner.new items) }
-    ensures kept { OnOk result
-        ((runner.new.idle ≡ true) × (runner.new.piece ≡ runner.old.piece)
-        × (runner.new.latest ≡ runner.old.latest)) }
+    ensures all { OnOk result (GivesAll runner.old runner.new) }
 {
     while let Some(slice) = runner.next_cut() {
         print_lent(buffer, writer, &piece.lend(slice.span, slice.instant))?;

@@ -10,7 +10,7 @@ ghost use Rattle.tox_text.specs.ResultText.{result_text};
 ghost use Rattle.tox_text.specs.Writing.{Writes};
 ghost use Rattle.tox_runs.specs.runs.DryRun.{WritesEveryRest, WritesResult};
 ghost use Rattle.tox_runs.specs.runs.Reading.{TakesAtMost};
-ghost use Rattle.tox_runs.specs.runs.StagesRun.{HasStagesCause, StagesLeave};
+ghost use Rattle.tox_runs.specs.runs.StagesRun.{StopsStages};
 ghost use Rattle.tox_text.specs.declared.fault.DryFault.TheVariants.{ReadFault, WriteFault};
 ghost use Rattle.tox_runs.specs.declared.runs.fault.StagesFault.TheVariants.{Dry};
 
@@ -51,14 +51,11 @@ pub fn stages_run<T: Threads + Wait + Sync, R: Source, W: Sink, G: Gate>(
     ensures every_run { OnOk result
         (WritesEveryRest chain.now words.now (R.remaining reader.old) (R.remaining reader.new)
         (W.written writer.old) (W.written writer.new)) }
-    ensures cause { IfErr result
-        (HasStagesCause (R.remaining reader.old) (R.remaining reader.new) (R.failed reader.new)
-        (W.failed writer.new)) }
+    ensures fault { IfErr result
+        (StopsStages chain.now words.now (R.remaining reader.old) (R.remaining reader.new)
+        (W.written writer.old) (W.written writer.new) (R.failed reader.new) (W.failed writer.new)) }
     ensures working { result ≢ Err (Dry WriteFault) → W.failed writer.new ≡ false }
     ensures reading { result ≢ Err (Dry ReadFault) → R.failed reader.new ≡ false }
-    ensures left { IfErr result
-        (StagesLeave chain.now words.now (R.remaining reader.old) (R.remaining reader.new)
-        (W.written writer.old) (W.written writer.new)) }
     ensures most { TakesAtMost (16_777_216 + 1) (R.remaining reader.old) (R.remaining reader.new) }
 {
     let CheckedInput { text, room } = match read_checked(alloc, reader) {

@@ -15,11 +15,11 @@ loop-slice-preserved g c =
     let line = line_of_lent c.args.piece.now slice c.lend.result c.lend.ensures in
     record {
       working = c.in_ok-print_lent.ensures.1;
-      piece = next.kept.2 ∙ on.piece;
-      latest = next.kept.3 ∙ on.latest;
+      piece = next.kept.piece ∙ on.piece;
+      latest = next.kept.latest ∙ on.latest;
       printed = λ arrived items of.
           PassesDownTo-then _ _ _ _ _ _ _ _ _ _ (on.printed arrived items of)
-          (text_to_come-cut arrived c.args.piece.now c.loop-slice.runner c.next_cut.new.self slice items of offered next.kept.2 next.some next.place.0 next.place.1 next.ends)
+          (text_to_come-cut arrived c.args.piece.now c.loop-slice.runner c.next_cut.new.self slice items of offered next.kept.piece next.some.cut next.some.begins next.some.stands next.some.ends)
           (rw line at c.in_ok-print_lent.ensures.0);
     }
 
@@ -34,7 +34,7 @@ returns-in_err-print_lent-clause-prints g c =
     λ arrived items of.
     rw exit.1 (
       AppendsFront-broken _ _ _ _ _ _ _ _ _ (on.printed arrived items of)
-          (text_to_come-cut arrived c.args.piece.now c.loop-slice.runner c.next_cut.new.self slice items of offered next.kept.2 next.some next.place.0 next.place.1 next.ends)
+          (text_to_come-cut arrived c.args.piece.now c.loop-slice.runner c.next_cut.new.self slice items of offered next.kept.piece next.some.cut next.some.begins next.some.stands next.some.ends)
           (rw line at c.in_err-print_lent.ensures.0),
       c.in_err-print_lent.ensures.1,
     )

@@ -31,7 +31,7 @@ returns-clause-working g c =
     let wrote = at_checked _ _ _ c.in-Ok.ensures.checked c.deref-2.ensures.value c.write_outcome.ensures in
     λ other. search rules
 
-pub returns-then-is_err-clause-cause : goal.returns-then-is_err-clause-cause
-returns-then-is_err-clause-cause g c =
+pub returns-then-is_err-clause-fault : goal.returns-then-is_err-clause-fault
+returns-then-is_err-clause-fault g c =
     let wrote = at_checked _ _ _ c.in-Ok.ensures.checked c.deref-2.ensures.value c.write_outcome.ensures in
-    search rules
+    record { cause = search rules; left = search rules }
