@@ -12,7 +12,7 @@ use Rattle.tox_time.specs.streams.Table.{SameResult, table, ending}
 use Rattle.std.proofs.lemmas.List.{append-nil}
 use Rattle.tox_defs.specs.operations.Look.{as_chunk}
 use Rattle.tox_plan.specs.OpCursors.{ops_of}
-use Rattle.tox_plan.specs.Cuts.{IsCut, IsWithin, BeginsApart}
+use Rattle.tox_plan.specs.Cuts.{IsCut, IsWithin, GivesCut, GivesNoCut, KeepsOffers, BeginsApart}
 use Rattle.tox_plan.specs.RunnerView.{RunnerView, HasNoChunk, to_come, found_chunk, next_piece, offer_answer}
 use Rattle.tox_plan.specs.Delivering.{PreservesOutput}
 use Rattle.tox_plan.proofs.Deliveries.{goes-cut}
@@ -113,35 +113,38 @@ pub record Cuts (old new : RunnerView) (found : Option Slice) : Type 0 where
   pub latest : new.latest ≡ old.latest
   pub ops : ops_of new.cursors ≡ ops_of old.cursors
 
-stands_of : (old new : RunnerView) (found : Option Slice) → IfSome found (λ slice. (slice.span.start ≡ old.position) × (new.position ≡ slice.span.stop) × (new.idle ≡ false)) → IfSome found (Stands old new)
-stands_of old new None place = tt
-stands_of old new (Some slice) place = record { starts = place.0; stops = place.1; busy = place.2 }
+-- the slice is one or more cuts
+cut_of : (old new : RunnerView) (found : Option Slice) → IfSome found (GivesCut old new) → IfSome found (IsCut old new)
+cut_of old new None gives = tt
+cut_of old new (Some slice) gives = gives.cut
 
-stays_of : (old new : RunnerView) (found : Option Slice) → IfNone found ((new.idle ≡ true) × (new.position ≡ old.position) × (new.cuts ≡ old.cuts) × ((items : List Item) → to_come new items ≡ to_come old items))
-    → IfNone found (Stays old new)
-stays_of old new None stays = record { idle = stays.0; position = stays.1; same = stays.3 }
+stands_of : (old new : RunnerView) (found : Option Slice) → IfSome found (GivesCut old new) → IfSome found (Stands old new)
+stands_of old new None gives = tt
+stands_of old new (Some slice) gives = record { starts = gives.begins; stops = gives.stands; busy = gives.busy }
+
+apart_of : (old new : RunnerView) (found : Option Slice) → IfSome found (GivesCut old new) → IfSome found (λ slice. BeginsApart slice.instant (to_come new (Quiet ∷ [])))
+apart_of old new None gives = tt
+apart_of old new (Some slice) gives = gives.apart
+
+stays_of : (old new : RunnerView) (found : Option Slice) → IfNone found (GivesNoCut old new) → IfNone found (Stays old new)
+stays_of old new None stays = record { idle = stays.idle; position = stays.position; same = stays.same }
 stays_of old new (Some slice) stays = tt
 
 -- what the runner's call tells
-pub cuts_of : (old new : RunnerView) (found : Option Slice) → IfSome found (IsCut old new)
-    → IfSome found (λ slice. (slice.span.start ≡ old.position) × (new.position ≡ slice.span.stop) × (new.idle ≡ false))
-    → IfSome found (λ slice. BeginsApart slice.instant (to_come new (Quiet ∷ [])))
-    → IsNone found ↔ HasNoChunk (to_come old (Quiet ∷ []))
-    → IfNone found ((new.idle ≡ true) × (new.position ≡ old.position) × (new.cuts ≡ old.cuts) × ((items : List Item) → to_come new items ≡ to_come old items))
-    → (new.drawing ≡ old.drawing) × (new.finished ≡ old.finished) × (new.piece ≡ old.piece) × (new.latest ≡ old.latest) × (new.pieces ≡ old.pieces) × (length new.cursors ≡ length old.cursors)
-    → ops_of new.cursors ≡ ops_of old.cursors → Cuts old new found
-cuts_of old new found some place apart none idle kept ops = record {
-  some = some;
-  place = stands_of old new found place;
-  apart = apart;
+pub cuts_of : (old new : RunnerView) (found : Option Slice) → IfSome found (GivesCut old new) → IsNone found ↔ HasNoChunk (to_come old (Quiet ∷ [])) → IfNone found (GivesNoCut old new)
+    → KeepsOffers old new → Cuts old new found
+cuts_of old new found gives none idle kept = record {
+  some = cut_of old new found gives;
+  place = stands_of old new found gives;
+  apart = apart_of old new found gives;
   none = none.1;
   drained = none.0;
   idle = stays_of old new found idle;
-  drawing = kept.0;
-  finished = kept.1;
-  piece = kept.2;
-  latest = kept.3;
-  ops = ops;
+  drawing = kept.drawing;
+  finished = kept.finished;
+  piece = kept.piece;
+  latest = kept.latest;
+  ops = kept.ops;
 }
 
 cut_count : (n : ℕ) (old new : Bool) → old ≡ false → n + (if new then 0 else 1) ≤ n + (if old then 0 else 1)

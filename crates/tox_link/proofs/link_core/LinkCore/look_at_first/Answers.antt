@@ -9,6 +9,6 @@ pub returns-clause-looked : goal.returns-clause-looked
 returns-clause-looked c =
     let told = c.next_cut-self-inside.ensures in
     let cuts : Cuts c.self.inside.runner c.next_cut-self-inside.new.self c.next_cut-self-inside.result
-    = cuts_of c.self.inside.runner c.next_cut-self-inside.new.self c.next_cut-self-inside.result told.some told.place told.apart told.none told.idle told.kept told.ops in
+    = cuts_of c.self.inside.runner c.next_cut-self-inside.new.self c.next_cut-self-inside.result told.some told.none told.idle told.kept in
     subst (λ old. Looked old (after_cut (core_view c.self.inside) c.next_cut-self-inside.new.self c.next_cut-self-inside.result)) c.self.view_is
     (looked-cut (core_view c.self.inside) c.next_cut-self-inside.new.self c.next_cut-self-inside.result cuts (ap (λ core. core.found) c.self.view_is ∙ c.requires) (sym c.if-is_idle.ensures.value))

@@ -30,21 +30,21 @@ offers c = record {
   waiting = c.in-Some.ensures.items;
   unfound = ap (λ core. core.found) c.self.view_is ∙ c.requires.found;
   idle = ap (λ core. core.runner.idle) c.self.view_is ∙ c.requires.drained.idle;
-  busy = c.in-Ok.ensures.offered.0;
-  position = c.in-Ok.ensures.offered.1;
-  offered = c.in-Ok.ensures.offered.2;
-  latest = c.in-Ok.ensures.offered.3;
+  busy = ap (λ runner. runner.idle) c.in-Ok.ensures.offered;
+  position = ap (λ runner. runner.position) c.in-Ok.ensures.offered;
+  offered = ap (λ runner. runner.piece) c.in-Ok.ensures.offered;
+  latest = ap (λ runner. runner.latest) c.in-Ok.ensures.offered;
   gives = c.in-Ok.ensures.to_come;
-  drawing = c.in-Ok.ensures.kept.0;
-  finished = c.in-Ok.ensures.kept.1;
-  cursors = c.in-Ok.ensures.kept.3;
+  drawing = ap (λ runner. runner.drawing) c.in-Ok.ensures.offered;
+  finished = ap (λ runner. runner.finished) c.in-Ok.ensures.offered;
+  cursors = ap (λ runner. runner.cursors) c.in-Ok.ensures.offered;
 }
 
 -- and was asked for its next cut
 cuts : (c : goal.After-self-1) → Cuts c.offer.new.self c.next_cut-self-inside.new.self c.next_cut-self-inside.result
 cuts c =
     let told = c.next_cut-self-inside.ensures in
-    cuts_of c.offer.new.self c.next_cut-self-inside.new.self c.next_cut-self-inside.result told.some told.place told.apart told.none told.idle told.kept told.ops
+    cuts_of c.offer.new.self c.next_cut-self-inside.new.self c.next_cut-self-inside.result told.some told.none told.idle told.kept
 
 pub returns-clause-looked : goal.returns-clause-looked
 returns-clause-looked c =
