@@ -1,5 +1,6 @@
 //! Driven directions beside `deliver`, under schedules drawn at random.
 ghost use Rattle.std.specs.Prelude.{◌≡◌, ◌<◌, false, Some, IfOk, MatchResult};
+ghost use Rattle.tox_time.specs.Time.{IsInstant};
 ghost use Rattle.tox_link.specs.direction.Driven.{IsAtEnd, IsReady};
 ghost use Rattle.tox_link.specs.direction.Follows.{IsHeld, IsNew};
 ghost use Rattle.tox_link.specs.Reports.{written_before};
@@ -16,7 +17,7 @@ use std::test::Fail;
 use tests_support::{below, drawn_words, table_of};
 use tox_compile::compile;
 use tox_defs::Chain;
-use tox_link::{LinkEvent, LinkFault, PolledLink, Progress, drive, finish};
+use tox_link::{LinkEvent, LinkFault, PolledLink, Progress, TimedReport, drive, finish};
 use tox_plan::deliver;
 use tox_time::{Arrivals, Ending, MemorySink, MemorySource, Micros, SliceList};
 use tox_words::{Words, WordsFault};
@@ -25,7 +26,7 @@ use tox_words::{Words, WordsFault};
 const MAX_DRIVES: usize = 1_000_000;
 
 /// Drives a direction until it has ended or broken off. The clock goes on while it waits.
-pub fn drive_on(
+fn drive_on(
     rt: &(impl Abort + AllocGlobal),
     generator: &mut Lcg64Xsh32,
     link: &mut PolledLink,
@@ -34,11 +35,11 @@ pub fn drive_on(
     source: &mut BusyEnd<MemorySource>,
     sink: &mut BusyEnd<MemorySink>,
 ) -> Result<Ending, LinkFault>
-    requires ready { IsReady (λ _. Unit {0}) link.old
+    requires ready { IsReady IsInstant link.old
         (Some source.old.end.bytes) source.old.end.failed }
     requires working { sink.old.end.failed ≡ false }
     ensures held { IsHeld link.new }
-    ensures driven { MatchResult result (IsAtEnd (λ _. Unit {0}) link.new)
+    ensures driven { MatchResult result (IsAtEnd IsInstant link.new)
         (λ fault. written_before fault ≡ link.new.written) }
 {
     let mut scratch = [0; 16_384];
@@ -70,7 +71,7 @@ fn words_of(alloc: Global, seed: u64) -> Result<Words, WordsFault> {
 }
 
 /// A direction under the chain and the words of a seed. It keeps the words only if it draws any.
-pub fn link_of(alloc: Global, chain: &Chain, seed: u64) -> Result<PolledLink, Fail>
+fn link_of(alloc: Global, chain: &Chain, seed: u64) -> Result<PolledLink, Fail>
     ensures fresh { IfOk result IsNew }
     ensures held { IfOk result IsHeld }
 {
@@ -92,7 +93,7 @@ pub fn drawn_bytes(alloc: Global, generator: &mut Lcg64Xsh32) -> Result<Vec<u8>,
 }
 
 /// At one call in eight of those that fail, which one.
-pub fn drawn_fault(generator: &mut Lcg64Xsh32) -> Option<u64> {
+fn drawn_fault(generator: &mut Lcg64Xsh32) -> Option<u64> {
     if below(generator, 8) == 0 {
         Some(u64::from(1 + below(generator, 20)))
     } else {
@@ -114,14 +115,24 @@ fn read_log(alloc: Global, notes: &Noted) -> Result<(Arrivals, SliceList), Fail>
     Ok((arrivals, slices))
 }
 
-/// Drives a direction that a seed draws, and compares it with what is delivered. Returns whether it broke off.
-fn compare(rt: &(impl Abort + AllocGlobal), seed: u64) -> Result<bool, Fail> {
+/// What a drawn direction reported, noted and wrote.
+#[derive(Drop)]
+pub struct DrivenDirection {
+    pub answer: Result<TimedReport<BusyEnd<MemorySource>>, LinkFault>,
+    pub notes: Noted,
+    pub written: Vec<u8>,
+}
+
+/// Drives a direction under a chain to its end. Its ends give and take as the generator draws.
+pub fn driven_under(
+    rt: &(impl Abort + AllocGlobal),
+    generator: &mut Lcg64Xsh32,
+    chain: &Chain,
+    bytes: Vec<u8>,
+    seed: u64,
+) -> Result<DrivenDirection, Fail> {
     let alloc = rt.alloc();
-    let generator = &mut Lcg64Xsh32::new(seed, 3);
-    let chain = drawn_chain(rt, generator);
-    let words = words_of(alloc, seed)?;
-    let bytes = drawn_bytes(alloc, generator)?;
-    let mut link = link_of(alloc, &chain, seed)?;
+    let mut link = link_of(alloc, chain, seed)?;
     let clock = RestingClock {
         micros: Arc::new(alloc, AtomicU64::new(0))?,
     };
@@ -129,7 +140,7 @@ fn compare(rt: &(impl Abort + AllocGlobal), seed: u64) -> Result<bool, Fail> {
         events: Vec::new(alloc),
     };
     let most = 1 + below(generator, 60) as usize;
-    let reader = MemorySource::new(bytes.clone()?, most, drawn_fault(generator));
+    let reader = MemorySource::new(bytes, most, drawn_fault(generator));
     let mut source = BusyEnd::new(reader, seed);
     let most = 1 + below(generator, 60) as usize;
     let writer = MemorySink::new(alloc, 600, most, drawn_fault(generator))?;
@@ -143,14 +154,27 @@ fn compare(rt: &(impl Abort + AllocGlobal), seed: u64) -> Result<bool, Fail> {
         &mut source,
         &mut sink,
     );
-    let answer = finish(link, &clock, driven, source);
-    let written = sink.end.bytes();
+    Ok(DrivenDirection {
+        answer: finish(link, &clock, driven, source),
+        notes,
+        written: sink.end.bytes().to_vec(alloc)?,
+    })
+}
+
+/// Compares a direction that a seed draws with what is delivered. Returns whether it broke off.
+fn compare(rt: &(impl Abort + AllocGlobal), seed: u64) -> Result<bool, Fail> {
+    let alloc = rt.alloc();
+    let generator = &mut Lcg64Xsh32::new(seed, 3);
+    let chain = drawn_chain(rt, generator);
+    let bytes = drawn_bytes(alloc, generator)?;
+    let direction = driven_under(rt, generator, &chain, bytes.clone()?, seed)?;
+    let written = direction.written.as_slice();
     assert_eq!(rt; Some(written), bytes.get(..written.len()), "seed {seed}");
-    let (arrivals, slices) = read_log(alloc, &notes)?;
-    let outcome = deliver(alloc, &chain, &words, &arrivals)?;
+    let (arrivals, slices) = read_log(alloc, &direction.notes)?;
+    let outcome = deliver(alloc, &chain, &words_of(alloc, seed)?, &arrivals)?;
     let said = table_of(alloc, &slices)?;
     let due = table_of(alloc, &outcome.slices)?;
-    match answer {
+    match direction.answer {
         Ok(timed) => {
             assert_eq!(rt; said, due, "seed {seed}");
             assert_eq!(rt; timed.report.ending, outcome.ending, "seed {seed}");

@@ -1,14 +1,19 @@
 //! A driven direction, drive by drive.
-ghost use Rattle.std.specs.Prelude.{◌≡◌, true, false, Some, None};
+ghost use Rattle.std.specs.Prelude.{◌≡◌, true, false, Some, None, IfOk};
+ghost use Rattle.tox_time.specs.Time.{IsInstant};
+ghost use Rattle.tox_link.specs.direction.Driven.{IsReady};
 
 use crate::link_ends::{Noted, RestingClock};
+use std::alloc::{AllocError, Global};
 use std::process::Abort;
 use std::sync::Arc;
 use std::sync::atomic::{AtomicU64, Ordering};
 use std::test::Fail;
 use tests_support::{Scarcity, at, chain_of, slice};
 use tox_compile::compile;
-use tox_link::{LinkEvent, LinkFault, NoNotes, PollSink, PollSource, PolledLink, Progress, drive};
+use tox_link::{
+    LinkEvent, LinkFault, NoNotes, Notes, PollSink, PollSource, PolledLink, Progress, drive,
+};
 use tox_time::{EndFault, Micros};
 use tox_words::Words;
 
@@ -90,48 +95,84 @@ impl PollSink for OpenSink {
     }
 }
 
+/// A direction that is driven drive by drive.
+#[derive(Drop)]
+pub struct DriveCase {
+    pub link: PolledLink,
+    pub clock: RestingClock,
+    pub source: TickingSource,
+}
+
+impl DriveCase {
+    /// A direction under these toxics, at a clock at 0, whose source gives so many bytes.
+    pub fn new(rt: &(impl Abort + AllocGlobal), toxics: &str, left: u64) -> Result<DriveCase, Fail>
+        ensures { IfOk result (λ made. IsReady IsInstant made.link None false) }
+    {
+        let alloc = rt.alloc();
+        let micros = Arc::new(alloc, AtomicU64::new(0))?;
+        let words = Words::from_list(alloc, &[0])?;
+        let chain = chain_of(toxics).expect(rt, "short forms");
+        Ok(DriveCase {
+            link: PolledLink::new(alloc, compile(&chain, &words), words)?,
+            clock: RestingClock {
+                micros: micros.clone()?,
+            },
+            source: TickingSource {
+                micros,
+                left,
+                waits: false,
+            },
+        })
+    }
+
+    /// A sink that is stuck until this instant.
+    pub fn stuck_sink(&self, due: Micros) -> Result<StuckSink, AllocError>
+        ensures { IfOk result (λ sink. sink.failed ≡ false) }
+    {
+        Ok(StuckSink {
+            micros: self.clock.micros.clone()?,
+            due,
+            failed: false,
+        })
+    }
+
+    /// Drives it once.
+    pub fn drive<N: Notes, W: PollSink>(
+        &mut self,
+        alloc: Global,
+        notes: &mut N,
+        sink: &mut W,
+    ) -> Result<Progress, LinkFault>
+        requires ready { IsReady IsInstant self.old.link None false }
+        requires working { W.failed sink.old ≡ false }
+        ensures { IsReady IsInstant self.new.link None false }
+    {
+        let mut scratch = [0; 16_384];
+        drive(
+            &mut self.link,
+            alloc,
+            &self.clock,
+            notes,
+            &mut self.source,
+            sink,
+            &mut scratch,
+        )
+    }
+}
+
 #[test]
 fn a_piece_is_stamped_after_its_read(rt: HostRuntime) -> Result<(), Fail> {
     let alloc = rt.alloc();
-    let micros = Arc::new(alloc, AtomicU64::new(0))?;
-    let clock = RestingClock {
-        micros: micros.clone()?,
-    };
-    let words = Words::from_list(alloc, &[0])?;
-    let chain = chain_of("latency:latency=1").expect(&rt, "a short form");
-    let mut link = PolledLink::new(alloc, compile(&chain, &words), words)?;
+    let mut case = DriveCase::new(&rt, "latency:latency=1", 1)?;
     let mut notes = Noted {
         events: Vec::new(alloc),
     };
-    let mut source = TickingSource {
-        micros,
-        left: 1,
-        waits: false,
-    };
-    let progress = drive(
-        &mut link,
-        alloc,
-        &clock,
-        &mut notes,
-        &mut source,
-        &mut OpenSink,
-        &mut [0; 16_384],
-    );
+    let progress = case.drive(alloc, &mut notes, &mut OpenSink);
     assert_eq!(rt; progress, Ok(Progress::Waits(Some(at(1010)))));
-    assert_eq!(rt;
-        notes.events.as_slice(),
-        [LinkEvent::Piece(1, at(10))].as_slice()
-    );
-    clock.micros.store(1010, Ordering::SeqCst);
-    let progress = drive(
-        &mut link,
-        alloc,
-        &clock,
-        &mut notes,
-        &mut source,
-        &mut OpenSink,
-        &mut [0; 16_384],
-    );
+    let heard = [LinkEvent::Piece(1, at(10))];
+    assert_eq!(rt; notes.events.as_slice(), heard.as_slice());
+    case.clock.micros.store(1010, Ordering::SeqCst);
+    let progress = case.drive(alloc, &mut notes, &mut OpenSink);
     assert_eq!(rt; progress, Ok(Progress::Waits(None)));
     let wrote = LinkEvent::Wrote(slice(0, 1, 1010), at(1010));
     assert_eq!(rt; notes.events.get(1), Some(&wrote));
@@ -141,45 +182,13 @@ fn a_piece_is_stamped_after_its_read(rt: HostRuntime) -> Result<(), Fail> {
 #[test]
 fn a_slice_that_waits_hides_no_reset(rt: HostRuntime) -> Result<(), Fail> {
     let alloc = rt.alloc();
-    let micros = Arc::new(alloc, AtomicU64::new(0))?;
-    let clock = RestingClock {
-        micros: micros.clone()?,
-    };
-    let words = Words::from_list(alloc, &[0])?;
-    let chain = chain_of("reset_peer:timeout=20").expect(&rt, "a short form");
-    let mut link = PolledLink::new(alloc, compile(&chain, &words), words)?;
-    let mut notes = NoNotes;
-    let mut source = TickingSource {
-        micros: micros.clone()?,
-        left: 1,
-        waits: false,
-    };
-    let mut sink = StuckSink {
-        micros,
-        due: at(20_000),
-        failed: false,
-    };
-    let progress = drive(
-        &mut link,
-        alloc,
-        &clock,
-        &mut notes,
-        &mut source,
-        &mut sink,
-        &mut [0; 16_384],
-    );
+    let mut case = DriveCase::new(&rt, "reset_peer:timeout=20", 1)?;
+    let mut sink = case.stuck_sink(at(20_000))?;
+    let progress = case.drive(alloc, &mut NoNotes, &mut sink);
     assert_eq!(rt; progress, Ok(Progress::Waits(Some(at(20_000)))));
-    clock.micros.store(20_000, Ordering::SeqCst);
+    case.clock.micros.store(20_000, Ordering::SeqCst);
     assert!(rt; !sink.failed);
-    let progress = drive(
-        &mut link,
-        alloc,
-        &clock,
-        &mut notes,
-        &mut source,
-        &mut sink,
-        &mut [0; 16_384],
-    );
+    let progress = case.drive(alloc, &mut NoNotes, &mut sink);
     assert_eq!(rt; progress, Err(LinkFault::WriteFault(0)));
     Ok(())
 }
@@ -188,40 +197,12 @@ fn a_slice_that_waits_hides_no_reset(rt: HostRuntime) -> Result<(), Fail> {
 #[test]
 fn a_drive_that_moves_nothing_takes_no_memory(rt: HostRuntime) -> Result<(), Fail> {
     let alloc = rt.alloc();
-    let micros = Arc::new(alloc, AtomicU64::new(0))?;
-    let clock = RestingClock {
-        micros: micros.clone()?,
-    };
-    let words = Words::from_list(alloc, &[0])?;
-    let chain = chain_of("latency:latency=1").expect(&rt, "a short form");
-    let mut link = PolledLink::new(alloc, compile(&chain, &words), words)?;
-    let mut scratch = [0; 16_384];
-    let mut source = TickingSource {
-        micros,
-        left: 0,
-        waits: false,
-    };
+    let mut case = DriveCase::new(&rt, "latency:latency=1", 0)?;
     let mut scarcity = Scarcity::new(alloc)?;
     scarcity.leave(alloc, 0)?;
-    let waits = drive(
-        &mut link,
-        alloc,
-        &clock,
-        &mut NoNotes,
-        &mut source,
-        &mut OpenSink,
-        &mut scratch,
-    );
-    source.left = 1;
-    let reads = drive(
-        &mut link,
-        alloc,
-        &clock,
-        &mut NoNotes,
-        &mut source,
-        &mut OpenSink,
-        &mut scratch,
-    );
+    let waits = case.drive(alloc, &mut NoNotes, &mut OpenSink);
+    case.source.left = 1;
+    let reads = case.drive(alloc, &mut NoNotes, &mut OpenSink);
     scarcity.end();
     assert_eq!(rt; waits, Ok(Progress::Waits(None)));
     assert_eq!(rt; reads, Err(LinkFault::OutOfMemory(0)));

@@ -8,6 +8,110 @@ use tox_plan::deliver;
 use tox_time::{Ending, Outcome};
 use tox_words::Words;
 
+/// Words, toxics and arrivals, and what they come to.
+const CASES: [(&str, &str, &str, &str); 25] = [
+    ("0", "", "3@0 eof@5", "3@0 closed@5"),
+    ("0", "latency:latency=100", "", "open"),
+    (
+        "0",
+        "latency:latency=100",
+        "2@0 eof@50",
+        "2@100000 closed@100000",
+    ),
+    (
+        "0,10,0",
+        "latency:latency=10,jitter=5",
+        "1@0 1@1000",
+        "2@15000 open",
+    ),
+    ("0", "bandwidth:rate=1", "3@0 1@1000", "3@3000 1@4000 open"),
+    (
+        "0",
+        "bandwidth:rate=1",
+        "250@0",
+        "100@100000 100@200000 50@250000 open",
+    ),
+    ("0", "bandwidth:rate=3", "2@0", "2@667 open"),
+    (
+        "0,1,2",
+        "slicer:average_size=2,size_variation=1,delay=10",
+        "5@0",
+        "2@10 3@20 open",
+    ),
+    (
+        "0,1,2",
+        "slicer:average_size=2,size_variation=1",
+        "5@0",
+        "5@0 open",
+    ),
+    (
+        "0,1,2",
+        "slicer:average_size=2,size_variation=1,delay=10",
+        "3@0 2@0",
+        "2@10 1@20 1@30 1@40 open",
+    ),
+    ("0", "limit_data:bytes=3", "3@7 eof@9", "3@7 closed@7"),
+    (
+        "0",
+        "limit_data:bytes=4 latency:latency=1",
+        "3@0 3@10",
+        "3@1000 1@1010 closed@1010",
+    ),
+    (
+        "0",
+        "limit_data:bytes=0 latency:latency=100",
+        "1@7",
+        "closed@7",
+    ),
+    (
+        "0",
+        "latency:latency=100 limit_data:bytes=0",
+        "1@7",
+        "closed@100007",
+    ),
+    ("0", "timeout:timeout=50", "1@0 eof@5", "closed@50000"),
+    ("0", "timeout:timeout=0", "1@0 eof@5", "open"),
+    (
+        "0",
+        "timeout:timeout=0 reset_peer:timeout=5",
+        "1@0 eof@5",
+        "reset@5000",
+    ),
+    (
+        "0",
+        "reset_peer:timeout=20",
+        "1@19999 1@20000",
+        "1@19999 reset@20000",
+    ),
+    ("0", "reset_peer:timeout=20", "eof@10", "closed@10"),
+    ("0", "reset_peer:timeout=20", "", "reset@20000"),
+    (
+        "0",
+        "latency:latency=1",
+        "1@1000000000000000",
+        "1@1000000000000000 open",
+    ),
+    (
+        "0",
+        "limit_data:bytes=2 slow_close:delay=100",
+        "3@3",
+        "2@3 closed@100003",
+    ),
+    ("500", "latency:latency=1,toxicity=500", "1@0", "1@0 open"),
+    (
+        "499",
+        "latency:latency=1,toxicity=500",
+        "1@0",
+        "1@1000 open",
+    ),
+    (
+        "2,0",
+        "latency:latency=5,toxicity=0 latency:latency=1,jitter=1",
+        "1@0",
+        "1@0 open",
+    ),
+];
+
 /// An outcome written as `<bytes>@<micros>` for each run of one instant, and its ending.
 fn written(alloc: Global, outcome: &Outcome) -> Result<String, AllocError> {
     let mut text = String::new(alloc);
@@ -67,109 +171,7 @@ fn compare(
 
 #[test]
 fn plan_and_stages_give_the_worked_cases(rt: HostRuntime) -> Result<(), Fail> {
-    let cases = [
-        ("0", "", "3@0 eof@5", "3@0 closed@5"),
-        ("0", "latency:latency=100", "", "open"),
-        (
-            "0",
-            "latency:latency=100",
-            "2@0 eof@50",
-            "2@100000 closed@100000",
-        ),
-        (
-            "0,10,0",
-            "latency:latency=10,jitter=5",
-            "1@0 1@1000",
-            "2@15000 open",
-        ),
-        ("0", "bandwidth:rate=1", "3@0 1@1000", "3@3000 1@4000 open"),
-        (
-            "0",
-            "bandwidth:rate=1",
-            "250@0",
-            "100@100000 100@200000 50@250000 open",
-        ),
-        ("0", "bandwidth:rate=3", "2@0", "2@667 open"),
-        (
-            "0,1,2",
-            "slicer:average_size=2,size_variation=1,delay=10",
-            "5@0",
-            "2@10 3@20 open",
-        ),
-        (
-            "0,1,2",
-            "slicer:average_size=2,size_variation=1",
-            "5@0",
-            "5@0 open",
-        ),
-        (
-            "0,1,2",
-            "slicer:average_size=2,size_variation=1,delay=10",
-            "3@0 2@0",
-            "2@10 1@20 1@30 1@40 open",
-        ),
-        ("0", "limit_data:bytes=3", "3@7 eof@9", "3@7 closed@7"),
-        (
-            "0",
-            "limit_data:bytes=4 latency:latency=1",
-            "3@0 3@10",
-            "3@1000 1@1010 closed@1010",
-        ),
-        (
-            "0",
-            "limit_data:bytes=0 latency:latency=100",
-            "1@7",
-            "closed@7",
-        ),
-        (
-            "0",
-            "latency:latency=100 limit_data:bytes=0",
-            "1@7",
-            "closed@100007",
-        ),
-        ("0", "timeout:timeout=50", "1@0 eof@5", "closed@50000"),
-        ("0", "timeout:timeout=0", "1@0 eof@5", "open"),
-        (
-            "0",
-            "timeout:timeout=0 reset_peer:timeout=5",
-            "1@0 eof@5",
-            "reset@5000",
-        ),
-        (
-            "0",
-            "reset_peer:timeout=20",
-            "1@19999 1@20000",
-            "1@19999 reset@20000",
-        ),
-        ("0", "reset_peer:timeout=20", "eof@10", "closed@10"),
-        ("0", "reset_peer:timeout=20", "", "reset@20000"),
-        (
-            "0",
-            "latency:latency=1",
-            "1@1000000000000000",
-            "1@1000000000000000 open",
-        ),
-        (
-            "0",
-            "limit_data:bytes=2 slow_close:delay=100",
-            "3@3",
-            "2@3 closed@100003",
-        ),
-        ("500", "latency:latency=1,toxicity=500", "1@0", "1@0 open"),
-        (
-            "499",
-            "latency:latency=1,toxicity=500",
-            "1@0",
-            "1@1000 open",
-        ),
-        (
-            "2,0",
-            "latency:latency=5,toxicity=0 latency:latency=1,jitter=1",
-            "1@0",
-            "1@0 open",
-        ),
-    ];
-    for (words, toxics, arrived, expected) in cases {
+    for (words, toxics, arrived, expected) in CASES {
         compare(&rt, words, toxics, arrived, expected)?;
     }
     Ok(())
