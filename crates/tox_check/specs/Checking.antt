@@ -92,8 +92,8 @@ pub record StopsCheck (proxies : List Proxy) (script : Rules) (verbose : Bool)
   pub told : failed ≡ has_failed fault
 
 -- both files were read, and so many warnings were printed
-pub record Answers (known : List ℕ → KnownFile) (request : CheckRequest) (old new : Option (List ℕ))
-    (warned : ℕ) : Type 0 where
+pub record AnswersCheck (known : List ℕ → KnownFile) (request : CheckRequest)
+    (old new : Option (List ℕ)) (warned : ℕ) : Type 0 where
   pub proxies : List Proxy
   pub script : Rules
   pub set_up : IsSetUp (known request.config.now) (known request.script.now) proxies script
@@ -111,7 +111,7 @@ pub record Stops (known : List ℕ → KnownFile) (request : CheckRequest) (old 
 pub record AnswersWell (known : List ℕ → KnownFile) (request : CheckRequest)
     (old new : Option (List ℕ)) : Type 0 where
   pub warned : ℕ
-  pub answers : Answers known request old new warned
+  pub answers : AnswersCheck known request old new warned
   pub strict : request.strict ≡ true → warned ≡ 0
 
 -- why a check request failed, and what was written
@@ -124,4 +124,4 @@ HasCheckCause known request old new failed fault.OutOfMemory =
 HasCheckCause known request old new failed fault.WriteFault =
     Stops known request old new failed WriteFault
 HasCheckCause known request old new failed (fault.Warned warned) =
-    (request.strict ≡ true) × ((warned ≢ 0) × Answers known request old new warned)
+    (request.strict ≡ true) × ((warned ≢ 0) × AnswersCheck known request old new warned)

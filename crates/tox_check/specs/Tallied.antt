@@ -1,5 +1,5 @@
 -- What was found out of the connections of a rule.
-use Rattle.std.specs.Prelude.{◌≡◌, ℕ, List}
+use Rattle.std.specs.Prelude.{◌≡◌, ℕ, ◌+◌, List, ◌++◌}
 use Rattle.tox_check.specs.Coverage.{own_of, taken_of}
 use Rattle.tox_check.specs.Listed.{IsListed}
 use Rattle.tox_check.specs.Summary.{greatest, least}
@@ -12,3 +12,12 @@ pub record IsTallied (rule : ℕ) (runs : List Run) (tally : Tally) : Type 0 whe
   pub taken : IsListed (taken_of rule runs) tally.taken
   pub low : tally.low ≡ least rule (taken_of rule runs)
   pub high : tally.high ≡ greatest 0 (taken_of rule runs)
+
+-- these runs were tallied behind those that were
+abbrev pub TalliesMore : ℕ → List Run → Tally → Tally → Type 0
+TalliesMore rule more old new =
+    (runs : List Run) → IsTallied rule runs old → IsTallied rule (runs ++ more) new
+
+-- how many runs are only counted, and not shown
+abbrev pub unshown_count : Tally → ℕ
+unshown_count tally = tally.own.more + tally.taken.more

@@ -1,5 +1,5 @@
 -- What a warning tells, if there is one, and the runs of a proxy.
-use Rattle.std.specs.Prelude.{List, [], ◌∷◌, ℕ, Option, None, Some}
+use Rattle.std.specs.Prelude.{◌≡◌, List, [], ◌∷◌, ◌++◌, map, ℕ, Option, None, Some}
 use Rattle.tox_check.specs.Sentences.{told}
 use Rattle.tox_check.specs.Tree.{IsTree, runs_in}
 use Rattle.tox_check.specs.declared.run.Run.{Run}
@@ -10,6 +10,10 @@ use Rattle.tox_check.specs.declared.warning.Warning.{Warning}
 abbrev pub told_by : Option Warning → List (List ℕ)
 told_by None = []
 told_by (Some warning) = told warning ∷ []
+
+-- warnings that tell these texts stand behind those that were
+abbrev pub TellMore : List Warning → List Warning → List (List ℕ) → Type 0
+TellMore old new texts = map told new ≡ map told old ++ texts
 
 -- the runs of a proxy, if it has any
 abbrev pub runs_by : Option RunTree → List Run

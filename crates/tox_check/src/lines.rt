@@ -1,13 +1,12 @@
 //! The warnings of a rule.
-ghost use Rattle.std.specs.Prelude.{◌≡◌, ◌+◌, ◌<◌, ◌≤◌, ◌^◌, ◌++◌, List, length, map, slice_get, OnOk};
+ghost use Rattle.std.specs.Prelude.{◌≡◌, ◌+◌, ◌<◌, ◌≤◌, ◌^◌, List, length, slice_get, OnOk};
 ghost use Rattle.tox_script.specs.chains.Chains.{on};
 ghost use Rattle.tox_forecast.specs.Totals.{place_on};
 ghost use Rattle.tox_check.specs.Coverage.{within};
 ghost use Rattle.tox_check.specs.Lines.{is_silent, met_told, silent_told, toxic_told};
 ghost use Rattle.tox_check.specs.Tallied.{IsTallied};
-ghost use Rattle.tox_check.specs.Told.{IsTreeOf, runs_by, told_by};
+ghost use Rattle.tox_check.specs.Told.{IsTreeOf, TellMore, runs_by, told_by};
 ghost use Rattle.tox_check.specs.declared.run.Run.{Run};
-ghost use Rattle.tox_check.specs.Sentences.{told};
 
 use crate::tally::Tally;
 use crate::tree::{Range, RunTree};
@@ -57,8 +56,8 @@ pub(crate) fn put_silent<'a>(
     requires numbered { at.number + length order.now < 2 ^ 64 }
     requires upstream { at.upstream ≤ at.number }
     requires downstream { at.downstream ≤ at.number }
-    ensures { OnOk result (map told warnings.new.items
-        ≡ map told warnings.old.items ++ silent_told chains.now at order.now) }
+    ensures { OnOk result
+        (TellMore warnings.old.items warnings.new.items (silent_told chains.now at order.now)) }
 {
     let [stream, order @ ..] = order else {
         return Ok(());
@@ -74,9 +73,9 @@ fn put_if_silent<'a>(
     at: Places,
     stream: Stream,
 ) -> Result<(), AllocError>
-    ensures { OnOk result (map told warnings.new.items ≡ map told warnings.old.items
-        ++ toxic_told chains.now
-        (record { number = at.number; stream = stream; place = place_on stream at })) }
+    ensures { OnOk result (TellMore warnings.old.items warnings.new.items
+        (toxic_told chains.now
+        (record { number = at.number; stream = stream; place = place_on stream at }))) }
 {
     if is_silent(chains, stream, at.on(stream)) {
         warnings.push(Warning::NoToxicity(at.number))?;

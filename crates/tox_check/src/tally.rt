@@ -1,8 +1,8 @@
 //! What the connections of a rule meet.
-ghost use Rattle.std.specs.Prelude.{◌≡◌, ◌+◌, ◌<◌, ◌≤◌, ◌^◌, ◌↔◌, [], ◌∷◌, ◌++◌, IsTrue, List, length};
+ghost use Rattle.std.specs.Prelude.{◌≡◌, ◌+◌, ◌<◌, ◌≤◌, ◌^◌, ◌↔◌, [], ◌∷◌, IsTrue, List, length};
 ghost use Rattle.tox_check.specs.declared.run.Run.{Run as SomeRun};
 ghost use Rattle.tox_check.specs.Summary.{Sums};
-ghost use Rattle.tox_check.specs.Tallied.{IsTallied};
+ghost use Rattle.tox_check.specs.Tallied.{IsTallied, TalliesMore, unshown_count};
 
 use crate::listed::Listed;
 use crate::run::Run;
@@ -25,8 +25,7 @@ impl Tally {
     /// The tally of no runs.
     pub(crate) fn new(rule: usize) -> Tally
         ensures tallied { IsTallied rule [] result }
-        ensures own { result.own.more ≡ 0 }
-        ensures taken { result.taken.more ≡ 0 }
+        ensures few { unshown_count result ≡ 0 }
         ensures rule { result.rule ≡ rule }
     {
         Tally {
@@ -40,11 +39,9 @@ impl Tally {
 
     /// Appends a run.
     pub(crate) fn push(&mut self, run: Run)
-        requires { self.old.own.more + self.old.taken.more + 1 < 2 ^ 64 }
-        ensures tallied { (runs : List SomeRun) → IsTallied self.old.rule runs self.old
-            → IsTallied self.old.rule (runs ++ run ∷ []) self.new }
-        ensures few { self.new.own.more + self.new.taken.more
-            ≤ self.old.own.more + self.old.taken.more + 1 }
+        requires { unshown_count self.old + 1 < 2 ^ 64 }
+        ensures tallied { TalliesMore self.old.rule (run ∷ []) self.old self.new }
+        ensures few { unshown_count self.new ≤ unshown_count self.old + 1 }
         ensures rule { self.new.rule ≡ self.old.rule }
     {
         if run.rule == self.rule {
@@ -66,13 +63,12 @@ impl Tally {
 
     /// Appends the runs of a summary by their count alone.
     pub(crate) fn count(&mut self, summary: &Summary)
-        requires few { self.old.own.more + self.old.taken.more + summary.now.count < 2 ^ 64 }
+        requires few { unshown_count self.old + summary.now.count < 2 ^ 64 }
         requires full { length self.old.taken.shown.items ≡ 8 }
         requires others { summary.now.high < self.old.rule }
-        ensures tallied { (runs more : List SomeRun) → IsTallied self.old.rule runs self.old
-            → Sums more summary.now → IsTallied self.old.rule (runs ++ more) self.new }
-        ensures few { self.new.own.more + self.new.taken.more
-            ≤ self.old.own.more + self.old.taken.more + summary.now.count }
+        ensures tallied { (more : List SomeRun) → Sums more summary.now
+            → TalliesMore self.old.rule more self.old self.new }
+        ensures few { unshown_count self.new ≤ unshown_count self.old + summary.now.count }
         ensures rule { self.new.rule ≡ self.old.rule }
     {
         self.taken.skip(summary.count);

@@ -7,7 +7,7 @@ ghost use Rattle.tox_script.specs.index.Numbered.{chains_numbered, order_numbere
 ghost use Rattle.tox_check.specs.Coverage.{last_of, within};
 ghost use Rattle.tox_check.specs.Lines.{met_told, names_of, proxy_told, rule_told, toxics_told};
 ghost use Rattle.tox_check.specs.Sentences.{told, unknown_text};
-ghost use Rattle.tox_check.specs.Told.{IsTreeOf, runs_by};
+ghost use Rattle.tox_check.specs.Told.{IsTreeOf, TellMore, runs_by};
 ghost use Rattle.tox_check.specs.Trees.{AreTrees, runs_named};
 
 use crate::lines::{coverage, put_silent};
@@ -124,8 +124,8 @@ fn put_coverage(
 ) -> Result<(), AllocError>
     requires tree { IsTreeOf tree.now }
     requires few { length (runs_by tree.now) < 2 ^ 64 }
-    ensures { OnOk result (map told warnings.new.items ≡ map told warnings.old.items
-        ++ met_told range.rule (within range.first range.last (runs_by tree.now))) }
+    ensures { OnOk result (TellMore warnings.old.items warnings.new.items
+        (met_told range.rule (within range.first range.last (runs_by tree.now)))) }
 {
     match coverage(tree, range) {
         None => Ok(()),
@@ -142,8 +142,8 @@ fn put_toxics(
     script: &Script,
     rule: usize,
 ) -> Result<(), AllocError>
-    ensures { OnOk result (map told warnings.new.items ≡ map told warnings.old.items
-        ++ toxics_told (chains_numbered (Some rule) script.now) (order_numbered rule script.now)) }
+    ensures { OnOk result (TellMore warnings.old.items warnings.new.items
+        (toxics_told (chains_numbered (Some rule) script.now) (order_numbered rule script.now))) }
 {
     let first = Places {
         number: 1,
@@ -156,8 +156,8 @@ fn put_toxics(
 
 /// Tells of a proxy that is disabled.
 fn put_disabled<'a>(warnings: &mut Vec<Warning<'a>>, proxy: &'a ProxyDef) -> Result<(), AllocError>
-    ensures { OnOk result (map told warnings.new.items
-        ≡ map told warnings.old.items ++ proxy_told proxy.now) }
+    ensures { OnOk result
+        (TellMore warnings.old.items warnings.new.items (proxy_told proxy.now)) }
 {
     if !proxy.enabled {
         warnings.push(Warning::Disabled(&proxy.name))?;

@@ -3,7 +3,7 @@ ghost use Rattle.std.specs.Prelude.{◌≡◌, ◌+◌, ◌<◌, ◌≤◌, ◌^
 ghost use Rattle.tox_check.specs.Coverage.{cut, reaches, within};
 ghost use Rattle.tox_check.specs.declared.run.Run.{Run as SomeRun};
 ghost use Rattle.tox_check.specs.Summary.{Orders, Sums};
-ghost use Rattle.tox_check.specs.Tallied.{IsTallied};
+ghost use Rattle.tox_check.specs.Tallied.{TalliesMore, unshown_count};
 ghost use Rattle.tox_check.specs.Tree.{IsTree, runs_in};
 
 use crate::run::Run;
@@ -121,12 +121,11 @@ impl RunTree {
     pub(crate) fn tally(&self, range: Range, tally: &mut Tally)
         requires tree { IsTree self.now }
         requires rule { tally.old.rule ≡ range.rule }
-        requires few { tally.old.own.more + tally.old.taken.more + length (runs_in self.now) < 2 ^ 64 }
-        ensures tallied { (runs : List SomeRun) → IsTallied range.rule runs tally.old
-            → IsTallied range.rule (runs ++ within range.first range.last (runs_in self.now))
-            tally.new }
-        ensures few { tally.new.own.more + tally.new.taken.more
-            ≤ tally.old.own.more + tally.old.taken.more + length (runs_in self.now) }
+        requires few { unshown_count tally.old + length (runs_in self.now) < 2 ^ 64 }
+        ensures tallied { TalliesMore range.rule
+            (within range.first range.last (runs_in self.now)) tally.old tally.new }
+        ensures few { unshown_count tally.new
+            ≤ unshown_count tally.old + length (runs_in self.now) }
         ensures rule { tally.new.rule ≡ range.rule }
     {
         match self {
@@ -147,11 +146,10 @@ impl RunTree {
 /// Appends a run that intersects a range, cut to it.
 fn tally_run(run: &Run, range: Range, tally: &mut Tally)
     requires rule { tally.old.rule ≡ range.rule }
-    requires few { tally.old.own.more + tally.old.taken.more + 1 < 2 ^ 64 }
-    ensures tallied { (runs : List SomeRun) → IsTallied range.rule runs tally.old
-        → IsTallied range.rule (runs ++ within range.first range.last (run.now ∷ [])) tally.new }
-    ensures few { tally.new.own.more + tally.new.taken.more
-        ≤ tally.old.own.more + tally.old.taken.more + 1 }
+    requires few { unshown_count tally.old + 1 < 2 ^ 64 }
+    ensures tallied { TalliesMore range.rule
+        (within range.first range.last (run.now ∷ [])) tally.old tally.new }
+    ensures few { unshown_count tally.new ≤ unshown_count tally.old + 1 }
     ensures rule { tally.new.rule ≡ range.rule }
 {
     if range.first <= run.last && run.first <= range.last {

@@ -24,7 +24,7 @@ returns-in-Fork-2-clause-tallied t c = λ runs is.
     within_all c.args.range.first c.args.range.last c.in-Fork-2.summary.first c.in-Fork-2.summary.last whole tree.0.each inside.0 inside.1 in
     let before : IsTallied c.args.tally.now.rule runs c.args.tally.now = subst (λ (rule : ℕ). IsTallied rule runs c.args.tally.now) (sym c.requires.rule) is in
     rw (c.in-Fork-2.is, all)
-    (subst (λ (rule : ℕ). IsTallied rule (runs ++ whole) c.count.new.self) c.requires.rule (c.count.ensures.tallied runs whole before tree.0))
+    (subst (λ (rule : ℕ). IsTallied rule (runs ++ whole) c.count.new.self) c.requires.rule (c.count.ensures.tallied whole tree.0 runs before))
 
 pub returns-in-Fork-3-clause-tallied : goal.returns-in-Fork-3-clause-tallied
 returns-in-Fork-3-clause-tallied t c = λ runs is.
