@@ -1,5 +1,5 @@
 -- Why a log can't be judged, and the line that says so.
-use Rattle.std.specs.Prelude.{◌≡◌, ℕ, List, ◌++◌, codes, decimal}
+use Rattle.std.specs.Prelude.{◌≡◌, ℕ, Bool, true, false, List, ◌++◌, codes, decimal}
 use Rattle.std.specs.Borrow.{Bor}
 use Rattle.tox_text.specs.Names.{visible_name}
 use Rattle.tox_log.specs.declared.fault.LogFault.{LogFault}
@@ -30,3 +30,12 @@ replay_fault_text (Unreadable name) = codes "P1 FileFault " ++ visible_name name
 replay_fault_text (BadLog name line) = line_fault_text (codes "G1 BadLog ") name.now line
 replay_fault_text (LogTooDeep name line) = line_fault_text (codes "G2 LogTooDeep ") name.now line
 replay_fault_text (NotFaithful count) = codes "G3 NotFaithful " ++ decimal count
+
+-- whether a fault ends a replay of several logs
+abbrev pub ends_replay : ReplayFault → Bool
+ends_replay OutOfMemory = true
+ends_replay WriteFault = true
+ends_replay (Unreadable name) = false
+ends_replay (BadLog name line) = false
+ends_replay (LogTooDeep name line) = false
+ends_replay (NotFaithful count) = false

@@ -1,6 +1,6 @@
 //! Why a log can't be judged.
 ghost use Rattle.std.specs.Prelude.{◌≡◌};
-ghost use Rattle.tox_log.specs.FaultText.{fault_in};
+ghost use Rattle.tox_log.specs.FaultText.{ends_replay, fault_in};
 
 use std::alloc::AllocError;
 use std::error::Error;
@@ -96,7 +96,9 @@ impl<'a> ReplayFault<'a> {
     }
 
     /// Whether it ends a replay of several logs.
-    pub fn ends(&self) -> bool {
+    pub fn ends(&self) -> bool
+        ensures { result ≡ ends_replay self.now }
+    {
         matches!(self, ReplayFault::OutOfMemory | ReplayFault::WriteFault)
     }
 }

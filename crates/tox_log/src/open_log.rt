@@ -102,7 +102,9 @@ impl OpenLog {
     }
 
     /// The number of the line that was read last, from 1.
-    pub fn number(&self) -> u64 {
+    pub fn number(&self) -> u64
+        ensures { result ≡ self.now.number }
+    {
         self.number
     }
 
