@@ -1,5 +1,5 @@
 -- A line more is heard.
-use Rattle.std.proofs.Common.{◌≡◌, ℕ, Bool, true, false, List, [], ◌∷◌, ◌++◌, length, string_bytes, codes, Option, Some, None, inl, inr, refl, sym, ap, ap₂, subst, ◌∙◌, append_assoc, append-nil, arith}
+use Rattle.std.proofs.Common.{◌≡◌, ℕ, All, Bool, true, false, List, [], ◌∷◌, ◌++◌, ◌+◌, ◌≤◌, ◌^◌, length, string_bytes, codes, Option, Some, None, inl, inr, refl, sym, ap, ap₂, subst, ◌∙◌, append_assoc, append-nil, arith}
 use Rattle.std.specs.Prelude.{◌⊎◌}
 use Rattle.std.specs.Io.KnownBytes.{IsAtEnd, prepend_known}
 use Rattle.std.proofs.lemmas.List.{length-append}
@@ -17,21 +17,25 @@ use Rattle.std.proofs.lemmas.List.Elements.{All-append, All-cons, All-head, All-
 use Rattle.tox_time.specs.declared.streams.item.Item.{Item}
 use Rattle.tox_time.specs.declared.streams.ending.Ending.{Ending}
 use Rattle.tox_link.specs.declared.notes.LinkEvent.{LinkEvent}
-use Rattle.tox_link.specs.log.Log.{reading_of}
+use Rattle.tox_link.specs.declared.notes.LinkEvent.TheVariants.{Piece, SourceEnd, Wrote}
+use Rattle.tox_link.specs.log.Log.{IsGapless, reading_of, said}
+use Rattle.tox_link.proofs.Logs.{gapless-bytes, said-append}
 use Rattle.tox_link.specs.Reports.{ReportsAt}
 use Rattle.tox_log.specs.declared.judge.Judge.{Judge}
 use Rattle.tox_log.specs.declared.replay.Hearing.{Hearing}
-use Rattle.tox_log.specs.Reading.{is_last, to_hand}
+use Rattle.tox_log.specs.Numbers.{Lacks}
+use Rattle.tox_log.specs.Reading.{LacksLine, is_last, to_hand}
 use Rattle.tox_log.specs.declared.event_line.LogLine.{LogLine}
 use Rattle.tox_log.specs.declared.event_line.LogLine.TheVariants.{Event, Last}
-use Rattle.tox_log.specs.declared.last_line.LastLine.TheVariants.{Ended}
+use Rattle.tox_log.specs.declared.last_line.BreakCause.{BreakCause}
+use Rattle.tox_log.specs.declared.last_line.LastLine.TheVariants.{Ended, Broken}
 use Rattle.tox_log.specs.EventText.{event_line, event_words}
 use Rattle.tox_log.specs.LastText.{last_words}
 use Rattle.tox_log.specs.Lines.{IsWritable, line_words}
 use Rattle.tox_log.specs.Judging.{Hears, Judged, Refuses, RefusesEnding, source_heard}
 use Rattle.tox_log.specs.declared.replay.Verdict.{Verdict}
 use Rattle.tox_log.specs.declared.replay.Verdict.TheVariants.{Faithful, Unfinished, Unfaithful}
-use Rattle.tox_log.specs.Hearing.{Begins, HasHeard, HasReport, HearsLine, IsFaithfulText, IsRefusedText, IsTextOf, IsTold, SaysSo, event_lines}
+use Rattle.tox_log.specs.Hearing.{AreCounts, Begins, HasHeard, HasNoEnding, HasReport, HasStopped, HearsLine, HearsToEnd, IsFaithfulText, IsRefusedText, IsTextOf, IsTold, IsUnfinishedText, SaysOf, SaysSo, event_lines}
 use Rattle.tox_log.proofs.Refusing.{timely-told}
 
 told-front : (told : ℕ → Bool) (events : List LinkEvent) (event : LinkEvent) → IsTold told (events ++ event ∷ []) → IsTold told events
@@ -51,106 +55,179 @@ line-more text words events event lines is =
     let one : event_lines (event ∷ []) ≡ event_words event ++ codes "\n" = append-nil (event_line event) in
     rw (lines, is, flat_map-append event_line events (event ∷ []), one) refl
 
+-- each reading is told by a clock that tells all
+all-told : (events : List LinkEvent) → IsTold (λ _. true) events
+all-told [] = All-nil (λ event. true ≡ true)
+all-told (event ∷ events) = All-cons (λ event. true ≡ true) event events refl (all-told events)
+
+-- the counts of what was heard
+pub counts-of : (means : List Item → List Item) (text : List ℕ) (judge : Judge) (writes : ℕ) → (heard : HasHeard means text judge writes)
+    → AreCounts heard.events judge.heard judge.said judge.ended writes
+counts-of means text judge writes heard =
+    let judged : Judged means (λ _. true) judge heard.events = heard.judged (λ _. true) (all-told heard.events) in
+    let bytes = gapless-bytes 0 (said heard.events) judge.said judged.gapless in record {
+      took = judged.bytes;
+      wrote = omega (arith, bytes);
+      source = judged.closed;
+      count = heard.count;
+    }
+
+-- slices without gaps are no more than the positions that they span
+few-slices : (start : ℕ) (events : List LinkEvent) (stop : ℕ) → All (λ event. IsWritable (Event event)) events → IsGapless start (said events) stop → start ≤ 2 ^ 40
+    → (start + length (said events) ≤ stop) × (stop ≤ 2 ^ 40)
+few-slices start [] stop written gapless small = (omega (arith, gapless), omega (arith, gapless, small))
+few-slices start (Piece len instant ∷ events) stop written gapless small =
+    few-slices start events stop (All-tail (λ event. IsWritable (Event event)) (Piece len instant) events written) gapless small
+few-slices start (SourceEnd instant ∷ events) stop written gapless small =
+    few-slices start events stop (All-tail (λ event. IsWritable (Event event)) (SourceEnd instant) events written) gapless small
+few-slices start (Wrote slice reading ∷ events) stop written gapless small =
+    let here : IsWritable (Event (Wrote slice reading)) = All-head (λ event. IsWritable (Event event)) (Wrote slice reading) events written in
+    let rest = few-slices slice.span.stop events stop (All-tail (λ event. IsWritable (Event event)) (Wrote slice reading) events written) gapless.2 here.1.1 in
+    (omega (arith, rest.0, gapless.1), rest.1)
+
+-- so there are few writes
+pub few-writes : (means : List Item → List Item) (text : List ℕ) (judge : Judge) (writes : ℕ) → HasHeard means text judge writes → writes ≤ 2 ^ 40
+few-writes means text judge writes heard =
+    let judged : Judged means (λ _. true) judge heard.events = heard.judged (λ _. true) (all-told heard.events) in
+    let few = few-slices 0 heard.events judge.said heard.written judged.gapless (omega arith) in
+    omega (arith, few.0, few.1, heard.count)
+
 -- an event more
-pub hears-event : (means : List Item → List Item) (text : List ℕ) (old new : Judge) (event : LinkEvent) → IsWritable (Event event) → HasHeard means text old → Hears old event new
-    → HasHeard means (text ++ (line_words (Event event) ++ 10 ∷ [])) new
-hears-event means text old new event writable heard hears = record {
+pub hears-event : (means : List Item → List Item) (text : List ℕ) (old new : Judge) (before after : ℕ) (event : LinkEvent) → IsWritable (Event event)
+    → HasHeard means text old before → Hears old event new → after ≡ before + length (said (event ∷ [])) → HasHeard means (text ++ (line_words (Event event) ++ 10 ∷ [])) new after
+hears-event means text old new before after event writable heard hears more = record {
   events = heard.events ++ event ∷ [];
   written = All-append (λ event. IsWritable (Event event)) heard.events (event ∷ []) heard.written (All-cons (λ event. IsWritable (Event event)) event [] writable (All-nil (λ event. IsWritable (Event event))));
   lines = line-more text (event_words event) heard.events event heard.lines refl;
   judged = λ told all. hears means told heard.events (told-last told heard.events event all) (heard.judged told (told-front told heard.events event all));
+  count =
+      let both = length-append (said heard.events) (said (event ∷ [])) in
+      ap length (said-append heard.events (event ∷ [])) ∙ omega (arith, both, heard.count, more);
 }
 
 -- a verdict that stays open after an event
-pub says-event : (means : List Item → List Item) (text : List ℕ) (old new : Judge) (event : LinkEvent) (verdict : Verdict) → verdict ≡ Unfinished → Hears old event new
-    → IsWritable (Event event) → HasHeard means text old → SaysSo means (text ++ (line_words (Event event) ++ 10 ∷ [])) false new verdict
-says-event means text old new event verdict going hears writable heard =
-    subst (SaysSo means (text ++ (line_words (Event event) ++ 10 ∷ [])) false new) (sym going) (λ _. hears-event means text old new event writable heard hears)
+pub says-event : (means : List Item → List Item) (text : List ℕ) (old new : Hearing) (event : LinkEvent) → new.verdict ≡ Unfinished → new.broken ≡ None
+    → new.writes ≡ old.writes + length (said (event ∷ [])) → Hears old.judge event new.judge → IsWritable (Event event) → HasHeard means text old.judge old.writes
+    → SaysOf means (text ++ (line_words (Event event) ++ 10 ∷ [])) false new
+says-event means text old new event going whole more hears writable heard =
+    let lines : List ℕ = text ++ (line_words (Event event) ++ 10 ∷ []) in
+    let going_on : HasNoEnding means lines false new.judge new.writes None = (refl, hears-event means text old.judge new.judge old.writes new.writes event writable heard hears more) in
+    subst (SaysSo means lines false new) (sym going) (subst (HasNoEnding means lines false new.judge new.writes) (sym whole) going_on)
 
 -- an event that no faithful log has here
-pub says-refused : (means : List Item → List Item) (text : List ℕ) (old new : Judge) (event : LinkEvent) (number : ℕ) → Refuses old event
-    → IsWritable (Event event) → HasHeard means text old → SaysSo means (text ++ (line_words (Event event) ++ 10 ∷ [])) false new (Unfaithful number)
-says-refused means text old new event number refuses writable heard = record {
-  written = heard.written;
-  writable = writable;
-  events = heard.events;
-  line = Event event;
-  more = [];
-  lines = ap (λ lines. lines ++ (line_words (Event event) ++ 10 ∷ [])) heard.lines ∙ ap (λ line. event_lines heard.events ++ line) (sym (append-nil (line_words (Event event) ++ 10 ∷ [])));
-  refused = λ told faithful. refuses means told heard.events
-      (heard.judged told (told-front told heard.events event (timely-told told 0 (heard.events ++ event ∷ []) faithful.timely))) faithful;
-}
+pub says-refused : (means : List Item → List Item) (text : List ℕ) (old new : Hearing) (event : LinkEvent) (number : ℕ) → new.broken ≡ None → Refuses old.judge event
+    → IsWritable (Event event) → HasHeard means text old.judge old.writes → SaysSo means (text ++ (line_words (Event event) ++ 10 ∷ [])) false new (Unfaithful number)
+says-refused means text old new event number whole refuses writable heard = (
+  whole,
+  record {
+    written = heard.written;
+    writable = writable;
+    events = heard.events;
+    line = Event event;
+    more = [];
+    lines = ap (λ lines. lines ++ (line_words (Event event) ++ 10 ∷ [])) heard.lines ∙ ap (λ line. event_lines heard.events ++ line) (sym (append-nil (line_words (Event event) ++ 10 ∷ [])));
+    refused = λ told faithful. refuses means told heard.events
+        (heard.judged told (told-front told heard.events event (timely-told told 0 (heard.events ++ event ∷ []) faithful.timely))) faithful;
+  },
+)
 
 -- an ending that no link with these events reports
-pub says-other-end : (means : List Item → List Item) (text : List ℕ) (old new : Judge) (reading : ℕ) (last : Ending) (number : ℕ) → RefusesEnding old reading last
-    → IsWritable (Last (Ended reading last)) → HasHeard means text old → SaysSo means (text ++ (line_words (Last (Ended reading last)) ++ 10 ∷ [])) true new (Unfaithful number)
-says-other-end means text old new reading last number refuses writable heard =
-    let words : List ℕ = line_words (Last (Ended reading last)) ++ 10 ∷ [] in
-    record {
-      events = heard.events;
-      written = heard.written;
-      writable = writable;
-      line = Last (Ended reading last);
-      more = [];
-      lines = ap (λ lines. lines ++ words) heard.lines ∙ ap (λ line. event_lines heard.events ++ line) (sym (append-nil words));
-      refused = λ told taken written source report. refuses means told heard.events (heard.judged told (timely-told told 0 heard.events report.faithful.timely)) taken written source report;
-    }
+pub says-other-end : (means : List Item → List Item) (text : List ℕ) (old new : Hearing) (reading : ℕ) (last : Ending) (number : ℕ) → new.broken ≡ None → RefusesEnding old.judge reading last
+    → IsWritable (Last (Ended reading last)) → HasHeard means text old.judge old.writes → SaysSo means (text ++ (line_words (Last (Ended reading last)) ++ 10 ∷ [])) true new (Unfaithful number)
+says-other-end means text old new reading last number whole refuses writable heard =
+    let words : List ℕ = line_words (Last (Ended reading last)) ++ 10 ∷ [] in (
+      whole,
+      record {
+        events = heard.events;
+        written = heard.written;
+        writable = writable;
+        line = Last (Ended reading last);
+        more = [];
+        lines = ap (λ lines. lines ++ words) heard.lines ∙ ap (λ line. event_lines heard.events ++ line) (sym (append-nil words));
+        refused = λ told taken written source report. refuses means told heard.events (heard.judged told (timely-told told 0 heard.events report.faithful.timely)) taken written source report;
+      },
+    )
+
+-- the last line tells that the stream broke off
+pub says-broken : (means : List Item → List Item) (text : List ℕ) (old new : Hearing) (cause : BreakCause) (bytes : ℕ) → new.verdict ≡ Unfinished → new.broken ≡ Some cause
+    → new.judge ≡ old.judge → new.writes ≡ old.writes → HasHeard means text old.judge old.writes
+    → SaysOf means (text ++ (line_words (Last (Broken cause bytes)) ++ 10 ∷ [])) true new
+says-broken means text old new cause bytes going broken judge writes heard =
+    let lines : List ℕ = text ++ (line_words (Last (Broken cause bytes)) ++ 10 ∷ []) in
+    let here : HasHeard means text new.judge new.writes = rw (judge, writes) heard in
+    let stopped : HasNoEnding means lines true new.judge new.writes (Some cause) = (refl, record { front = text; bytes = bytes; heard = here; lines = refl }) in
+    subst (SaysSo means lines true new) (sym going) (subst (HasNoEnding means lines true new.judge new.writes) (sym broken) stopped)
 
 -- the last line
-pub hears-last : (means : List Item → List Item) (text : List ℕ) (old new : Judge) (reading : ℕ) (last : Ending) → HasHeard means text old
+pub hears-last : (means : List Item → List Item) (text : List ℕ) (old new : Judge) (writes reading : ℕ) (last : Ending) → HasHeard means text old writes
     → (new.heard ≡ old.heard) × (new.said ≡ old.said) × (new.ended ≡ old.ended)
     → ((means : List Item → List Item) (told : ℕ → Bool) (log : List LinkEvent) → told reading ≡ true → Judged means told old log
     → ReportsAt means (λ t. told t ≡ true) log old.heard old.said last (source_heard old.ended) reading)
-    → HasReport means (text ++ (line_words (Last (Ended reading last)) ++ 10 ∷ [])) new.heard new.said new.ended last
-hears-last means text old new reading last heard counts reports = record {
+    → HasReport means (text ++ (line_words (Last (Ended reading last)) ++ 10 ∷ [])) new.heard new.said new.ended writes last
+hears-last means text old new writes reading last heard counts reports = record {
   events = heard.events;
   reading = reading;
   lines = rw heard.lines (simp append_assoc);
+  counts = rw (counts.0, counts.1, counts.2) (counts-of means text old writes heard);
   report = λ told all says. rw (counts.0, counts.1, counts.2) (reports means told heard.events says (heard.judged told all));
 }
 
 -- a line that isn't heard: the verdict says no more than before
-pub says-skipped : (means : List Item → List Item) (text line : List ℕ) (over now : Bool) (judge : Judge) (verdict : Verdict) → (verdict ≡ Unfinished → ⊥) → over ≡ false
-    → SaysSo means text over judge verdict → SaysSo means (text ++ line) now judge verdict
-says-skipped means text line over now judge (Faithful ending) known going says = absurd-over (sym going ∙ says.0)
+pub says-skipped : (means : List Item → List Item) (text line : List ℕ) (over now : Bool) (hearing : Hearing) (verdict : Verdict) → (verdict ≡ Unfinished → ⊥) → over ≡ false
+    → SaysSo means text over hearing verdict → SaysSo means (text ++ line) now hearing verdict
+says-skipped means text line over now hearing (Faithful ending) known going says = absurd-over (sym going ∙ says.0)
   where
-    absurd-over : false ≡ true → SaysSo means (text ++ line) now judge (Faithful ending)
+    absurd-over : false ≡ true → SaysSo means (text ++ line) now hearing (Faithful ending)
     absurd-over same = cc
-says-skipped means text line over now judge Unfinished known going says = absurd (known refl)
-says-skipped means text line over now judge (Unfaithful number) known going says = record {
-  events = says.events;
-  written = says.written;
-  writable = says.writable;
-  line = says.line;
-  more = says.more ++ line;
-  lines = ap (λ text. text ++ line) says.lines ∙ append_assoc (event_lines says.events) ((line_words says.line ++ 10 ∷ []) ++ says.more) line
-      ∙ ap (λ rest. event_lines says.events ++ rest) (append_assoc (line_words says.line ++ 10 ∷ []) says.more line);
-  refused = says.refused;
-}
+says-skipped means text line over now hearing Unfinished known going says = absurd (known refl)
+says-skipped means text line over now hearing (Unfaithful number) known going says =
+    let refusal = says.1 in (
+      says.0,
+      record {
+        events = refusal.events;
+        written = refusal.written;
+        writable = refusal.writable;
+        line = refusal.line;
+        more = refusal.more ++ line;
+        lines = ap (λ text. text ++ line) refusal.lines ∙ append_assoc (event_lines refusal.events) ((line_words refusal.line ++ 10 ∷ []) ++ refusal.more) line
+            ∙ ap (λ rest. event_lines refusal.events ++ rest) (append_assoc (line_words refusal.line ++ 10 ∷ []) refusal.more line);
+        refused = refusal.refused;
+      },
+    )
+
+-- a line that is heard behind events alone
+says-next : (means : List Item → List Item) (text : List ℕ) (old new : Hearing) (line : LogLine) (broken : Option BreakCause) → old.broken ≡ broken → IsWritable line → HearsLine old line new
+    → HasNoEnding means text false old.judge old.writes broken → SaysOf means (text ++ (line_words line ++ 10 ∷ [])) (is_last line) new
+says-next means text old new line None whole writable hears says = hears means text writable whole says.1
+says-next means text old new line (Some cause) whole writable hears says = absurd (not-over says.0)
+  where
+    not-over : false ≡ true → ⊥
+    not-over same = cc
 
 -- a line that is heard
 pub says-line : (means : List Item → List Item) (text : List ℕ) (over now : Bool) (old new : Hearing) (line : LogLine) → old.verdict ≡ Unfinished → over ≡ false → now ≡ is_last line
-    → IsWritable line → HearsLine old line new → SaysSo means text over old.judge old.verdict → SaysSo means (text ++ (line_words line ++ 10 ∷ [])) now new.judge new.verdict
+    → IsWritable line → HearsLine old line new → SaysOf means text over old → SaysOf means (text ++ (line_words line ++ 10 ∷ [])) now new
 says-line means text over now old new line unfinished going last writable hears says =
-    let heard : HasHeard means text old.judge = subst (SaysSo means text over old.judge) unfinished says going in
-    subst (λ now. SaysSo means (text ++ (line_words line ++ 10 ∷ [])) now new.judge new.verdict) (sym last) (hears means text writable heard)
+    let going_on : HasNoEnding means text false old.judge old.writes old.broken =
+    subst (λ over. HasNoEnding means text over old.judge old.writes old.broken) going (subst (SaysSo means text over old) unfinished says) in
+    subst (λ now. SaysOf means (text ++ (line_words line ++ 10 ∷ [])) now new) (sym last) (says-next means text old new line old.broken refl writable hears going_on)
 
--- a text with a line feed isn't empty
-not-empty : (front words more : List ℕ) → front ++ ((words ++ 10 ∷ []) ++ more) ≡ [] → ⊥
-not-empty front words more none =
-    omega (arith, ap length none, length-append front ((words ++ 10 ∷ []) ++ more), length-append (words ++ 10 ∷ []) more, length-append words (10 ∷ []))
-
--- lines stand behind the header
-behind-header : (before handed : Option (List ℕ)) (header torn lines : List ℕ) (left : Option (List ℕ)) → (lines ≡ [] → ⊥) → before ≡ prepend_known (header ++ torn) handed
-    → (torn ≡ []) ⊎ IsAtEnd handed → handed ≡ prepend_known lines left → (rest : Option (List ℕ)) × (before ≡ prepend_known (header ++ lines) rest)
-behind-header before handed header torn lines left some given (inl none) here =
-    (left, given ∙ ap (λ torn. prepend_known (header ++ torn) handed) none ∙ ap (λ header. prepend_known header handed) (append-nil header) ∙ ap (prepend_known header) here ∙ sym (prepend-append header lines left))
-behind-header before None header torn lines left some given (inr ended) here = (None, given)
-behind-header before (Some bytes) header torn lines None some given (inr ended) here = absurd (no-bytes here)
+-- lines stand behind the header, and no line behind them
+behind-header : (before handed : Option (List ℕ)) (header torn lines : List ℕ) (left : Option (List ℕ)) → Lacks 10 torn → LacksLine left → before ≡ prepend_known (header ++ torn) handed
+    → (torn ≡ []) ⊎ IsAtEnd handed → handed ≡ prepend_known lines left → (rest : Option (List ℕ)) × (before ≡ prepend_known (header ++ lines) rest) × LacksLine rest
+behind-header before handed header torn lines left lacks none given (inl empty) here =
+    (left, given ∙ ap (λ torn. prepend_known (header ++ torn) handed) empty ∙ ap (λ header. prepend_known header handed) (append-nil header) ∙ ap (prepend_known header) here ∙ sym (prepend-append header lines left), none)
+behind-header before None header torn lines left lacks none given (inr ended) here = (None, given, record { torn = torn; left = None; given = refl; unended = lacks; ended = tt })
+behind-header before (Some bytes) header torn lines None lacks none given (inr ended) here = absurd (no-bytes here)
   where
     no-bytes : Some bytes ≡ None → ⊥
     no-bytes same = cc
-behind-header before (Some bytes) header torn lines (Some left) some given (inr ended) here = absurd (some (no-lines lines left (sym whole ∙ ended)))
+behind-header before (Some bytes) header torn lines (Some left) lacks none given (inr ended) here =
+    let empty : lines ≡ [] = no-lines lines left (sym whole ∙ ended) in (
+      Some (torn ++ bytes),
+      given ∙ ap Some (append_assoc header torn bytes) ∙ ap (λ header. Some (header ++ (torn ++ bytes))) (sym (append-nil header) ∙ ap (λ lines. header ++ lines) (sym empty)),
+      record { torn = torn; left = Some bytes; given = refl; unended = lacks; ended = ended },
+    )
   where
     whole : bytes ≡ lines ++ left
     whole = cc
@@ -159,49 +236,85 @@ behind-header before (Some bytes) header torn lines (Some left) some given (inr 
     no-lines [] left same = refl
     no-lines (first ∷ lines) left same = absurd cc
 
+-- how far a log came that tells no ending
+stopped-so : (means : List Item → List Item) (text : List ℕ) (over : Bool) (judge : Judge) (writes : ℕ) (broken : Option BreakCause) → HasNoEnding means text over judge writes broken
+    → HasStopped means text broken judge.heard judge.said judge.ended writes
+stopped-so means text over judge writes None says =
+    let heard = says.1 in record {
+      events = heard.events;
+      bytes = 0;
+      lines = heard.lines ∙ sym (append-nil (event_lines heard.events));
+      counts = counts-of means text judge writes heard;
+      faithful = λ told all. (heard.judged told all).faithful;
+    }
+stopped-so means text over judge writes (Some cause) says =
+    let broken = says.1 in
+    let heard = broken.heard in record {
+      events = heard.events;
+      bytes = broken.bytes;
+      lines = rw (sym heard.lines) broken.lines;
+      counts = counts-of means broken.front judge writes heard;
+      faithful = λ told all. (heard.judged told all).faithful;
+    }
+
 -- the lines behind the header that was read
-text-of : (before after : Option (List ℕ)) (log : OpenLog) (hearing : Hearing) (judged : JudgedLog) (text : List ℕ) (left : Option (List ℕ)) → (text ≡ [] → ⊥)
-    → Opens before after log → (begun : Begins log.heading log.chain hearing) → to_hand log after ≡ prepend_known text left
-    → judged.heading ≡ log.heading → judged.chain ≡ log.chain → IsTextOf before judged text begun.means
-text-of before after log hearing judged text left some opened begun here heading chain =
+text-of : (before after : Option (List ℕ)) (log last : OpenLog) (hearing end : Hearing) (judged : JudgedLog) → Opens before after log → (begun : Begins log.heading log.chain hearing)
+    → (heard : HearsToEnd log last after hearing end) → judged.heading ≡ log.heading → judged.chain ≡ log.chain → IsTextOf before judged heard.text begun.means
+text-of before after log last hearing end judged opened begun heard heading chain =
     let header : Heading → Toxics → List ℕ = λ h c. header_text (string_bytes h.proxy) h.number h.stream h.seed c opened.names in
-    let (rest, given) = behind-header before (to_hand log after) (header log.heading log.chain) opened.torn text left some opened.given opened.rest here in record {
+    let (rest, given, none) = behind-header before (to_hand log after) (header log.heading log.chain) opened.torn heard.text heard.left opened.unended heard.rest opened.given opened.rest heard.given in record {
       names = opened.names;
       left = rest;
-      text = given ∙ ap₂ (λ h c. prepend_known (header h c ++ text) rest) (sym heading) (sym chain);
+      text = given ∙ ap₂ (λ h c. prepend_known (header h c ++ heard.text) rest) (sym heading) (sym chain);
+      rest = none;
       meaning = λ items stream. begun.meaning items stream ∙ ap₂ (λ h c. chain_flow c (seeded_words h.seed h.number h.stream) items) (sym heading) (sym chain);
     }
 
-module _ (before after : Option (List ℕ)) (log : OpenLog) (hearing : Hearing) (judged : JudgedLog) (text : List ℕ) (left : Option (List ℕ)) (over : Bool) (judge : Judge)
-    (opened : Opens before after log) (begun : Begins log.heading log.chain hearing) (here : to_hand log after ≡ prepend_known text left)
-    (says : (means : List Item → List Item) → HasHeard means [] hearing.judge → SaysSo means text over judge judged.verdict)
-    (heading : judged.heading ≡ log.heading) (chain : judged.chain ≡ log.chain) where
+-- what is kept of a hearing
+pub record KeepsHearing (hearing : Hearing) (judged : JudgedLog) : Type 0 where
+  pub verdict : judged.verdict ≡ hearing.verdict
+  pub broken : judged.broken ≡ hearing.broken
+  pub heard : judged.heard ≡ hearing.judge.heard
+  pub said : judged.said ≡ hearing.judge.said
+  pub ended : judged.source_ended ≡ hearing.judge.ended
+  pub writes : judged.writes ≡ hearing.writes
+
+module _ (before after : Option (List ℕ)) (log last : OpenLog) (hearing end : Hearing) (judged : JudgedLog) (opened : Opens before after log) (begun : Begins log.heading log.chain hearing)
+    (heard : HearsToEnd log last after hearing end) (kept : KeepsHearing end judged) (heading : judged.heading ≡ last.heading) (chain : judged.chain ≡ last.chain) where
+  says : SaysSo begun.means heard.text last.over end judged.verdict
+  says = subst (SaysSo begun.means heard.text last.over end) (sym kept.verdict) (heard.says begun.means (subst (λ over. SaysOf begun.means [] over hearing) (sym opened.going) begun.says))
+
+  text : IsTextOf before judged heard.text begun.means
+  text = text-of before after log last hearing end judged opened begun heard (heading ∙ heard.heading) (chain ∙ heard.chain)
+
   -- a faithful verdict
-  pub faithful-text : (last : Ending) → judged.verdict ≡ Faithful last → (judged.heard ≡ judge.heard) × (judged.said ≡ judge.said) × (judged.source_ended ≡ judge.ended)
-      → IsFaithfulText before judged last
-  faithful-text last faithful counts =
-      let said = subst (SaysSo begun.means text over judge) faithful (says begun.means begun.heard) in
-      let report = said.1 in
-      let some : text ≡ [] → ⊥ = λ none. not-empty (event_lines report.events) (last_words (Ended report.reading last)) []
-      (ap (λ line. event_lines report.events ++ line) (append-nil (last_words (Ended report.reading last) ++ 10 ∷ [])) ∙ sym report.lines ∙ none) in record {
-        lines = text;
+  pub faithful-text : (last : Ending) → judged.verdict ≡ Faithful last → IsFaithfulText before judged last
+  faithful-text ending faithful =
+      let (over, whole, report) = subst (SaysSo begun.means heard.text last.over end) faithful says in record {
+        lines = heard.text;
         means = begun.means;
-        text = text-of before after log hearing judged text left some opened begun here heading chain;
-        report = record {
-          events = report.events;
-          reading = report.reading;
-          lines = report.lines;
-          report = λ told all tells. rw (counts.0, counts.1, counts.2) (report.report told all tells);
-        };
+        text = text;
+        report = rw (kept.heard, kept.said, kept.ended, kept.writes) report;
+        whole = kept.broken ∙ whole;
       }
 
   -- an unfaithful one
   pub refused-text : (number : ℕ) → judged.verdict ≡ Unfaithful number → IsRefusedText before judged
   refused-text number unfaithful =
-      let refusal = subst (SaysSo begun.means text over judge) unfaithful (says begun.means begun.heard) in
-      let some : text ≡ [] → ⊥ = λ none. not-empty (event_lines refusal.events) (line_words refusal.line) refusal.more (sym refusal.lines ∙ none) in record {
-        lines = text;
+      let (whole, refusal) = subst (SaysSo begun.means heard.text last.over end) unfaithful says in record {
+        lines = heard.text;
         means = begun.means;
-        text = text-of before after log hearing judged text left some opened begun here heading chain;
+        text = text;
         refusal = refusal;
+        whole = kept.broken ∙ whole;
+      }
+
+  -- and an unfinished one
+  pub unfinished-text : judged.verdict ≡ Unfinished → IsUnfinishedText before judged
+  unfinished-text unfinished =
+      let none = subst (SaysSo begun.means heard.text last.over end) unfinished says in record {
+        lines = heard.text;
+        means = begun.means;
+        text = text;
+        stopped = rw (kept.broken, kept.heard, kept.said, kept.ended, kept.writes) (stopped-so begun.means heard.text last.over end.judge end.writes end.broken none);
       }

@@ -1,5 +1,5 @@
 -- What a verdict says of the lines that were read.
-use Rattle.std.specs.Prelude.{◌≡◌, ℕ, Bool, true, false, List, [], ◌∷◌, ◌++◌, All, flat_map, string_bytes, Option}
+use Rattle.std.specs.Prelude.{◌≡◌, ℕ, Bool, true, false, List, [], ◌∷◌, ◌++◌, All, flat_map, length, string_bytes, Option, Some, None}
 use Rattle.std.specs.Io.KnownBytes.{prepend_known}
 use Rattle.tox_time.specs.streams.Stream.{IsStream}
 use Rattle.tox_words.specs.Seeded.{seeded_words}
@@ -11,19 +11,22 @@ use Rattle.tox_log.specs.HeaderText.{header_text}
 use Rattle.tox_time.specs.declared.streams.item.Item.{Item}
 use Rattle.tox_time.specs.declared.streams.ending.Ending.{Ending}
 use Rattle.tox_link.specs.declared.notes.LinkEvent.{LinkEvent}
-use Rattle.tox_link.specs.log.Log.{reading_of, IsFaithful}
+use Rattle.tox_time.specs.streams.Table.{slices_table}
+use Rattle.tox_link.specs.log.Log.{has_source_end, heard_bytes, reading_of, said, IsFaithful}
 use Rattle.tox_link.specs.Reports.{ReportsAt}
 use Rattle.tox_log.specs.declared.judge.Judge.{Judge}
 use Rattle.tox_log.specs.declared.event_line.LogLine.{LogLine}
 use Rattle.tox_log.specs.declared.event_line.LogLine.TheVariants.{Event, Last}
+use Rattle.tox_log.specs.declared.last_line.BreakCause.{BreakCause}
 use Rattle.tox_log.specs.declared.last_line.LastLine.TheVariants.{Ended, Broken}
 use Rattle.tox_log.specs.declared.replay.Verdict.{Verdict}
 use Rattle.tox_log.specs.declared.replay.Verdict.TheVariants.{Faithful, Unfinished, Unfaithful}
 use Rattle.tox_log.specs.declared.replay.Hearing.{Hearing}
+use Rattle.tox_log.specs.declared.open_log.OpenLog.{OpenLog}
 use Rattle.tox_log.specs.EventText.{event_line}
 use Rattle.tox_log.specs.LastText.{last_line}
 use Rattle.tox_log.specs.Lines.{IsWritable, line_words}
-use Rattle.tox_log.specs.Reading.{is_last}
+use Rattle.tox_log.specs.Reading.{LacksLine, is_last, to_hand}
 use Rattle.tox_log.specs.Judging.{HasNoReport, Judged, source_heard}
 
 -- the lines of events
@@ -34,19 +37,40 @@ event_lines events = flat_map event_line events
 abbrev pub IsTold : (ℕ → Bool) → List LinkEvent → Type 0
 IsTold told events = All (λ event. told (reading_of event) ≡ true) events
 
--- the text is the lines of these events, and the judge is one after them
-pub record HasHeard (means : List Item → List Item) (text : List ℕ) (judge : Judge) : Type 0 where
+-- by these events so many bytes were heard and said, the source's end was heard or not, and there were so many writes
+pub record AreCounts (events : List LinkEvent) (taken written : ℕ) (ended : Bool) (writes : ℕ) : Type 0 where
+  pub took : heard_bytes events ≡ taken
+  pub wrote : length (slices_table (said events)) ≡ written
+  pub source : has_source_end events ≡ ended
+  pub count : length (said events) ≡ writes
+
+-- the text is the lines of these events with so many writes, and the judge is one after them
+pub record HasHeard (means : List Item → List Item) (text : List ℕ) (judge : Judge) (writes : ℕ) : Type 0 where
   pub events : List LinkEvent
   pub written : All (λ event. IsWritable (Event event)) events
   pub lines : text ≡ event_lines events
   pub judged : (told : ℕ → Bool) → IsTold told events → Judged means told judge events
+  pub count : length (said events) ≡ writes
+
+-- the text is the lines of such events, and a last line that the stream broke off for this cause
+pub record HasBroken (means : List Item → List Item) (text : List ℕ) (judge : Judge) (writes : ℕ) (cause : BreakCause) : Type 0 where
+  pub front : List ℕ
+  pub bytes : ℕ
+  pub heard : HasHeard means front judge writes
+  pub lines : text ≡ front ++ last_line (Broken cause bytes)
+
+-- the lines that were read so far tell no ending: they have a last line exactly if there is a cause, which is that of the line
+abbrev pub HasNoEnding : (List Item → List Item) → List ℕ → Bool → Judge → ℕ → Option BreakCause → Type 0
+HasNoEnding means text over judge writes None = (over ≡ false) × HasHeard means text judge writes
+HasNoEnding means text over judge writes (Some cause) = (over ≡ true) × HasBroken means text judge writes cause
 
 -- the text is the lines of events and a last line with this ending, and the link with these events reports so: it took and wrote so
--- many bytes, and its source had ended or not
-pub record HasReport (means : List Item → List Item) (text : List ℕ) (taken written : ℕ) (ended : Bool) (ending : Ending) : Type 0 where
+-- many bytes in so many writes, and its source had ended or not
+pub record HasReport (means : List Item → List Item) (text : List ℕ) (taken written : ℕ) (ended : Bool) (writes : ℕ) (ending : Ending) : Type 0 where
   pub events : List LinkEvent
   pub reading : ℕ
   pub lines : text ≡ event_lines events ++ last_line (Ended reading ending)
+  pub counts : AreCounts events taken written ended writes
   pub report : (told : ℕ → Bool) → IsTold told events → told reading ≡ true
       → ReportsAt means (λ t. told t ≡ true) events taken written ending (source_heard ended) reading
 
@@ -68,15 +92,31 @@ pub record HasRefusal (means : List Item → List Item) (text : List ℕ) : Type
   pub refused : IsRefused means events line
 
 -- what a verdict says of the lines that were read so far, which have a last line or none yet
-abbrev pub SaysSo : (List Item → List Item) → List ℕ → Bool → Judge → Verdict → Type 0
-SaysSo means text over judge (Faithful ending) = (over ≡ true) × HasReport means text judge.heard judge.said judge.ended ending
-SaysSo means text over judge Unfinished = over ≡ false → HasHeard means text judge
-SaysSo means text over judge (Unfaithful number) = HasRefusal means text
+abbrev pub SaysSo : (List Item → List Item) → List ℕ → Bool → Hearing → Verdict → Type 0
+SaysSo means text over hearing (Faithful ending) =
+    (over ≡ true) × (hearing.broken ≡ None)
+    × HasReport means text hearing.judge.heard hearing.judge.said hearing.judge.ended hearing.writes ending
+SaysSo means text over hearing Unfinished = HasNoEnding means text over hearing.judge hearing.writes hearing.broken
+SaysSo means text over hearing (Unfaithful number) = (hearing.broken ≡ None) × HasRefusal means text
+
+-- a hearing says so of the lines that were read so far
+abbrev pub SaysOf : (List Item → List Item) → List ℕ → Bool → Hearing → Type 0
+SaysOf means text over hearing = SaysSo means text over hearing hearing.verdict
 
 -- a line that can be written is heard
 abbrev pub HearsLine : Hearing → LogLine → Hearing → Type 0
-HearsLine old line new = (means : List Item → List Item) (text : List ℕ) → IsWritable line → HasHeard means text old.judge
-    → SaysSo means (text ++ (line_words line ++ 10 ∷ [])) (is_last line) new.judge new.verdict
+HearsLine old line new = (means : List Item → List Item) (text : List ℕ) → IsWritable line → old.broken ≡ None
+    → HasHeard means text old.judge old.writes → SaysOf means (text ++ (line_words line ++ 10 ∷ [])) (is_last line) new
+
+-- the lines that were left of a log were read, and these bytes are what is left behind them: a hearing says so of the lines
+pub record HearsToEnd (old new : OpenLog) (before : Option (List ℕ)) (first last : Hearing) : Type 0 where
+  pub text : List ℕ
+  pub left : Option (List ℕ)
+  pub given : to_hand old before ≡ prepend_known text left
+  pub rest : LacksLine left
+  pub says : (means : List Item → List Item) → SaysOf means [] old.over first → SaysOf means text new.over last
+  pub heading : new.heading ≡ old.heading
+  pub chain : new.chain ≡ old.chain
 
 -- this is what a chain with these words does to a stream
 abbrev pub IsMeaningOf : (List Item → List Item) → Toxics → List ℕ → Type 0
@@ -86,15 +126,16 @@ IsMeaningOf means chain words = (items : List Item) → IsStream items → means
 pub record Begins (heading : Heading) (chain : Toxics) (hearing : Hearing) : Type 0 where
   pub means : List Item → List Item
   pub meaning : IsMeaningOf means chain (seeded_words heading.seed heading.number heading.stream)
-  pub heard : HasHeard means [] hearing.judge
+  pub says : SaysOf means [] false hearing
   pub unfinished : hearing.verdict ≡ Unfinished
 
--- bytes begin with the header of a judged log and these lines, and this is what the chain of that header does with the words of its
--- link's stream
+-- bytes are the header of a judged log, these lines, and a rest without a line; and this is what the chain of that header does with
+-- the words of its link's stream
 pub record IsTextOf (given : Option (List ℕ)) (judged : JudgedLog) (lines : List ℕ) (means : List Item → List Item) : Type 0 where
   pub names : List (List ℕ)
   pub left : Option (List ℕ)
   pub text : given ≡ prepend_known (header_text (string_bytes judged.heading.proxy) judged.heading.number judged.heading.stream judged.heading.seed judged.chain names ++ lines) left
+  pub rest : LacksLine left
   pub meaning : IsMeaningOf means judged.chain (seeded_words judged.heading.seed judged.heading.number judged.heading.stream)
 
 -- behind the header stand the lines of events and a last line with this ending, and a link with these events reports so
@@ -102,7 +143,8 @@ pub record IsFaithfulText (given : Option (List ℕ)) (judged : JudgedLog) (endi
   pub lines : List ℕ
   pub means : List Item → List Item
   pub text : IsTextOf given judged lines means
-  pub report : HasReport means lines judged.heard judged.said judged.source_ended ending
+  pub report : HasReport means lines judged.heard judged.said judged.source_ended judged.writes ending
+  pub whole : judged.broken ≡ None
 
 -- behind the header stand the lines of events and one that is refused
 pub record IsRefusedText (given : Option (List ℕ)) (judged : JudgedLog) : Type 0 where
@@ -110,3 +152,24 @@ pub record IsRefusedText (given : Option (List ℕ)) (judged : JudgedLog) : Type
   pub means : List Item → List Item
   pub text : IsTextOf given judged lines means
   pub refusal : HasRefusal means lines
+  pub whole : judged.broken ≡ None
+
+-- a last line that the stream broke off, if there is a cause
+abbrev pub broken_line : Option BreakCause → ℕ → List ℕ
+broken_line None bytes = []
+broken_line (Some cause) bytes = last_line (Broken cause bytes)
+
+-- the text is the lines of events that are faithful, and no last line or one with this cause; and these are the events' counts
+pub record HasStopped (means : List Item → List Item) (text : List ℕ) (broken : Option BreakCause) (taken written : ℕ) (ended : Bool) (writes : ℕ) : Type 0 where
+  pub events : List LinkEvent
+  pub bytes : ℕ
+  pub lines : text ≡ event_lines events ++ broken_line broken bytes
+  pub counts : AreCounts events taken written ended writes
+  pub faithful : (told : ℕ → Bool) → IsTold told events → IsFaithful means (λ t. told t ≡ true) events
+
+-- behind the header stand the lines of faithful events, and no last line with an ending
+pub record IsUnfinishedText (given : Option (List ℕ)) (judged : JudgedLog) : Type 0 where
+  pub lines : List ℕ
+  pub means : List Item → List Item
+  pub text : IsTextOf given judged lines means
+  pub stopped : HasStopped means lines judged.broken judged.heard judged.said judged.source_ended judged.writes

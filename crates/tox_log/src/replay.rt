@@ -1,12 +1,9 @@
 //! What a log says, judged: whether the plan of its header means it, and how late its writes were.
-ghost use Rattle.std.specs.Prelude.{◌≡◌, ◌≢◌, ℕ, ◌++◌, List, [], Option, false, IfErr, IfOk, OnOk};
-ghost use Rattle.std.specs.Io.KnownBytes.{prepend_known};
+ghost use Rattle.std.specs.Prelude.{◌≡◌, ◌≢◌, ℕ, List, false, IfErr, IfOk, OnOk};
 ghost use Rattle.tox_compile.specs.Meaning.{means};
-ghost use Rattle.tox_time.specs.declared.streams.item.Item.{Item as OneItem};
-ghost use Rattle.tox_log.specs.Hearing.{Begins, HasHeard, HearsLine, IsFaithfulText, IsRefusedText, SaysSo};
+ghost use Rattle.tox_log.specs.Hearing.{Begins, HearsLine, HearsToEnd, IsFaithfulText, IsRefusedText, IsUnfinishedText};
 ghost use Rattle.tox_time.specs.declared.streams.ending.Ending.{Ending as OneEnding};
 ghost use Rattle.tox_log.specs.Judging.{IsHeld};
-ghost use Rattle.tox_log.specs.Reading.{to_hand};
 ghost use Rattle.tox_log.specs.Left.{AcceptsNext, ComesWith, HasLinesLeft, IsHeardTo, IsNoBadLine};
 ghost use Rattle.tox_log.specs.LinkLog.{IsLinkLog};
 ghost use Rattle.tox_log.specs.WrittenLog.{IsWrittenText, WrittenLog};
@@ -81,6 +78,8 @@ pub fn judge_log<R: Source>(alloc: Global, reader: &mut R) -> Result<JudgedLog, 
     ensures faithful { IfOk result (λ judged. (ending : OneEnding)
         → judged.verdict ≡ TheVerdict.Faithful ending
         → IsFaithfulText (R.remaining reader.old) judged ending) }
+    ensures unfinished { IfOk result (λ judged. judged.verdict ≡ TheVerdict.Unfinished
+        → IsUnfinishedText (R.remaining reader.old) judged) }
     ensures refused { IfOk result (λ judged. (number : ℕ)
         → judged.verdict ≡ TheVerdict.Unfaithful number
         → IsRefusedText (R.remaining reader.old) judged) }
@@ -160,11 +159,8 @@ fn hear_lines<R: Source>(
     requires works { R.failed reader.old ≡ false }
     requires held { IsHeld hearing.old.judge }
     requires first { (hearing.old.verdict ≡ TheVerdict.Unfinished) × (log.old.over ≡ false) }
-    ensures says { OnOk result ((text : List ℕ) × (left : Option (List ℕ))
-        × (to_hand log.old (R.remaining reader.old) ≡ prepend_known text left)
-        × ((means : List OneItem → List OneItem) → HasHeard means [] hearing.old.judge
-        → SaysSo means text log.new.over hearing.new.judge hearing.new.verdict)
-        × (log.new.heading ≡ log.old.heading) × (log.new.chain ≡ log.old.chain)) }
+    ensures says { OnOk result
+        (HearsToEnd log.old log.new (R.remaining reader.old) hearing.old hearing.new) }
     ensures reads { (lines : List AnyLine)
         → HasLinesLeft log.old (R.remaining reader.old) lines
         → IsHeardTo hearing.old.judge log.old.heard → IfErr result IsNoBadLine }
@@ -178,7 +174,7 @@ fn hear_lines<R: Source>(
         }
         hear_line(alloc, hearing, &line, log.number())?;
     }
-    Ok(())
+    Err(LogFault::ReadFault)
 }
 
 /// Hears a line of this number.

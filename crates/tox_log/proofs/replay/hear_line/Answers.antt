@@ -1,8 +1,12 @@
 -- The judge comes as far as the event.
-use Rattle.std.proofs.Common.{◌≡◌, sym, subst, OnOk, rules}
+use Rattle.std.proofs.Common.{◌≡◌, Some, refl, sym, subst, OnOk, rules}
 use Rattle.tox_link.specs.declared.notes.LinkEvent.TheVariants.{Piece, SourceEnd, Wrote}
-use Rattle.tox_log.specs.declared.event_line.LogLine.TheVariants.{Event}
+use Rattle.tox_log.specs.declared.event_line.LogLine.TheVariants.{Event, Last}
+use Rattle.tox_log.specs.declared.last_line.LastLine.TheVariants.{Broken}
+use Rattle.tox_log.specs.Hearing.{HearsLine}
+use Rattle.tox_log.specs.declared.replay.Hearing.{Hearing}
 use Rattle.tox_log.specs.Left.{ComesWith}
+use Rattle.tox_log.proofs.Hearing.{says-broken}
 use Rattle.tox_log.proofs.replay.hear_line.Goals as goal
 
 pub returns-in-Event-Piece-clause-follows : goal.returns-in-Event-Piece-clause-follows
@@ -19,3 +23,10 @@ pub returns-in-Event-Wrote-clause-follows : goal.returns-in-Event-Wrote-clause-f
 returns-in-Event-Wrote-clause-follows c =
     let is : c.args.line.now ≡ Event (Wrote c.in-Event-Wrote.slice c.in-Event-Wrote.reading) = search rules in
     subst (λ line. OnOk c.hear_wrote.result (ComesWith c.args.hearing.now line c.hear_wrote.new.hearing)) (sym is) c.hear_wrote.ensures.follows
+
+pub returns-in-Last-Broken-clause-hears : goal.returns-in-Last-Broken-clause-hears
+returns-in-Last-Broken-clause-hears c =
+    let is : c.args.line.now ≡ Last (Broken c.in-Last-Broken.cause c.in-Last-Broken.field-0-1) = search rules in
+    let broken : Hearing = record c.args.hearing.now { broken = Some c.in-Last-Broken.cause } in
+    subst (λ line. HearsLine c.args.hearing.now line broken) (sym is)
+    (λ means text writable whole heard. says-broken means text c.args.hearing.now broken c.in-Last-Broken.cause c.in-Last-Broken.field-0-1 c.requires.going refl refl refl heard)

@@ -3,7 +3,7 @@
 use Rattle.std.proofs.Common.{◌≡◌, ℕ, List, [], false}
 use Rattle.std.specs.Io.KnownBytes.{prepend_known}
 use Rattle.tox_time.specs.declared.streams.item.Item.{Item}
-use Rattle.tox_log.specs.Hearing.{HasHeard, SaysSo}
+use Rattle.tox_log.specs.Hearing.{SaysOf}
 use Rattle.tox_log.specs.Judging.{IsHeld}
 use Rattle.tox_log.specs.Left.{HasLinesLeft, IsHeardTo}
 use Rattle.tox_log.specs.declared.event_line.LogLine.{LogLine}
@@ -18,7 +18,7 @@ invariant-lines g l = record {
   same : (l.log.heading ≡ l.fn.log.heading) × (l.log.chain ≡ l.fn.log.chain);
   text : (text : List ℕ)
       × (to_hand l.fn.log (g.R.Source.remaining l.fn.reader) ≡ prepend_known text (to_hand l.log (g.R.Source.remaining l.reader)))
-      × ((means : List Item → List Item) → HasHeard means [] l.fn.hearing.judge → SaysSo means text l.log.over l.hearing.judge l.hearing.verdict);
+      × ((means : List Item → List Item) → SaysOf means [] l.fn.log.over l.fn.hearing → SaysOf means text l.log.over l.hearing);
   follows : IsHeardTo l.fn.hearing.judge l.fn.log.heard → l.hearing.verdict ≡ Unfinished → IsHeardTo l.hearing.judge l.log.heard;
   left : (lines : List LogLine) → HasLinesLeft l.fn.log (g.R.Source.remaining l.fn.reader) lines
       → (rest : List LogLine) × HasLinesLeft l.log (g.R.Source.remaining l.reader) rest;

@@ -1,7 +1,8 @@
 -- The event is heard.
+use Rattle.std.proofs.Common.{arith}
 use Rattle.tox_link.specs.declared.notes.LinkEvent.TheVariants.{SourceEnd}
 use Rattle.tox_log.proofs.Hearing.{says-event}
 use Rattle.tox_log.proofs.replay.hear_source_end.Goals as goal
 
 pub returns-clause-hears : goal.returns-clause-hears
-returns-clause-hears c = λ means text writable heard. says-event means text c.args.hearing.now.judge c.hear_end.new.judge (SourceEnd c.args.instant.now) c.args.hearing.now.verdict c.requires.going c.hear_end.ensures.hears writable heard
+returns-clause-hears c = λ means text writable whole heard. says-event means text c.args.hearing.now (record c.args.hearing.now { judge = c.hear_end.new.judge }) (SourceEnd c.args.instant.now) c.requires.going whole (omega arith) c.hear_end.ensures.hears writable heard
