@@ -1,5 +1,5 @@
 //! The clock of a served link.
-ghost use Rattle.std.specs.Prelude.{◌≡◌, ◌-◌, ◌/◌, min};
+ghost use Rattle.std.specs.Prelude.{◌≡◌, ◌-◌, ◌/◌, None, min};
 ghost use Rattle.std.specs.Time.{instant_nanos};
 ghost use Rattle.tox_time.specs.Time.{IsInstant, plus};
 
@@ -27,7 +27,9 @@ impl LinkStart {
     }
 
     /// The time since then. None passes where the clock can't be read.
-    pub fn elapsed<R: Clock>(&self, rt: &R) -> Micros {
+    pub fn elapsed<R: Clock>(&self, rt: &R) -> Micros
+        ensures { self.now.instant ≡ None → result ≡ 0 }
+    {
         let Some(start) = self.instant else {
             return Micros::ZERO;
         };

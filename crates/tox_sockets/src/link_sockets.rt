@@ -1,5 +1,5 @@
 //! The two sockets of a served link.
-ghost use Rattle.std.specs.Prelude.{◌≡◌, IfSome};
+ghost use Rattle.std.specs.Prelude.{◌≡◌, IfSome, false};
 ghost use Rattle.std.specs.Arc.{arc_value};
 ghost use Rattle.tox_sockets.specs.Streams.{source_of, target_of};
 
@@ -95,6 +95,7 @@ impl LinkSockets {
         ensures link { result.link.now ≡ self.now }
         ensures source { result.source.now ≡ source_of stream self.now }
         ensures target { result.target.now ≡ target_of stream self.now }
+        ensures fresh { result.was_stopped ≡ false }
     {
         let (source, target) = match stream {
             Stream::Upstream => (&self.client, &self.server),

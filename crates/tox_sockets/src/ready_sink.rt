@@ -1,5 +1,7 @@
 //! Writing a socket of a link that doesn't wait, until the reset of its stream is due.
-ghost use Rattle.std.specs.Prelude.{◌≡◌, false, true, not, None, fold, IfSome, IfOk, OnErr};
+ghost use Rattle.std.specs.Prelude.{◌≡◌, ℕ, Ok, false, true, not, None, fold, IfOk, IfSome, OnErr, length, nat_lt};
+ghost use Rattle.tox_time.specs.Ends.{takes_nothing};
+ghost use Rattle.tox_sockets.specs.Bound.{is_reached};
 ghost use Rattle.std.specs.Arc.{arc_value};
 ghost use Rattle.tox_sockets.specs.ResetDue.{after_op};
 ghost use Rattle.tox_sockets.specs.Streams.{target_of};
@@ -48,6 +50,8 @@ impl<'r, R: Clock> ReadySink<'r, R> {
         ensures stream { IfSome result (λ writer. writer.stream ≡ stream) }
         ensures due { IfSome result (λ writer. writer.due ≡ fold after_op None ops.now) }
         ensures working { IfSome result (λ writer. writer.failed ≡ false) }
+        ensures fresh { IfSome result (λ writer. (writer.start ≡ start)
+            × (writer.writable ≡ true) × (writer.full ≡ false)) }
     {
         let link = link.clone().ok()?;
         let due = reset_due(ops);
@@ -74,7 +78,10 @@ impl<'r, R: Clock> ReadySink<'r, R> {
         news
     }
 
-    fn is_due(&self) -> bool {
+    /// Whether the reset is due at what the clock tells.
+    fn is_due(&self) -> bool
+        ensures { (reading : ℕ) × (result ≡ is_reached self.now.due reading) }
+    {
         let clock = SinceStart::new(self.rt, &self.link, self.start);
         is_reached(self.due, clock.now())
     }
@@ -94,11 +101,25 @@ impl<'r, R: Clock> ReadySink<'r, R> {
         EndFault
     }
 
+    /// A write took so many of these bytes. If it took fewer than all, the next one waits to be told of room.
+    fn took(&mut self, count: usize, bytes: &[u8])
+        ensures room { self.new.full ≡ nat_lt count (length bytes.now) }
+        ensures news { self.new.writable ≡ not self.new.full }
+        ensures failed { self.new.failed ≡ takes_nothing count bytes.now }
+        ensures kept { (self.new.waits ≡ self.old.waits) × (self.new.due ≡ self.old.due) }
+    {
+        self.full = count < bytes.len();
+        self.writable = !self.full;
+        self.failed = count == 0 && !bytes.is_empty();
+    }
+
     /// There was too little room. It waits for more, unless the reset is due.
     fn wait(&mut self) -> Result<Option<usize>, EndFault>
         ensures waits { IfOk result (λ took. (took ≡ None) × (self.new.waits ≡ true)
             × (self.new.failed ≡ self.old.failed)) }
         ensures fails { OnErr result (self.new.failed ≡ true) }
+        ensures endless { self.old.due ≡ None → result ≡ Ok None }
+        ensures full { (self.new.writable ≡ false) × (self.new.full ≡ true) }
     {
         self.writable = false;
         self.full = true;
@@ -128,9 +149,7 @@ impl<'r, R: Clock> PollSink for ReadySink<'r, R> {
         }
         match write_on(self.target(), bytes) {
             Ok(count) => {
-                self.full = count < bytes.len();
-                self.writable = !self.full;
-                self.failed = count == 0 && !bytes.is_empty();
+                self.took(count, bytes);
                 Ok(Some(count))
             }
             Err(error) if would_wait(&error) => self.wait(),

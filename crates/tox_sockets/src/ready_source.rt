@@ -1,5 +1,5 @@
 //! Reading a socket of a link that doesn't wait, until the link is cut.
-ghost use Rattle.std.specs.Prelude.{◌≡◌, ◌||◌, false, true, None, IfSome};
+ghost use Rattle.std.specs.Prelude.{◌≡◌, ◌<◌, ◌≤◌, ◌||◌, false, true, None, IfNone, IfOk, IfSome, OnErr, OnOk, length, nat_eq};
 ghost use Rattle.std.specs.Arc.{arc_value};
 ghost use Rattle.tox_sockets.specs.Streams.{source_of};
 
@@ -38,6 +38,8 @@ impl ReadySource {
         ensures link { IfSome result (λ reader. arc_value reader.link ≡ arc_value link.now) }
         ensures stream { IfSome result (λ reader. reader.stream ≡ stream) }
         ensures working { IfSome result (λ reader. reader.failed ≡ false) }
+        ensures fresh { IfSome result (λ reader. (reader.readable ≡ true)
+            × (reader.closing ≡ closing)) }
     {
         let link = link.clone().ok()?;
         Some(ReadySource {
@@ -73,7 +75,17 @@ impl PollSource for ReadySource {
 
     ghost waits = { λ source. source.waits };
 
-    fn poll_read(&mut self, buffer: &mut [u8]) -> Result<Option<usize>, EndFault> {
+    fn poll_read(&mut self, buffer: &mut [u8]) -> Result<Option<usize>, EndFault>
+        requires { self.old.failed ≡ false }
+        ensures count { IfOk result (λ got. IfSome got (λ n. n ≤ length buffer.new)) }
+        ensures waits { IfOk result (λ got. IfNone got
+            ((self.new.waits ≡ true) × (self.new.readable ≡ false))) }
+        ensures more { IfOk result (λ got. IfSome got (λ n. 0 < n
+            → self.new.readable ≡ (self.old.closing || nat_eq n (length buffer.new)))) }
+        ensures working { OnOk result (self.new.failed ≡ false) }
+        ensures fault { OnErr result (self.new.failed ≡ true) }
+        ensures kept { (self.new.closing ≡ self.old.closing) × (self.new.stream ≡ self.old.stream) }
+    {
         if self.link.is_cut() {
             return Ok(Some(0));
         }
@@ -87,7 +99,7 @@ impl PollSource for ReadySource {
         }
         match answer {
             Ok(count) => {
-                self.readable = self.closing || count == buffer.len();
+                self.readable = may_give_more(self.closing, count, buffer.len());
                 Ok(Some(count))
             }
             Err(error) if would_wait(&error) => {
@@ -101,4 +113,11 @@ impl PollSource for ReadySource {
             }
         }
     }
+}
+
+/// Whether a socket may give more behind a read of so many bytes into so much room.
+fn may_give_more(closing: bool, count: usize, room: usize) -> bool
+    ensures { result ≡ (closing || nat_eq count room) }
+{
+    closing || count == room
 }

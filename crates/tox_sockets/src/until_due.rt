@@ -1,6 +1,7 @@
 //! Writing a socket of a link until the reset of its stream is due.
-ghost use Rattle.std.specs.Prelude.{◌≡◌, false, None, fold};
+ghost use Rattle.std.specs.Prelude.{◌≡◌, ℕ, false, None, fold};
 ghost use Rattle.std.specs.Io.{WritesAtMost};
+ghost use Rattle.tox_sockets.specs.Bound.{is_reached};
 ghost use Rattle.tox_sockets.specs.ResetDue.{after_op};
 
 use crate::bound::is_reached;
@@ -57,7 +58,10 @@ impl<'a, 'r, R: Wait + Clock> UntilDue<'a, 'r, R> {
         }
     }
 
-    fn is_due(&self) -> bool {
+    /// Whether the reset is due at what the clock tells.
+    fn is_due(&self) -> bool
+        ensures { (reading : ℕ) × (result ≡ is_reached self.now.due reading) }
+    {
         is_reached(self.due, self.clock.now())
     }
 
