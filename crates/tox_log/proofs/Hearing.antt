@@ -1,5 +1,5 @@
 -- A line more is heard.
-use Rattle.std.proofs.Common.{◌≡◌, ℕ, All, Bool, true, false, List, [], ◌∷◌, ◌++◌, ◌+◌, ◌≤◌, ◌^◌, length, string_bytes, codes, Option, Some, None, inl, inr, refl, sym, ap, ap₂, subst, ◌∙◌, append_assoc, append-nil, arith}
+use Rattle.std.proofs.Common.{◌≡◌, ℕ, All, Bool, true, false, List, [], ◌∷◌, ◌++◌, ◌+◌, ◌-◌, ◌<◌, ◌≤◌, ◌^◌, length, string_bytes, codes, Option, Some, None, inl, inr, refl, sym, ap, ap₂, subst, ◌∙◌, append_assoc, append-nil, arith}
 use Rattle.std.specs.Prelude.{◌⊎◌}
 use Rattle.std.specs.Io.KnownBytes.{IsAtEnd, prepend_known}
 use Rattle.std.proofs.lemmas.List.{length-append}
@@ -30,7 +30,8 @@ use Rattle.tox_log.specs.declared.event_line.LogLine.TheVariants.{Event, Last}
 use Rattle.tox_log.specs.declared.last_line.BreakCause.{BreakCause}
 use Rattle.tox_log.specs.declared.last_line.LastLine.TheVariants.{Ended, Broken}
 use Rattle.tox_log.specs.EventText.{event_line, event_words}
-use Rattle.tox_log.specs.LastText.{last_words}
+use Rattle.tox_log.specs.Lateness.{IsLate, KeepsLate, ending_late, lates}
+use Rattle.tox_log.specs.declared.lateness.Lateness.{Lateness}
 use Rattle.tox_log.specs.Lines.{IsWritable, line_words}
 use Rattle.tox_log.specs.Judging.{Hears, Judged, Refuses, RefusesEnding, source_heard}
 use Rattle.tox_log.specs.declared.replay.Verdict.{Verdict}
@@ -61,9 +62,10 @@ all-told [] = All-nil (λ event. true ≡ true)
 all-told (event ∷ events) = All-cons (λ event. true ≡ true) event events refl (all-told events)
 
 -- the counts of what was heard
-pub counts-of : (means : List Item → List Item) (text : List ℕ) (judge : Judge) (writes : ℕ) → (heard : HasHeard means text judge writes)
-    → AreCounts heard.events judge.heard judge.said judge.ended writes
-counts-of means text judge writes heard =
+pub counts-of : (means : List Item → List Item) (text : List ℕ) (hearing : Hearing) → (heard : HasHeard means text hearing)
+    → AreCounts heard.events hearing.judge.heard hearing.judge.said hearing.judge.ended hearing.writes
+counts-of means text hearing heard =
+    let judge : Judge = hearing.judge in
     let judged : Judged means (λ _. true) judge heard.events = heard.judged (λ _. true) (all-told heard.events) in
     let bytes = gapless-bytes 0 (said heard.events) judge.said judged.gapless in record {
       took = judged.bytes;
@@ -86,37 +88,67 @@ few-slices start (Wrote slice reading ∷ events) stop written gapless small =
     (omega (arith, rest.0, gapless.1), rest.1)
 
 -- so there are few writes
-pub few-writes : (means : List Item → List Item) (text : List ℕ) (judge : Judge) (writes : ℕ) → HasHeard means text judge writes → writes ≤ 2 ^ 40
-few-writes means text judge writes heard =
-    let judged : Judged means (λ _. true) judge heard.events = heard.judged (λ _. true) (all-told heard.events) in
-    let few = few-slices 0 heard.events judge.said heard.written judged.gapless (omega arith) in
+pub few-writes : (means : List Item → List Item) (text : List ℕ) (hearing : Hearing) → HasHeard means text hearing → hearing.writes ≤ 2 ^ 40
+few-writes means text hearing heard =
+    let judged : Judged means (λ _. true) hearing.judge heard.events = heard.judged (λ _. true) (all-told heard.events) in
+    let few = few-slices 0 heard.events hearing.judge.said heard.written judged.gapless (omega arith) in
     omega (arith, few.0, few.1, heard.count)
 
+-- each write has a lateness
+lates-count : (events : List LinkEvent) → length (lates events) ≡ length (said events)
+lates-count [] = refl
+lates-count (Piece len instant ∷ events) = lates-count events
+lates-count (SourceEnd instant ∷ events) = lates-count events
+lates-count (Wrote slice reading ∷ events) = let rest = lates-count events in omega (arith, rest)
+
+lates-append : (events more : List LinkEvent) → lates (events ++ more) ≡ lates events ++ lates more
+lates-append [] more = refl
+lates-append (Piece len instant ∷ events) more = lates-append events more
+lates-append (SourceEnd instant ∷ events) more = lates-append events more
+lates-append (Wrote slice reading ∷ events) more = ap (λ rest. (reading - slice.instant) ∷ rest) (lates-append events more)
+
+-- these values more are counted
+abbrev pub KeepsMore : Lateness → List ℕ → Lateness → Type 0
+KeepsMore old more new = (values : List ℕ) → length values < 2 ^ 63 → KeepsLate values old → KeepsLate (values ++ more) new
+
+-- none more
+pub keeps-none : (late : Lateness) → KeepsMore late [] late
+keeps-none late values few kept = subst (λ values. KeepsLate values late) (sym (append-nil values)) kept
+
+-- a hearing goes on with an event
+pub record GoesOn (old new : Hearing) (event : LinkEvent) : Type 0 where
+  pub hears : Hears old.judge event new.judge
+  pub count : new.writes ≡ old.writes + length (said (event ∷ []))
+  pub late : KeepsMore old.late (lates (event ∷ [])) new.late
+
 -- an event more
-pub hears-event : (means : List Item → List Item) (text : List ℕ) (old new : Judge) (before after : ℕ) (event : LinkEvent) → IsWritable (Event event)
-    → HasHeard means text old before → Hears old event new → after ≡ before + length (said (event ∷ [])) → HasHeard means (text ++ (line_words (Event event) ++ 10 ∷ [])) new after
-hears-event means text old new before after event writable heard hears more = record {
+pub hears-event : (means : List Item → List Item) (text : List ℕ) (old new : Hearing) (event : LinkEvent) → IsWritable (Event event)
+    → HasHeard means text old → GoesOn old new event → HasHeard means (text ++ (line_words (Event event) ++ 10 ∷ [])) new
+hears-event means text old new event writable heard goes = record {
   events = heard.events ++ event ∷ [];
   written = All-append (λ event. IsWritable (Event event)) heard.events (event ∷ []) heard.written (All-cons (λ event. IsWritable (Event event)) event [] writable (All-nil (λ event. IsWritable (Event event))));
   lines = line-more text (event_words event) heard.events event heard.lines refl;
-  judged = λ told all. hears means told heard.events (told-last told heard.events event all) (heard.judged told (told-front told heard.events event all));
+  judged = λ told all. goes.hears means told heard.events (told-last told heard.events event all) (heard.judged told (told-front told heard.events event all));
   count =
       let both = length-append (said heard.events) (said (event ∷ [])) in
-      ap length (said-append heard.events (event ∷ [])) ∙ omega (arith, both, heard.count, more);
+      ap length (said-append heard.events (event ∷ [])) ∙ omega (arith, both, heard.count, goes.count);
+  late =
+      let few = few-writes means text old heard in
+      let same = lates-count heard.events in
+      subst (λ values. KeepsLate values new.late) (sym (lates-append heard.events (event ∷ []))) (goes.late (lates heard.events) (omega (arith, few, same, heard.count)) heard.late);
 }
 
 -- a verdict that stays open after an event
 pub says-event : (means : List Item → List Item) (text : List ℕ) (old new : Hearing) (event : LinkEvent) → new.verdict ≡ Unfinished → new.broken ≡ None
-    → new.writes ≡ old.writes + length (said (event ∷ [])) → Hears old.judge event new.judge → IsWritable (Event event) → HasHeard means text old.judge old.writes
-    → SaysOf means (text ++ (line_words (Event event) ++ 10 ∷ [])) false new
-says-event means text old new event going whole more hears writable heard =
+    → GoesOn old new event → IsWritable (Event event) → HasHeard means text old → SaysOf means (text ++ (line_words (Event event) ++ 10 ∷ [])) false new
+says-event means text old new event going whole goes writable heard =
     let lines : List ℕ = text ++ (line_words (Event event) ++ 10 ∷ []) in
-    let going_on : HasNoEnding means lines false new.judge new.writes None = (refl, hears-event means text old.judge new.judge old.writes new.writes event writable heard hears more) in
-    subst (SaysSo means lines false new) (sym going) (subst (HasNoEnding means lines false new.judge new.writes) (sym whole) going_on)
+    let going_on : HasNoEnding means lines false new None = (refl, hears-event means text old new event writable heard goes) in
+    subst (SaysSo means lines false new) (sym going) (subst (HasNoEnding means lines false new) (sym whole) going_on)
 
 -- an event that no faithful log has here
 pub says-refused : (means : List Item → List Item) (text : List ℕ) (old new : Hearing) (event : LinkEvent) (number : ℕ) → new.broken ≡ None → Refuses old.judge event
-    → IsWritable (Event event) → HasHeard means text old.judge old.writes → SaysSo means (text ++ (line_words (Event event) ++ 10 ∷ [])) false new (Unfaithful number)
+    → IsWritable (Event event) → HasHeard means text old → SaysSo means (text ++ (line_words (Event event) ++ 10 ∷ [])) false new (Unfaithful number)
 says-refused means text old new event number whole refuses writable heard = (
   whole,
   record {
@@ -133,7 +165,7 @@ says-refused means text old new event number whole refuses writable heard = (
 
 -- an ending that no link with these events reports
 pub says-other-end : (means : List Item → List Item) (text : List ℕ) (old new : Hearing) (reading : ℕ) (last : Ending) (number : ℕ) → new.broken ≡ None → RefusesEnding old.judge reading last
-    → IsWritable (Last (Ended reading last)) → HasHeard means text old.judge old.writes → SaysSo means (text ++ (line_words (Last (Ended reading last)) ++ 10 ∷ [])) true new (Unfaithful number)
+    → IsWritable (Last (Ended reading last)) → HasHeard means text old → SaysSo means (text ++ (line_words (Last (Ended reading last)) ++ 10 ∷ [])) true new (Unfaithful number)
 says-other-end means text old new reading last number whole refuses writable heard =
     let words : List ℕ = line_words (Last (Ended reading last)) ++ 10 ∷ [] in (
       whole,
@@ -148,29 +180,50 @@ says-other-end means text old new reading last number whole refuses writable hea
       },
     )
 
+-- what a hearing keeps of the same judge, writes and lateness
+same-heard : (means : List Item → List Item) (text : List ℕ) (old new : Hearing) → new.judge ≡ old.judge → new.writes ≡ old.writes → new.late ≡ old.late
+    → HasHeard means text old → HasHeard means text new
+same-heard means text old new judge writes late heard = record {
+  events = heard.events;
+  written = heard.written;
+  lines = heard.lines;
+  judged = λ told all. rw judge (heard.judged told all);
+  count = heard.count ∙ sym writes;
+  late = rw late heard.late;
+}
+
 -- the last line tells that the stream broke off
 pub says-broken : (means : List Item → List Item) (text : List ℕ) (old new : Hearing) (cause : BreakCause) (bytes : ℕ) → new.verdict ≡ Unfinished → new.broken ≡ Some cause
-    → new.judge ≡ old.judge → new.writes ≡ old.writes → HasHeard means text old.judge old.writes
+    → new.judge ≡ old.judge → new.writes ≡ old.writes → new.late ≡ old.late → HasHeard means text old
     → SaysOf means (text ++ (line_words (Last (Broken cause bytes)) ++ 10 ∷ [])) true new
-says-broken means text old new cause bytes going broken judge writes heard =
+says-broken means text old new cause bytes going broken judge writes late heard =
     let lines : List ℕ = text ++ (line_words (Last (Broken cause bytes)) ++ 10 ∷ []) in
-    let here : HasHeard means text new.judge new.writes = rw (judge, writes) heard in
-    let stopped : HasNoEnding means lines true new.judge new.writes (Some cause) = (refl, record { front = text; bytes = bytes; heard = here; lines = refl }) in
-    subst (SaysSo means lines true new) (sym going) (subst (HasNoEnding means lines true new.judge new.writes) (sym broken) stopped)
+    let stopped : HasNoEnding means lines true new (Some cause) = (refl, record { front = text; bytes = bytes; heard = same-heard means text old new judge writes late heard; lines = refl }) in
+    subst (SaysSo means lines true new) (sym going) (subst (HasNoEnding means lines true new) (sym broken) stopped)
 
--- the last line
-pub hears-last : (means : List Item → List Item) (text : List ℕ) (old new : Judge) (writes reading : ℕ) (last : Ending) → HasHeard means text old writes
-    → (new.heard ≡ old.heard) × (new.said ≡ old.said) × (new.ended ≡ old.ended)
-    → ((means : List Item → List Item) (told : ℕ → Bool) (log : List LinkEvent) → told reading ≡ true → Judged means told old log
-    → ReportsAt means (λ t. told t ≡ true) log old.heard old.said last (source_heard old.ended) reading)
-    → HasReport means (text ++ (line_words (Last (Ended reading last)) ++ 10 ∷ [])) new.heard new.said new.ended writes last
-hears-last means text old new writes reading last heard counts reports = record {
-  events = heard.events;
-  reading = reading;
-  lines = rw heard.lines (simp append_assoc);
-  counts = rw (counts.0, counts.1, counts.2) (counts-of means text old writes heard);
-  report = λ told all says. rw (counts.0, counts.1, counts.2) (reports means told heard.events says (heard.judged told all));
-}
+-- the last line tells the ending
+pub says-ended : (means : List Item → List Item) (text : List ℕ) (old new : Hearing) (reading : ℕ) (last : Ending) → new.broken ≡ None → new.writes ≡ old.writes
+    → KeepsMore old.late (ending_late reading last) new.late → HasHeard means text old
+    → (new.judge.heard ≡ old.judge.heard) × (new.judge.said ≡ old.judge.said) × (new.judge.ended ≡ old.judge.ended)
+    → ((means : List Item → List Item) (told : ℕ → Bool) (log : List LinkEvent) → told reading ≡ true → Judged means told old.judge log
+    → ReportsAt means (λ t. told t ≡ true) log old.judge.heard old.judge.said last (source_heard old.judge.ended) reading)
+    → SaysSo means (text ++ (line_words (Last (Ended reading last)) ++ 10 ∷ [])) true new (Faithful last)
+says-ended means text old new reading last whole writes late heard counts reports =
+    let few = few-writes means text old heard in
+    let same = lates-count heard.events in (
+      refl,
+      whole,
+      lates heard.events ++ ending_late reading last,
+      late (lates heard.events) (omega (arith, few, same, heard.count)) heard.late,
+      record {
+        events = heard.events;
+        reading = reading;
+        lines = rw heard.lines (simp append_assoc);
+        counts = rw (counts.0, counts.1, counts.2, writes) (counts-of means text old heard);
+        values = refl;
+        report = λ told all says. rw (counts.0, counts.1, counts.2) (reports means told heard.events says (heard.judged told all));
+      },
+    )
 
 -- a line that isn't heard: the verdict says no more than before
 pub says-skipped : (means : List Item → List Item) (text line : List ℕ) (over now : Bool) (hearing : Hearing) (verdict : Verdict) → (verdict ≡ Unfinished → ⊥) → over ≡ false
@@ -197,7 +250,7 @@ says-skipped means text line over now hearing (Unfaithful number) known going sa
 
 -- a line that is heard behind events alone
 says-next : (means : List Item → List Item) (text : List ℕ) (old new : Hearing) (line : LogLine) (broken : Option BreakCause) → old.broken ≡ broken → IsWritable line → HearsLine old line new
-    → HasNoEnding means text false old.judge old.writes broken → SaysOf means (text ++ (line_words line ++ 10 ∷ [])) (is_last line) new
+    → HasNoEnding means text false old broken → SaysOf means (text ++ (line_words line ++ 10 ∷ [])) (is_last line) new
 says-next means text old new line None whole writable hears says = hears means text writable whole says.1
 says-next means text old new line (Some cause) whole writable hears says = absurd (not-over says.0)
   where
@@ -208,8 +261,8 @@ says-next means text old new line (Some cause) whole writable hears says = absur
 pub says-line : (means : List Item → List Item) (text : List ℕ) (over now : Bool) (old new : Hearing) (line : LogLine) → old.verdict ≡ Unfinished → over ≡ false → now ≡ is_last line
     → IsWritable line → HearsLine old line new → SaysOf means text over old → SaysOf means (text ++ (line_words line ++ 10 ∷ [])) now new
 says-line means text over now old new line unfinished going last writable hears says =
-    let going_on : HasNoEnding means text false old.judge old.writes old.broken =
-    subst (λ over. HasNoEnding means text over old.judge old.writes old.broken) going (subst (SaysSo means text over old) unfinished says) in
+    let going_on : HasNoEnding means text false old old.broken =
+    subst (λ over. HasNoEnding means text over old old.broken) going (subst (SaysSo means text over old) unfinished says) in
     subst (λ now. SaysOf means (text ++ (line_words line ++ 10 ∷ [])) now new) (sym last) (says-next means text old new line old.broken refl writable hears going_on)
 
 -- lines stand behind the header, and no line behind them
@@ -237,25 +290,35 @@ behind-header before (Some bytes) header torn lines (Some left) lacks none given
     no-lines (first ∷ lines) left same = absurd cc
 
 -- how far a log came that tells no ending
-stopped-so : (means : List Item → List Item) (text : List ℕ) (over : Bool) (judge : Judge) (writes : ℕ) (broken : Option BreakCause) → HasNoEnding means text over judge writes broken
-    → HasStopped means text broken judge.heard judge.said judge.ended writes
-stopped-so means text over judge writes None says =
-    let heard = says.1 in record {
-      events = heard.events;
-      bytes = 0;
-      lines = heard.lines ∙ sym (append-nil (event_lines heard.events));
-      counts = counts-of means text judge writes heard;
-      faithful = λ told all. (heard.judged told all).faithful;
-    }
-stopped-so means text over judge writes (Some cause) says =
+stopped-so : (means : List Item → List Item) (text : List ℕ) (over : Bool) (hearing : Hearing) (broken : Option BreakCause) → HasNoEnding means text over hearing broken
+    → (late : List ℕ) × KeepsLate late hearing.late × HasStopped means text broken hearing.judge.heard hearing.judge.said hearing.judge.ended hearing.writes late
+stopped-so means text over hearing None says =
+    let heard = says.1 in (
+      lates heard.events,
+      heard.late,
+      record {
+        events = heard.events;
+        bytes = 0;
+        lines = heard.lines ∙ sym (append-nil (event_lines heard.events));
+        counts = counts-of means text hearing heard;
+        values = refl;
+        faithful = λ told all. (heard.judged told all).faithful;
+      },
+    )
+stopped-so means text over hearing (Some cause) says =
     let broken = says.1 in
-    let heard = broken.heard in record {
-      events = heard.events;
-      bytes = broken.bytes;
-      lines = rw (sym heard.lines) broken.lines;
-      counts = counts-of means broken.front judge writes heard;
-      faithful = λ told all. (heard.judged told all).faithful;
-    }
+    let heard = broken.heard in (
+      lates heard.events,
+      heard.late,
+      record {
+        events = heard.events;
+        bytes = broken.bytes;
+        lines = rw (sym heard.lines) broken.lines;
+        counts = counts-of means broken.front hearing heard;
+        values = refl;
+        faithful = λ told all. (heard.judged told all).faithful;
+      },
+    )
 
 -- the lines behind the header that was read
 text-of : (before after : Option (List ℕ)) (log last : OpenLog) (hearing end : Hearing) (judged : JudgedLog) → Opens before after log → (begun : Begins log.heading log.chain hearing)
@@ -278,6 +341,17 @@ pub record KeepsHearing (hearing : Hearing) (judged : JudgedLog) : Type 0 where
   pub said : judged.said ≡ hearing.judge.said
   pub ended : judged.source_ended ≡ hearing.judge.ended
   pub writes : judged.writes ≡ hearing.writes
+  pub late : (values : List ℕ) → KeepsLate values hearing.late → IsLate values judged.late
+
+kept-report : (means : List Item → List Item) (text : List ℕ) (hearing : Hearing) (judged : JudgedLog) (late : List ℕ) (ending : Ending) → KeepsHearing hearing judged
+    → HasReport means text hearing.judge.heard hearing.judge.said hearing.judge.ended hearing.writes late ending
+    → HasReport means text judged.heard judged.said judged.source_ended judged.writes late ending
+kept-report means text hearing judged late ending kept report = rw (kept.heard, kept.said, kept.ended, kept.writes) report
+
+kept-stopped : (means : List Item → List Item) (text : List ℕ) (hearing : Hearing) (judged : JudgedLog) (late : List ℕ) → KeepsHearing hearing judged
+    → HasStopped means text hearing.broken hearing.judge.heard hearing.judge.said hearing.judge.ended hearing.writes late
+    → HasStopped means text judged.broken judged.heard judged.said judged.source_ended judged.writes late
+kept-stopped means text hearing judged late kept stopped = rw (kept.broken, kept.heard, kept.said, kept.ended, kept.writes) stopped
 
 module _ (before after : Option (List ℕ)) (log last : OpenLog) (hearing end : Hearing) (judged : JudgedLog) (opened : Opens before after log) (begun : Begins log.heading log.chain hearing)
     (heard : HearsToEnd log last after hearing end) (kept : KeepsHearing end judged) (heading : judged.heading ≡ last.heading) (chain : judged.chain ≡ last.chain) where
@@ -290,11 +364,13 @@ module _ (before after : Option (List ℕ)) (log last : OpenLog) (hearing end : 
   -- a faithful verdict
   pub faithful-text : (last : Ending) → judged.verdict ≡ Faithful last → IsFaithfulText before judged last
   faithful-text ending faithful =
-      let (over, whole, report) = subst (SaysSo begun.means heard.text last.over end) faithful says in record {
+      let (over, whole, late, keeps, report) = subst (SaysSo begun.means heard.text last.over end) faithful says in record {
         lines = heard.text;
         means = begun.means;
         text = text;
-        report = rw (kept.heard, kept.said, kept.ended, kept.writes) report;
+        late = late;
+        report = kept-report begun.means heard.text end judged late ending kept report;
+        percentiles = kept.late late keeps;
         whole = kept.broken ∙ whole;
       }
 
@@ -312,9 +388,11 @@ module _ (before after : Option (List ℕ)) (log last : OpenLog) (hearing end : 
   -- and an unfinished one
   pub unfinished-text : judged.verdict ≡ Unfinished → IsUnfinishedText before judged
   unfinished-text unfinished =
-      let none = subst (SaysSo begun.means heard.text last.over end) unfinished says in record {
+      let (late, keeps, stopped) = stopped-so begun.means heard.text last.over end end.broken (subst (SaysSo begun.means heard.text last.over end) unfinished says) in record {
         lines = heard.text;
         means = begun.means;
         text = text;
-        stopped = rw (kept.broken, kept.heard, kept.said, kept.ended, kept.writes) (stopped-so begun.means heard.text last.over end.judge end.writes end.broken none);
+        late = late;
+        stopped = kept-stopped begun.means heard.text end judged late kept stopped;
+        percentiles = kept.late late keeps;
       }

@@ -14,7 +14,6 @@ use Rattle.tox_link.specs.declared.notes.LinkEvent.{LinkEvent}
 use Rattle.tox_time.specs.streams.Table.{slices_table}
 use Rattle.tox_link.specs.log.Log.{has_source_end, heard_bytes, reading_of, said, IsFaithful}
 use Rattle.tox_link.specs.Reports.{ReportsAt}
-use Rattle.tox_log.specs.declared.judge.Judge.{Judge}
 use Rattle.tox_log.specs.declared.event_line.LogLine.{LogLine}
 use Rattle.tox_log.specs.declared.event_line.LogLine.TheVariants.{Event, Last}
 use Rattle.tox_log.specs.declared.last_line.BreakCause.{BreakCause}
@@ -25,6 +24,7 @@ use Rattle.tox_log.specs.declared.replay.Hearing.{Hearing}
 use Rattle.tox_log.specs.declared.open_log.OpenLog.{OpenLog}
 use Rattle.tox_log.specs.EventText.{event_line}
 use Rattle.tox_log.specs.LastText.{last_line}
+use Rattle.tox_log.specs.Lateness.{IsLate, KeepsLate, ending_late, lates}
 use Rattle.tox_log.specs.Lines.{IsWritable, line_words}
 use Rattle.tox_log.specs.Reading.{LacksLine, is_last, to_hand}
 use Rattle.tox_log.specs.Judging.{HasNoReport, Judged, source_heard}
@@ -44,33 +44,35 @@ pub record AreCounts (events : List LinkEvent) (taken written : ℕ) (ended : Bo
   pub source : has_source_end events ≡ ended
   pub count : length (said events) ≡ writes
 
--- the text is the lines of these events with so many writes, and the judge is one after them
-pub record HasHeard (means : List Item → List Item) (text : List ℕ) (judge : Judge) (writes : ℕ) : Type 0 where
+-- the text is the lines of these events, and a hearing is one after them
+pub record HasHeard (means : List Item → List Item) (text : List ℕ) (hearing : Hearing) : Type 0 where
   pub events : List LinkEvent
   pub written : All (λ event. IsWritable (Event event)) events
   pub lines : text ≡ event_lines events
-  pub judged : (told : ℕ → Bool) → IsTold told events → Judged means told judge events
-  pub count : length (said events) ≡ writes
+  pub judged : (told : ℕ → Bool) → IsTold told events → Judged means told hearing.judge events
+  pub count : length (said events) ≡ hearing.writes
+  pub late : KeepsLate (lates events) hearing.late
 
 -- the text is the lines of such events, and a last line that the stream broke off for this cause
-pub record HasBroken (means : List Item → List Item) (text : List ℕ) (judge : Judge) (writes : ℕ) (cause : BreakCause) : Type 0 where
+pub record HasBroken (means : List Item → List Item) (text : List ℕ) (hearing : Hearing) (cause : BreakCause) : Type 0 where
   pub front : List ℕ
   pub bytes : ℕ
-  pub heard : HasHeard means front judge writes
+  pub heard : HasHeard means front hearing
   pub lines : text ≡ front ++ last_line (Broken cause bytes)
 
 -- the lines that were read so far tell no ending: they have a last line exactly if there is a cause, which is that of the line
-abbrev pub HasNoEnding : (List Item → List Item) → List ℕ → Bool → Judge → ℕ → Option BreakCause → Type 0
-HasNoEnding means text over judge writes None = (over ≡ false) × HasHeard means text judge writes
-HasNoEnding means text over judge writes (Some cause) = (over ≡ true) × HasBroken means text judge writes cause
+abbrev pub HasNoEnding : (List Item → List Item) → List ℕ → Bool → Hearing → Option BreakCause → Type 0
+HasNoEnding means text over hearing None = (over ≡ false) × HasHeard means text hearing
+HasNoEnding means text over hearing (Some cause) = (over ≡ true) × HasBroken means text hearing cause
 
 -- the text is the lines of events and a last line with this ending, and the link with these events reports so: it took and wrote so
--- many bytes in so many writes, and its source had ended or not
-pub record HasReport (means : List Item → List Item) (text : List ℕ) (taken written : ℕ) (ended : Bool) (writes : ℕ) (ending : Ending) : Type 0 where
+-- many bytes in so many writes, which were so late with its ending, and its source had ended or not
+pub record HasReport (means : List Item → List Item) (text : List ℕ) (taken written : ℕ) (ended : Bool) (writes : ℕ) (late : List ℕ) (ending : Ending) : Type 0 where
   pub events : List LinkEvent
   pub reading : ℕ
   pub lines : text ≡ event_lines events ++ last_line (Ended reading ending)
   pub counts : AreCounts events taken written ended writes
+  pub values : late ≡ lates events ++ ending_late reading ending
   pub report : (told : ℕ → Bool) → IsTold told events → told reading ≡ true
       → ReportsAt means (λ t. told t ≡ true) events taken written ending (source_heard ended) reading
 
@@ -94,9 +96,9 @@ pub record HasRefusal (means : List Item → List Item) (text : List ℕ) : Type
 -- what a verdict says of the lines that were read so far, which have a last line or none yet
 abbrev pub SaysSo : (List Item → List Item) → List ℕ → Bool → Hearing → Verdict → Type 0
 SaysSo means text over hearing (Faithful ending) =
-    (over ≡ true) × (hearing.broken ≡ None)
-    × HasReport means text hearing.judge.heard hearing.judge.said hearing.judge.ended hearing.writes ending
-SaysSo means text over hearing Unfinished = HasNoEnding means text over hearing.judge hearing.writes hearing.broken
+    (over ≡ true) × (hearing.broken ≡ None) × (late : List ℕ) × KeepsLate late hearing.late
+    × HasReport means text hearing.judge.heard hearing.judge.said hearing.judge.ended hearing.writes late ending
+SaysSo means text over hearing Unfinished = HasNoEnding means text over hearing hearing.broken
 SaysSo means text over hearing (Unfaithful number) = (hearing.broken ≡ None) × HasRefusal means text
 
 -- a hearing says so of the lines that were read so far
@@ -106,7 +108,7 @@ SaysOf means text over hearing = SaysSo means text over hearing hearing.verdict
 -- a line that can be written is heard
 abbrev pub HearsLine : Hearing → LogLine → Hearing → Type 0
 HearsLine old line new = (means : List Item → List Item) (text : List ℕ) → IsWritable line → old.broken ≡ None
-    → HasHeard means text old.judge old.writes → SaysOf means (text ++ (line_words line ++ 10 ∷ [])) (is_last line) new
+    → HasHeard means text old → SaysOf means (text ++ (line_words line ++ 10 ∷ [])) (is_last line) new
 
 -- the lines that were left of a log were read, and these bytes are what is left behind them: a hearing says so of the lines
 pub record HearsToEnd (old new : OpenLog) (before : Option (List ℕ)) (first last : Hearing) : Type 0 where
@@ -143,7 +145,9 @@ pub record IsFaithfulText (given : Option (List ℕ)) (judged : JudgedLog) (endi
   pub lines : List ℕ
   pub means : List Item → List Item
   pub text : IsTextOf given judged lines means
-  pub report : HasReport means lines judged.heard judged.said judged.source_ended judged.writes ending
+  pub late : List ℕ
+  pub report : HasReport means lines judged.heard judged.said judged.source_ended judged.writes late ending
+  pub percentiles : IsLate late judged.late
   pub whole : judged.broken ≡ None
 
 -- behind the header stand the lines of events and one that is refused
@@ -159,12 +163,14 @@ abbrev pub broken_line : Option BreakCause → ℕ → List ℕ
 broken_line None bytes = []
 broken_line (Some cause) bytes = last_line (Broken cause bytes)
 
--- the text is the lines of events that are faithful, and no last line or one with this cause; and these are the events' counts
-pub record HasStopped (means : List Item → List Item) (text : List ℕ) (broken : Option BreakCause) (taken written : ℕ) (ended : Bool) (writes : ℕ) : Type 0 where
+-- the text is the lines of events that are faithful, and no last line or one with this cause; and these are the events' counts, and
+-- how late its writes were
+pub record HasStopped (means : List Item → List Item) (text : List ℕ) (broken : Option BreakCause) (taken written : ℕ) (ended : Bool) (writes : ℕ) (late : List ℕ) : Type 0 where
   pub events : List LinkEvent
   pub bytes : ℕ
   pub lines : text ≡ event_lines events ++ broken_line broken bytes
   pub counts : AreCounts events taken written ended writes
+  pub values : late ≡ lates events
   pub faithful : (told : ℕ → Bool) → IsTold told events → IsFaithful means (λ t. told t ≡ true) events
 
 -- behind the header stand the lines of faithful events, and no last line with an ending
@@ -172,4 +178,6 @@ pub record IsUnfinishedText (given : Option (List ℕ)) (judged : JudgedLog) : T
   pub lines : List ℕ
   pub means : List Item → List Item
   pub text : IsTextOf given judged lines means
-  pub stopped : HasStopped means lines judged.broken judged.heard judged.said judged.source_ended judged.writes
+  pub late : List ℕ
+  pub stopped : HasStopped means lines judged.broken judged.heard judged.said judged.source_ended judged.writes late
+  pub percentiles : IsLate late judged.late

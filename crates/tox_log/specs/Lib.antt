@@ -1,5 +1,6 @@
 pub mod EventText
 pub mod LastText
+pub mod Lateness
 pub mod HeaderLines
 pub mod HeaderText
 pub mod FaultText

@@ -1,4 +1,7 @@
 //! How late the writes of a log were.
+ghost use Rattle.std.specs.Prelude.{◌≡◌, ◌≢◌, ◌-◌, ◌<◌, ◌≤◌, ◌^◌, ◌++◌, ◌∷◌, [], ℕ, List, Some, false, true, length, slice_get, OnOk};
+ghost use Rattle.tox_log.specs.Lateness.{HasRanks, IsLate, KeepsLate};
+
 use std::alloc::{AllocError, Global};
 
 /// How many values are kept one by one.
@@ -35,7 +38,9 @@ pub struct Percentiles {
 
 impl Lateness {
     /// No value yet.
-    pub(crate) fn new(alloc: Global) -> Lateness {
+    pub(crate) fn new(alloc: Global) -> Lateness
+        ensures { KeepsLate [] result }
+    {
         Lateness {
             values: Vec::new(alloc),
             buckets: Vec::new(alloc),
@@ -45,9 +50,26 @@ impl Lateness {
     }
 
     /// Counts one more value.
-    pub(crate) fn add(&mut self, alloc: Global, value: u64) -> Result<(), AllocError> {
+    pub(crate) fn add(&mut self, alloc: Global, value: u64) -> Result<(), AllocError>
+        ensures { OnOk result ((values : List ℕ) → length values < 2 ^ 63
+            → KeepsLate values self.old → KeepsLate (values ++ value ∷ []) self.new) }
+    {
+        self.keep(alloc, value)?;
         self.count = self.count.saturating_add(1);
         self.max = self.max.max(value);
+        Ok(())
+    }
+
+    /// Keeps a value: itself, or past so many values its bucket.
+    fn keep(&mut self, alloc: Global, value: u64) -> Result<(), AllocError>
+        ensures one { OnOk result (self.old.buckets.items ≡ []
+            → length self.old.values.items < 1048576 → (self.new.buckets.items ≡ [])
+            × (self.new.values.items ≡ self.old.values.items ++ value ∷ [])) }
+        ensures over { OnOk result (self.old.buckets.items ≡ []
+            → 1048576 ≤ length self.old.values.items → self.new.buckets.items ≢ []) }
+        ensures stays { OnOk result (self.old.buckets.items ≢ [] → self.new.buckets.items ≢ []) }
+        ensures same { (self.new.count ≡ self.old.count) × (self.new.max ≡ self.old.max) }
+    {
         if !self.buckets.is_empty() {
             count_in(&mut self.buckets, value);
             return Ok(());
@@ -62,7 +84,10 @@ impl Lateness {
     }
 
     /// Goes over to buckets.
-    fn go_over(&mut self, alloc: Global) -> Result<(), AllocError> {
+    fn go_over(&mut self, alloc: Global) -> Result<(), AllocError>
+        ensures over { OnOk result (self.new.buckets.items ≢ []) }
+        ensures same { (self.new.count ≡ self.old.count) × (self.new.max ≡ self.old.max) }
+    {
         let mut buckets = vec![in alloc; 0; BUCKET_COUNT]?;
         for value in &self.values {
             count_in(&mut buckets, *value);
@@ -73,31 +98,51 @@ impl Lateness {
     }
 
     /// The percentiles, or None of no value.
-    pub(crate) fn percentiles(&mut self) -> Option<Percentiles> {
+    pub(crate) fn percentiles(&mut self) -> Option<Percentiles>
+        ensures { (values : List ℕ) → KeepsLate values self.old → IsLate values result }
+    {
         if self.count == 0 {
             return None;
         }
-        let half = self.count.div_ceil(2);
-        let most = self.count - self.count / 100;
         if self.buckets.is_empty() {
-            self.values.sort_unstable();
-            return Some(Percentiles {
-                median: self.nth(half),
-                p99: self.nth(most),
-                max: self.max,
-                exact: true,
-            });
+            Some(self.exact())
+        } else {
+            Some(self.approximate())
         }
-        Some(Percentiles {
-            median: self.bucket_with(half),
-            p99: self.bucket_with(most),
+    }
+
+    /// The percentiles of the values.
+    fn exact(&mut self) -> Percentiles
+        ensures max { (result.max ≡ self.old.max) × (result.exact ≡ true) }
+        ensures ranks { (length self.old.values.items ≡ self.old.count) → 0 < self.old.count
+            → HasRanks self.old.values.items self.new.values.items result.median result.p99 }
+    {
+        self.values.sort_unstable();
+        Percentiles {
+            median: self.nth(self.count.div_ceil(2)),
+            p99: self.nth(self.count - self.count / 100),
+            max: self.max,
+            exact: true,
+        }
+    }
+
+    /// The percentiles of the buckets.
+    fn approximate(&self) -> Percentiles
+        ensures { (result.max ≡ self.now.max) × (result.exact ≡ false) }
+    {
+        Percentiles {
+            median: self.bucket_with(self.count.div_ceil(2)),
+            p99: self.bucket_with(self.count - self.count / 100),
             max: self.max,
             exact: false,
-        })
+        }
     }
 
     /// The value of a rank from 1 in the sorted list.
-    fn nth(&self, rank: u64) -> u64 {
+    fn nth(&self, rank: u64) -> u64
+        ensures { 0 < rank → rank ≤ length self.now.values.items
+            → slice_get self.now.values.items (rank - 1) ≡ Some result }
+    {
         let index = rank.saturating_sub(1) as usize;
         self.values.get(index).copied().unwrap_or(self.max)
     }

@@ -1,5 +1,6 @@
 //! What a log says, judged: whether the plan of its header means it, and how late its writes were.
-ghost use Rattle.std.specs.Prelude.{◌≡◌, ◌≢◌, ℕ, List, false, IfErr, IfOk, OnOk};
+ghost use Rattle.std.specs.Prelude.{◌≡◌, ◌≢◌, ℕ, List, [], ◌∷◌, false, IfErr, IfOk, MatchOption, OnOk};
+ghost use Rattle.tox_log.specs.Lateness.{ending_late};
 ghost use Rattle.tox_compile.specs.Meaning.{means};
 ghost use Rattle.tox_log.specs.Hearing.{Begins, HearsLine, HearsToEnd, IsFaithfulText, IsRefusedText, IsUnfinishedText};
 ghost use Rattle.tox_time.specs.declared.streams.ending.Ending.{Ending as OneEnding};
@@ -306,9 +307,21 @@ fn hear_ending(
         return Ok(());
     }
     hearing.verdict = Verdict::Faithful(*ending);
-    if let Ending::Closed(instant) | Ending::Reset(instant) = ending {
-        let late = reading.get().saturating_sub(instant.get());
+    if let Some(late) = ending_late(ending, reading) {
         hearing.late.add(alloc, late)?;
     }
     Ok(())
+}
+
+/// How late an ending came, if it has an instant.
+fn ending_late(ending: &Ending, reading: &Micros) -> Option<u64>
+    ensures { MatchOption result (ending_late reading.now ending.now ≡ [])
+        (λ late. ending_late reading.now ending.now ≡ late ∷ []) }
+{
+    match ending {
+        Ending::StillOpen => None,
+        Ending::Closed(instant) | Ending::Reset(instant) => {
+            Some(reading.get().saturating_sub(instant.get()))
+        }
+    }
 }

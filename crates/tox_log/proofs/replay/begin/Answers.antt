@@ -13,6 +13,6 @@ returns-clause-begins c = record {
   meaning = λ items stream. c.compile-plan.ensures.means items stream
       ∙ ap (λ chain. chain_flow chain c.in_ok-words.words items) c.chain.ensures
       ∙ ap (λ words. chain_flow c.args.log.now.chain words items) c.in_ok-words.ensures;
-  says = (refl, record { events = []; written = All-nil (λ event. IsWritable (Event event)); lines = refl; judged = λ told all. c.in_ok-begin.ensures.judged told; count = refl });
+  says = (refl, record { events = []; written = All-nil (λ event. IsWritable (Event event)); lines = refl; judged = λ told all. c.in_ok-begin.ensures.judged told; count = refl; late = c.new.ensures });
   unfinished = refl;
 }
