@@ -1,5 +1,5 @@
 //! The logs of a run.
-ghost use Rattle.std.specs.Prelude.{◌≡◌, ◌<◌, ◌≤◌, IfSome, None, length};
+ghost use Rattle.std.specs.Prelude.{◌≡◌, ◌<◌, ◌≤◌, [], IfSome, None, false, length, nat_le};
 ghost use Rattle.tox_log_files.specs.FileName.{log_name};
 ghost use Rattle.tox_log_files.specs.SharedLog.{file_of};
 
@@ -87,13 +87,28 @@ impl RunLogs {
             file_of log ≡ log_name link.now.proxy.now place link.now.number link.now.stream) }
         ensures first { self.now.links < link.now.number → result ≡ None }
     {
-        if link.number > self.limits.links {
+        if !self.is_logged(link.number) {
             return None;
         }
         let Ok(name) = file_name(alloc, place, link) else {
             return None;
         };
-        let text = LogText::new(alloc, self.limits.bytes);
+        let text = self.empty_log(alloc);
         Arc::new(alloc, StreamLog::new(name, text)).ok()
+    }
+
+    /// Whether a link of this number is among the first ones.
+    fn is_logged(&self, number: u64) -> bool
+        ensures { result ≡ nat_le number self.now.links }
+    {
+        number <= self.limits.links
+    }
+
+    /// A log without lines, of as many bytes as one may have.
+    fn empty_log(&self, alloc: Global) -> LogText
+        ensures empty { result.waiting ≡ ([], false) }
+        ensures limit { result.most ≡ self.now.bytes }
+    {
+        LogText::new(alloc, self.limits.bytes)
     }
 }
