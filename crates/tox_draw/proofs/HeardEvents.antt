@@ -21,7 +21,7 @@ use Rattle.tox_draw.specs.declared.link_end.LinkEnd.TheVariants.{Missing}
 use Rattle.tox_draw.specs.declared.recorded.Hearing.{Hearing}
 use Rattle.tox_draw.specs.declared.strand.Strand.{Strand}
 use Rattle.tox_draw.specs.Hearings.{HearsEvent, LeadsTo}
-use Rattle.tox_draw.specs.Lines.{IsStrand}
+use Rattle.tox_draw.specs.Lines.{IsStrand, PassesBytes}
 use Rattle.tox_draw.specs.Planning.{DrawsPiece, DrawsPlan, DrawsSourceEnd, piece_behind}
 use Rattle.tox_draw.specs.Recorded.{latest_reading, source_end_of, written_table}
 use Rattle.tox_draw.proofs.Planned.{plan-behind}
@@ -148,7 +148,7 @@ written-stays frame events event written unsaid none before stop gapless =
 
 -- a piece is heard
 pub hears-piece : (frame : Frame) (old new : Hearing) (before after : RunnerView) (len t : ℕ)
-    → ((table : List ℕ) → IsStrand frame table old.course.arrived → 0 < len → length table + len ≤ 1099511627776 → IsStrand frame (table ++ replicate len t) new.course.arrived)
+    → PassesBytes frame len t old.course.arrived new.course.arrived
     → DrawsPiece frame old.course.planned before len t new.course.planned after → new.course.source_end ≡ old.course.source_end → new.written ≡ old.written
     → new.latest ≡ t → new.end ≡ Missing t → HearsEvent frame old before (Piece len t) new after
 hears-piece frame old new before after len t adds draws source written latest end means events position next writable heard =
@@ -201,7 +201,7 @@ hears-source_end frame old new before after t arrived planned draws source writt
 
 -- a write is heard
 pub hears-wrote : (frame : Frame) (old new : Hearing) (runner : RunnerView) (slice : Slice) (now len : ℕ) → new.course ≡ old.course → len ≡ slice.span.stop - slice.span.start
-    → ((table : List ℕ) → IsStrand frame table old.written → 0 < len → length table + len ≤ 1099511627776 → IsStrand frame (table ++ replicate len now) new.written)
+    → PassesBytes frame len now old.written new.written
     → new.latest ≡ now → new.end ≡ Missing now → HearsEvent frame old runner (Wrote slice now) new runner
 hears-wrote frame old new runner slice now len course is adds latest end means events position next writable heard =
     let unchanged : table (heard_from 0 (events ++ Wrote slice now ∷ []) (Quiet ∷ [])) ≡ table (heard_from 0 events (Quiet ∷ [])) = ap table (heard-wrote 0 events slice now (Quiet ∷ [])) in

@@ -21,13 +21,13 @@ use Rattle.tox_plan.specs.RunnerView.{RunnerView, answer_of, next_piece, offer_a
 use Rattle.tox_plan.proofs.Deliveries.{goes-cut}
 use Rattle.tox_draw.specs.declared.frame.Frame.{Frame}
 use Rattle.tox_draw.specs.declared.strand.Strand.{Strand}
-use Rattle.tox_draw.specs.Lines.{IsStrand}
+use Rattle.tox_draw.specs.Lines.{IsStrand, PassesBytes}
 use Rattle.tox_draw.specs.Planning.{DrawsCuts, DrawsPiece, DrawsPlan, DrawsSourceEnd, WaitsAt, piece_behind}
 
 -- a slice more
 pub plan-cut : (frame : Frame) (means behind : List Item → List Item) (old new : Strand) (before after : RunnerView) (slice : Slice) (len : ℕ)
     → before.piece.span.stop ≤ 2 ^ 40 → IsCut before after slice → slice.span.start ≡ before.position → after.position ≡ slice.span.stop → len ≡ slice.span.stop - slice.span.start
-    → ((table : List ℕ) → IsStrand frame table old → 0 < len → length table + len ≤ 1099511627776 → IsStrand frame (table ++ replicate len slice.instant) new)
+    → PassesBytes frame len slice.instant old new
     → DrawsPlan frame means behind old before → DrawsPlan frame means behind new after
 plan-cut frame means behind old new before after slice len few cut at stands is adds plan =
     let part : List ℕ = replicate len slice.instant in

@@ -35,7 +35,7 @@ pub record WritesPicture (IsDrawn : List ℕ → Type 0) (old new : Option (List
   pub written : new ≡ append_known old text
 
 -- a prefix of the text of such a picture was written
-pub record WritesFront (IsDrawn : List ℕ → Type 0) (old new : Option (List ℕ)) : Type 0 where
+pub record WritesPictureFront (IsDrawn : List ℕ → Type 0) (old new : Option (List ℕ)) : Type 0 where
   pub text : List ℕ
   pub drawn : IsDrawn text
   pub front : AppendsFront old new text

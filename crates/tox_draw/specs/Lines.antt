@@ -1,5 +1,5 @@
 -- Lines: how many bytes passed by each column. A table has an instant for each byte that passed, in order.
-use Rattle.std.specs.Prelude.{◌≡◌, ℕ, ◌+◌, ◌<◌, ◌==◌, List, count_by, fold, length, nat_lt, slice_index, Some}
+use Rattle.std.specs.Prelude.{◌≡◌, ℕ, ◌+◌, ◌<◌, ◌≤◌, ◌==◌, List, ◌++◌, count_by, fold, length, nat_lt, replicate, slice_index, Some}
 use Rattle.tox_draw.specs.declared.curve.Curve.{Curve}
 use Rattle.tox_draw.specs.declared.frame.Frame.{Frame}
 use Rattle.tox_draw.specs.declared.strand.Strand.{Strand}
@@ -23,6 +23,12 @@ pub record IsStrand (frame : Frame) (table : List ℕ) (strand : Strand) : Type 
   pub last : strand.last ≡ last_of table
   pub counts : (column : ℕ) → column < 751
       → slice_index strand.counts.items column ≡ in_column frame table column
+
+-- so many bytes more passed at an instant, where a stream may still have them
+abbrev pub PassesBytes : Frame → ℕ → ℕ → Strand → Strand → Type 0
+PassesBytes frame len instant old new =
+    (table : List ℕ) → IsStrand frame table old → 0 < len → length table + len ≤ 1_099_511_627_776
+    → IsStrand frame (table ++ replicate len instant) new
 
 -- the line of the bytes that passed, with their number and the last instant
 pub record IsCurve (frame : Frame) (table : List ℕ) (curve : Curve) : Type 0 where

@@ -1,11 +1,12 @@
 //! What happens on a drawn link: what arrives, and what leaves by its plan.
-ghost use Rattle.std.specs.Prelude.{◌≡◌, ◌≤◌, ◌<◌, ◌+◌, ◌++◌, ◌∷◌, [], ℕ, List, length, replicate, true, None, IfOk};
+ghost use Rattle.std.specs.Prelude.{◌≡◌, ◌∷◌, [], None, true, IfOk};
 ghost use Rattle.tox_time.specs.declared.streams.item.Item.TheVariants.{Quiet};
 ghost use Rattle.tox_time.specs.streams.Table.{final_of};
+ghost use Rattle.tox_plan.specs.Cuts.{GivesAll};
 ghost use Rattle.tox_plan.specs.RunnerView.{to_come};
 ghost use Rattle.tox_draw.specs.declared.frame.Frame.{Frame as OneFrame};
 ghost use Rattle.tox_draw.specs.Frames.{IsFrame};
-ghost use Rattle.tox_draw.specs.Lines.{IsStrand};
+ghost use Rattle.tox_draw.specs.Lines.{IsStrand, PassesBytes};
 ghost use Rattle.tox_draw.specs.Planning.{DrawsCuts, DrawsPiece, DrawsSourceEnd};
 
 use crate::frame::Frame;
@@ -46,9 +47,7 @@ impl Course {
         requires frame { IsFrame frame.now }
         requires idle { runner.old.idle ≡ true }
         ensures idle { runner.new.idle ≡ true }
-        ensures arrived { (table : List ℕ) → IsStrand frame.now table self.old.arrived → 0 < len
-            → length table + len ≤ 1_099_511_627_776
-            → IsStrand frame.now (table ++ replicate len instant.now) self.new.arrived }
+        ensures arrived { PassesBytes frame.now len instant.now self.old.arrived self.new.arrived }
         ensures due { DrawsPiece frame.now self.old.planned runner.old len instant.now
             self.new.planned runner.new }
         ensures kept { self.new.source_end ≡ self.old.source_end }
@@ -83,9 +82,8 @@ impl Course {
 /// What a runner gives of the offered piece leaves.
 fn take_cuts(planned: &mut Strand, runner: &mut Runner<'_>, frame: &Frame)
     requires { IsFrame frame.now }
-    ensures idle { runner.new.idle ≡ true }
+    ensures all { GivesAll runner.old runner.new }
     ensures due { DrawsCuts frame.now planned.old runner.old planned.new runner.new }
-    ensures kept { (runner.new.piece ≡ runner.old.piece) × (runner.new.latest ≡ runner.old.latest) }
 {
     while let Some(slice) = runner.next_cut() {
         let span = slice.span;

@@ -2,7 +2,7 @@
 ghost use Rattle.std.specs.Prelude.{◌≡◌, ◌≢◌, ◌+◌, false, true, string_bytes, IfOk, OnErr, OnOk, Err};
 ghost use Rattle.tox_runs.specs.runs.Reading.{TakesAtMost};
 ghost use Rattle.tox_text.specs.declared.fault.DryFault.TheVariants.{ReadFault, WriteFault};
-ghost use Rattle.tox_draw.specs.Drawn.{IsPictureText, WritesFront, WritesPicture};
+ghost use Rattle.tox_draw.specs.Drawn.{IsPictureText, WritesPictureFront, WritesPicture};
 ghost use Rattle.tox_draw.specs.Frames.{IsFrame};
 
 use crate::course::{Course, ending_of};
@@ -40,7 +40,7 @@ pub fn draw_run<R: Source, W: Sink>(
     ensures unwritten { OnErr result (W.failed writer.new ≡ false
         → W.written writer.new ≡ W.written writer.old) }
     ensures front { W.failed writer.new ≡ true
-        → WritesFront IsPictureText (W.written writer.old) (W.written writer.new) }
+        → WritesPictureFront IsPictureText (W.written writer.old) (W.written writer.new) }
     ensures working { result ≢ Err WriteFault → W.failed writer.new ≡ false }
     ensures reading { result ≢ Err ReadFault → R.failed reader.new ≡ false }
     ensures most { TakesAtMost (16_777_216 + 1) (R.remaining reader.old) (R.remaining reader.new) }

@@ -2,7 +2,7 @@
 ghost use Rattle.std.specs.Prelude.{◌≡◌, ◌≤◌, ◌<◌, ◌++◌, codes, length, map, string_bytes, IfOk, OnOk};
 ghost use Rattle.std.specs.List.{zip};
 ghost use Rattle.std.specs.Str.{IsCharBoundary};
-ghost use Rattle.tox_draw.specs.Adding.{Adds};
+ghost use Rattle.tox_draw.specs.Adding.{AddsText};
 ghost use Rattle.tox_draw.specs.Forms.{applied_forms, bare, cut, form, form_if, in_parentheses, mark_behind, next_mark, pair, pairs};
 ghost use Rattle.tox_defs.specs.Flow.{chain_draws};
 ghost use Rattle.tox_words.specs.Draw.{draws_of};
@@ -54,7 +54,7 @@ fn push_applied(
     entries: &[Entry],
     drawing: &Drawing<'_>,
 ) -> Result<(), AllocError>
-    ensures { OnOk result (Adds text.old text.new
+    ensures { OnOk result (AddsText text.old text.new
         (applied_forms (draws_of drawing.now) (codes "") 0 entries.now)) }
 {
     let mut mark = "";
@@ -71,7 +71,7 @@ fn push_if(
     entry: &Entry,
     applied: bool,
 ) -> Result<&'static str, AllocError>
-    ensures adds { OnOk result (Adds text.old text.new (form_if mark.now entry.now applied)) }
+    ensures adds { OnOk result (AddsText text.old text.new (form_if mark.now entry.now applied)) }
     ensures next { IfOk result (λ next. next.now ≡ mark_behind mark.now applied) }
 {
     if !applied {
@@ -84,7 +84,7 @@ fn push_if(
 /// Adds the short form of a toxic behind a mark.
 #[tactic(auto, using(crate::proofs::Growing::adds_then))]
 fn push_marked(text: &mut String, mark: &str, entry: &Entry) -> Result<(), AllocError>
-    ensures { OnOk result (Adds text.old text.new (mark.now ++ bare entry.now)) }
+    ensures { OnOk result (AddsText text.old text.new (mark.now ++ bare entry.now)) }
 {
     push_word(text, mark)?;
     push_bare(text, entry)
@@ -117,7 +117,7 @@ fn cut_form(alloc: Global, form: &str) -> Result<String, AllocError>
 
 /// Adds the short form of a toxic. One that isn't applied stands in parentheses.
 pub(crate) fn push_form(text: &mut String, entry: &Entry, applied: bool) -> Result<(), AllocError>
-    ensures { OnOk result (Adds text.old text.new (form entry.now applied)) }
+    ensures { OnOk result (AddsText text.old text.new (form entry.now applied)) }
 {
     if applied {
         push_bare(text, entry)
@@ -128,7 +128,7 @@ pub(crate) fn push_form(text: &mut String, entry: &Entry, applied: bool) -> Resu
 
 #[tactic(auto, using(crate::proofs::Growing::adds_then), unfolding(crate::specs::Forms::in_parentheses))]
 fn push_in_parentheses(text: &mut String, entry: &Entry) -> Result<(), AllocError>
-    ensures { OnOk result (Adds text.old text.new (in_parentheses entry.now)) }
+    ensures { OnOk result (AddsText text.old text.new (in_parentheses entry.now)) }
 {
     push_word(text, "(")?;
     push_bare(text, entry)?;
@@ -138,7 +138,7 @@ fn push_in_parentheses(text: &mut String, entry: &Entry) -> Result<(), AllocErro
 /// Adds the short form of a toxic without parentheses.
 #[tactic(auto, using(crate::proofs::Growing::adds_then), unfolding(crate::specs::Forms::bare))]
 fn push_bare(text: &mut String, entry: &Entry) -> Result<(), AllocError>
-    ensures { OnOk result (Adds text.old text.new (bare entry.now)) }
+    ensures { OnOk result (AddsText text.old text.new (bare entry.now)) }
 {
     push_word(text, entry.toxic.name())?;
     let values = entry.toxic.values();
@@ -154,7 +154,7 @@ fn push_pairs(
     toxicity: u64,
 ) -> Result<(), AllocError>
     requires { length keys.now ≡ length values.now }
-    ensures { OnOk result (Adds text.old text.new
+    ensures { OnOk result (AddsText text.old text.new
         (pairs (codes ":") (zip (map (λ key. key.now) keys.now) values.now) toxicity)) }
 {
     let mut mark = ":";
@@ -173,7 +173,7 @@ fn push_pair(
     value: u64,
     default: u64,
 ) -> Result<&'static str, AllocError>
-    ensures adds { OnOk result (Adds text.old text.new (pair mark.now key.now value default)) }
+    ensures adds { OnOk result (AddsText text.old text.new (pair mark.now key.now value default)) }
     ensures next { IfOk result (λ next. next.now ≡ next_mark mark.now value default) }
 {
     if value == default {

@@ -1,6 +1,6 @@
 //! What stands before the heading of a picture.
 ghost use Rattle.std.specs.Prelude.{◌≤◌, OnOk};
-ghost use Rattle.tox_draw.specs.Adding.{Adds};
+ghost use Rattle.tox_draw.specs.Adding.{AddsText};
 ghost use Rattle.tox_draw.specs.Frames.{IsFrame};
 ghost use Rattle.tox_draw.specs.Headings.{texts_of};
 ghost use Rattle.tox_draw.specs.Pictures.{description, due_told, front, labelled, left_told, opening, paper, sentences, title_line};
@@ -16,7 +16,7 @@ use std::alloc::AllocError;
 #[tactic(auto, using(crate::proofs::Growing::adds_then), unfolding(crate::specs::Pictures::front))]
 pub(crate) fn push_front(text: &mut String, picture: &Picture) -> Result<(), AllocError>
     requires { IsFrame picture.now.frame }
-    ensures { OnOk result (Adds text.old text.new (front picture.now)) }
+    ensures { OnOk result (AddsText text.old text.new (front picture.now)) }
 {
     let high = picture.frame.base + 44;
     push_opening(text, high)?;
@@ -30,7 +30,7 @@ pub(crate) fn push_front(text: &mut String, picture: &Picture) -> Result<(), All
 /// Adds the first line up to what the picture is labelled by.
 #[tactic(auto, using(crate::proofs::Growing::adds_then), unfolding(crate::specs::Pictures::opening))]
 fn push_opening(text: &mut String, high: u64) -> Result<(), AllocError>
-    ensures { OnOk result (Adds text.old text.new (opening high)) }
+    ensures { OnOk result (AddsText text.old text.new (opening high)) }
 {
     push_word(
         text,
@@ -45,7 +45,7 @@ fn push_opening(text: &mut String, high: u64) -> Result<(), AllocError>
 /// Adds the ids of the title and of the sentences, and ends the first line.
 #[tactic(auto, using(crate::proofs::Growing::adds_then), unfolding(crate::specs::Pictures::labelled))]
 fn push_labelled(text: &mut String, setting: &Setting) -> Result<(), AllocError>
-    ensures { OnOk result (Adds text.old text.new (labelled setting.now)) }
+    ensures { OnOk result (AddsText text.old text.new (labelled setting.now)) }
 {
     push_word(text, "toxi-title")?;
     push_id_end(text, setting)?;
@@ -58,7 +58,7 @@ fn push_labelled(text: &mut String, setting: &Setting) -> Result<(), AllocError>
 #[tactic(auto, using(crate::proofs::Growing::adds_then), unfolding(crate::specs::Pictures::title_line))]
 fn push_title_line(text: &mut String, setting: &Setting, forms: &[String]) -> Result<(), AllocError>
     ensures { OnOk result
-        (Adds text.old text.new (title_line setting.now (texts_of forms.now))) }
+        (AddsText text.old text.new (title_line setting.now (texts_of forms.now))) }
 {
     push_word(text, "<title id=\"toxi-title")?;
     push_id_end(text, setting)?;
@@ -70,7 +70,7 @@ fn push_title_line(text: &mut String, setting: &Setting, forms: &[String]) -> Re
 /// Adds the line of the sentences.
 #[tactic(auto, using(crate::proofs::Growing::adds_then), unfolding(crate::specs::Pictures::description))]
 fn push_description(text: &mut String, picture: &Picture) -> Result<(), AllocError>
-    ensures { OnOk result (Adds text.old text.new (description picture.now)) }
+    ensures { OnOk result (AddsText text.old text.new (description picture.now)) }
 {
     push_word(text, "<desc id=\"toxi-desc")?;
     push_id_end(text, &picture.setting)?;
@@ -82,7 +82,7 @@ fn push_description(text: &mut String, picture: &Picture) -> Result<(), AllocErr
 /// Adds the sentences.
 #[tactic(auto, using(crate::proofs::Growing::adds_then), unfolding(crate::specs::Pictures::sentences))]
 fn push_sentences(text: &mut String, picture: &Picture) -> Result<(), AllocError>
-    ensures { OnOk result (Adds text.old text.new (sentences picture.now)) }
+    ensures { OnOk result (AddsText text.old text.new (sentences picture.now)) }
 {
     push_passed(
         text,
@@ -97,7 +97,7 @@ fn push_sentences(text: &mut String, picture: &Picture) -> Result<(), AllocError
 
 /// Adds the sentence of what left, or those of what was due and of what was written.
 fn push_left(text: &mut String, planned: &Curve, written: &Option<Curve>) -> Result<(), AllocError>
-    ensures { OnOk result (Adds text.old text.new (left_told planned.now written.now)) }
+    ensures { OnOk result (AddsText text.old text.new (left_told planned.now written.now)) }
 {
     match written {
         Some(written) => push_due(text, planned, written),
@@ -108,7 +108,7 @@ fn push_left(text: &mut String, planned: &Curve, written: &Option<Curve>) -> Res
 /// Adds the sentences of what was due and of what was written.
 #[tactic(auto, using(crate::proofs::Growing::adds_then), unfolding(crate::specs::Pictures::due_told))]
 fn push_due(text: &mut String, planned: &Curve, written: &Curve) -> Result<(), AllocError>
-    ensures { OnOk result (Adds text.old text.new (due_told planned.now written.now)) }
+    ensures { OnOk result (AddsText text.old text.new (due_told planned.now written.now)) }
 {
     push_passed(text, "Due", planned.total, &planned.last)?;
     push_passed(text, "Written", written.total, &written.last)
@@ -117,7 +117,7 @@ fn push_due(text: &mut String, planned: &Curve, written: &Curve) -> Result<(), A
 /// Adds the background.
 #[tactic(auto, using(crate::proofs::Growing::adds_then), unfolding(crate::specs::Pictures::paper))]
 fn push_paper(text: &mut String, high: u64) -> Result<(), AllocError>
-    ensures { OnOk result (Adds text.old text.new (paper high)) }
+    ensures { OnOk result (AddsText text.old text.new (paper high)) }
 {
     push_word(text, "<rect class=\"paper\" width=\"960\" height=\"")?;
     push_number(text, high)?;

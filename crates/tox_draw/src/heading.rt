@@ -1,6 +1,6 @@
 //! The heading of a picture: its toxics, in one to three lines.
 ghost use Rattle.std.specs.Prelude.{◌≡◌, ◌≤◌, ◌<◌, ◌+◌, ◌^◌, length, string_len, OnOk, IfOk, All};
-ghost use Rattle.tox_draw.specs.Adding.{Adds};
+ghost use Rattle.tox_draw.specs.Adding.{AddsText};
 ghost use Rattle.tox_draw.specs.Headings.{behind_first, first_on, heading, heading_lines, limit_of, no_toxics, opening, rest, rest_lines, texts_of};
 
 use crate::parts::push_word;
@@ -18,7 +18,7 @@ struct HeadingPlace {
 
 /// Adds the lines of the heading. Returns how many there are.
 pub(crate) fn push_heading(text: &mut String, forms: &[String]) -> Result<u64, AllocError>
-    ensures adds { OnOk result (Adds text.old text.new (heading (texts_of forms.now))) }
+    ensures adds { OnOk result (AddsText text.old text.new (heading (texts_of forms.now))) }
     ensures lines { IfOk result (λ lines. lines ≡ heading_lines (texts_of forms.now)) }
     ensures few { IfOk result (λ lines. lines ≤ 3) }
 {
@@ -33,7 +33,7 @@ pub(crate) fn push_heading(text: &mut String, forms: &[String]) -> Result<u64, A
 #[tactic(auto, using(crate::proofs::Growing::adds_then), unfolding(crate::specs::Headings::first_on))]
 fn push_first(text: &mut String, first: &str, others: &[String]) -> Result<u64, AllocError>
     ensures adds { OnOk result
-        (Adds text.old text.new (first_on first.now (texts_of others.now))) }
+        (AddsText text.old text.new (first_on first.now (texts_of others.now))) }
     ensures lines { IfOk result
         (λ lines. lines ≡ rest_lines (behind_first first.now) (texts_of others.now)) }
     ensures few { IfOk result (λ lines. lines ≤ 3) }
@@ -50,7 +50,7 @@ fn push_first(text: &mut String, first: &str, others: &[String]) -> Result<u64, 
 /// Adds the one line of a chain without toxics.
 #[tactic(auto, using(crate::proofs::Growing::adds_then), unfolding(crate::specs::Headings::no_toxics))]
 fn push_no_toxics(text: &mut String) -> Result<(), AllocError>
-    ensures { OnOk result (Adds text.old text.new no_toxics) }
+    ensures { OnOk result (AddsText text.old text.new no_toxics) }
 {
     push_opening(text, 0)?;
     push_word(text, "no toxics</text>\n")
@@ -59,7 +59,7 @@ fn push_no_toxics(text: &mut String) -> Result<(), AllocError>
 /// Adds the start of a line from 0 to 2.
 fn push_opening(text: &mut String, line: u64) -> Result<(), AllocError>
     requires { line ≤ 2 }
-    ensures { OnOk result (Adds text.old text.new (opening line)) }
+    ensures { OnOk result (AddsText text.old text.new (opening line)) }
 {
     let y = 32 + 20 * line;
     write!(text, "<text class=\"chain\" x=\"64\" y=\"{y}\">")
@@ -68,7 +68,7 @@ fn push_opening(text: &mut String, line: u64) -> Result<(), AllocError>
 /// Adds the other forms, and the end of the last line. Returns how many lines there are.
 fn push_rest(text: &mut String, forms: &[String], start: HeadingPlace) -> Result<u64, AllocError>
     requires { start.line ≤ 2 }
-    ensures adds { OnOk result (Adds text.old text.new (rest start (texts_of forms.now))) }
+    ensures adds { OnOk result (AddsText text.old text.new (rest start (texts_of forms.now))) }
     ensures lines { IfOk result (λ lines. lines ≡ rest_lines start (texts_of forms.now)) }
     ensures few { IfOk result (λ lines. lines ≤ 3) }
 {

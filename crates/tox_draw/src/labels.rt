@@ -1,7 +1,7 @@
 //! The words of a picture beside its lines.
 ghost use Rattle.std.specs.Prelude.{◌≤◌, ◌<◌, ◌≡◌, string_bytes, IfOk, OnOk};
 ghost use Rattle.std.specs.Option.{ForSome};
-ghost use Rattle.tox_draw.specs.Adding.{Adds};
+ghost use Rattle.tox_draw.specs.Adding.{AddsText};
 ghost use Rattle.tox_draw.specs.Frames.{IsFrame};
 ghost use Rattle.tox_draw.specs.Labels.{arrived_label, arrived_text, count_label, end_label, instant_text, word_at};
 
@@ -22,7 +22,7 @@ pub(crate) fn push_word_at(
     word: &str,
 ) -> Result<(), AllocError>
     requires { ForSome place.now (λ point. point.y ≤ 131_072) }
-    ensures { OnOk result (Adds text.old text.new (word_at class.now place.now word.now)) }
+    ensures { OnOk result (AddsText text.old text.new (word_at class.now place.now word.now)) }
 {
     match place {
         Some(point) => push_text(text, class, point.x, point.y + 4, word),
@@ -44,7 +44,7 @@ pub(crate) fn push_arrived_label(
     requires frame { IsFrame frame.now }
     requires few { arrived ≤ 1_099_511_627_776 }
     ensures { OnOk result
-        (Adds text.old text.new (arrived_label frame.now source_end.now arrived gap)) }
+        (AddsText text.old text.new (arrived_label frame.now source_end.now arrived gap)) }
 {
     let label = arrived_text(alloc, arrived)?;
     let x = frame.x_of(source_end);
@@ -80,7 +80,7 @@ pub(crate) fn push_count_label(
     count: u64,
 ) -> Result<(), AllocError>
     ensures { OnOk result
-        (Adds text.old text.new (count_label class.now word.now x y count)) }
+        (AddsText text.old text.new (count_label class.now word.now x y count)) }
 {
     push_text_start(text, class, x, y)?;
     push_word(text, word)?;
@@ -97,7 +97,7 @@ pub(crate) fn push_end_label(
     x: u64,
     y: u64,
 ) -> Result<(), AllocError>
-    ensures { OnOk result (Adds text.old text.new (end_label end.now x y)) }
+    ensures { OnOk result (AddsText text.old text.new (end_label end.now x y)) }
 {
     push_text_start(text, "mark halo", x, y)?;
     push_word(text, end.word())?;
@@ -108,7 +108,7 @@ pub(crate) fn push_end_label(
 /// Adds the quantity of an instant behind a space, if there is one.
 #[tactic(auto, using(crate::proofs::Growing::adds_then))]
 fn push_instant(text: &mut String, instant: &Option<Micros>) -> Result<(), AllocError>
-    ensures { OnOk result (Adds text.old text.new (instant_text instant.now)) }
+    ensures { OnOk result (AddsText text.old text.new (instant_text instant.now)) }
 {
     match instant {
         Some(instant) => {

@@ -1,8 +1,8 @@
 //! A line of a picture: bytes by column.
-ghost use Rattle.std.specs.Prelude.{◌≡◌, ◌≤◌, ◌<◌, ◌+◌, ◌++◌, ℕ, List, [], length, replicate, slice_index, IfOk};
+ghost use Rattle.std.specs.Prelude.{◌≡◌, ◌<◌, ◌+◌, ℕ, List, [], length, slice_index, IfOk};
 ghost use Rattle.tox_draw.specs.declared.frame.Frame.{Frame as OneFrame};
 ghost use Rattle.tox_draw.specs.Frames.{IsFrame, y_of};
-ghost use Rattle.tox_draw.specs.Lines.{IsCurve, IsStrand, in_first};
+ghost use Rattle.tox_draw.specs.Lines.{IsCurve, IsStrand, PassesBytes, in_first};
 
 use crate::curve::Curve;
 use crate::frame::Frame;
@@ -28,9 +28,7 @@ impl Strand {
     /// So many bytes passed at an instant.
     pub(crate) fn add(&mut self, frame: &Frame, len: u64, instant: &Micros)
         requires { IsFrame frame.now }
-        ensures { (table : List ℕ) → IsStrand frame.now table self.old → 0 < len
-            → length table + len ≤ 1_099_511_627_776
-            → IsStrand frame.now (table ++ replicate len instant.now) self.new }
+        ensures { PassesBytes frame.now len instant.now self.old self.new }
     {
         let column = frame.column_of(&Some(*instant));
         self.total = self.total.saturating_add(len).min(MAX_BYTES);

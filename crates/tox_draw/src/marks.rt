@@ -1,6 +1,6 @@
 //! The lines, areas and marks of a picture.
 ghost use Rattle.std.specs.Prelude.{◌≤◌, ◌<◌, length, OnOk};
-ghost use Rattle.tox_draw.specs.Adding.{Adds};
+ghost use Rattle.tox_draw.specs.Adding.{AddsText};
 ghost use Rattle.tox_draw.specs.Frames.{IsFrame};
 ghost use Rattle.tox_draw.specs.Marks.{arrow, area_path, base_line, cross, end_line, down, end_mark, line_path, source_mark, stroke, vertical};
 
@@ -21,7 +21,7 @@ pub(crate) fn push_line_path(
     base: u64,
 ) -> Result<(), AllocError>
     requires { end < length ys.now }
-    ensures { OnOk result (Adds text.old text.new (line_path class.now ys.now end base)) }
+    ensures { OnOk result (AddsText text.old text.new (line_path class.now ys.now end base)) }
 {
     push_path_start(text, class)?;
     push_steps(text, ys, end, base)?;
@@ -41,7 +41,7 @@ pub(crate) fn push_area_path(
     requires first { end < length first.now }
     requires second { end < length second.now }
     ensures { OnOk result
-        (Adds text.old text.new (area_path class.now first.now second.now end base)) }
+        (AddsText text.old text.new (area_path class.now first.now second.now end base)) }
 {
     push_path_start(text, class)?;
     push_area(text, first, second, end, base)?;
@@ -51,7 +51,7 @@ pub(crate) fn push_area_path(
 /// Adds the base of the plot.
 #[tactic(auto, unfolding(crate::specs::Marks::base_line))]
 pub(crate) fn push_base_line(text: &mut String, base: u64) -> Result<(), AllocError>
-    ensures { OnOk result (Adds text.old text.new (base_line base)) }
+    ensures { OnOk result (AddsText text.old text.new (base_line base)) }
 {
     writeln!(text, "<path class=\"axis\" d=\"M64 {base}H814\"/>")
 }
@@ -63,7 +63,7 @@ pub(crate) fn push_end_line(
     end: &LinkEnd,
 ) -> Result<(), AllocError>
     requires { IsFrame frame.now }
-    ensures { OnOk result (Adds text.old text.new (end_line frame.now end.now)) }
+    ensures { OnOk result (AddsText text.old text.new (end_line frame.now end.now)) }
 {
     if let LinkEnd::Open = end {
         return Ok(());
@@ -73,7 +73,7 @@ pub(crate) fn push_end_line(
 
 #[tactic(auto, using(crate::proofs::Growing::adds_then), unfolding(crate::specs::Marks::vertical))]
 fn push_vertical(text: &mut String, x: u64, top: u64, base: u64) -> Result<(), AllocError>
-    ensures { OnOk result (Adds text.old text.new (vertical x top base)) }
+    ensures { OnOk result (AddsText text.old text.new (vertical x top base)) }
 {
     push_path_start(text, "axis")?;
     push_move(text, x, top)?;
@@ -83,7 +83,7 @@ fn push_vertical(text: &mut String, x: u64, top: u64, base: u64) -> Result<(), A
 
 #[tactic(auto, unfolding(crate::specs::Marks::down))]
 pub(crate) fn push_down(text: &mut String, y: u64) -> Result<(), AllocError>
-    ensures { OnOk result (Adds text.old text.new (down y)) }
+    ensures { OnOk result (AddsText text.old text.new (down y)) }
 {
     write!(text, "V{y}")
 }
@@ -98,7 +98,7 @@ pub(crate) fn push_source_mark(
     requires frame { IsFrame frame.now }
     requires few { arrived ≤ 1_099_511_627_776 }
     ensures { OnOk result
-        (Adds text.old text.new (source_mark frame.now source_end.now arrived)) }
+        (AddsText text.old text.new (source_mark frame.now source_end.now arrived)) }
 {
     if source_end.is_none() {
         return Ok(());
@@ -115,7 +115,7 @@ pub(crate) fn push_end_mark(
 ) -> Result<(), AllocError>
     requires right { x ≤ 814 }
     requires low { y ≤ 436 }
-    ensures { OnOk result (Adds text.old text.new (end_mark end.now x y)) }
+    ensures { OnOk result (AddsText text.old text.new (end_mark end.now x y)) }
 {
     match end {
         LinkEnd::Open => push_arrow(text, x, y),
@@ -129,7 +129,7 @@ pub(crate) fn push_end_mark(
 fn push_arrow(text: &mut String, x: u64, y: u64) -> Result<(), AllocError>
     requires right { x ≤ 814 }
     requires low { y ≤ 436 }
-    ensures { OnOk result (Adds text.old text.new (arrow x y)) }
+    ensures { OnOk result (AddsText text.old text.new (arrow x y)) }
 {
     push_path_start(text, "mark")?;
     push_move(text, x, y.saturating_sub(5))?;
@@ -143,7 +143,7 @@ fn push_arrow(text: &mut String, x: u64, y: u64) -> Result<(), AllocError>
 fn push_cross(text: &mut String, x: u64, y: u64) -> Result<(), AllocError>
     requires right { x ≤ 814 }
     requires low { y ≤ 436 }
-    ensures { OnOk result (Adds text.old text.new (cross x y)) }
+    ensures { OnOk result (AddsText text.old text.new (cross x y)) }
 {
     push_path_start(text, "mark")?;
     push_stroke(text, x, y.saturating_sub(5), y + 5)?;
@@ -155,7 +155,7 @@ fn push_cross(text: &mut String, x: u64, y: u64) -> Result<(), AllocError>
 #[tactic(auto, using(crate::proofs::Growing::adds_then), unfolding(crate::specs::Marks::stroke))]
 fn push_stroke(text: &mut String, x: u64, first: u64, last: u64) -> Result<(), AllocError>
     requires { x ≤ 814 }
-    ensures { OnOk result (Adds text.old text.new (stroke x first last)) }
+    ensures { OnOk result (AddsText text.old text.new (stroke x first last)) }
 {
     push_move(text, x.saturating_sub(5), first)?;
     push_line(text, x + 5, last)

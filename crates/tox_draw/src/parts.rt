@@ -1,20 +1,20 @@
 //! The parts that the lines of a picture have in common.
 ghost use Rattle.std.specs.Prelude.{◌≡◌, decimal, OnOk};
-ghost use Rattle.tox_draw.specs.Adding.{Adds};
+ghost use Rattle.tox_draw.specs.Adding.{AddsText};
 ghost use Rattle.tox_draw.specs.Parts.{attribute, circle, element, line_to, move_to, path_end, path_start, text_end, text_line, text_start};
 
 use std::alloc::AllocError;
 
 /// Adds a text as it stands.
 pub fn push_word(text: &mut String, word: &str) -> Result<(), AllocError>
-    ensures { OnOk result (Adds text.old text.new word.now) }
+    ensures { OnOk result (AddsText text.old text.new word.now) }
 {
     text.push_str(word)
 }
 
 /// Adds a number in decimal.
 pub fn push_number(text: &mut String, number: u64) -> Result<(), AllocError>
-    ensures { OnOk result (Adds text.old text.new (decimal number)) }
+    ensures { OnOk result (AddsText text.old text.new (decimal number)) }
 {
     write!(text, "{number}")
 }
@@ -28,7 +28,7 @@ pub(crate) fn push_text(
     y: u64,
     word: &str,
 ) -> Result<(), AllocError>
-    ensures { OnOk result (Adds text.old text.new (text_line class.now x y word.now)) }
+    ensures { OnOk result (AddsText text.old text.new (text_line class.now x y word.now)) }
 {
     push_text_start(text, class, x, y)?;
     push_word(text, word)?;
@@ -43,7 +43,7 @@ pub(crate) fn push_text_start(
     x: u64,
     y: u64,
 ) -> Result<(), AllocError>
-    ensures { OnOk result (Adds text.old text.new (text_start class.now x y)) }
+    ensures { OnOk result (AddsText text.old text.new (text_start class.now x y)) }
 {
     push_element(text, "text", class)?;
     push_attribute(text, "x", x)?;
@@ -54,7 +54,7 @@ pub(crate) fn push_text_start(
 #[tactic(auto, unfolding(crate::specs::Parts::element))]
 /// Adds the start of an element of a class.
 fn push_element(text: &mut String, name: &str, class: &str) -> Result<(), AllocError>
-    ensures { OnOk result (Adds text.old text.new (element name.now class.now)) }
+    ensures { OnOk result (AddsText text.old text.new (element name.now class.now)) }
 {
     write!(text, "<{name} class=\"{class}\"")
 }
@@ -62,7 +62,7 @@ fn push_element(text: &mut String, name: &str, class: &str) -> Result<(), AllocE
 #[tactic(auto, unfolding(crate::specs::Parts::attribute))]
 /// Adds an attribute of an element.
 fn push_attribute(text: &mut String, name: &str, value: u64) -> Result<(), AllocError>
-    ensures { OnOk result (Adds text.old text.new (attribute name.now value)) }
+    ensures { OnOk result (AddsText text.old text.new (attribute name.now value)) }
 {
     write!(text, " {name}=\"{value}\"")
 }
@@ -70,7 +70,7 @@ fn push_attribute(text: &mut String, name: &str, value: u64) -> Result<(), Alloc
 #[tactic(auto, unfolding(crate::specs::Parts::text_end))]
 /// Adds the end of a line of text.
 pub(crate) fn push_text_end(text: &mut String) -> Result<(), AllocError>
-    ensures { OnOk result (Adds text.old text.new text_end) }
+    ensures { OnOk result (AddsText text.old text.new text_end) }
 {
     text.push_str("</text>\n")
 }
@@ -78,7 +78,7 @@ pub(crate) fn push_text_end(text: &mut String) -> Result<(), AllocError>
 #[tactic(auto, unfolding(crate::specs::Parts::path_start))]
 /// Adds the start of a path.
 pub(crate) fn push_path_start(text: &mut String, class: &str) -> Result<(), AllocError>
-    ensures { OnOk result (Adds text.old text.new (path_start class.now)) }
+    ensures { OnOk result (AddsText text.old text.new (path_start class.now)) }
 {
     write!(text, "<path class=\"{class}\" d=\"")
 }
@@ -86,7 +86,7 @@ pub(crate) fn push_path_start(text: &mut String, class: &str) -> Result<(), Allo
 #[tactic(auto, unfolding(crate::specs::Parts::path_end))]
 /// Adds the end of a path.
 pub(crate) fn push_path_end(text: &mut String) -> Result<(), AllocError>
-    ensures { OnOk result (Adds text.old text.new path_end) }
+    ensures { OnOk result (AddsText text.old text.new path_end) }
 {
     text.push_str("\"/>\n")
 }
@@ -94,7 +94,7 @@ pub(crate) fn push_path_end(text: &mut String) -> Result<(), AllocError>
 #[tactic(auto, unfolding(crate::specs::Parts::move_to))]
 /// Adds where a path starts.
 pub(crate) fn push_move(text: &mut String, x: u64, y: u64) -> Result<(), AllocError>
-    ensures { OnOk result (Adds text.old text.new (move_to x y)) }
+    ensures { OnOk result (AddsText text.old text.new (move_to x y)) }
 {
     write!(text, "M{x} {y}")
 }
@@ -102,7 +102,7 @@ pub(crate) fn push_move(text: &mut String, x: u64, y: u64) -> Result<(), AllocEr
 #[tactic(auto, unfolding(crate::specs::Parts::line_to))]
 /// Adds a line of a path to a point.
 pub(crate) fn push_line(text: &mut String, x: u64, y: u64) -> Result<(), AllocError>
-    ensures { OnOk result (Adds text.old text.new (line_to x y)) }
+    ensures { OnOk result (AddsText text.old text.new (line_to x y)) }
 {
     write!(text, "L{x} {y}")
 }
@@ -110,7 +110,7 @@ pub(crate) fn push_line(text: &mut String, x: u64, y: u64) -> Result<(), AllocEr
 #[tactic(auto, using(crate::proofs::Growing::adds_then), unfolding(crate::specs::Parts::circle))]
 /// Adds a circle about a point.
 pub(crate) fn push_circle(text: &mut String, class: &str, x: u64, y: u64) -> Result<(), AllocError>
-    ensures { OnOk result (Adds text.old text.new (circle class.now x y)) }
+    ensures { OnOk result (AddsText text.old text.new (circle class.now x y)) }
 {
     push_element(text, "circle", class)?;
     push_attribute(text, "cx", x)?;

@@ -1,6 +1,6 @@
 //! Paths of lines, in steps.
 ghost use Rattle.std.specs.Prelude.{◌≡◌, ◌≤◌, ◌<◌, ◌+◌, ◌++◌, codes, decimal, length, take, OnOk};
-ghost use Rattle.tox_draw.specs.Adding.{Adds};
+ghost use Rattle.tox_draw.specs.Adding.{AddsText};
 ghost use Rattle.tox_draw.specs.Paths.{across, after_step, area, step, steps_path};
 
 use std::alloc::AllocError;
@@ -18,7 +18,7 @@ struct Pen {
 impl Pen {
     /// Goes across to an x.
     fn across(&mut self, text: &mut String, x: u64) -> Result<(), AllocError>
-        ensures adds { OnOk result (Adds text.old text.new (across self.old.x x)) }
+        ensures adds { OnOk result (AddsText text.old text.new (across self.old.x x)) }
         ensures moved { OnOk result (self.new ≡ record self.old { x = x }) }
     {
         if self.x != x {
@@ -30,7 +30,7 @@ impl Pen {
 
     /// Goes to the y of a column at an x.
     fn step(&mut self, text: &mut String, x: u64, y: u64) -> Result<(), AllocError>
-        ensures adds { OnOk result (Adds text.old text.new (step self.old x y)) }
+        ensures adds { OnOk result (AddsText text.old text.new (step self.old x y)) }
         ensures moved { OnOk result (self.new ≡ after_step self.old x y) }
     {
         if self.y != y {
@@ -51,7 +51,7 @@ pub(crate) fn push_steps(
     base: u64,
 ) -> Result<(), AllocError>
     requires { end < length ys.now }
-    ensures { OnOk result (Adds text.old text.new (steps_path ys.now end base)) }
+    ensures { OnOk result (AddsText text.old text.new (steps_path ys.now end base)) }
 {
     write!(text, "M64 {base}")?;
     let mut pen = Pen { x: LEFT, y: base };
@@ -72,7 +72,7 @@ pub(crate) fn push_area(
 ) -> Result<(), AllocError>
     requires first { end < length first.now }
     requires second { end < length second.now }
-    ensures { OnOk result (Adds text.old text.new (area first.now second.now end base)) }
+    ensures { OnOk result (AddsText text.old text.new (area first.now second.now end base)) }
 {
     push_steps(text, first, end, base)?;
     write!(text, "V{base}Z")?;

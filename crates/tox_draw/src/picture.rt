@@ -1,7 +1,7 @@
 //! The whole text of a picture.
 ghost use Rattle.std.specs.Prelude.{◌≡◌, ◌≤◌, length, string_bytes, IfOk, OnOk};
 ghost use Rattle.std.specs.Option.{ForSome};
-ghost use Rattle.tox_draw.specs.Adding.{Adds};
+ghost use Rattle.tox_draw.specs.Adding.{AddsText};
 ghost use Rattle.tox_draw.specs.Frames.{IsFrame};
 ghost use Rattle.tox_draw.specs.Pictures.{areas, axes, below, both_lines, drawing, held_place, labels, labels_of_both, labels_of_left, late_area, late_word, left_lines, lines, marks, picture_text, shown_total, words};
 
@@ -52,7 +52,7 @@ pub(crate) fn picture_text(alloc: Global, picture: &Picture) -> Result<String, A
 #[tactic(auto, using(crate::proofs::Growing::adds_then), unfolding(crate::specs::Pictures::picture_text))]
 fn push_picture(alloc: Global, text: &mut String, picture: &Picture) -> Result<(), AllocError>
     requires { IsFrame picture.now.frame }
-    ensures { OnOk result (Adds text.old text.new (picture_text picture.now)) }
+    ensures { OnOk result (AddsText text.old text.new (picture_text picture.now)) }
 {
     push_front(text, picture)?;
     push_axes(text, picture)?;
@@ -64,7 +64,7 @@ fn push_picture(alloc: Global, text: &mut String, picture: &Picture) -> Result<(
 #[tactic(auto, using(crate::proofs::Growing::adds_then), unfolding(crate::specs::Pictures::axes))]
 fn push_axes(text: &mut String, picture: &Picture) -> Result<(), AllocError>
     requires { IsFrame picture.now.frame }
-    ensures { OnOk result (Adds text.old text.new (axes picture.now)) }
+    ensures { OnOk result (AddsText text.old text.new (axes picture.now)) }
 {
     push_word(text, picture.heading.as_str())?;
     push_byte_ticks(text, &picture.frame)?;
@@ -75,7 +75,7 @@ fn push_axes(text: &mut String, picture: &Picture) -> Result<(), AllocError>
 #[tactic(auto, using(crate::proofs::Growing::adds_then), unfolding(crate::specs::Pictures::drawing))]
 fn push_drawing(alloc: Global, text: &mut String, picture: &Picture) -> Result<(), AllocError>
     requires { IsFrame picture.now.frame }
-    ensures { OnOk result (Adds text.old text.new (drawing picture.now)) }
+    ensures { OnOk result (AddsText text.old text.new (drawing picture.now)) }
 {
     push_areas(text, picture)?;
     push_lines(text, picture)?;
@@ -88,7 +88,7 @@ fn push_drawing(alloc: Global, text: &mut String, picture: &Picture) -> Result<(
 #[tactic(auto, using(crate::proofs::Growing::adds_then), unfolding(crate::specs::Pictures::areas))]
 fn push_areas(text: &mut String, picture: &Picture) -> Result<(), AllocError>
     requires { IsFrame picture.now.frame }
-    ensures { OnOk result (Adds text.old text.new (areas picture.now)) }
+    ensures { OnOk result (AddsText text.old text.new (areas picture.now)) }
 {
     let frame = &picture.frame;
     let due_end = frame.column_of(&picture.planned_end.instant());
@@ -108,7 +108,7 @@ fn push_areas(text: &mut String, picture: &Picture) -> Result<(), AllocError>
 fn push_late_area(text: &mut String, picture: &Picture) -> Result<(), AllocError>
     requires { IsFrame picture.now.frame }
     ensures { OnOk result
-        (Adds text.old text.new (late_area picture.now picture.now.written)) }
+        (AddsText text.old text.new (late_area picture.now picture.now.written)) }
 {
     let frame = &picture.frame;
     match &picture.written {
@@ -125,7 +125,7 @@ fn push_late_area(text: &mut String, picture: &Picture) -> Result<(), AllocError
 #[tactic(auto, using(crate::proofs::Growing::adds_then), unfolding(crate::specs::Pictures::lines))]
 fn push_lines(text: &mut String, picture: &Picture) -> Result<(), AllocError>
     requires { IsFrame picture.now.frame }
-    ensures { OnOk result (Adds text.old text.new (lines picture.now)) }
+    ensures { OnOk result (AddsText text.old text.new (lines picture.now)) }
 {
     let frame = &picture.frame;
     push_base_line(text, frame.base)?;
@@ -139,7 +139,7 @@ fn push_lines(text: &mut String, picture: &Picture) -> Result<(), AllocError>
 fn push_left_lines(text: &mut String, picture: &Picture) -> Result<(), AllocError>
     requires { IsFrame picture.now.frame }
     ensures { OnOk result
-        (Adds text.old text.new (left_lines picture.now picture.now.written)) }
+        (AddsText text.old text.new (left_lines picture.now picture.now.written)) }
 {
     let frame = &picture.frame;
     match &picture.written {
@@ -155,7 +155,7 @@ fn push_left_lines(text: &mut String, picture: &Picture) -> Result<(), AllocErro
 #[tactic(auto, using(crate::proofs::Growing::adds_then), unfolding(crate::specs::Pictures::both_lines))]
 fn push_both_lines(text: &mut String, picture: &Picture, written: &Curve) -> Result<(), AllocError>
     requires { IsFrame picture.now.frame }
-    ensures { OnOk result (Adds text.old text.new (both_lines picture.now written.now)) }
+    ensures { OnOk result (AddsText text.old text.new (both_lines picture.now written.now)) }
 {
     let frame = &picture.frame;
     let due_end = frame.column_of(&picture.planned_end.instant());
@@ -168,7 +168,7 @@ fn push_both_lines(text: &mut String, picture: &Picture, written: &Curve) -> Res
 #[tactic(auto, using(crate::proofs::Growing::adds_then), unfolding(crate::specs::Pictures::marks))]
 fn push_marks(text: &mut String, picture: &Picture) -> Result<(), AllocError>
     requires { IsFrame picture.now.frame }
-    ensures { OnOk result (Adds text.old text.new (marks picture.now)) }
+    ensures { OnOk result (AddsText text.old text.new (marks picture.now)) }
 {
     let frame = &picture.frame;
     push_source_mark(text, frame, &picture.source_end, picture.arrived.total)?;
@@ -192,7 +192,7 @@ fn shown_total(planned: &Curve, written: &Option<Curve>) -> u64
 #[tactic(auto, using(crate::proofs::Growing::adds_then), unfolding(crate::specs::Pictures::words))]
 fn push_words(alloc: Global, text: &mut String, picture: &Picture) -> Result<(), AllocError>
     requires { IsFrame picture.now.frame }
-    ensures { OnOk result (Adds text.old text.new (words picture.now)) }
+    ensures { OnOk result (AddsText text.old text.new (words picture.now)) }
 {
     let due_end = picture.frame.column_of(&picture.planned_end.instant());
     let place = held_place(alloc, &picture.arrived.ys, &picture.planned.ys, due_end)?;
@@ -204,7 +204,7 @@ fn push_words(alloc: Global, text: &mut String, picture: &Picture) -> Result<(),
 fn push_late_word(alloc: Global, text: &mut String, picture: &Picture) -> Result<(), AllocError>
     requires { IsFrame picture.now.frame }
     ensures { OnOk result
-        (Adds text.old text.new (late_word picture.now picture.now.written)) }
+        (AddsText text.old text.new (late_word picture.now picture.now.written)) }
 {
     match &picture.written {
         Some(written) => {
@@ -242,7 +242,7 @@ fn held_place(
 #[tactic(auto, unfolding(crate::specs::Pictures::labels))]
 fn push_labels(alloc: Global, text: &mut String, picture: &Picture) -> Result<(), AllocError>
     requires { IsFrame picture.now.frame }
-    ensures { OnOk result (Adds text.old text.new (labels picture.now)) }
+    ensures { OnOk result (AddsText text.old text.new (labels picture.now)) }
 {
     let frame = &picture.frame;
     let x = frame.x_of(&picture.end.instant()) + 9;
@@ -271,7 +271,7 @@ fn push_labels_of_both(
     requires frame { IsFrame picture.now.frame }
     requires low { y ≤ 454 }
     ensures { OnOk result
-        (Adds text.old text.new (labels_of_both picture.now written.now x y)) }
+        (AddsText text.old text.new (labels_of_both picture.now written.now x y)) }
 {
     let arrived = picture.arrived.total;
     push_arrived_label(
@@ -298,7 +298,7 @@ fn push_labels_of_left(
 ) -> Result<(), AllocError>
     requires frame { IsFrame picture.now.frame }
     requires low { y ≤ 454 }
-    ensures { OnOk result (Adds text.old text.new (labels_of_left picture.now x y)) }
+    ensures { OnOk result (AddsText text.old text.new (labels_of_left picture.now x y)) }
 {
     let arrived = picture.arrived.total;
     push_arrived_label(

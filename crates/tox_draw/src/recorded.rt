@@ -2,7 +2,7 @@
 ghost use Rattle.std.specs.Prelude.{◌≡◌, ℕ, List, Option, false, true, string_bytes, IfOk, OnErr, OnOk};
 ghost use Rattle.tox_time.specs.declared.streams.item.Item.{Item as OneItem};
 ghost use Rattle.tox_log.specs.Reading.{to_hand};
-ghost use Rattle.tox_draw.specs.Drawn.{IsPictureAlone, IsPictureOnPage, WritesFront, WritesPicture};
+ghost use Rattle.tox_draw.specs.Drawn.{IsPictureAlone, IsPictureOnPage, WritesPictureFront, WritesPicture};
 ghost use Rattle.tox_draw.specs.Frames.{IsFrame};
 ghost use Rattle.tox_draw.specs.Hearings.{BeginsHearing, HearsAll, HearsEvent, HearsLogLine, KeepsRecord};
 ghost use Rattle.tox_draw.specs.Recorded.{IsPictureOf, end_at};
@@ -62,7 +62,7 @@ pub fn draw_log<'a, R: Source, W: Sink>(
     ensures unwritten { OnErr result (W.failed writer.new ≡ false
         → W.written writer.new ≡ W.written writer.old) }
     ensures front { W.failed writer.new ≡ true
-        → WritesFront (IsPictureAlone (R.remaining second.old))
+        → WritesPictureFront (IsPictureAlone (R.remaining second.old))
         (W.written writer.old) (W.written writer.new) }
 {
     let drawn = match drawn(alloc, first, second, Setting::Alone) {

@@ -1,6 +1,6 @@
 //! What a picture says to those who don't see it.
 ghost use Rattle.std.specs.Prelude.{◌≡◌, OnOk};
-ghost use Rattle.tox_draw.specs.Adding.{Adds};
+ghost use Rattle.tox_draw.specs.Adding.{AddsText};
 ghost use Rattle.tox_draw.specs.Headings.{texts_of};
 ghost use Rattle.tox_draw.specs.Sentences.{count, ended, last_at, passed, some_passed, source_ended, title};
 
@@ -10,7 +10,7 @@ use tox_time::Micros;
 
 /// Adds the title: the toxics in order.
 pub(crate) fn push_title(text: &mut String, forms: &[String]) -> Result<(), AllocError>
-    ensures { OnOk result (Adds text.old text.new (title (texts_of forms.now))) }
+    ensures { OnOk result (AddsText text.old text.new (title (texts_of forms.now))) }
 {
     let Some((first, others)) = forms.split_first() else {
         return text.push_str("no toxics");
@@ -30,7 +30,7 @@ pub(crate) fn push_passed(
     total: u64,
     last: &Micros,
 ) -> Result<(), AllocError>
-    ensures { OnOk result (Adds text.old text.new (passed word.now total last.now)) }
+    ensures { OnOk result (AddsText text.old text.new (passed word.now total last.now)) }
 {
     if total == 0 {
         write!(text, " {word} 0 B.")
@@ -47,7 +47,7 @@ fn push_some_passed(
     total: u64,
     last: &Micros,
 ) -> Result<(), AllocError>
-    ensures { OnOk result (Adds text.old text.new (some_passed word.now total last.now)) }
+    ensures { OnOk result (AddsText text.old text.new (some_passed word.now total last.now)) }
 {
     push_count(text, word, total)?;
     push_last(text, last)
@@ -56,7 +56,7 @@ fn push_some_passed(
 #[tactic(auto, unfolding(crate::specs::Sentences::last_at))]
 /// Adds when the last byte passed.
 fn push_last(text: &mut String, last: &Micros) -> Result<(), AllocError>
-    ensures { OnOk result (Adds text.old text.new (last_at last.now)) }
+    ensures { OnOk result (AddsText text.old text.new (last_at last.now)) }
 {
     let last = last.get();
     write!(text, ", the last at {last} us.")
@@ -65,14 +65,14 @@ fn push_last(text: &mut String, last: &Micros) -> Result<(), AllocError>
 #[tactic(auto, unfolding(crate::specs::Sentences::count))]
 /// Adds how many bytes passed.
 fn push_count(text: &mut String, word: &str, total: u64) -> Result<(), AllocError>
-    ensures { OnOk result (Adds text.old text.new (count word.now total)) }
+    ensures { OnOk result (AddsText text.old text.new (count word.now total)) }
 {
     write!(text, " {word} {total} B")
 }
 
 /// Adds the sentence of the source's end.
 pub(crate) fn push_source_end(text: &mut String, end: &Option<Micros>) -> Result<(), AllocError>
-    ensures { OnOk result (Adds text.old text.new (source_ended end.now)) }
+    ensures { OnOk result (AddsText text.old text.new (source_ended end.now)) }
 {
     match end {
         Some(instant) => {
@@ -85,7 +85,7 @@ pub(crate) fn push_source_end(text: &mut String, end: &Option<Micros>) -> Result
 
 /// Adds the sentence of the link's end.
 pub(crate) fn push_end(text: &mut String, end: &LinkEnd) -> Result<(), AllocError>
-    ensures { OnOk result (Adds text.old text.new (ended end.now)) }
+    ensures { OnOk result (AddsText text.old text.new (ended end.now)) }
 {
     match end.instant() {
         Some(instant) => {

@@ -1,6 +1,6 @@
 //! Where a picture stands.
 ghost use Rattle.std.specs.Prelude.{OnOk};
-ghost use Rattle.tox_draw.specs.Adding.{Adds};
+ghost use Rattle.tox_draw.specs.Adding.{AddsText};
 ghost use Rattle.tox_draw.specs.Settings.{id_end, number_end, own_style};
 ghost use Rattle.tox_draw.specs.Style.{style};
 
@@ -19,7 +19,7 @@ pub(crate) enum Setting {
 
 /// Adds what the ids of a picture end with: on a page its number, so that no two ids are alike.
 pub(crate) fn push_id_end(text: &mut String, setting: &Setting) -> Result<(), AllocError>
-    ensures { OnOk result (Adds text.old text.new (id_end setting.now)) }
+    ensures { OnOk result (AddsText text.old text.new (id_end setting.now)) }
 {
     match setting {
         Setting::Alone => push_word(text, ""),
@@ -29,7 +29,7 @@ pub(crate) fn push_id_end(text: &mut String, setting: &Setting) -> Result<(), Al
 
 #[tactic(auto, using(crate::proofs::Growing::adds_then), unfolding(crate::specs::Settings::number_end))]
 fn push_number_end(text: &mut String, number: u64) -> Result<(), AllocError>
-    ensures { OnOk result (Adds text.old text.new (number_end number)) }
+    ensures { OnOk result (AddsText text.old text.new (number_end number)) }
 {
     push_word(text, "-")?;
     push_number(text, number)
@@ -37,7 +37,7 @@ fn push_number_end(text: &mut String, number: u64) -> Result<(), AllocError>
 
 /// Adds the style of a picture that stands alone.
 pub(crate) fn push_own_style(text: &mut String, setting: &Setting) -> Result<(), AllocError>
-    ensures { OnOk result (Adds text.old text.new (own_style setting.now)) }
+    ensures { OnOk result (AddsText text.old text.new (own_style setting.now)) }
 {
     match setting {
         Setting::Alone => push_style(text),
@@ -47,7 +47,7 @@ pub(crate) fn push_own_style(text: &mut String, setting: &Setting) -> Result<(),
 
 #[tactic(auto, unfolding(crate::specs::Style::style))]
 fn push_style(text: &mut String) -> Result<(), AllocError>
-    ensures { OnOk result (Adds text.old text.new style) }
+    ensures { OnOk result (AddsText text.old text.new style) }
 {
     push_word(text, STYLE)
 }

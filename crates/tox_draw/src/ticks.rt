@@ -1,6 +1,6 @@
 //! The lines and the values of the two axes.
 ghost use Rattle.std.specs.Prelude.{◌≤◌, OnOk};
-ghost use Rattle.tox_draw.specs.Adding.{Adds};
+ghost use Rattle.tox_draw.specs.Adding.{AddsText};
 ghost use Rattle.tox_draw.specs.Axes.{IsAxis};
 ghost use Rattle.tox_draw.specs.Frames.{IsFrame};
 ghost use Rattle.tox_draw.specs.Ticks.{byte_tick, byte_ticks, grid, label, mark, time_tick, time_ticks, unit_text};
@@ -17,7 +17,7 @@ use std::alloc::AllocError;
 /// Adds the values of the axis of bytes, and a line for each above 0.
 pub(crate) fn push_byte_ticks(text: &mut String, frame: &Frame) -> Result<(), AllocError>
     requires { IsFrame frame.now }
-    ensures { OnOk result (Adds text.old text.new (byte_ticks frame.now)) }
+    ensures { OnOk result (AddsText text.old text.new (byte_ticks frame.now)) }
 {
     for index in 0..frame.bytes.count + 1 {
         push_byte_tick(text, frame, index)?;
@@ -30,7 +30,7 @@ pub(crate) fn push_byte_ticks(text: &mut String, frame: &Frame) -> Result<(), Al
 fn push_byte_tick(text: &mut String, frame: &Frame, index: u64) -> Result<(), AllocError>
     requires frame { IsFrame frame.now }
     requires within { index ≤ frame.now.bytes.count }
-    ensures { OnOk result (Adds text.old text.new (byte_tick frame.now index)) }
+    ensures { OnOk result (AddsText text.old text.new (byte_tick frame.now index)) }
 {
     let y = frame
         .base
@@ -43,7 +43,7 @@ fn push_byte_tick(text: &mut String, frame: &Frame, index: u64) -> Result<(), Al
 #[tactic(auto, unfolding(crate::specs::Ticks::grid))]
 /// Adds a line at a y, but for the first value.
 fn push_grid(text: &mut String, index: u64, y: u64) -> Result<(), AllocError>
-    ensures { OnOk result (Adds text.old text.new (grid index y)) }
+    ensures { OnOk result (AddsText text.old text.new (grid index y)) }
 {
     if index != 0 {
         writeln!(text, "<path class=\"grid\" d=\"M64 {y}H814\"/>")?;
@@ -55,7 +55,7 @@ fn push_grid(text: &mut String, index: u64, y: u64) -> Result<(), AllocError>
 /// Adds the values of the axis of time, and a mark for each.
 pub(crate) fn push_time_ticks(text: &mut String, frame: &Frame) -> Result<(), AllocError>
     requires { IsFrame frame.now }
-    ensures { OnOk result (Adds text.old text.new (time_ticks frame.now)) }
+    ensures { OnOk result (AddsText text.old text.new (time_ticks frame.now)) }
 {
     for index in 0..frame.time.count + 1 {
         push_time_tick(text, frame, index)?;
@@ -68,7 +68,7 @@ pub(crate) fn push_time_ticks(text: &mut String, frame: &Frame) -> Result<(), Al
 fn push_time_tick(text: &mut String, frame: &Frame, index: u64) -> Result<(), AllocError>
     requires frame { IsFrame frame.now }
     requires within { index ≤ frame.now.time.count }
-    ensures { OnOk result (Adds text.old text.new (time_tick frame.now index)) }
+    ensures { OnOk result (AddsText text.old text.new (time_tick frame.now index)) }
 {
     let x = LEFT + part_of(index, frame.time.count, 750);
     push_mark(text, x, frame.base)?;
@@ -80,7 +80,7 @@ fn push_time_tick(text: &mut String, frame: &Frame, index: u64) -> Result<(), Al
 /// Adds a mark below the base.
 fn push_mark(text: &mut String, x: u64, base: u64) -> Result<(), AllocError>
     requires { base ≤ 436 }
-    ensures { OnOk result (Adds text.old text.new (mark x base)) }
+    ensures { OnOk result (AddsText text.old text.new (mark x base)) }
 {
     push_path_start(text, "axis")?;
     push_move(text, x, base)?;
@@ -93,7 +93,7 @@ fn push_mark(text: &mut String, x: u64, base: u64) -> Result<(), AllocError>
 fn push_label(text: &mut String, axis: &Axis, index: u64, unit: Unit) -> Result<(), AllocError>
     requires axis { IsAxis axis.now }
     requires within { index ≤ axis.now.count }
-    ensures { OnOk result (Adds text.old text.new (label axis.now index unit)) }
+    ensures { OnOk result (AddsText text.old text.new (label axis.now index unit)) }
 {
     push_figure(text, index * axis.step, unit)?;
     push_unit(text, index == axis.count, unit)?;
@@ -102,7 +102,7 @@ fn push_label(text: &mut String, axis: &Axis, index: u64, unit: Unit) -> Result<
 
 /// Adds a unit's name at the last value.
 fn push_unit(text: &mut String, last: bool, unit: Unit) -> Result<(), AllocError>
-    ensures { OnOk result (Adds text.old text.new (unit_text last unit)) }
+    ensures { OnOk result (AddsText text.old text.new (unit_text last unit)) }
 {
     if last {
         let name = unit.name();

@@ -1,6 +1,6 @@
 //! Units, and values in them.
 ghost use Rattle.std.specs.Prelude.{◌≡◌, ◌<◌, OnOk};
-ghost use Rattle.tox_draw.specs.Adding.{Adds};
+ghost use Rattle.tox_draw.specs.Adding.{AddsText};
 ghost use Rattle.tox_draw.specs.Units.{byte_unit, figure, fraction, quantity, time_unit, unit_name, unit_size};
 
 use std::alloc::AllocError;
@@ -71,7 +71,7 @@ impl Unit {
 #[tactic(auto, unfolding(crate::specs::Units::figure))]
 /// Adds the figure of a value in a unit: below 1000 with up to three digits behind the point.
 pub(crate) fn push_figure(text: &mut String, value: u64, unit: Unit) -> Result<(), AllocError>
-    ensures { OnOk result (Adds text.old text.new (figure value unit)) }
+    ensures { OnOk result (AddsText text.old text.new (figure value unit)) }
 {
     let size = unit.size();
     let whole = value / size;
@@ -87,7 +87,7 @@ pub(crate) fn push_figure(text: &mut String, value: u64, unit: Unit) -> Result<(
 /// Adds a point and thousandths, without the zeros at their end.
 fn push_fraction(text: &mut String, thousandths: u64) -> Result<(), AllocError>
     requires { thousandths < 1000 }
-    ensures { OnOk result (Adds text.old text.new (fraction thousandths)) }
+    ensures { OnOk result (AddsText text.old text.new (fraction thousandths)) }
 {
     let first = thousandths / 100;
     let second = thousandths / 10 % 10;
@@ -104,7 +104,7 @@ fn push_fraction(text: &mut String, thousandths: u64) -> Result<(), AllocError>
 #[tactic(auto, unfolding(crate::specs::Units::quantity))]
 /// Adds the quantity of a value: its figure in a unit, and the unit's name.
 pub(crate) fn push_quantity(text: &mut String, value: u64, unit: Unit) -> Result<(), AllocError>
-    ensures { OnOk result (Adds text.old text.new (quantity value unit)) }
+    ensures { OnOk result (AddsText text.old text.new (quantity value unit)) }
 {
     push_figure(text, value, unit)?;
     let name = unit.name();
