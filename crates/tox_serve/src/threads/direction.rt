@@ -3,13 +3,14 @@ ghost use Rattle.std.specs.Prelude.{◌≡◌, None, fold, IfSome};
 ghost use Rattle.std.specs.Arc.{arc_value};
 ghost use Rattle.tox_sockets.specs.ResetDue.{after_op};
 ghost use Rattle.tox_sockets.specs.Streams.{target_of};
+ghost use Rattle.tox_serve.specs.Told.{IsToldOf, carried_after};
 
 use std::alloc::Global;
 use std::sync::Arc;
-use tox_link::{Ends, carry_timed};
+use tox_link::{Ends, LinkFault, TimedReport, carry_timed};
 use tox_links::{Carried, Course, ProxyLinks, ServeRun, ServeRuntime, notes_of};
 use tox_sockets::{LinkSockets, LinkStart, SinceStart, UntilCut, UntilDue};
-use tox_time::{MAX_BYTES, Micros, Real};
+use tox_time::{MAX_BYTES, Micros, Real, Stream};
 
 /// One direction of a link, before it is carried.
 #[derive(Drop)]
@@ -56,7 +57,7 @@ pub(crate) fn carry_stream<R: ServeRuntime>(
     direction: Direction,
     start: LinkStart,
 ) -> Carried
-    ensures { result.stream ≡ direction.course.stream }
+    ensures { IsToldOf direction.course result }
 {
     let Direction { course, reader } = direction;
     let clock = SinceStart::new(rt, link, start);
@@ -83,16 +84,28 @@ pub(crate) fn carry_stream<R: ServeRuntime>(
         &mut notes,
         &run.gate,
     );
-    let (carried, reading) = match done {
-        Ok(timed) => (
-            Carried::until_end(stream, &timed.report, ends.hangup.was_stopped),
-            timed.reading,
-        ),
-        Err(fault) => {
+    let reading = match &done {
+        Ok(timed) => timed.reading,
+        Err(_) => {
             sockets.reset();
-            (Carried::until_fault(stream, &fault), Micros::ZERO)
+            Micros::ZERO
         }
     };
+    let carried = carried_of(stream, &done, ends.hangup.was_stopped);
     notes.end(&carried.last_line(reading));
     carried
+}
+
+/// What a stream carried, by what its link reports or by its fault.
+fn carried_of<S>(
+    stream: Stream,
+    done: &Result<TimedReport<S>, LinkFault>,
+    was_stopped: bool,
+) -> Carried
+    ensures { result ≡ carried_after stream was_stopped done.now }
+{
+    match done {
+        Ok(timed) => Carried::until_end(stream, &timed.report, was_stopped),
+        Err(fault) => Carried::until_fault(stream, fault),
+    }
 }

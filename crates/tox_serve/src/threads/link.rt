@@ -1,6 +1,7 @@
 //! One served link: both its directions, what the book keeps of it, and its line.
 ghost use Rattle.std.specs.Prelude.{◌≡◌, IfOk};
 ghost use Rattle.tox_time.specs.declared.streams.stream.Stream.TheVariants as StreamOf;
+ghost use Rattle.tox_links.specs.link.LinkEnds.{link_end};
 
 use crate::threads::connecting::connect;
 use crate::threads::direction::{Direction, carry_stream};
@@ -27,6 +28,15 @@ struct CarriedBoth {
     up: Carried,
     down: CarriedDown,
     ghost upstream: { up.stream ≡ StreamOf.Upstream },
+}
+
+impl CarriedBoth {
+    /// The end of the numbered link whose directions carried this.
+    fn end(&self, number: u64) -> LinkEnd
+        ensures { result ≡ link_end number self.now.up self.now.down.carried }
+    {
+        LinkEnd::of(number, &self.up, &self.down.carried)
+    }
 }
 
 /// Serves a link to its end.
@@ -138,7 +148,7 @@ fn carry_both<'a, R: ServeRuntime>(
         },
     );
     match carried {
-        Some(CarriedBoth { up, down }) => Ok(LinkEnd::of(number, &up, &down.carried)),
+        Some(both) => Ok(both.end(number)),
         None => Err(BreakCause::Thread),
     }
 }
