@@ -1,5 +1,6 @@
 -- A stream is told as it was carried.
 use Rattle.std.proofs.Common.{ℕ, Bool, true, false, Result, Ok, Err, IfOk, IfErr, refl}
+use Rattle.tox_time.specs.Time.{IsInstant}
 use Rattle.tox_compile.specs.Meaning.{means}
 use Rattle.tox_link.specs.declared.link_fault.LinkFault.{LinkFault}
 use Rattle.tox_link.specs.declared.link_fault.LinkFault.TheVariants.{OutOfMemory, SpawnRefused, WriteFault}
@@ -11,9 +12,9 @@ use Rattle.tox_serve.specs.Told.{IsToldOf, carried_after}
 
 pub told_of : {S : Type 0} (course : Course) (was_stopped : Bool) (done : Result (TimedReport S) LinkFault)
     (reads : ℕ) (given : NearEnd) (left : TimedReport S → NearEnd) (before after : FarEnd)
-    → IfOk done (λ timed. Carries (means course.plan course.words) (λ _. Unit {0}) reads given (left timed) before after
+    → IfOk done (λ timed. Carries (means course.plan course.words) IsInstant reads given (left timed) before after
     timed.report.taken timed.report.written timed.report.ending (read_end_of timed.report.source) timed.reading)
-    → IfErr done (BreaksAt (means course.plan course.words) (λ _. Unit {0}) given before after)
+    → IfErr done (BreaksAt (means course.plan course.words) IsInstant given before after)
     → IsToldOf course (carried_after course.stream was_stopped done)
 told_of course true (Ok timed) reads given left before after carried broken = record {
   its = refl;
