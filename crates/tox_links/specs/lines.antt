@@ -4,3 +4,4 @@ pub mod JsonLines
 pub mod OpenLine
 pub mod LineQueue
 pub mod LineQueueInside
+pub mod LineText

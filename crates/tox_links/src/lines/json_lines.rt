@@ -1,5 +1,5 @@
 //! The lines that serving prints, as objects of JSON.
-ghost use Rattle.std.specs.Prelude.{◌≡◌, IfSome};
+ghost use Rattle.tox_links.specs.lines.LineText.{IsLine};
 ghost use Rattle.tox_links.specs.lines.JsonLines.{link_object, listening_object, total_object};
 
 use crate::lines::LineText;
@@ -11,7 +11,7 @@ use tox_time::Stream;
 
 /// The object of a proxy that listens. None if it is too long, which none is.
 pub(crate) fn listening_json(name: &str, address: &str) -> Option<LineText>
-    ensures { IfSome result (λ line. line.bytes.items ≡ listening_object name.now address.now) }
+    ensures { IsLine result (listening_object name.now address.now) }
 {
     let fields = [
         JsonField::text("proxy", name),
@@ -22,7 +22,7 @@ pub(crate) fn listening_json(name: &str, address: &str) -> Option<LineText>
 
 /// The object of a link that ended. None if it is too long, which none is.
 pub(crate) fn link_json(name: &str, end: &LinkEnd) -> Option<LineText>
-    ensures { IfSome result (λ line. line.bytes.items ≡ link_object name.now end.now) }
+    ensures { IsLine result (link_object name.now end.now) }
 {
     let fields = [
         JsonField::text("proxy", name),
@@ -37,7 +37,7 @@ pub(crate) fn link_json(name: &str, end: &LinkEnd) -> Option<LineText>
 
 /// The object of a proxy's totals. None if it is too long, which none is.
 pub(crate) fn total_json(name: &str, book: &Book) -> Option<LineText>
-    ensures { IfSome result (λ line. line.bytes.items ≡ total_object name.now book.now) }
+    ensures { IsLine result (total_object name.now book.now) }
 {
     let fields = [
         JsonField::text("proxy", name),

@@ -1,5 +1,6 @@
 //! The line of a stream of a link whose upstream is reached: the client, and the toxics that it meets.
-ghost use Rattle.std.specs.Prelude.{◌≡◌, ◌+◌, ◌++◌, ◌<◌, ◌≤◌, codes, false, flat_map, length, map, string_bytes, IfSome, IsSome};
+ghost use Rattle.std.specs.Prelude.{◌≡◌, ◌+◌, ◌++◌, ◌<◌, ◌≤◌, codes, false, flat_map, length, map, string_bytes, IfNone, IsSome};
+ghost use Rattle.tox_links.specs.lines.LineText.{IsLine};
 ghost use Rattle.tox_links.specs.lines.OpenLine.{applied_names, name_if, open_line, open_object, spaced, text_items};
 ghost use Rattle.tox_text.specs.Json.{array_text};
 ghost use Rattle.tox_text.specs.JsonLine.{field_text, key_text};
@@ -65,7 +66,7 @@ fn add_if<'a>(names: &mut Names<'a>, applied: bool, name: &'a str)
 
 /// The line of a stream. None if it is too long, which none is.
 pub(crate) fn open_text(opened: &OpenStream<'_>) -> Option<LineText>
-    ensures { IfSome result (λ line. line.bytes.items ≡ open_line opened.now) }
+    ensures { IsLine result (open_line opened.now) }
 {
     let parts = [
         Word("open "),
@@ -89,6 +90,8 @@ fn add_names(line: &mut LineText, names: &[&str]) -> Option<()>
     ensures text { IsSome result
         → line.new.bytes.items ≡ line.old.bytes.items ++ flat_map spaced names.now }
     ensures working { IsSome result → line.new.failed ≡ false }
+    ensures long { IfNone result
+        (6144 < length (line.old.bytes.items ++ flat_map spaced names.now)) }
 {
     for name in names {
         line.add(&[Word(" "), Word(name)])?;
@@ -99,7 +102,7 @@ fn add_names(line: &mut LineText, names: &[&str]) -> Option<()>
 /// The object of a stream. None if it is too long, which none is.
 pub(crate) fn open_json(opened: &OpenStream<'_>) -> Option<LineText>
     requires { length opened.now.toxics.now ≤ 32 }
-    ensures { IfSome result (λ line. line.bytes.items ≡ open_object opened.now) }
+    ensures { IsLine result (open_object opened.now) }
 {
     let items = text_items(opened.toxics);
     json_with(opened, &items)
@@ -108,7 +111,7 @@ pub(crate) fn open_json(opened: &OpenStream<'_>) -> Option<LineText>
 /// The object of a stream whose toxics have these names.
 fn json_with(opened: &OpenStream<'_>, names: &[JsonItem<'_>]) -> Option<LineText>
     requires { names.now ≡ text_items opened.now.toxics.now }
-    ensures { IfSome result (λ line. line.bytes.items ≡ open_object opened.now) }
+    ensures { IsLine result (open_object opened.now) }
 {
     let fields = [
         JsonField::text("proxy", opened.proxy),

@@ -1,5 +1,5 @@
 -- One toxic behind the other.
-use Rattle.std.proofs.Common.{◌≡◌, ◌≤◌, ◌++◌, ℕ, List, refl, arith, flat_map, length, map, take, string_bytes, ap, ◌∙◌}
+use Rattle.std.proofs.Common.{◌≤◌, ◌++◌, ℕ, List, refl, arith, flat_map, length, map, take, string_bytes, ap, ◌∙◌}
 use Rattle.std.specs.List.{enumerate_from, zip}
 use Rattle.std.proofs.lemmas.List.{take_all}
 use Rattle.std.proofs.lemmas.List.FromFn.{length-enumerate_from}

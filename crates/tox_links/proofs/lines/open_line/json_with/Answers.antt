@@ -1,14 +1,15 @@
 -- The fields are those of the stream.
-use Rattle.std.proofs.Common.{◌≡◌, ℕ, List, ◌++◌, codes, IfSome, ap, ◌∙◌, subst}
+use Rattle.std.proofs.Common.{ℕ, List, ◌++◌, codes, ap, ◌∙◌, subst}
 use Rattle.tox_text.specs.Json.{array_text}
 use Rattle.tox_text.specs.JsonLine.{field_text, key_text, text_field}
 use Rattle.tox_text.specs.declared.json.JsonItem.{JsonItem}
+use Rattle.tox_links.specs.lines.LineText.{IsLine}
 use Rattle.tox_links.proofs.JsonParts.{open_object-fields}
 use Rattle.tox_links.proofs.lines.open_line.json_with.Goals as goal
 
 pub returns : goal.returns
 returns c =
-    subst (λ (text : List ℕ). IfSome c.of_object.result (λ line. line.bytes.items ≡ text))
+    subst (IsLine c.of_object.result)
     (open_object-fields c.args.opened.now c.text.result c.number.result c.text-2.result c.text-3.result c.toxics_field.result
     (ap field_text c.text.ensures) (ap field_text c.number.ensures)
     (ap field_text c.text-2.ensures ∙ ap (λ (word : List ℕ). text_field (codes "stream") word) c.name.ensures)

@@ -1,10 +1,11 @@
 -- The parts are the name and the three numbers of the book.
-use Rattle.std.proofs.Common.{◌≡◌, List, ◌++◌, ℕ, IfSome, codes, decimal, length, append_assoc, subst}
+use Rattle.std.proofs.Common.{◌≡◌, List, ◌++◌, ℕ, codes, decimal, length, append_assoc, subst}
 use Rattle.tox_time.specs.declared.streams.stream.Stream.TheVariants.{Upstream, Downstream}
 use Rattle.tox_book.specs.declared.sides.Link.{Link}
 use Rattle.tox_book.specs.Links.{total_of}
 use Rattle.tox_text.specs.Names.{visible_name}
 use Rattle.tox_links.specs.lines.ServeLines.{total_line}
+use Rattle.tox_links.specs.lines.LineText.{IsLine}
 use Rattle.tox_links.proofs.lines.serve_lines.total_text.Goals as goal
 
 total_line-parts : (name : List ℕ) (links : List Link)
@@ -14,5 +15,5 @@ total_line-parts name links = simp append_assoc
 
 pub returns : goal.returns
 returns c =
-    subst (λ (text : List ℕ). IfSome c.of.result (λ line. line.bytes.items ≡ text)) (total_line-parts c.args.name.now c.args.book.now)
-    (rw (c.links.ensures, c.total-upstream.ensures, c.total-downstream.ensures) at c.of.ensures.text)
+    subst (IsLine c.of.result) (total_line-parts c.args.name.now c.args.book.now)
+    (rw (c.links.ensures, c.total-upstream.ensures, c.total-downstream.ensures) at c.of.ensures.line)
