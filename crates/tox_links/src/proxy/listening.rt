@@ -1,5 +1,5 @@
 //! The addresses of proxies, bound before anything is served.
-ghost use Rattle.std.specs.Prelude.{◌≡◌, true, filter, map, IfOk, IfErr};
+ghost use Rattle.std.specs.Prelude.{◌≡◌, Some, true, All, filter, map, slice_get, IfOk, IfErr};
 ghost use Rattle.tox_links.specs.Serving.{HasServeCause, IsListenFault};
 
 use crate::addresses::listen_address;
@@ -32,6 +32,8 @@ pub fn listen_all<'a, R: Net<Listener = TcpListener, Stream = TcpStream> + Wait>
 ) -> Result<Vec<Listening<'a>>, ServeFault<'a>>
     ensures all { IfOk result (λ listening. map (λ bound. bound.proxy.now) listening.items
         ≡ filter (λ proxy. proxy.enabled) proxies.now) }
+    ensures places { IfOk result (λ listening. All (λ bound.
+        slice_get proxies.now bound.place ≡ Some bound.proxy.now) listening.items) }
     ensures fault { IfErr result (HasServeCause proxies.now) }
 {
     let mut listening = Vec::new(alloc);
