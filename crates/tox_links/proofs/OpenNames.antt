@@ -1,12 +1,8 @@
 -- One name more.
-use Rattle.std.proofs.Common.{◌≡◌, ℕ, ◌+◌, ◌<◌, ◌≤◌, List, [], ◌∷◌, ◌++◌, length, map, take, get_or, flat_map, append-nil, sym, ap, ◌∙◌, arith}
-use Rattle.std.specs.List.{enumerate_from, zip}
+use Rattle.std.proofs.Common.{◌≡◌, ℕ, ◌+◌, List, [], ◌∷◌, ◌++◌, take, get_or, flat_map, append-nil, sym, ap, ◌∙◌}
 use Rattle.std.proofs.lemmas.Grind.{flat_map-append}
 use Rattle.std.proofs.lemmas.List.{take_more}
-use Rattle.tox_words.specs.Draw.{Draws}
-use Rattle.tox_defs.specs.declared.chain.Entry.{Entry}
 use Rattle.tox_text.proofs.Listed.{IsAt}
-use Rattle.tox_links.specs.lines.OpenLine.{applied_name}
 
 -- what the first elements give, and one more
 pub flat-one_more : {X Y : Type 0} (f : X → List Y) (xs : List X) (i : ℕ) (x : X) → IsAt xs i x

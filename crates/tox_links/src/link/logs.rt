@@ -1,5 +1,6 @@
 //! The logs of a link's streams.
-ghost use Rattle.std.specs.Prelude.{◌≡◌};
+ghost use Rattle.std.specs.Prelude.{◌≡◌, IfSome};
+ghost use Rattle.tox_log_files.specs.FileName.{log_name};
 ghost use Rattle.tox_links.specs.link.LinkEnds.{broken_link};
 
 use crate::link::end::LinkEnd;
@@ -17,21 +18,38 @@ pub fn notes_of<'r, R: Wait>(
     links: &ProxyLinks<'_>,
     number: u64,
     stream: Stream,
-) -> StreamNotes<'r, R> {
+) -> StreamNotes<'r, R>
+    ensures { IfSome result (λ name.
+        name ≡ log_name links.now.proxy.now.name links.now.place number stream) }
+{
     let Some(logs) = run.logs else {
         return StreamNotes::none(rt);
     };
     let proxy = links.proxy;
     let proxy = proxy.name.as_str();
-    let link = LoggedLink {
+    let link = logged_link(run, proxy, number, stream);
+    let chain = run.script.chain(proxy, number, stream);
+    let names = run.script.names(proxy, number, stream);
+    logs.open(rt, run.alloc, links.place, &link, chain, names)
+}
+
+/// A stream of a numbered link of a proxy of the run, with the run's seed.
+fn logged_link<'a>(
+    run: &ServeRun<'_>,
+    proxy: &'a str,
+    number: u64,
+    stream: Stream,
+) -> LoggedLink<'a>
+    ensures link { (result.proxy.now ≡ proxy.now) × (result.number ≡ number) }
+    ensures stream { result.stream ≡ stream }
+    ensures seed { result.seed ≡ run.now.seed }
+{
+    LoggedLink {
         proxy,
         number,
         stream,
         seed: run.seed,
-    };
-    let chain = run.script.chain(proxy, number, stream);
-    let names = run.script.names(proxy, number, stream);
-    logs.open(rt, run.alloc, links.place, &link, chain, names)
+    }
 }
 
 /// The end of a link that carried nothing, as the logs of its streams tell it.
