@@ -1,5 +1,6 @@
 -- Ends in memory, whose calls are known in advance: how many bytes each moves, and which one fails.
-use Rattle.std.specs.Prelude.{◌≡◌, ℕ, ◌+◌, ◌-◌, ◌^◌, Bool, List, Option, Some, min}
+use Rattle.std.specs.Prelude.{◌≡◌, ℕ, ◌+◌, ◌-◌, ◌^◌, Bool, false, true, List, ◌++◌, Option, Some, min, take, drop}
+use Rattle.tox_time.specs.Ends.{takes_nothing}
 
 -- the call that fails, where one does, and the calls made so far
 pub record Calls : Type 0 where
@@ -28,3 +29,26 @@ one_more calls = record { made = min (calls.made + 1) (2 ^ 64 - 1); failing = ca
 -- the next call is the one that fails
 abbrev pub FailsNext : Calls → Type 0
 FailsNext calls = calls.failing ≡ Some (min (calls.made + 1) (2 ^ 64 - 1))
+
+-- a source after a call that gave so many bytes
+abbrev pub source_after : SourceView → ℕ → SourceView
+source_after source n =
+    record source { bytes = drop n source.bytes; calls = one_more source.calls; failed = false }
+
+-- a source after the call that failed
+abbrev pub failed_source : SourceView → SourceView
+failed_source source = record source { calls = one_more source.calls; failed = true }
+
+-- a sink after a call that took the first n of these bytes
+abbrev pub sink_after : SinkView → ℕ → List ℕ → SinkView
+sink_after sink n bytes =
+    record sink {
+      bytes = sink.bytes ++ take n bytes;
+      room = sink.room - n;
+      calls = one_more sink.calls;
+      failed = takes_nothing n bytes;
+    }
+
+-- a sink after the call that failed
+abbrev pub failed_sink : SinkView → SinkView
+failed_sink sink = record sink { calls = one_more sink.calls; failed = true }

@@ -1,7 +1,6 @@
 //! A writer into memory that can fail at a set call.
-ghost use Rattle.std.specs.Prelude.{◌≡◌, ◌<◌, ◌-◌, ◌↔◌, [], ◌++◌, false, true, Some, min, length, take, IsErr, IfOk, OnErr};
-ghost use Rattle.tox_time.specs.Ends.{takes_nothing};
-ghost use Rattle.tox_time.specs.MemoryEnds.{FailsNext, one_more};
+ghost use Rattle.std.specs.Prelude.{◌≡◌, ◌<◌, ◌↔◌, [], false, Some, min, length, IsErr, IfOk, OnErr};
+ghost use Rattle.tox_time.specs.MemoryEnds.{FailsNext, failed_sink, sink_after};
 
 use crate::ends::{EndFault, Sink};
 use std::alloc::{AllocError, Global};
@@ -80,14 +79,8 @@ impl Sink for MemorySink {
         ensures fails { IsErr result ↔ FailsNext self.old.calls }
         ensures count { IfOk result
             (λ n. n ≡ min (min self.old.room self.old.most) (length bytes.now)) }
-        ensures bytes { IfOk result (λ n. self.new.bytes ≡ self.old.bytes ++ take n bytes.now) }
-        ensures room { IfOk result (λ n. self.new.room ≡ self.old.room - n) }
-        ensures working { IfOk result (λ n. self.new.failed ≡ takes_nothing n bytes.now) }
-        ensures fault { OnErr result
-            ((self.new.failed ≡ true) × (self.new.bytes ≡ self.old.bytes)
-            × (self.new.room ≡ self.old.room)) }
-        ensures conduct { (self.new.most ≡ self.old.most)
-            × (self.new.calls ≡ one_more self.old.calls) }
+        ensures took { IfOk result (λ n. self.new ≡ sink_after self.old n bytes.now) }
+        ensures fault { OnErr result (self.new ≡ failed_sink self.old) }
     {
         self.calls = self.calls.saturating_add(1);
         if self.failing_call == Some(self.calls) {

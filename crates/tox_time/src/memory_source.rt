@@ -1,7 +1,7 @@
 //! A reader of bytes in memory that can fail at a set call.
-ghost use Rattle.std.specs.Prelude.{◌≡◌, ◌<◌, ◌↔◌, [], ◌++◌, false, true, Some, min, length, take, drop, IsErr, IfOk, OnOk, OnErr};
+ghost use Rattle.std.specs.Prelude.{◌≡◌, ◌<◌, ◌↔◌, [], ◌++◌, false, Some, min, length, take, drop, IsErr, IfOk, OnErr};
 ghost use Rattle.std.specs.Io.KnownBytes.{prepend_known, IsAtEnd};
-ghost use Rattle.tox_time.specs.MemoryEnds.{FailsNext, one_more};
+ghost use Rattle.tox_time.specs.MemoryEnds.{FailsNext, failed_source, source_after};
 
 use crate::ends::{EndFault, Source};
 use std::marker::Model;
@@ -64,15 +64,12 @@ impl Source for MemorySource {
         ensures fails { IsErr result ↔ FailsNext self.old.calls }
         ensures count { IfOk result
             (λ n. n ≡ min (min (length self.old.bytes) self.old.most) (length buffer.new)) }
-        ensures bytes { IfOk result (λ n. self.old.bytes ≡ take n buffer.new ++ self.new.bytes) }
-        ensures rest { IfOk result (λ n. drop n buffer.new ≡ drop n buffer.old) }
+        ensures gave { IfOk result (λ n. self.new ≡ source_after self.old n) }
+        ensures buffer { IfOk result
+            (λ n. buffer.new ≡ take n self.old.bytes ++ drop n buffer.old) }
         ensures end { IfOk result (λ n. n ≡ 0 → 0 < length buffer.new → self.new.bytes ≡ []) }
-        ensures working { OnOk result (self.new.failed ≡ false) }
         ensures fault { OnErr result
-            ((self.new.failed ≡ true) × (self.new.bytes ≡ self.old.bytes)
-            × (buffer.new ≡ buffer.old)) }
-        ensures conduct { (self.new.most ≡ self.old.most)
-            × (self.new.calls ≡ one_more self.old.calls) }
+            ((self.new ≡ failed_source self.old) × (buffer.new ≡ buffer.old)) }
     {
         self.calls = self.calls.saturating_add(1);
         if self.failing_call == Some(self.calls) {
