@@ -5,5 +5,5 @@ use Rattle.tox_compile.specs.Meaning.{Ops, IsPlan}
 abbrev pub operations : Inside → Ops
 operations plan = record { lanes = plan.lanes; ops = plan.ops.items }
 
-abbrev pub IsKept : Inside → Type 0
-IsKept plan = IsPlan (operations plan)
+abbrev pub KeepsPlan : Inside → Type 0
+KeepsPlan plan = IsPlan (operations plan)

@@ -23,11 +23,11 @@ impl Model for Plan {
 
     ghost Value = { Ops };
 
-    ghost use Rattle.tox_compile.specs.PlanInside.{operations, IsKept};
+    ghost use Rattle.tox_compile.specs.PlanInside.{operations, KeepsPlan};
 
     ghost view = { operations };
 
-    ghost invariant = { IsKept };
+    ghost invariant = { KeepsPlan };
 }
 
 impl Plan {

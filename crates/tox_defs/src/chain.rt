@@ -67,11 +67,11 @@ impl Model for Chain {
 
     ghost Value = { Toxics };
 
-    ghost use Rattle.tox_defs.specs.chain.ChainInside.{toxics, IsKept};
+    ghost use Rattle.tox_defs.specs.chain.ChainInside.{toxics, KeepsChain};
 
     ghost view = { toxics };
 
-    ghost invariant = { IsKept };
+    ghost invariant = { KeepsChain };
 }
 
 impl Chain {

@@ -32,11 +32,11 @@ impl<'w> Model for Stage<'w> {
 
     ghost Value = { Staged };
 
-    ghost use Rattle.tox_defs.specs.stage.StageInside.{staged, IsKept};
+    ghost use Rattle.tox_defs.specs.stage.StageInside.{staged, KeepsStage};
 
     ghost view = { staged };
 
-    ghost invariant = { IsKept };
+    ghost invariant = { KeepsStage };
 }
 
 impl<'w> Stage<'w> {

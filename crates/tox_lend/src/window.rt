@@ -25,11 +25,11 @@ impl Model for Window {
 
     ghost Value = { Pieces };
 
-    ghost use Rattle.tox_lend.specs.WindowInside.{IsKept, pieces_seen};
+    ghost use Rattle.tox_lend.specs.WindowInside.{KeepsWindow, pieces_seen};
 
     ghost view = { pieces_seen };
 
-    ghost invariant = { IsKept };
+    ghost invariant = { KeepsWindow };
 }
 
 impl Window {

@@ -13,5 +13,5 @@ network_view network = record {
   delivered = network.delivered;
 }
 
-abbrev pub IsKept : Inside → Type 0
-IsKept network = IsSoundNetwork (network_view network)
+abbrev pub KeepsNetwork : Inside → Type 0
+KeepsNetwork network = IsSoundNetwork (network_view network)

@@ -18,5 +18,5 @@ arriving w =
       waiting = drop w.entered w.items.now ++ quiet_item w.quiet;
     }
 
-abbrev pub IsKept : Inside → Type 0
-IsKept w = w.entered ≤ length w.items.now
+abbrev pub KeepsWaiting : Inside → Type 0
+KeepsWaiting w = w.entered ≤ length w.items.now

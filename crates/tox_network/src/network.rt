@@ -39,11 +39,11 @@ impl<'a> Model for Network<'a> {
 
     ghost Value = { NetworkView };
 
-    ghost use Rattle.tox_network.specs.NetworkInside.{network_view, IsKept};
+    ghost use Rattle.tox_network.specs.NetworkInside.{network_view, KeepsNetwork};
 
     ghost view = { network_view };
 
-    ghost invariant = { IsKept };
+    ghost invariant = { KeepsNetwork };
 }
 
 impl<'a> Network<'a> {

@@ -20,11 +20,11 @@ impl<'a> Model for Waiting<'a> {
 
     ghost Value = { Arriving };
 
-    ghost use Rattle.tox_network.specs.WaitingInside.{arriving, IsKept};
+    ghost use Rattle.tox_network.specs.WaitingInside.{arriving, KeepsWaiting};
 
     ghost view = { arriving };
 
-    ghost invariant = { IsKept };
+    ghost invariant = { KeepsWaiting };
 }
 
 /// Whether no item is a final.

@@ -2,7 +2,7 @@
 use Rattle.std.proofs.Common.{◌≡◌, ◌+◌, ◌≤◌, ◌^◌, false, List, [], ◌∷◌, ◌++◌, ap, sym, ◌∙◌, zero-add}
 use Rattle.tox_time.specs.declared.streams.item.Item.{Item}
 use Rattle.tox_time.specs.declared.streams.arrivals.Arrivals.TheInside.{Inside}
-use Rattle.tox_time.specs.streams.ArrivalsInside.{IsKept}
+use Rattle.tox_time.specs.streams.ArrivalsInside.{KeepsArrivals}
 use Rattle.tox_time.specs.streams.Stream.{IsStreamFrom, HasReset, IsArrivalList, arrived, latest_from, has_final}
 use Rattle.tox_time.specs.streams.Arrivals.{arrival_list}
 use Rattle.tox_time.proofs.StreamLemmas.{arrived-append, latest_from-append, has_final-append, arrival_list-append, HasReset-append, IsStreamFrom-append}
@@ -15,8 +15,8 @@ IsArrivalList-append items rest unended list goes_on no_reset =
       λ reset. no_reset (HasReset-append items (arrival_list rest) unended reset),
     )
 
-pub IsKept-push : (a b : Inside) (item : Item) → IsKept a → a.so_far.ended ≡ false → IsStreamFrom a.so_far.position a.so_far.latest (arrival_list (item ∷ [])) → (HasReset (arrival_list (item ∷ [])) → ⊥) → b.items.items ≡ a.items.items ++ item ∷ [] → b.so_far.position ≡ a.so_far.position + arrived (item ∷ []) → b.so_far.position ≤ 2 ^ 40 → b.so_far.latest ≡ latest_from a.so_far.latest (item ∷ []) → b.so_far.ended ≡ has_final (item ∷ []) → IsKept b
-IsKept-push a b item kept unended goes_on no_reset items bytes most latest ended =
+pub KeepsArrivals-push : (a b : Inside) (item : Item) → KeepsArrivals a → a.so_far.ended ≡ false → IsStreamFrom a.so_far.position a.so_far.latest (arrival_list (item ∷ [])) → (HasReset (arrival_list (item ∷ [])) → ⊥) → b.items.items ≡ a.items.items ++ item ∷ [] → b.so_far.position ≡ a.so_far.position + arrived (item ∷ []) → b.so_far.position ≤ 2 ^ 40 → b.so_far.latest ≡ latest_from a.so_far.latest (item ∷ []) → b.so_far.ended ≡ has_final (item ∷ []) → KeepsArrivals b
+KeepsArrivals-push a b item kept unended goes_on no_reset items bytes most latest ended =
     let before : has_final a.items.items ≡ false = cc kept.end_seen in
     record {
       list = rw items (IsArrivalList-append a.items.items (item ∷ []) before kept.list (rw (← kept.bytes_sum, ← kept.latest_instant) goes_on) no_reset);

@@ -5,5 +5,5 @@ use Rattle.tox_defs.specs.chain.Chain.{Toxics, IsChain}
 abbrev pub toxics : Inside → Toxics
 toxics chain = record { lanes = chain.lanes; entries = chain.entries.items }
 
-abbrev pub IsKept : Inside → Type 0
-IsKept chain = IsChain (toxics chain)
+abbrev pub KeepsChain : Inside → Type 0
+KeepsChain chain = IsChain (toxics chain)

@@ -22,7 +22,7 @@ pub record IsCounted (start : ℕ) (state : State) : Type 0 where
   pub pieces : state.pieces ≤ start
   pub passed : state.passed ≤ start
 
-pub record IsKept (stage : Inside) : Type 0 where
+pub record KeepsStage (stage : Inside) : Type 0 where
   pub here : stage.place.position ≡ stage.cursor.stop
   pub within : stage.start ≤ stage.cursor.stop
   pub few : stage.cursor.stop ≤ 2 ^ 40

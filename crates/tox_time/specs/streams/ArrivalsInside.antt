@@ -5,7 +5,7 @@ use Rattle.tox_time.specs.streams.Stream.{IsArrivalList, arrived, latest, has_fi
 use Rattle.tox_time.specs.streams.Arrivals.{arrival_list}
 
 -- an arrival list of at most 2^40 bytes, with its number of bytes, its last instant and whether it ended
-pub record IsKept (a : Inside) : Type 0 where
+pub record KeepsArrivals (a : Inside) : Type 0 where
   pub list : IsArrivalList (arrival_list a.items.items)
   pub bytes_sum : a.so_far.position ≡ arrived a.items.items
   pub most : a.so_far.position ≤ 2 ^ 40

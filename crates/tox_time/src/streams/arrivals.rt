@@ -42,11 +42,11 @@ impl Model for Arrivals {
 
     ghost Value = { List OneItem };
 
-    ghost use Rattle.tox_time.specs.streams.ArrivalsInside.{IsKept};
+    ghost use Rattle.tox_time.specs.streams.ArrivalsInside.{KeepsArrivals};
 
     ghost view = { λ a. a.items.items };
 
-    ghost invariant = { IsKept };
+    ghost invariant = { KeepsArrivals };
 }
 
 impl Arrivals {
