@@ -132,7 +132,7 @@ module _ (told : ℕ → Type 0) (instants : (t : ℕ) → told t → IsInstant 
     reports-other events taken written reading last source report =
         let here = heard-same events report.faithful in
         let on = λ (rest : List Item) (stream : IsStreamFrom (heard_bytes events) reading rest).
-            same (heard_from 0 events rest) (heard-stream reading 0 0 events rest (omega arith) report.faithful.timely report.faithful.ordered report.by (subst (λ at. IsStreamFrom at reading rest) (sym (zero-add (heard_bytes events))) stream)) in
+        same (heard_from 0 events rest) (heard-stream reading 0 0 events rest (omega arith) report.faithful.timely report.faithful.ordered report.by (subst (λ at. IsStreamFrom at reading rest) (sym (zero-add (heard_bytes events))) stream)) in
         record {
           faithful = faithful-other events report.faithful;
           whole = report.whole ∙ ap table (sym here);

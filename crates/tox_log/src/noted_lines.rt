@@ -28,5 +28,4 @@ pub fn noted_lines_are_a_log<C: Clock>(_clock: &C)
         → AreNoted means (broken_lines events cause written) }
     ensures front { (means : List OneItem → List OneItem) (front back : List OneLine)
         → AreNoted means (front ++ back) → AreNoted means front }
-{
-}
+{}
