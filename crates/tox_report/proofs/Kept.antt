@@ -12,7 +12,7 @@ use Rattle.std.specs.Prelude.{◌⊎◌}
 use Rattle.std.specs.Borrow.{Bor}
 use Rattle.tox_log.specs.declared.fault.LogFault.TheVariants as cause
 use Rattle.tox_log.specs.FaultText.{IsFaultIn}
-use Rattle.tox_report.specs.Reports.{AddsRow, KeepsFault, KeepsOn, Refuses, is_marked}
+use Rattle.tox_report.specs.Reports.{AddsRow, KeepsFault, KeepsOn, RefusesLog, is_marked}
 
 -- a row behind others, which passes or not
 filter_one : (test : Row → Bool) (rows : List Row) (row : Row) (passes : Bool) → test row ≡ passes
@@ -66,13 +66,13 @@ pub unfaithful_is_marked : (row : Row) → has kind.Unfaithful row ≡ true → 
 unfaithful_is_marked row is = marked_wide (has kind.Refused row) (has kind.Unfaithful row) is
 
 -- a fault other than out of memory
-pub Refuses-told : (name : List ℕ) (old new : Report) (fault : ReplayFault) → (fault ≡ OutOfMemory → ⊥) → KeepsFault name fault old new → Refuses name old new fault
-Refuses-told name old new OutOfMemory other kept = absurd (other refl)
-Refuses-told name old new WriteFault other kept = kept
-Refuses-told name old new (Unreadable told) other kept = kept
-Refuses-told name old new (BadLog told line) other kept = kept
-Refuses-told name old new (LogTooDeep told line) other kept = kept
-Refuses-told name old new (NotFaithful count) other kept = kept
+pub RefusesLog-told : (name : List ℕ) (old new : Report) (fault : ReplayFault) → (fault ≡ OutOfMemory → ⊥) → KeepsFault name fault old new → RefusesLog name old new fault
+RefusesLog-told name old new OutOfMemory other kept = absurd (other refl)
+RefusesLog-told name old new WriteFault other kept = kept
+RefusesLog-told name old new (Unreadable told) other kept = kept
+RefusesLog-told name old new (BadLog told line) other kept = kept
+RefusesLog-told name old new (LogTooDeep told line) other kept = kept
+RefusesLog-told name old new (NotFaithful count) other kept = kept
 
 -- the fault of a log, or out of memory
 pub fault-named : {A : Type 0} (result : Result A ReplayFault) (name : Bor (List ℕ)) (fault : ReplayFault) → (result ≡ Err fault) ⊎ (result ≡ Err OutOfMemory) → IsFaultIn name fault
@@ -86,7 +86,7 @@ memory-named (Ok done) name memory = tt
 memory-named (Err fault) name memory = (cause.OutOfMemory, memory)
 
 -- out of memory alone
-pub Refuses-memory : {A : Type 0} (result : Result A ReplayFault) (name : List ℕ) (old new : Report) → IfErr result (λ fault. fault ≡ OutOfMemory) → OnErr result (KeepsOn old new)
-    → IfErr result (Refuses name old new)
-Refuses-memory (Ok done) name old new memory kept = tt
-Refuses-memory (Err fault) name old new memory kept = subst (Refuses name old new) (sym memory) kept
+pub RefusesLog-memory : {A : Type 0} (result : Result A ReplayFault) (name : List ℕ) (old new : Report) → IfErr result (λ fault. fault ≡ OutOfMemory) → OnErr result (KeepsOn old new)
+    → IfErr result (RefusesLog name old new)
+RefusesLog-memory (Ok done) name old new memory kept = tt
+RefusesLog-memory (Err fault) name old new memory kept = subst (RefusesLog name old new) (sym memory) kept

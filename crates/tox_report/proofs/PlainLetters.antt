@@ -6,7 +6,7 @@ use Rattle.std.specs.Char.{encode_utf8}
 use Rattle.std.specs.declared.string.String.{String}
 use Rattle.std.specs.declared.alloc.Global.{Global}
 use Rattle.std.specs.declared.alloc.AllocError.{AllocError}
-use Rattle.tox_draw.specs.Adding.{Adds}
+use Rattle.tox_draw.specs.Adding.{AddsText}
 use Rattle.tox_report.specs.Escaping.{html, html_byte}
 
 -- a byte that means something is one of four
@@ -41,6 +41,6 @@ letter_unchanged letter is = elim (cases_lt letter 128) [
 
 -- such a letter was added
 pub adds_letter : (result : Result (Unit {0}) AllocError) (old new : String Global) (letter : ℕ) → IsPlain letter
-    → string_bytes new ≡ (if is_ok result then string_bytes old ++ encode_utf8 letter else string_bytes old) → OnOk result (Adds old new (html (encode_utf8 letter)))
+    → string_bytes new ≡ (if is_ok result then string_bytes old ++ encode_utf8 letter else string_bytes old) → OnOk result (AddsText old new (html (encode_utf8 letter)))
 adds_letter (Ok done) old new letter plain added = record { added = added ∙ ap (λ text. string_bytes old ++ text) (sym (letter_unchanged letter plain)) }
 adds_letter (Err error) old new letter plain added = tt

@@ -10,10 +10,10 @@ abbrev pub KnownLog : Type 0
 KnownLog = Option (Option (List ℕ))
 
 -- a reader of a log gives its bytes, where they are known. A log that can't be opened has no reader
-abbrev pub Opens : KnownLog → Option (List ℕ) → Type 0
-Opens None given = Unit {0}
-Opens (Some None) given = ⊥
-Opens (Some (Some bytes)) given = given ≡ Some bytes
+abbrev pub OpensLog : KnownLog → Option (List ℕ) → Type 0
+OpensLog None given = Unit {0}
+OpensLog (Some None) given = ⊥
+OpensLog (Some (Some bytes)) given = given ≡ Some bytes
 
 -- a log may be missing: it isn't known that it can be opened
 abbrev pub MayLack : KnownLog → Type 0

@@ -16,7 +16,7 @@ use Rattle.tox_report.specs.declared.row.Told.TheVariants.{Stream, Fault}
 use Rattle.tox_report.specs.Figures.{figure}
 use Rattle.tox_report.specs.Fronts.{page_front}
 use Rattle.tox_report.specs.Links.{link_count}
-use Rattle.tox_report.specs.Logs.{KnownLog, Opens}
+use Rattle.tox_report.specs.Logs.{KnownLog, OpensLog}
 use Rattle.tox_report.specs.Rows.{row_of}
 
 -- a row at a place. It leads to its figure if it is one of the first, so many of them
@@ -43,7 +43,7 @@ page_table rows pictures =
 -- a picture of the bytes that a reader of a log gave, under a number
 pub record IsPictureOfLog (known : KnownLog) (number : ℕ) (text : List ℕ) : Type 0 where
   pub given : Option (List ℕ)
-  pub opened : Opens known given
+  pub opened : OpensLog known given
   pub drawn : IsPictureOnPage given number text
 
 -- a log's figure of this number, with its picture or the sentence that stands for one
@@ -83,6 +83,14 @@ Shows (Ok done) old waited new waiting failed text =
     Passes old waited new waiting text × (failed ≡ false)
 Shows (Err fault) old waited new waiting failed text =
     AppendsFront old new (waited ++ text) × (failed ≡ is_writers fault)
+
+-- a part of this kind was printed
+pub record ShowsSome (IsPart : List ℕ → Type 0) (result : Result (Unit {0}) PageFault)
+    (old : Option (List ℕ)) (waited : List ℕ) (new : Option (List ℕ)) (waiting : List ℕ)
+    (failed : Bool) : Type 0 where
+  pub text : List ℕ
+  pub is : IsPart text
+  pub shows : Shows result old waited new waiting failed text
 
 -- all bytes of a page were written, or a prefix of them, and only a writer that failed is to blame for its fault
 abbrev pub LeavesPage : Result (Unit {0}) PageFault → Option (List ℕ) → Option (List ℕ) → Bool

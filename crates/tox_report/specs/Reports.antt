@@ -14,7 +14,7 @@ use Rattle.tox_report.specs.declared.row.StreamFacts.{StreamFacts}
 use Rattle.tox_report.specs.declared.row.Told.{Told}
 use Rattle.tox_report.specs.declared.row.Told.TheVariants.{Stream, Fault}
 use Rattle.tox_report.specs.Kinds.{has}
-use Rattle.tox_report.specs.Logs.{IsJudged, KnownLog, Opens}
+use Rattle.tox_report.specs.Logs.{IsJudged, KnownLog, OpensLog}
 use Rattle.tox_report.specs.Outcomes.{outcome_of}
 
 -- whether a row is marked: that of a log that can't be judged, or isn't faithful
@@ -26,17 +26,17 @@ abbrev pub page_order : List Row → List Row
 page_order rows = filter is_marked rows ++ filter (λ row. not (is_marked row)) rows
 
 -- a report keeps these rows, which came in this order
-pub record Keeps (report : Report) (rows : List Row) : Type 0 where
+pub record KeepsRows (report : Report) (rows : List Row) : Type 0 where
   pub marked : report.marked.items ≡ filter is_marked rows
   pub unmarked : report.unmarked.items ≡ filter (λ row. not (is_marked row)) rows
 
 -- all rows stay
 abbrev pub KeepsOn : Report → Report → Type 0
-KeepsOn old new = (rows : List Row) → Keeps old rows → Keeps new rows
+KeepsOn old new = (rows : List Row) → KeepsRows old rows → KeepsRows new rows
 
 -- a row came behind all others
 abbrev pub AddsRow : Report → Row → Report → Type 0
-AddsRow old row new = (rows : List Row) → Keeps old rows → Keeps new (rows ++ row ∷ [])
+AddsRow old row new = (rows : List Row) → KeepsRows old rows → KeepsRows new (rows ++ row ∷ [])
 
 -- the short forms of the toxics that the stream of a log met
 abbrev pub met_toxics : JudgedLog → List ℕ
@@ -85,12 +85,12 @@ pub record KeepsFault (name : List ℕ) (fault : ReplayFault) (old new : Report)
 -- the log of this name was opened and judged, and a row came for it
 pub record TakesLog (known : KnownLog) (name : List ℕ) (old new : Report) : Type 0 where
   pub given : Option (List ℕ)
-  pub opened : Opens known given
+  pub opened : OpensLog known given
   pub log : JudgedLog
   pub judged : IsJudged given log
   pub kept : KeepsLog name log old new
 
 -- what a fault leaves: a row with its text. Out of memory the rows stay
-abbrev pub Refuses : List ℕ → Report → Report → ReplayFault → Type 0
-Refuses name old new OutOfMemory = KeepsOn old new
-Refuses name old new fault = KeepsFault name fault old new
+abbrev pub RefusesLog : List ℕ → Report → Report → ReplayFault → Type 0
+RefusesLog name old new OutOfMemory = KeepsOn old new
+RefusesLog name old new fault = KeepsFault name fault old new

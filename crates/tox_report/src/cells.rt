@@ -1,6 +1,6 @@
 //! The cells of a row.
 ghost use Rattle.std.specs.Prelude.{◌≡◌, OnOk};
-ghost use Rattle.tox_draw.specs.Adding.{Adds};
+ghost use Rattle.tox_draw.specs.Adding.{AddsText};
 ghost use Rattle.tox_report.specs.Cells.{counted_cell, number_cell, text_cell, word_cell};
 
 use crate::escaping::push_escaped;
@@ -10,7 +10,7 @@ use tox_draw::{push_number, push_word};
 /// Adds a cell of a text, behind its tag.
 #[tactic(auto, using(tox_draw::proofs::Growing::adds_then), unfolding(crate::specs::Cells::text_cell))]
 pub(crate) fn push_text_cell(text: &mut String, tag: &str, word: &str) -> Result<(), AllocError>
-    ensures { OnOk result (Adds text.old text.new (text_cell tag.now word.now)) }
+    ensures { OnOk result (AddsText text.old text.new (text_cell tag.now word.now)) }
 {
     push_word(text, tag)?;
     push_escaped(text, word)?;
@@ -20,7 +20,7 @@ pub(crate) fn push_text_cell(text: &mut String, tag: &str, word: &str) -> Result
 /// Adds a cell of a number behind a mark.
 #[tactic(auto, using(tox_draw::proofs::Growing::adds_then), unfolding(crate::specs::Cells::number_cell))]
 pub(crate) fn push_number_cell(text: &mut String, mark: &str, number: u64) -> Result<(), AllocError>
-    ensures { OnOk result (Adds text.old text.new (number_cell mark.now number)) }
+    ensures { OnOk result (AddsText text.old text.new (number_cell mark.now number)) }
 {
     push_word(text, "<td class=\"number\">")?;
     push_word(text, mark)?;
@@ -35,7 +35,7 @@ pub(crate) fn push_counted_cell(
     word: &str,
     number: u64,
 ) -> Result<(), AllocError>
-    ensures { OnOk result (Adds text.old text.new (counted_cell word.now number)) }
+    ensures { OnOk result (AddsText text.old text.new (counted_cell word.now number)) }
 {
     push_word(text, "<td>")?;
     push_word(text, word)?;
@@ -46,7 +46,7 @@ pub(crate) fn push_counted_cell(
 /// Adds a cell of a word.
 #[tactic(auto, using(tox_draw::proofs::Growing::adds_then), unfolding(crate::specs::Cells::word_cell))]
 pub(crate) fn push_word_cell(text: &mut String, word: &str) -> Result<(), AllocError>
-    ensures { OnOk result (Adds text.old text.new (word_cell word.now)) }
+    ensures { OnOk result (AddsText text.old text.new (word_cell word.now)) }
 {
     push_word(text, "<td>")?;
     push_word(text, word)?;

@@ -1,6 +1,6 @@
 //! The picture of a log, below the table.
 ghost use Rattle.std.specs.Prelude.{◌≡◌, OnOk};
-ghost use Rattle.tox_draw.specs.Adding.{Adds};
+ghost use Rattle.tox_draw.specs.Adding.{AddsText};
 ghost use Rattle.tox_report.specs.Figures.{caption, drawn, figure, figure_head, scrolled};
 
 use crate::escaping::push_escaped;
@@ -16,7 +16,7 @@ pub(crate) fn push_figure(
     number: u64,
     picture: &Option<String>,
 ) -> Result<(), AllocError>
-    ensures { OnOk result (Adds text.old text.new (figure facts.now number picture.now)) }
+    ensures { OnOk result (AddsText text.old text.new (figure facts.now number picture.now)) }
 {
     push_figure_head(text, number)?;
     push_caption(text, facts)?;
@@ -27,7 +27,7 @@ pub(crate) fn push_figure(
 
 #[tactic(auto, using(tox_draw::proofs::Growing::adds_then), unfolding(crate::specs::Figures::figure_head))]
 fn push_figure_head(text: &mut String, number: u64) -> Result<(), AllocError>
-    ensures { OnOk result (Adds text.old text.new (figure_head number)) }
+    ensures { OnOk result (AddsText text.old text.new (figure_head number)) }
 {
     push_word(text, "<figure id=\"log-")?;
     push_number(text, number)?;
@@ -39,7 +39,7 @@ fn push_figure_head(text: &mut String, number: u64) -> Result<(), AllocError>
 /// Adds which stream a picture shows, and the verdict.
 #[tactic(auto, using(tox_draw::proofs::Growing::adds_then), unfolding(crate::specs::Figures::caption))]
 fn push_caption(text: &mut String, facts: &StreamFacts) -> Result<(), AllocError>
-    ensures { OnOk result (Adds text.old text.new (caption facts.now)) }
+    ensures { OnOk result (AddsText text.old text.new (caption facts.now)) }
 {
     push_escaped(text, facts.proxy.as_str())?;
     push_word(text, " ")?;
@@ -51,7 +51,7 @@ fn push_caption(text: &mut String, facts: &StreamFacts) -> Result<(), AllocError
 }
 
 fn push_drawn(text: &mut String, number: u64, picture: &Option<String>) -> Result<(), AllocError>
-    ensures { OnOk result (Adds text.old text.new (drawn number picture.now)) }
+    ensures { OnOk result (AddsText text.old text.new (drawn number picture.now)) }
 {
     match picture {
         Some(picture) => push_scrolled(text, number, picture.as_str()),
@@ -62,7 +62,7 @@ fn push_drawn(text: &mut String, number: u64, picture: &Option<String>) -> Resul
 /// Adds a picture in a part of the page that scrolls where it is narrow.
 #[tactic(auto, using(tox_draw::proofs::Growing::adds_then), unfolding(crate::specs::Figures::scrolled))]
 fn push_scrolled(text: &mut String, number: u64, picture: &str) -> Result<(), AllocError>
-    ensures { OnOk result (Adds text.old text.new (scrolled number picture.now)) }
+    ensures { OnOk result (AddsText text.old text.new (scrolled number picture.now)) }
 {
     push_word(
         text,

@@ -1,6 +1,6 @@
 //! What stands before the rows: the head, the totals and the head of the table.
 ghost use Rattle.std.specs.Prelude.{OnOk};
-ghost use Rattle.tox_draw.specs.Adding.{Adds};
+ghost use Rattle.tox_draw.specs.Adding.{AddsText};
 ghost use Rattle.tox_draw.specs.Style.{style};
 ghost use Rattle.tox_report.specs.Fronts.{body_start, page_front, page_head, page_style, table_head};
 
@@ -36,7 +36,7 @@ const TABLE_HEAD: &str = "\
 /// Adds all that stands before the rows, which are of so many links.
 #[tactic(auto, using(tox_draw::proofs::Growing::adds_then), unfolding(crate::specs::Fronts::page_front))]
 pub(crate) fn push_front(text: &mut String, rows: &[Row], links: u64) -> Result<(), AllocError>
-    ensures { OnOk result (Adds text.old text.new (page_front rows.now links)) }
+    ensures { OnOk result (AddsText text.old text.new (page_front rows.now links)) }
 {
     push_page_head(text)?;
     push_body_start(text)?;
@@ -47,7 +47,7 @@ pub(crate) fn push_front(text: &mut String, rows: &[Row], links: u64) -> Result<
 /// Adds the head of the page, with its style and that of its pictures.
 #[tactic(auto, using(tox_draw::proofs::Growing::adds_then), unfolding(crate::specs::Fronts::page_head))]
 fn push_page_head(text: &mut String) -> Result<(), AllocError>
-    ensures { OnOk result (Adds text.old text.new page_head) }
+    ensures { OnOk result (AddsText text.old text.new page_head) }
 {
     push_page_style(text)?;
     push_picture_style(text)
@@ -55,28 +55,28 @@ fn push_page_head(text: &mut String) -> Result<(), AllocError>
 
 #[tactic(auto, unfolding(crate::specs::Fronts::page_style))]
 fn push_page_style(text: &mut String) -> Result<(), AllocError>
-    ensures { OnOk result (Adds text.old text.new page_style) }
+    ensures { OnOk result (AddsText text.old text.new page_style) }
 {
     push_word(text, PAGE_STYLE)
 }
 
 #[tactic(auto, unfolding(tox_draw::specs::Style::style))]
 fn push_picture_style(text: &mut String) -> Result<(), AllocError>
-    ensures { OnOk result (Adds text.old text.new style) }
+    ensures { OnOk result (AddsText text.old text.new style) }
 {
     push_word(text, STYLE)
 }
 
 #[tactic(auto, unfolding(crate::specs::Fronts::body_start))]
 fn push_body_start(text: &mut String) -> Result<(), AllocError>
-    ensures { OnOk result (Adds text.old text.new body_start) }
+    ensures { OnOk result (AddsText text.old text.new body_start) }
 {
     push_word(text, BODY_START)
 }
 
 #[tactic(auto, unfolding(crate::specs::Fronts::table_head))]
 fn push_table_head(text: &mut String) -> Result<(), AllocError>
-    ensures { OnOk result (Adds text.old text.new table_head) }
+    ensures { OnOk result (AddsText text.old text.new table_head) }
 {
     push_word(text, TABLE_HEAD)
 }

@@ -1,6 +1,6 @@
 //! Where the logs of a report are.
 ghost use Rattle.std.specs.Prelude.{◌≡◌, ℕ, List, None, false, IfSome, IfNone};
-ghost use Rattle.tox_report.specs.Logs.{KnownLog, MayLack, Opens};
+ghost use Rattle.tox_report.specs.Logs.{KnownLog, MayLack, OpensLog};
 
 use tox_time::Source;
 
@@ -15,6 +15,6 @@ pub trait LogStore {
     fn open(&self, name: &str) -> Option<Self::Reader>
         ensures working { IfSome result (λ reader. Self.Reader.failed reader ≡ false) }
         ensures opened { IfSome result
-            (λ reader. Opens (known self.now name.now) (Self.Reader.remaining reader)) }
+            (λ reader. OpensLog (known self.now name.now) (Self.Reader.remaining reader)) }
         ensures missing { IfNone result (MayLack (known self.now name.now)) };
 }

@@ -5,8 +5,8 @@ ghost use Rattle.tox_report.specs.declared.row.Row.{Row as OneRow};
 ghost use Rattle.tox_report.specs.Figures.{figure};
 ghost use Rattle.tox_report.specs.Fronts.{page_front};
 ghost use Rattle.tox_report.specs.Links.{link_count};
-ghost use Rattle.tox_report.specs.Pages.{AreFigures, IsFigure, IsPage, IsPictureOfLog, LeavesPage, Shows, StandsBelow, WritesPage, page_end, page_table, table_end, table_rows};
-ghost use Rattle.tox_report.specs.Reports.{Keeps, page_order};
+ghost use Rattle.tox_report.specs.Pages.{AreFigures, IsFigure, IsPage, IsPictureOfLog, LeavesPage, Shows, ShowsSome, StandsBelow, WritesPage, page_end, page_table, table_end, table_rows};
+ghost use Rattle.tox_report.specs.Reports.{KeepsRows, page_order};
 ghost use Rattle.tox_report.specs.Rows.{row_of};
 
 use crate::fault::PageFault;
@@ -41,7 +41,7 @@ impl Report {
         writer: &mut W,
     ) -> Result<(), PageFault>
         requires { W.failed writer.old ≡ false }
-        ensures { (rows : List OneRow) → Keeps self rows
+        ensures { (rows : List OneRow) → KeepsRows self rows
             → WritesPage (S.known store.now) result (page_order rows) pictures
             (W.written writer.old) (W.written writer.new) (W.failed writer.new) }
     {
@@ -87,9 +87,9 @@ fn print_page<S: LogStore, W: Sink>(
     pictures: usize,
 ) -> Result<(), PageFault>
     requires { W.failed writer.old ≡ false }
-    ensures { (text : List ℕ) × IsPage (S.known store.now) rows.now pictures text
-        × Shows result (W.written writer.old) buffer.old (W.written writer.new) buffer.new
-        (W.failed writer.new) text }
+    ensures { ShowsSome (IsPage (S.known store.now) rows.now pictures)
+        result (W.written writer.old) buffer.old (W.written writer.new) buffer.new
+        (W.failed writer.new) }
 {
     print_table(alloc, buffer, writer, rows, pictures)?;
     let count = rows.len().min(pictures);
@@ -207,9 +207,9 @@ fn print_figures<S: LogStore, W: Sink>(
 ) -> Result<(), PageFault>
     requires works { W.failed writer.old ≡ false }
     requires there { count ≤ length rows.now }
-    ensures { (text : List ℕ) × AreFigures (S.known store.now) 1 (take count rows.now) text
-        × Shows result (W.written writer.old) buffer.old (W.written writer.new) buffer.new
-        (W.failed writer.new) text }
+    ensures { ShowsSome (AreFigures (S.known store.now) 1 (take count rows.now))
+        result (W.written writer.old) buffer.old (W.written writer.new) buffer.new
+        (W.failed writer.new) }
 {
     for place in 0..count {
         print_figure(alloc, buffer, writer, store, &rows[place], place as u64 + 1)?;
@@ -227,10 +227,10 @@ fn print_figure<S: LogStore, W: Sink>(
     number: u64,
 ) -> Result<(), PageFault>
     requires { W.failed writer.old ≡ false }
-    ensures { (text : List ℕ)
-        × StandsBelow (S.known store.now (string_bytes row.now.name)) number row.now.told text
-        × Shows result (W.written writer.old) buffer.old (W.written writer.new) buffer.new
-        (W.failed writer.new) text }
+    ensures { ShowsSome
+        (StandsBelow (S.known store.now (string_bytes row.now.name)) number row.now.told)
+        result (W.written writer.old) buffer.old (W.written writer.new) buffer.new
+        (W.failed writer.new) }
 {
     match &row.told {
         Told::Stream(facts) => {
@@ -259,9 +259,9 @@ fn print_drawn<S: LogStore, W: Sink>(
     number: u64,
 ) -> Result<(), PageFault>
     requires { W.failed writer.old ≡ false }
-    ensures { (text : List ℕ) × IsFigure (S.known store.now name.now) number facts.now text
-        × Shows result (W.written writer.old) buffer.old (W.written writer.new) buffer.new
-        (W.failed writer.new) text }
+    ensures { ShowsSome (IsFigure (S.known store.now name.now) number facts.now)
+        result (W.written writer.old) buffer.old (W.written writer.new) buffer.new
+        (W.failed writer.new) }
 {
     let picture = picture_of(alloc, store, name, number)?;
     let text = figure_text(alloc, facts, number, &picture)?;

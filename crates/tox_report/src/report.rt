@@ -3,7 +3,7 @@ ghost use Rattle.std.specs.Prelude.{◌≡◌, List, [], ◌∷◌, ◌++◌, No
 ghost use Rattle.tox_log.specs.FaultText.{IsFaultIn};
 ghost use Rattle.tox_report.specs.Kinds.{has};
 ghost use Rattle.tox_report.specs.declared.row.Row.{Row as OneRow};
-ghost use Rattle.tox_report.specs.Reports.{AddsRow, Keeps, KeepsFault, KeepsLog, KeepsOn, Refuses, TakesLog, TellsFault, page_order};
+ghost use Rattle.tox_report.specs.Reports.{AddsRow, KeepsRows, KeepsFault, KeepsLog, KeepsOn, RefusesLog, TakesLog, TellsFault, page_order};
 
 use crate::judging::facts_of;
 use crate::kind::{Kind, count_of};
@@ -24,7 +24,7 @@ pub struct Report {
 impl Report {
     /// No log yet.
     pub fn new(alloc: Global) -> Report
-        ensures { Keeps result [] }
+        ensures { KeepsRows result [] }
     {
         Report {
             marked: Vec::new(alloc),
@@ -42,7 +42,7 @@ impl Report {
     ) -> Result<(), ReplayFault<'a>>
         ensures ok { OnOk result
             (TakesLog (S.known store.now name.now) name.now self.old self.new) }
-        ensures fault { IfErr result (Refuses name.now self.old self.new) }
+        ensures fault { IfErr result (RefusesLog name.now self.old self.new) }
         ensures named { IfErr result (IsFaultIn name.entry) }
         ensures missing { S.known store.now name.now ≡ Some None
             → (result ≡ Err (ReplayFault.Unreadable name.entry))
@@ -59,7 +59,7 @@ impl Report {
 
     /// How many logs are unfaithful.
     pub fn unfaithful(&self) -> u64
-        ensures { (rows : List OneRow) → Keeps self.now rows
+        ensures { (rows : List OneRow) → KeepsRows self.now rows
             → result ≡ count_by (has Kind.Unfaithful) rows }
     {
         count_of(&self.marked, Kind::Unfaithful)
@@ -67,7 +67,7 @@ impl Report {
 
     /// The rows in the order of the page.
     pub(crate) fn into_rows(self) -> Result<Vec<Row>, AllocError>
-        ensures { IfOk result (λ ordered. (rows : List OneRow) → Keeps self rows
+        ensures { IfOk result (λ ordered. (rows : List OneRow) → KeepsRows self rows
             → ordered.items ≡ page_order rows) }
     {
         let mut rows = self.marked;
@@ -110,7 +110,7 @@ impl Report {
     ) -> Result<(), ReplayFault<'a>>
         ensures refuses { IsErr result }
         ensures fault { (result ≡ Err fault.entry) ⊎ (result ≡ Err ReplayFault.OutOfMemory) }
-        ensures left { IfErr result (Refuses name.now self.old self.new) }
+        ensures left { IfErr result (RefusesLog name.now self.old self.new) }
     {
         if matches!(fault, ReplayFault::OutOfMemory) {
             return Err(ReplayFault::OutOfMemory);

@@ -1,7 +1,7 @@
 //! The rows of the table.
 ghost use Rattle.std.specs.Prelude.{◌≡◌, codes, OnOk};
 ghost use Rattle.tox_report.specs.Cells.{text_cell};
-ghost use Rattle.tox_draw.specs.Adding.{Adds};
+ghost use Rattle.tox_draw.specs.Adding.{AddsText};
 ghost use Rattle.tox_report.specs.Rows.{bare_head, broken_cell, count_cells, ending_cell, exactness, fault_row, late_cells, link_cells, linked_head, percentile_cells, result_cells, row_head, row_of, row_tag, stream_row, sum_cells, timed_cells, unfaithful_cell, verdict_cell};
 
 use crate::cells::{push_counted_cell, push_number_cell, push_text_cell, push_word_cell};
@@ -19,7 +19,7 @@ pub(crate) fn push_row(
     number: u64,
     linked: bool,
 ) -> Result<(), AllocError>
-    ensures { OnOk result (Adds text.old text.new (row_of row.now number linked)) }
+    ensures { OnOk result (AddsText text.old text.new (row_of row.now number linked)) }
 {
     match &row.told {
         Told::Stream(facts) => push_stream_row(text, facts, number, linked),
@@ -30,7 +30,7 @@ pub(crate) fn push_row(
 /// Adds the row of a log that can't be judged.
 #[tactic(auto, using(tox_draw::proofs::Growing::adds_then), unfolding(crate::specs::Rows::fault_row))]
 fn push_fault_row(text: &mut String, name: &str, fault: &str) -> Result<(), AllocError>
-    ensures { OnOk result (Adds text.old text.new (fault_row name.now fault.now)) }
+    ensures { OnOk result (AddsText text.old text.new (fault_row name.now fault.now)) }
 {
     push_word(
         text,
@@ -53,7 +53,7 @@ fn push_stream_row(
     number: u64,
     linked: bool,
 ) -> Result<(), AllocError>
-    ensures { OnOk result (Adds text.old text.new (stream_row facts.now number linked)) }
+    ensures { OnOk result (AddsText text.old text.new (stream_row facts.now number linked)) }
 {
     push_link_cells(text, facts, number, linked)?;
     push_result_cells(text, facts)
@@ -67,7 +67,7 @@ fn push_link_cells(
     number: u64,
     linked: bool,
 ) -> Result<(), AllocError>
-    ensures { OnOk result (Adds text.old text.new (link_cells facts.now number linked)) }
+    ensures { OnOk result (AddsText text.old text.new (link_cells facts.now number linked)) }
 {
     push_row_tag(text, &facts.outcome)?;
     push_row_head(text, facts.proxy.as_str(), number, linked)?;
@@ -78,7 +78,7 @@ fn push_link_cells(
 
 fn push_toxics(text: &mut String, toxics: &str) -> Result<(), AllocError>
     ensures { OnOk result
-        (Adds text.old text.new (text_cell (codes "<td class=\"toxics\">") toxics.now)) }
+        (AddsText text.old text.new (text_cell (codes "<td class=\"toxics\">") toxics.now)) }
 {
     push_text_cell(text, "<td class=\"toxics\">", toxics)
 }
@@ -86,7 +86,7 @@ fn push_toxics(text: &mut String, toxics: &str) -> Result<(), AllocError>
 /// Adds the rest of a row: what came of the stream.
 #[tactic(auto, using(tox_draw::proofs::Growing::adds_then), unfolding(crate::specs::Rows::result_cells))]
 fn push_result_cells(text: &mut String, facts: &StreamFacts) -> Result<(), AllocError>
-    ensures { OnOk result (Adds text.old text.new (result_cells facts.now)) }
+    ensures { OnOk result (AddsText text.old text.new (result_cells facts.now)) }
 {
     push_count_cells(text, facts)?;
     push_ending(text, &facts.outcome)?;
@@ -97,7 +97,7 @@ fn push_result_cells(text: &mut String, facts: &StreamFacts) -> Result<(), Alloc
 
 /// Adds the tag of a row. Those of unfaithful logs are marked.
 fn push_row_tag(text: &mut String, outcome: &Outcome) -> Result<(), AllocError>
-    ensures { OnOk result (Adds text.old text.new (row_tag outcome.now)) }
+    ensures { OnOk result (AddsText text.old text.new (row_tag outcome.now)) }
 {
     match outcome {
         Outcome::Unfaithful(_) => push_word(text, "<tr class=\"marked\">"),
@@ -112,7 +112,7 @@ fn push_row_head(
     number: u64,
     linked: bool,
 ) -> Result<(), AllocError>
-    ensures { OnOk result (Adds text.old text.new (row_head proxy.now number linked)) }
+    ensures { OnOk result (AddsText text.old text.new (row_head proxy.now number linked)) }
 {
     if linked {
         push_linked_head(text, proxy, number)
@@ -123,7 +123,7 @@ fn push_row_head(
 
 #[tactic(auto, using(tox_draw::proofs::Growing::adds_then), unfolding(crate::specs::Rows::bare_head))]
 fn push_bare_head(text: &mut String, proxy: &str) -> Result<(), AllocError>
-    ensures { OnOk result (Adds text.old text.new (bare_head proxy.now)) }
+    ensures { OnOk result (AddsText text.old text.new (bare_head proxy.now)) }
 {
     push_word(text, "<th scope=\"row\">")?;
     push_escaped(text, proxy)?;
@@ -132,7 +132,7 @@ fn push_bare_head(text: &mut String, proxy: &str) -> Result<(), AllocError>
 
 #[tactic(auto, using(tox_draw::proofs::Growing::adds_then), unfolding(crate::specs::Rows::linked_head))]
 fn push_linked_head(text: &mut String, proxy: &str, number: u64) -> Result<(), AllocError>
-    ensures { OnOk result (Adds text.old text.new (linked_head proxy.now number)) }
+    ensures { OnOk result (AddsText text.old text.new (linked_head proxy.now number)) }
 {
     push_word(text, "<th scope=\"row\"><a href=\"#log-")?;
     push_number(text, number)?;
@@ -143,7 +143,7 @@ fn push_linked_head(text: &mut String, proxy: &str, number: u64) -> Result<(), A
 
 /// Adds the cells of what was heard and said. Of an unfaithful log they are empty.
 fn push_count_cells(text: &mut String, facts: &StreamFacts) -> Result<(), AllocError>
-    ensures { OnOk result (Adds text.old text.new (count_cells facts.now.outcome facts.now.heard facts.now.said)) }
+    ensures { OnOk result (AddsText text.old text.new (count_cells facts.now.outcome facts.now.heard facts.now.said)) }
 {
     match facts.outcome {
         Outcome::Unfaithful(_) => push_word(text, "<td></td><td></td>"),
@@ -153,7 +153,7 @@ fn push_count_cells(text: &mut String, facts: &StreamFacts) -> Result<(), AllocE
 
 #[tactic(auto, using(tox_draw::proofs::Growing::adds_then), unfolding(crate::specs::Rows::sum_cells))]
 fn push_sum_cells(text: &mut String, heard: u64, said: u64) -> Result<(), AllocError>
-    ensures { OnOk result (Adds text.old text.new (sum_cells heard said)) }
+    ensures { OnOk result (AddsText text.old text.new (sum_cells heard said)) }
 {
     push_number_cell(text, "", heard)?;
     push_number_cell(text, "", said)
@@ -161,7 +161,7 @@ fn push_sum_cells(text: &mut String, heard: u64, said: u64) -> Result<(), AllocE
 
 /// Adds the cell of the ending.
 fn push_ending(text: &mut String, outcome: &Outcome) -> Result<(), AllocError>
-    ensures { OnOk result (Adds text.old text.new (ending_cell outcome.now)) }
+    ensures { OnOk result (AddsText text.old text.new (ending_cell outcome.now)) }
 {
     match outcome {
         Outcome::Open => push_word_cell(text, "open"),
@@ -176,7 +176,7 @@ fn push_ending(text: &mut String, outcome: &Outcome) -> Result<(), AllocError>
 
 #[tactic(auto, using(tox_draw::proofs::Growing::adds_then), unfolding(crate::specs::Rows::broken_cell))]
 fn push_broken(text: &mut String, cause: &str) -> Result<(), AllocError>
-    ensures { OnOk result (Adds text.old text.new (broken_cell cause.now)) }
+    ensures { OnOk result (AddsText text.old text.new (broken_cell cause.now)) }
 {
     push_word(text, "<td>broken ")?;
     push_word(text, cause)?;
@@ -185,7 +185,7 @@ fn push_broken(text: &mut String, cause: &str) -> Result<(), AllocError>
 
 /// Adds the cell of the verdict.
 fn push_verdict(text: &mut String, outcome: &Outcome) -> Result<(), AllocError>
-    ensures { OnOk result (Adds text.old text.new (verdict_cell outcome.now)) }
+    ensures { OnOk result (AddsText text.old text.new (verdict_cell outcome.now)) }
 {
     match outcome {
         Outcome::Unfaithful(line) => push_unfaithful(text, *line),
@@ -195,7 +195,7 @@ fn push_verdict(text: &mut String, outcome: &Outcome) -> Result<(), AllocError>
 
 #[tactic(auto, using(tox_draw::proofs::Growing::adds_then), unfolding(crate::specs::Rows::unfaithful_cell))]
 fn push_unfaithful(text: &mut String, line: u64) -> Result<(), AllocError>
-    ensures { OnOk result (Adds text.old text.new (unfaithful_cell line)) }
+    ensures { OnOk result (AddsText text.old text.new (unfaithful_cell line)) }
 {
     push_word(text, "<td class=\"verdict\">unfaithful, line ")?;
     push_number(text, line)?;
@@ -208,7 +208,7 @@ fn push_late(
     outcome: &Outcome,
     late: &Option<Percentiles>,
 ) -> Result<(), AllocError>
-    ensures { OnOk result (Adds text.old text.new (late_cells outcome.now late.now)) }
+    ensures { OnOk result (AddsText text.old text.new (late_cells outcome.now late.now)) }
 {
     match outcome {
         Outcome::Unfaithful(_) => push_word(text, "<td></td><td></td><td></td>"),
@@ -217,7 +217,7 @@ fn push_late(
 }
 
 fn push_timed(text: &mut String, late: &Option<Percentiles>) -> Result<(), AllocError>
-    ensures { OnOk result (Adds text.old text.new (timed_cells late.now)) }
+    ensures { OnOk result (AddsText text.old text.new (timed_cells late.now)) }
 {
     match late {
         Some(late) => push_percentiles(text, late),
@@ -227,7 +227,7 @@ fn push_timed(text: &mut String, late: &Option<Percentiles>) -> Result<(), Alloc
 
 #[tactic(auto, using(tox_draw::proofs::Growing::adds_then), unfolding(crate::specs::Rows::percentile_cells))]
 fn push_percentiles(text: &mut String, late: &Percentiles) -> Result<(), AllocError>
-    ensures { OnOk result (Adds text.old text.new (percentile_cells late.now)) }
+    ensures { OnOk result (AddsText text.old text.new (percentile_cells late.now)) }
 {
     let mark = exactness(late.exact);
     push_number_cell(text, mark, late.median)?;

@@ -1,7 +1,7 @@
 //! What the logs of a run come to.
 ghost use Rattle.std.specs.Prelude.{◌≡◌, count_by, OnOk};
 ghost use Rattle.tox_report.specs.Kinds.{has};
-ghost use Rattle.tox_draw.specs.Adding.{Adds};
+ghost use Rattle.tox_draw.specs.Adding.{AddsText};
 ghost use Rattle.tox_report.specs.Totals.{greater, latest_entry, latest_of, latest_with, number_entry, outcome_entries, seed_entry, seed_of, seed_with, told_latest, told_seed, totals_text, word_entry, worst_entry};
 
 use crate::kind::{Kind, count_of};
@@ -24,7 +24,7 @@ pub(crate) enum Seed {
 /// Adds what the rows come to. They are of so many links.
 #[tactic(auto, using(tox_draw::proofs::Growing::adds_then), unfolding(crate::specs::Totals::totals_text))]
 pub(crate) fn push_totals(text: &mut String, rows: &[Row], links: u64) -> Result<(), AllocError>
-    ensures { OnOk result (Adds text.old text.new (totals_text rows.now links)) }
+    ensures { OnOk result (AddsText text.old text.new (totals_text rows.now links)) }
 {
     push_number_entry(text, "Links", links)?;
     push_number_entry(text, "Streams", count_of(rows, Kind::Judged))?;
@@ -37,7 +37,7 @@ pub(crate) fn push_totals(text: &mut String, rows: &[Row], links: u64) -> Result
 /// Adds how many streams ended otherwise than closed.
 #[tactic(auto, using(tox_draw::proofs::Growing::adds_then), unfolding(crate::specs::Totals::outcome_entries))]
 fn push_outcomes(text: &mut String, rows: &[Row]) -> Result<(), AllocError>
-    ensures { OnOk result (Adds text.old text.new (outcome_entries rows.now)) }
+    ensures { OnOk result (AddsText text.old text.new (outcome_entries rows.now)) }
 {
     push_count(text, "Reset", rows, Kind::Reset)?;
     push_count(text, "Cut", rows, Kind::Cut)?;
@@ -49,14 +49,14 @@ fn push_outcomes(text: &mut String, rows: &[Row]) -> Result<(), AllocError>
 /// Adds how many rows are of a kind.
 fn push_count(text: &mut String, name: &str, rows: &[Row], kind: Kind) -> Result<(), AllocError>
     ensures { OnOk result
-        (Adds text.old text.new (number_entry name.now (count_by (has kind) rows.now))) }
+        (AddsText text.old text.new (number_entry name.now (count_by (has kind) rows.now))) }
 {
     push_number_entry(text, name, count_of(rows, kind))
 }
 
 #[tactic(auto, using(tox_draw::proofs::Growing::adds_then), unfolding(crate::specs::Totals::number_entry))]
 fn push_number_entry(text: &mut String, name: &str, number: u64) -> Result<(), AllocError>
-    ensures { OnOk result (Adds text.old text.new (number_entry name.now number)) }
+    ensures { OnOk result (AddsText text.old text.new (number_entry name.now number)) }
 {
     push_word(text, "<div><dt>")?;
     push_word(text, name)?;
@@ -67,7 +67,7 @@ fn push_number_entry(text: &mut String, name: &str, number: u64) -> Result<(), A
 
 #[tactic(auto, using(tox_draw::proofs::Growing::adds_then), unfolding(crate::specs::Totals::word_entry))]
 fn push_word_entry(text: &mut String, name: &str, word: &str) -> Result<(), AllocError>
-    ensures { OnOk result (Adds text.old text.new (word_entry name.now word.now)) }
+    ensures { OnOk result (AddsText text.old text.new (word_entry name.now word.now)) }
 {
     push_word(text, "<div><dt>")?;
     push_word(text, name)?;
@@ -77,7 +77,7 @@ fn push_word_entry(text: &mut String, name: &str, word: &str) -> Result<(), Allo
 }
 
 fn push_seed(text: &mut String, seed: &Seed) -> Result<(), AllocError>
-    ensures { OnOk result (Adds text.old text.new (seed_entry seed.now)) }
+    ensures { OnOk result (AddsText text.old text.new (seed_entry seed.now)) }
 {
     match seed {
         Seed::Unknown => push_word_entry(text, "Seed", "unknown"),
@@ -87,7 +87,7 @@ fn push_seed(text: &mut String, seed: &Seed) -> Result<(), AllocError>
 }
 
 fn push_latest(text: &mut String, latest: &Option<u64>) -> Result<(), AllocError>
-    ensures { OnOk result (Adds text.old text.new (latest_entry latest.now)) }
+    ensures { OnOk result (AddsText text.old text.new (latest_entry latest.now)) }
 {
     match latest {
         Some(latest) => push_worst(text, *latest),
@@ -97,7 +97,7 @@ fn push_latest(text: &mut String, latest: &Option<u64>) -> Result<(), AllocError
 
 #[tactic(auto, using(tox_draw::proofs::Growing::adds_then), unfolding(crate::specs::Totals::worst_entry))]
 fn push_worst(text: &mut String, latest: u64) -> Result<(), AllocError>
-    ensures { OnOk result (Adds text.old text.new (worst_entry latest)) }
+    ensures { OnOk result (AddsText text.old text.new (worst_entry latest)) }
 {
     push_word(text, "<div><dt>Worst lateness</dt><dd>")?;
     push_number(text, latest)?;

@@ -4,7 +4,9 @@ use Rattle.tox_text.proofs.Writes.{Passes-none}
 use Rattle.tox_report.proofs.page.print_figure.Goals as goal
 
 pub returns-in-Fault : goal.returns-in-Fault
-returns-in-Fault g c = ([], rw c.in-Fault.is refl, (Passes-none _ _, c.requires))
+returns-in-Fault g c = record { text = []; is = rw c.in-Fault.is refl; shows = (Passes-none _ _, c.requires) }
 
 pub returns-in-Stream : goal.returns-in-Stream
-returns-in-Stream g c = rw c.in-Stream.is (rw c.as_str.ensures.value at c.print_drawn.ensures)
+returns-in-Stream g c =
+    let drawn = rw c.as_str.ensures.value at c.print_drawn.ensures in
+    rw c.in-Stream.is (record { text = drawn.text; is = drawn.is; shows = drawn.shows })

@@ -22,8 +22,8 @@ loop-place-preserved g c =
     let before = turn.invariant.passed in
     let figure = c.in_ok-print_figure.ensures in
     record {
-      working = figure.2.1;
-      passed = (before.0 ++ figure.0, AreFigures-more (g.S.LogStore.known c.args.store.now) xs turn.place row before.0 figure.0 here before.1 figure.1, Passes-then _ _ _ _ _ _ _ _ before.2 figure.2.0);
+      working = figure.shows.1;
+      passed = (before.0 ++ figure.text, AreFigures-more (g.S.LogStore.known c.args.store.now) xs turn.place row before.0 figure.text here before.1 figure.is, Passes-then _ _ _ _ _ _ _ _ before.2 figure.shows.0);
     }
 
 pub returns-in_err-print_figure : goal.returns-in_err-print_figure
@@ -35,12 +35,13 @@ returns-in_err-print_figure g c =
     let here : IsAt xs turn.place row = record { below = below; default = row; is = c.index-rows-place.is ∙ sym (get_or-take c.args.count c.args.rows.now turn.place row c.loop-place-test.true) } in
     let before = turn.invariant.passed in
     let figure = c.in_err-print_figure.ensures in
-    let others = AreFigures-rest (g.S.LogStore.known c.args.store.now) xs turn.place row before.0 figure.0 here before.1 figure.1 in
-    let exit = err_from_is_err_and c.from_residual.result c.from_residual.ensures.1 in (
-      before.0 ++ (figure.0 ++ others.0),
-      others.1,
-      Shows-then c.from_residual.result _ _ _ _ _ _ _ _ _ before.2 (Shows-failed c.from_residual.result exit.0 _ _ _ _ _ _ _ _ exit.1 exit.2 figure.2),
-    )
+    let others = AreFigures-rest (g.S.LogStore.known c.args.store.now) xs turn.place row before.0 figure.text here before.1 figure.is in
+    let exit = err_from_is_err_and c.from_residual.result c.from_residual.ensures.1 in
+    record {
+      text = before.0 ++ (figure.text ++ others.0);
+      is = others.1;
+      shows = Shows-then c.from_residual.result _ _ _ _ _ _ _ _ _ before.2 (Shows-failed c.from_residual.result exit.0 _ _ _ _ _ _ _ _ exit.1 exit.2 figure.shows);
+    }
 
 pub returns : goal.returns
 returns g c =
@@ -48,4 +49,8 @@ returns g c =
     let xs = take c.args.count c.args.rows.now in
     let past : length xs ≤ turn.place = omega (arith, length-take-le c.args.count c.args.rows.now c.requires.there, c.loop-place-test.false) in
     let all = turn.invariant.passed in
-    (all.0, subst (λ some. AreFigures (g.S.LogStore.known c.args.store.now) 1 some all.0) (take_all turn.place xs past) all.1, (all.2, turn.invariant.working))
+    record {
+      text = all.0;
+      is = subst (λ some. AreFigures (g.S.LogStore.known c.args.store.now) 1 some all.0) (take_all turn.place xs past) all.1;
+      shows = (all.2, turn.invariant.working);
+    }

@@ -7,13 +7,13 @@ pub returns-in_err-print_page : goal.returns-in_err-print_page
 returns-in_err-print_page g c =
     let exit = err_from_is_err_and c.from_residual.result c.from_residual.ensures.1 in
     let printed = c.in_err-print_page.ensures in
-    record { text = printed.0; page = printed.1; left = rw (exit.1, exit.2) (rw c.new-buffer.ensures at printed.2) }
+    record { text = printed.text; page = printed.is; left = rw (exit.1, exit.2) (rw c.new-buffer.ensures at printed.shows) }
 
 pub returns : goal.returns
 returns g c =
     let printed = c.in_ok-print_page.ensures in
     record {
-      text = printed.0;
-      page = printed.1;
-      left = LeavesPage-flushed c.flush.result _ _ _ _ _ _ (rw c.new-buffer.ensures at printed.2.0) c.flush.ensures;
+      text = printed.text;
+      page = printed.is;
+      left = LeavesPage-flushed c.flush.result _ _ _ _ _ _ (rw c.new-buffer.ensures at printed.shows.0) c.flush.ensures;
     }
