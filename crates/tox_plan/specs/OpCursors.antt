@@ -116,10 +116,11 @@ pub record LooksOnce (cursors before after : ℕ) : Type 0 where
   pub more : before ≤ after
   pub some : 0 < cursors → before < after
 
--- where no ending was found behind these cursors before, none is kept in front of it now
+-- in front of any cursors these change nothing of it that none keeps an ending where none was found
 abbrev pub StayOpen : Bool → Bool → List OpCursor → Type 0
 StayOpen before after cursors =
-    (upstream : List OpCursor) → AreOpenUnless before upstream → AreOpenUnless after (cursors ++ upstream)
+    (upstream : List OpCursor) → AreOpenUnless before upstream
+    → AreOpenUnless after (cursors ++ upstream)
 
 -- what a pull brought
 abbrev pub MatchPulled : Draws → ℕ → List OpCursor → List OpCursor → Slice → Option Emission → Type 0
