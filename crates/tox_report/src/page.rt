@@ -1,5 +1,5 @@
 //! The page of a report: the rows, and then the pictures.
-ghost use Rattle.std.specs.Prelude.{◌≡◌, ◌≤◌, ◌<◌, ◌^◌, ℕ, List, false, length, ltb, string_bytes, take, IfOk, OnOk};
+ghost use Rattle.std.specs.Prelude.{◌≡◌, ◌≤◌, ◌<◌, ◌^◌, List, false, length, ltb, string_bytes, take, IfOk, OnOk};
 ghost use Rattle.std.specs.Option.{ForSome};
 ghost use Rattle.tox_report.specs.declared.row.Row.{Row as OneRow};
 ghost use Rattle.tox_report.specs.Figures.{figure};

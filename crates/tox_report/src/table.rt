@@ -143,7 +143,8 @@ fn push_linked_head(text: &mut String, proxy: &str, number: u64) -> Result<(), A
 
 /// Adds the cells of what was heard and said. Of an unfaithful log they are empty.
 fn push_count_cells(text: &mut String, facts: &StreamFacts) -> Result<(), AllocError>
-    ensures { OnOk result (AddsText text.old text.new (count_cells facts.now.outcome facts.now.heard facts.now.said)) }
+    ensures { OnOk result (AddsText text.old text.new
+        (count_cells facts.now.outcome facts.now.heard facts.now.said)) }
 {
     match facts.outcome {
         Outcome::Unfaithful(_) => push_word(text, "<td></td><td></td>"),
