@@ -1,5 +1,7 @@
 pub mod Driven
 pub mod Directions
-pub mod Tokens
+pub mod DueOrder
 pub mod Places
 pub mod Ready
+pub mod Timers
+pub mod Tokens

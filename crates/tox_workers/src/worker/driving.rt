@@ -142,7 +142,7 @@ impl<'s, R: ServeRuntime> Worker<'s, R> {
 
     /// Drives the directions whose timers are due.
     pub(super) fn fire(&mut self, scratch: &mut [u8; READ_SIZE]) {
-        self.timers.purge(self.run.alloc, &self.links);
+        self.timers.purge(&self.links);
         let now = self.now();
         for _ in 0..u64::MAX {
             let Some((due, turn)) = self.timers.pop_due(now) else {
