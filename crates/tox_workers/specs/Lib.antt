@@ -1,7 +1,9 @@
 pub mod Driven
 pub mod Directions
 pub mod DueOrder
+pub mod Peers
 pub mod Places
 pub mod Ready
 pub mod Timers
 pub mod Tokens
+pub mod Waits

@@ -1,4 +1,7 @@
 //! The two sockets of a link.
+ghost use Rattle.std.specs.Prelude.{◌≡◌};
+ghost use Rattle.tox_workers.specs.Peers.{stream_from};
+
 use tox_time::Stream;
 
 /// A socket of a link.
@@ -10,7 +13,9 @@ pub(crate) enum Peer {
 
 impl Peer {
     /// The stream whose bytes come from it.
-    pub(crate) fn stream(self) -> Stream {
+    pub(crate) fn stream(self) -> Stream
+        ensures { result ≡ stream_from self }
+    {
         match self {
             Peer::Client => Stream::Upstream,
             Peer::Server => Stream::Downstream,

@@ -1,4 +1,7 @@
 //! What the system reports of a socket.
+ghost use Rattle.std.specs.Prelude.{◌≡◌, ◌||◌};
+ghost use Rattle.mio.specs.Event.{is_error, is_read_closed, is_readable, is_writable, is_write_closed};
+
 use mio::event::Event;
 
 /// What the system reports of a socket.
@@ -14,7 +17,13 @@ pub(crate) struct SocketEvent {
 
 impl SocketEvent {
     /// What an event reports. A connection that is gone can be read and written: both calls tell.
-    pub(crate) fn of(event: &Event) -> SocketEvent {
+    pub(crate) fn of(event: &Event) -> SocketEvent
+        ensures gone { result.gone ≡ (is_error event.now || is_write_closed event.now) }
+        ensures readable { result.readable
+            ≡ (result.gone || is_readable event.now || is_read_closed event.now) }
+        ensures writable { result.writable ≡ (result.gone || is_writable event.now) }
+        ensures closing { result.closing ≡ (result.gone || is_read_closed event.now) }
+    {
         let gone = event.is_error() || event.is_write_closed();
         SocketEvent {
             readable: gone || event.is_readable() || event.is_read_closed(),

@@ -1,5 +1,7 @@
 //! How long a worker waits for events.
-ghost use Rattle.std.specs.Prelude.{◌≡◌, ◌/◌, IfSome};
+ghost use Rattle.std.specs.Prelude.{◌≡◌, ◌*◌, ◌/◌, option_map};
+ghost use Rattle.std.specs.Duration.{as_nanos};
+ghost use Rattle.tox_workers.specs.Waits.{earlier_of};
 
 use std::thread;
 use std::time::{Clock, Duration};
@@ -11,7 +13,10 @@ pub(crate) const MILLI: u64 = 1_000;
 const NAP: u64 = 100;
 
 /// A wait for events lasts whole milliseconds: those of a wait of so many microseconds.
-pub(crate) fn whole_millis(wait: Option<u64>) -> Option<Duration> {
+pub(crate) fn whole_millis(wait: Option<u64>) -> Option<Duration>
+    ensures { option_map as_nanos result
+        ≡ option_map (λ micros. micros / 1000 * 1000000) wait }
+{
     match wait {
         Some(micros) => Some(Duration::from_millis(micros / MILLI)),
         None => None,
@@ -29,7 +34,9 @@ pub(crate) fn nap<R: Clock>(rt: &R, wait: Option<u64>) {
 }
 
 /// The earlier of two instants, if there is one.
-pub(crate) fn earlier(one: Option<u64>, other: Option<u64>) -> Option<u64> {
+pub(crate) fn earlier(one: Option<u64>, other: Option<u64>) -> Option<u64>
+    ensures { result ≡ earlier_of one other }
+{
     match (one, other) {
         (Some(one), Some(other)) => Some(one.min(other)),
         (Some(one), None) => Some(one),

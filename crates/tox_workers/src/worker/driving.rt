@@ -1,4 +1,7 @@
 //! Driving the directions of links: after an event, at a timer, or in their turn.
+ghost use Rattle.std.specs.Prelude.{◌≡◌};
+ghost use Rattle.tox_workers.specs.Peers.{other_stream};
+
 use crate::link_key::LinkKey;
 use crate::link_state::LinkState;
 use crate::open_direction::DirectionProgress;
@@ -14,7 +17,9 @@ use tox_links::ServeRuntime;
 use tox_time::Stream;
 
 /// The other stream of a link.
-fn other(stream: Stream) -> Stream {
+fn other(stream: Stream) -> Stream
+    ensures { result ≡ other_stream stream }
+{
     match stream {
         Stream::Upstream => Stream::Downstream,
         Stream::Downstream => Stream::Upstream,
