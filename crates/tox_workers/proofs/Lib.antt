@@ -1,2 +1,4 @@
+pub mod DirectionLemmas
+pub mod MakingLemmas
 pub mod ReadyLemmas
 pub mod TimerLemmas

@@ -1,5 +1,5 @@
 -- What is known of a direction that is ready, in parts.
-use Rattle.std.proofs.Common.{◌≡◌, ℕ, ◌≤◌, Bool, true, Some, None, IfSome, arith}
+use Rattle.std.proofs.Common.{◌≡◌, ℕ, ◌≤◌, Bool, true, None, IfSome, arith}
 use Rattle.tox_link.specs.declared.source_ending.SourceEnding.{SourceEnding}
 use Rattle.tox_link.specs.declared.source_ending.SourceEnding.TheVariants.{Eof, ReadFault, ReadsUsedUp, TooManyBytes, NotReached}
 use Rattle.tox_link.specs.ring.Messages.{EndsFor}

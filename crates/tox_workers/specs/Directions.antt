@@ -1,7 +1,10 @@
--- Which stream a direction of a link is of.
-use Rattle.std.specs.Prelude.{◌≡◌}
+-- How far a direction of a link is, and what changes it.
+use Rattle.std.specs.Prelude.{◌≡◌, ℕ, nat_eq, Bool, false, Option, Some, None, if◌then◌else◌}
 use Rattle.std.proofs.Props.{props}
 use Rattle.tox_time.specs.declared.streams.stream.Stream.{Stream}
+use Rattle.tox_link.specs.declared.link_fault.LinkFault.TheVariants.{OutOfMemory}
+use Rattle.tox_links.specs.declared.link.end.Carried.{Carried}
+use Rattle.tox_links.specs.link.LinkEnds.{carried_before}
 use Rattle.tox_workers.specs.declared.open_direction.DirectionState.{DirectionState}
 use Rattle.tox_workers.specs.declared.open_direction.DirectionState.TheVariants.{Going, Ended, Driven}
 
@@ -15,3 +18,25 @@ pub IsOf-prop : {R : Type 0} (its : Stream) (state : DirectionState R) → IsPro
 IsOf-prop its (Going flow) = Prim.hlevel props
 IsOf-prop its (Ended carried) = Prim.hlevel props
 IsOf-prop its Driven = Prim.hlevel props
+
+-- what a direction carried, once it has ended
+abbrev pub carried_of : {R : Type 0} → DirectionState R → Option Carried
+carried_of (Going flow) = None
+carried_of (Ended carried) = Some carried
+carried_of Driven = None
+
+-- a direction that goes on is broken off, out of memory, behind the bytes that it has written
+abbrev pub broken_off : {R : Type 0} → Stream → DirectionState R → DirectionState R
+broken_off its (Going flow) = Ended (carried_before its (OutOfMemory flow.link.value.written))
+broken_off its (Ended carried) = Ended carried
+broken_off its Driven = Driven
+
+-- whether the earliest timer of a direction is due at an instant
+abbrev pub is_armed : ℕ → Option ℕ → Bool
+is_armed due None = false
+is_armed due (Some armed) = nat_eq armed due
+
+-- the timer of a direction that is left once one is over
+abbrev pub disarmed : ℕ → Option ℕ → Option ℕ
+disarmed due None = None
+disarmed due (Some armed) = if nat_eq armed due then None else Some armed

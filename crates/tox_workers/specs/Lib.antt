@@ -1,9 +1,14 @@
+pub mod Armed
+pub mod Begun
 pub mod Driven
 pub mod Directions
 pub mod DueOrder
+pub mod OpenLinks
 pub mod Peers
 pub mod Places
 pub mod Ready
+pub mod Reports
+pub mod Steps
 pub mod Timers
 pub mod Tokens
 pub mod Waits

@@ -1,5 +1,6 @@
 -- What a slot has for a link's key.
-use Rattle.std.specs.Prelude.{ℕ, nat_eq, if◌then◌else◌, Option, Some, None}
+use Rattle.std.specs.Prelude.{ℕ, ◌^◌, nat_eq, nat_lt, if◌then◌else◌, Option, Some, None}
+use Rattle.tox_workers.specs.declared.link_key.LinkKey.{LinkKey}
 use Rattle.tox_workers.specs.declared.links.Place.{Place}
 use Rattle.tox_workers.specs.declared.link_state.LinkState.{LinkState}
 
@@ -17,3 +18,8 @@ with_link_state generation state (Some place) = if nat_eq place.generation gener
 abbrev pub freed : {R : Type 0} → ℕ → Option (Place R) → Option (Place R)
 freed generation None = None
 freed generation (Some place) = if nat_eq place.generation generation then None else Some place
+
+-- the key of the link in a slot, if a key has room for the slot
+abbrev pub key_at : {R : Type 0} → ℕ → Option (Place R) → Option LinkKey
+key_at slot None = None
+key_at slot (Some place) = if nat_lt slot (2 ^ 30) then Some (record { slot = slot; generation = place.generation }) else None

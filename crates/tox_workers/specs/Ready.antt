@@ -1,5 +1,5 @@
 -- What a direction keeps between two drives has one proof at most.
-use Rattle.std.specs.Prelude.{◌≡◌, ℕ, List, [], ◌∷◌, Option, Some, None}
+use Rattle.std.specs.Prelude.{ℕ, List, [], ◌∷◌, Option, Some, None}
 use mathlib.Core.HLevel.{Unit-prop}
 use Rattle.std.proofs.Props.{props}
 use Rattle.tox_lend.specs.Run.{Run}

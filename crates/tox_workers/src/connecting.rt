@@ -1,4 +1,7 @@
 //! A link whose upstream isn't connected yet.
+ghost use Rattle.std.specs.Prelude.{◌≡◌};
+
+use crate::link_name::LinkName;
 use crate::taken_at::TakenAt;
 use std::alloc::Global;
 use std::io::ErrorKind;
@@ -29,9 +32,23 @@ pub(crate) struct Connecting {
     pub(crate) deadline: Option<u64>,
 }
 
+impl Client {
+    /// Which link it is the client of.
+    pub(crate) fn name(&self) -> LinkName
+        ensures { result ≡ record { place = self.now.proxy; number = self.now.taken.number } }
+    {
+        LinkName {
+            place: self.proxy,
+            number: self.taken.number,
+        }
+    }
+}
+
 impl Connecting {
     /// Gives the connect up.
-    pub(crate) fn into_client(self) -> Client {
+    pub(crate) fn into_client(self) -> Client
+        ensures { result ≡ self.client }
+    {
         let Connecting {
             client,
             server: _,

@@ -1,5 +1,5 @@
 //! One direction of a link while it goes on: the step machine and its two ends.
-ghost use Rattle.std.specs.Prelude.{◌≡◌, true, false, List, IfSome};
+ghost use Rattle.std.specs.Prelude.{◌≡◌, Bool, true, false, List, IfSome};
 ghost use Rattle.tox_link.specs.direction.Driven.{IsAtEnd};
 ghost use Rattle.tox_link.specs.direction.Follows.{IsHeld, IsNew};
 ghost use Rattle.tox_link.specs.declared.source_ending.SourceEnding.TheVariants.{ReadFault as AtFault, ReadsUsedUp as AtLastRead};
@@ -9,6 +9,7 @@ ghost use Rattle.tox_time.specs.declared.streams.item.Item.{Item as OneItem};
 ghost use Rattle.tox_time.specs.streams.Stream.{IsStream};
 ghost use Rattle.tox_compile.specs.Meaning.{means};
 ghost use Rattle.tox_link.specs.link_core.Core.{remaining_output};
+ghost use Rattle.tox_links.specs.link.LinkEnds.{carried_before, end_before_stop};
 
 use crate::socket_event::SocketEvent;
 use std::alloc::Global;
@@ -19,7 +20,8 @@ use tox_compile::Plan;
 use tox_link::{
     Hangup, LinkFault, PollSink, PollSource, PolledLink, Progress, READ_SIZE, drive, finish,
 };
-use tox_links::{Carried, Course};
+use tox_links::{Carried, Course, StreamEnd};
+use tox_log::BreakCause;
 use tox_log_files::StreamNotes;
 use tox_sockets::{LinkSockets, LinkStart, ReadySink, ReadySource, SinceStart};
 use tox_time::{Ending, Micros, Stream};
@@ -51,6 +53,7 @@ pub(crate) enum Driven<'r, R> {
 }
 
 impl<'r, R: Clock + Wait> Flow<'r, R> {
+    ghost use Rattle.tox_workers.specs.Begun.{BeginsCourse};
     ghost use Rattle.tox_workers.specs.Driven.{IsDrivenOf};
 
     /// A direction of a course, at which nothing has come and which isn't logged. `closing` tells whether the source's peer was reported to send no
@@ -63,10 +66,7 @@ impl<'r, R: Clock + Wait> Flow<'r, R> {
         course: Course,
         closing: bool,
     ) -> Option<Flow<'r, R>>
-        ensures stream { IfSome result (λ flow. (flow.stream ≡ course.stream)
-            × (flow.source.stream ≡ course.stream) × (flow.sink.stream ≡ course.stream)) }
-        ensures meaning { IfSome result (λ flow. (items : List OneItem) → IsStream items
-            → remaining_output flow.link.value.core items ≡ means course.plan course.words items) }
+        ensures { IfSome result (BeginsCourse course) }
     {
         let Course {
             stream,
@@ -95,7 +95,7 @@ impl<'r, R: Clock + Wait> Flow<'r, R> {
         sockets: &LinkSockets,
         scratch: &mut [u8; READ_SIZE],
     ) -> Driven<'r, R>
-        ensures { IsDrivenOf self.entry.stream result }
+        ensures { IsDrivenOf self.entry result }
     {
         let Flow {
             stream,
@@ -159,7 +159,7 @@ fn fail<R: Wait>(
     fault: &LinkFault,
     notes: &StreamNotes<'_, R>,
 ) -> Carried
-    ensures { result.stream ≡ stream }
+    ensures { result ≡ carried_before stream fault.now }
 {
     sockets.ends_of(stream).reset();
     break_off(stream, fault, notes)
@@ -171,7 +171,7 @@ pub(crate) fn break_off<R: Wait>(
     fault: &LinkFault,
     notes: &StreamNotes<'_, R>,
 ) -> Carried
-    ensures { result.stream ≡ stream }
+    ensures { result ≡ carried_before stream fault.now }
 {
     let carried = Carried::until_fault(stream, fault);
     notes.end(&carried.last_line(Micros::ZERO));
@@ -189,19 +189,47 @@ fn end<R: Clock + Wait>(
 ) -> Carried
     requires held { IsHeld link.value }
     requires ended { IsAtEnd (λ _. Unit {0}) link.value ending.now }
-    ensures { result.stream ≡ stream }
+    ensures { (was_stopped : Bool) × (result ≡ record {
+      stream = stream;
+      bytes = link.value.written;
+      end = end_before_stop was_stopped ending.now;
+    }) }
 {
     let mut ends = sockets.ends_of(stream);
     ends.hang_up(*ending, link.has_read_all());
-    let was_stopped = ends.was_stopped;
+    let carried = Carried {
+        stream,
+        bytes: link.written(),
+        end: end_before_stop(ends.was_stopped, *ending),
+    };
+    notes.end(&carried.last_line(last_reading(link, clock, *ending)));
+    carried
+}
+
+/// How a stream ended that ended so by its plan: a stop of its link before that breaks it.
+fn end_before_stop(was_stopped: bool, ending: Ending) -> StreamEnd
+    ensures { result ≡ end_before_stop was_stopped ending }
+{
+    if was_stopped {
+        StreamEnd::Broken(BreakCause::Stopped)
+    } else {
+        StreamEnd::Ended(ending)
+    }
+}
+
+/// The reading of its clock at which a direction ended.
+fn last_reading<R: Clock + Wait>(
+    link: Box<PolledLink>,
+    clock: &SinceStart<'_, R>,
+    ending: Ending,
+) -> Micros
+    requires held { IsHeld link.value }
+    requires ended { IsAtEnd (λ _. Unit {0}) link.value ending }
+{
     let link = Box::into_inner(link);
-    let driven = Ok(*ending);
+    let driven = Ok(ending);
     match finish(link, clock, driven, ()) {
-        Ok(timed) => {
-            let carried = Carried::until_end(stream, &timed.report, was_stopped);
-            notes.end(&carried.last_line(timed.reading));
-            carried
-        }
-        Err(fault) => break_off(stream, &fault, notes),
+        Ok(timed) => timed.reading,
+        Err(_) => Micros::ZERO,
     }
 }

@@ -4,6 +4,7 @@
 mod connecting;
 mod flow;
 mod link_key;
+mod link_name;
 mod link_state;
 mod links;
 mod open_direction;

@@ -1,7 +1,7 @@
 //! The links of a worker, in slots that are used again.
 ghost use Rattle.std.specs.Prelude.{◌≡◌, ◌<◌, ◌^◌, IfSome, None, Some};
 ghost use Rattle.slab.specs.Slab.{Updates, get};
-ghost use Rattle.tox_workers.specs.Places.{freed, link_state_of, with_link_state};
+ghost use Rattle.tox_workers.specs.Places.{freed, key_at, link_state_of, with_link_state};
 
 use crate::link_key::LinkKey;
 use crate::link_state::LinkState;
@@ -28,6 +28,8 @@ pub(crate) struct Links<'r, R> {
 }
 
 impl<'r, R: Clock + Wait> Links<'r, R> {
+    ghost use Rattle.tox_workers.specs.Armed.{is_place_armed};
+
     /// No links.
     pub(crate) fn new(alloc: Global) -> Links<'r, R> {
         Links {
@@ -46,7 +48,9 @@ impl<'r, R: Clock + Wait> Links<'r, R> {
     }
 
     /// The key of the link in a slot, if there is one.
-    pub(crate) fn key_at(&self, slot: usize) -> Option<LinkKey> {
+    pub(crate) fn key_at(&self, slot: usize) -> Option<LinkKey>
+        ensures { result ≡ key_at slot (get self.now.places slot) }
+    {
         if slot >= MAX_SLOTS {
             return None;
         }
@@ -83,7 +87,9 @@ impl<'r, R: Clock + Wait> Links<'r, R> {
     }
 
     /// Whether a link waits for a timer that is due at an instant.
-    pub(crate) fn is_armed(&self, turn: Turn, due: u64) -> bool {
+    pub(crate) fn is_armed(&self, turn: Turn, due: u64) -> bool
+        ensures { result ≡ is_place_armed turn due (get self.now.places turn.key.slot) }
+    {
         let Turn { key, stream } = turn;
         match self.places.get(key.slot as usize) {
             Some(place) if place.generation == key.generation => match &place.state {

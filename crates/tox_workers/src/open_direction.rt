@@ -1,5 +1,5 @@
 //! One direction of a link whose upstream is connected.
-ghost use Rattle.std.specs.Prelude.{◌≡◌, IfSome};
+ghost use Rattle.std.specs.Prelude.{◌≡◌, None, Some, IfSome, option_copied};
 ghost use Rattle.tox_workers.specs.Directions.{IsOf, IsOf-prop};
 
 use crate::flow::{Driven, Flow, break_off};
@@ -48,9 +48,17 @@ pub(crate) struct OpenDirection<'r, R> {
 }
 
 impl<'r, R: Clock + Wait> OpenDirection<'r, R> {
+    ghost use Rattle.tox_workers.specs.declared.open_direction.DirectionState.TheVariants.{Going as GoesOn};
+    ghost use Rattle.tox_workers.specs.Directions.{broken_off, carried_of, disarmed, is_armed};
+    ghost use Rattle.tox_workers.specs.Reports.{IsAfterSource, IsAfterTarget, IsNotedSo};
+    ghost use Rattle.tox_workers.specs.Steps.{DrivesFrom, wait_until};
+    ghost use Rattle.tox_workers.specs.Waits.{earlier_of};
+
     /// A direction that goes on.
     pub(crate) fn new(flow: Flow<'r, R>) -> OpenDirection<'r, R>
-        ensures { result.stream ≡ flow.entry.stream }
+        ensures stream { result.stream ≡ flow.entry.stream }
+        ensures state { result.state ≡ GoesOn flow.entry }
+        ensures armed { result.armed ≡ None }
     {
         OpenDirection {
             stream: flow.stream,
@@ -61,7 +69,8 @@ impl<'r, R: Clock + Wait> OpenDirection<'r, R> {
 
     /// From now on it is noted so, unless it has ended.
     pub(crate) fn log(&mut self, notes: StreamNotes<'r, R>)
-        ensures { self.new.stream ≡ self.old.stream }
+        ensures state { IsNotedSo notes.entry self.old.state self.new.state }
+        ensures same { (self.new.stream ≡ self.old.stream) × (self.new.armed ≡ self.old.armed) }
     {
         if let DirectionState::Going(flow) = &mut self.state {
             flow.notes = notes;
@@ -70,7 +79,8 @@ impl<'r, R: Clock + Wait> OpenDirection<'r, R> {
 
     /// The system reported something of its source. Whether it is to be driven.
     pub(crate) fn note_source(&mut self, event: &SocketEvent) -> bool
-        ensures { self.new.stream ≡ self.old.stream }
+        ensures stream { self.new.stream ≡ self.old.stream }
+        ensures after { IsAfterSource event.now self.old self.new result }
     {
         match &mut self.state {
             DirectionState::Going(flow) if event.readable => {
@@ -83,7 +93,8 @@ impl<'r, R: Clock + Wait> OpenDirection<'r, R> {
 
     /// The system reported something of its target. Whether it is to be driven.
     pub(crate) fn note_target(&mut self, event: &SocketEvent) -> bool
-        ensures { self.new.stream ≡ self.old.stream }
+        ensures stream { self.new.stream ≡ self.old.stream }
+        ensures after { IsAfterTarget event.now self.old self.new result }
     {
         match &mut self.state {
             DirectionState::Going(flow) if event.writable => flow.sink.note() || event.gone,
@@ -92,13 +103,16 @@ impl<'r, R: Clock + Wait> OpenDirection<'r, R> {
     }
 
     /// Whether it waits for a timer that is due at an instant.
-    pub(crate) fn is_armed(&self, due: u64) -> bool {
+    pub(crate) fn is_armed(&self, due: u64) -> bool
+        ensures { result ≡ is_armed due self.now.armed }
+    {
         self.armed == Some(due)
     }
 
     /// A timer of it is over.
     pub(crate) fn disarm(&mut self, due: u64)
-        ensures { self.new.stream ≡ self.old.stream }
+        ensures armed { self.new.armed ≡ disarmed due self.old.armed }
+        ensures same { (self.new.stream ≡ self.old.stream) × (self.new.state ≡ self.old.state) }
     {
         if self.armed == Some(due) {
             self.armed = None;
@@ -114,7 +128,8 @@ impl<'r, R: Clock + Wait> OpenDirection<'r, R> {
         since: TakenAt,
         scratch: &mut [u8; READ_SIZE],
     ) -> DirectionProgress
-        ensures { self.new.stream ≡ self.old.stream }
+        ensures stream { self.new.stream ≡ self.old.stream }
+        ensures drives { DrivesFrom since.worker self.old.state self.old self.new result }
     {
         let flow = match mem::replace(&mut self.state, DirectionState::Driven) {
             DirectionState::Going(flow) => flow,
@@ -145,7 +160,9 @@ impl<'r, R: Clock + Wait> OpenDirection<'r, R> {
 
     /// It waits until an instant. A timer that is due before serves too: it drives it once more.
     fn arm(&mut self, due: u64) -> DirectionProgress
-        ensures { self.new.stream ≡ self.old.stream }
+        ensures armed { self.new.armed ≡ earlier_of self.old.armed (Some due) }
+        ensures same { (self.new.stream ≡ self.old.stream) × (self.new.state ≡ self.old.state) }
+        ensures waits { result ≡ wait_until self.old.armed due }
     {
         if self.armed.is_some_and(|armed| armed <= due) {
             return DirectionProgress::Waits;
@@ -156,7 +173,8 @@ impl<'r, R: Clock + Wait> OpenDirection<'r, R> {
 
     /// Breaks it off, out of memory.
     pub(crate) fn break_off(&mut self)
-        ensures { self.new.stream ≡ self.old.stream }
+        ensures state { self.new.state ≡ broken_off self.old.stream self.old.state }
+        ensures same { (self.new.stream ≡ self.old.stream) × (self.new.armed ≡ self.old.armed) }
     {
         if let DirectionState::Going(flow) = &self.state {
             let fault = LinkFault::OutOfMemory(flow.link.written());
@@ -166,7 +184,8 @@ impl<'r, R: Clock + Wait> OpenDirection<'r, R> {
 
     /// What it carried, if it has ended.
     pub(crate) fn carried(&self) -> Option<&Carried>
-        ensures { IfSome result (λ carried. carried.now.stream ≡ self.now.stream) }
+        ensures stream { IfSome result (λ carried. carried.now.stream ≡ self.now.stream) }
+        ensures carried { option_copied result ≡ carried_of self.now.state }
     {
         match &self.state {
             DirectionState::Ended(carried) => Some(carried),

@@ -3,11 +3,13 @@ ghost use Rattle.std.specs.Prelude.{◌≡◌, IfSome};
 ghost use Rattle.tox_time.specs.declared.streams.stream.Stream.TheVariants as StreamOf;
 
 use crate::flow::Flow;
+use crate::link_name::LinkName;
 use crate::open_direction::{DirectionProgress, OpenDirection};
 use crate::peer::Peer;
 use crate::socket_event::SocketEvent;
 use crate::taken_at::TakenAt;
 use std::alloc::Global;
+use std::boxed::Box;
 use std::sync::{Arc, Wait};
 use std::time::Clock;
 use tox_link::READ_SIZE;
@@ -45,17 +47,25 @@ pub(crate) struct Opening {
 }
 
 impl<'r, R: Clock + Wait> OpenLink<'r, R> {
+    ghost use Rattle.tox_workers.specs.Begun.{IsMadeOf, IsNewDirection};
+    ghost use Rattle.tox_workers.specs.Directions.{broken_off, carried_of, disarmed, is_armed};
+    ghost use Rattle.tox_workers.specs.OpenLinks.{IsSameLink, direction_of, end_of_both};
+    ghost use Rattle.tox_workers.specs.Peers.{other_stream, stream_from};
+    ghost use Rattle.tox_workers.specs.Reports.{IsAfterSource, IsAfterTarget, IsNotedSo};
+    ghost use Rattle.tox_workers.specs.Steps.{DrivesFrom};
+
     /// A link of these courses, at which nothing has come and which isn't logged. None if out of memory.
     pub(crate) fn new(
         rt: &'r R,
         alloc: Global,
         opening: Opening,
         courses: Courses,
-    ) -> Option<OpenLink<'r, R>>
+    ) -> Option<Box<OpenLink<'r, R>>>
         requires up { courses.up.stream ≡ StreamOf.Upstream }
         requires down { courses.down.stream ≡ StreamOf.Downstream }
-        ensures { IfSome result (λ link. (link.number ≡ opening.number)
-            × (link.proxy ≡ opening.proxy)) }
+        ensures parts { IfSome result (λ link. IsMadeOf opening link.value) }
+        ensures up { IfSome result (λ link. IsNewDirection courses.up link.value.up) }
+        ensures down { IfSome result (λ link. IsNewDirection courses.down link.value.down) }
     {
         let Opening {
             number,
@@ -68,7 +78,7 @@ impl<'r, R: Clock + Wait> OpenLink<'r, R> {
         let Courses { up, down } = courses;
         let up = Flow::new(rt, alloc, &sockets, since.start, up, closing)?;
         let down = Flow::new(rt, alloc, &sockets, since.start, down, false)?;
-        Some(OpenLink {
+        let link = OpenLink {
             number,
             proxy,
             sockets,
@@ -76,18 +86,45 @@ impl<'r, R: Clock + Wait> OpenLink<'r, R> {
             since,
             up: OpenDirection::new(up),
             down: OpenDirection::new(down),
-        })
+        };
+        match Box::new(alloc, link) {
+            Ok(link) => Some(link),
+            Err(_) => None,
+        }
+    }
+
+    /// Which link it is.
+    pub(crate) fn name(&self) -> LinkName
+        ensures { result ≡ record { place = self.now.proxy; number = self.now.number } }
+    {
+        LinkName {
+            place: self.proxy,
+            number: self.number,
+        }
     }
 
     /// From now on its streams are noted so.
-    pub(crate) fn log(&mut self, up: StreamNotes<'r, R>, down: StreamNotes<'r, R>) {
+    pub(crate) fn log(&mut self, up: StreamNotes<'r, R>, down: StreamNotes<'r, R>)
+        ensures up { IsNotedSo up.entry self.old.up.state self.new.up.state }
+        ensures down { IsNotedSo down.entry self.old.down.state self.new.down.state }
+        ensures armed { (self.new.up.armed ≡ self.old.up.armed)
+            × (self.new.down.armed ≡ self.old.down.armed) }
+        ensures same { IsSameLink self.old self.new }
+    {
         self.up.log(up);
         self.down.log(down);
     }
 
     /// The system reported something of a socket. Tells whether the direction that reads from it and the one that writes to it are
     /// to be driven.
-    pub(crate) fn note(&mut self, peer: Peer, event: &SocketEvent) -> (bool, bool) {
+    pub(crate) fn note(&mut self, peer: Peer, event: &SocketEvent) -> (bool, bool)
+        ensures source { IsAfterSource event.now (direction_of (stream_from peer) self.old)
+            (direction_of (stream_from peer) self.new) result.0 }
+        ensures target { IsAfterTarget event.now
+            (direction_of (other_stream (stream_from peer)) self.old)
+            (direction_of (other_stream (stream_from peer)) self.new) result.1 }
+        ensures same { IsSameLink self.old self.new }
+    {
         match peer {
             Peer::Client => (self.up.note_source(event), self.down.note_target(event)),
             Peer::Server => (self.down.note_source(event), self.up.note_target(event)),
@@ -95,7 +132,9 @@ impl<'r, R: Clock + Wait> OpenLink<'r, R> {
     }
 
     /// Whether a direction waits for a timer that is due at an instant.
-    pub(crate) fn is_armed(&self, stream: Stream, due: u64) -> bool {
+    pub(crate) fn is_armed(&self, stream: Stream, due: u64) -> bool
+        ensures { result ≡ is_armed due (direction_of stream self.now).armed }
+    {
         match stream {
             Stream::Upstream => self.up.is_armed(due),
             Stream::Downstream => self.down.is_armed(due),
@@ -103,7 +142,15 @@ impl<'r, R: Clock + Wait> OpenLink<'r, R> {
     }
 
     /// A timer of a direction is over.
-    pub(crate) fn disarm(&mut self, stream: Stream, due: u64) {
+    pub(crate) fn disarm(&mut self, stream: Stream, due: u64)
+        ensures armed { (direction_of stream self.new).armed
+            ≡ disarmed due (direction_of stream self.old).armed }
+        ensures state { (direction_of stream self.new).state
+            ≡ (direction_of stream self.old).state }
+        ensures other { direction_of (other_stream stream) self.new
+            ≡ direction_of (other_stream stream) self.old }
+        ensures same { IsSameLink self.old self.new }
+    {
         match stream {
             Stream::Upstream => self.up.disarm(due),
             Stream::Downstream => self.down.disarm(due),
@@ -117,7 +164,13 @@ impl<'r, R: Clock + Wait> OpenLink<'r, R> {
         alloc: Global,
         stream: Stream,
         scratch: &mut [u8; READ_SIZE],
-    ) -> DirectionProgress {
+    ) -> DirectionProgress
+        ensures drives { DrivesFrom self.old.since.worker (direction_of stream self.old).state
+            (direction_of stream self.old) (direction_of stream self.new) result }
+        ensures other { direction_of (other_stream stream) self.new
+            ≡ direction_of (other_stream stream) self.old }
+        ensures same { IsSameLink self.old self.new }
+    {
         let since = self.since;
         match stream {
             Stream::Upstream => self.up.drive(rt, alloc, &self.sockets, since, scratch),
@@ -126,7 +179,11 @@ impl<'r, R: Clock + Wait> OpenLink<'r, R> {
     }
 
     /// Breaks the link off, out of memory.
-    pub(crate) fn break_off(&mut self) {
+    pub(crate) fn break_off(&mut self)
+        ensures up { self.new.up.state ≡ broken_off StreamOf.Upstream self.old.up.state }
+        ensures down { self.new.down.state ≡ broken_off StreamOf.Downstream self.old.down.state }
+        ensures same { IsSameLink self.old self.new }
+    {
         self.sockets.ends_of(Stream::Upstream).reset();
         self.up.break_off();
         self.down.break_off();
@@ -134,7 +191,9 @@ impl<'r, R: Clock + Wait> OpenLink<'r, R> {
 
     /// How the link ended, if both its directions have.
     pub(crate) fn end(&self) -> Option<LinkEnd>
-        ensures { IfSome result (λ end. end.number ≡ self.now.number) }
+        ensures number { IfSome result (λ end. end.number ≡ self.now.number) }
+        ensures both { result ≡ end_of_both self.now.number (carried_of self.now.up.state)
+            (carried_of self.now.down.state) }
     {
         let up = self.up.carried()?;
         let down = self.down.carried()?;

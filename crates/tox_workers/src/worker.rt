@@ -1,6 +1,7 @@
 //! A worker: waits for events, and drives its links.
 pub(crate) mod accepting;
 mod driving;
+mod making;
 mod opening;
 
 use crate::link_key::LinkKey;

@@ -117,9 +117,9 @@ impl<'s, R: ServeRuntime> Worker<'s, R> {
         };
         self.links.close(key);
         self.run.live.remove(self.rt, open.live);
-        let place = open.proxy;
+        let name = open.name();
         drop(open);
-        self.end_link(place, &end);
+        self.end_link(name, &end);
     }
 
     /// Gives each direction its turn that may go on.

@@ -1,8 +1,12 @@
 //! From a connection that was taken to an open link.
+ghost use Rattle.std.specs.Prelude.{◌≡◌, ◌||◌, ◌↔◌, false, IfSome, IsSome};
+ghost use Rattle.tox_workers.specs.Begun.{IsLinkOf};
+
 use crate::connecting::{Client, Connecting, Connection, connection_of};
 use crate::link_key::LinkKey;
+use crate::link_name::LinkName;
 use crate::link_state::LinkState;
-use crate::open_link::{OpenLink, Opening};
+use crate::open_link::OpenLink;
 use crate::peer::Peer;
 use crate::socket_event::SocketEvent;
 use crate::subject::{Subject, token_of};
@@ -11,6 +15,7 @@ use crate::timers::Turn;
 use crate::upstream::Addresses;
 use crate::waits::MILLI;
 use crate::worker::Worker;
+use crate::worker::making::make_link;
 use mio::Interest;
 use mio::net::TcpStream as BegunStream;
 use mio::unix::SourceFd;
@@ -20,11 +25,9 @@ use std::mem;
 use std::net::{SocketAddr, TcpStream};
 use std::os::fd::AsRawFd;
 use std::sync::Arc;
-use tox_links::{
-    LinkEnd, ServeRuntime, Taken, broken_link, courses_of, notes_of, print_open, unless_stopped,
-};
+use tox_links::{LinkEnd, ServeRuntime, Taken, broken_link, unless_stopped};
 use tox_log::BreakCause;
-use tox_sockets::{LinkSockets, LinkStart, LiveSocket};
+use tox_sockets::LinkStart;
 use tox_time::Stream;
 
 impl<'s, R: ServeRuntime> Worker<'s, R> {
@@ -156,7 +159,11 @@ impl<'s, R: ServeRuntime> Worker<'s, R> {
         key: LinkKey,
         client: Client,
         event: &SocketEvent,
-    ) -> Option<Client> {
+    ) -> Option<Client>
+        ensures some { IfSome result (λ noted. noted
+            ≡ record client { closing = client.closing || event.now.closing }) }
+        ensures gone { IsSome result ↔ (event.now.gone ≡ false) }
+    {
         let mut client = client;
         if event.gone {
             self.refuse(key, client);
@@ -173,7 +180,9 @@ impl<'s, R: ServeRuntime> Worker<'s, R> {
         connecting: Connecting,
         peer: Peer,
         event: &SocketEvent,
-    ) -> Option<Box<OpenLink<'s, R>>> {
+    ) -> Option<Box<OpenLink<'s, R>>>
+        ensures { IfSome result (λ link. IsLinkOf connecting.client link.value) }
+    {
         if peer == Peer::Client {
             return self.on_waiting_client(key, connecting, event);
         }
@@ -197,7 +206,9 @@ impl<'s, R: ServeRuntime> Worker<'s, R> {
         key: LinkKey,
         connecting: Connecting,
         event: &SocketEvent,
-    ) -> Option<Box<OpenLink<'s, R>>> {
+    ) -> Option<Box<OpenLink<'s, R>>>
+        ensures { IfSome result (λ link. IsLinkOf connecting.client link.value) }
+    {
         if event.gone && connection_of(&connecting.server) == Connection::There {
             return self.open(key, connecting, Peer::Client, event);
         }
@@ -251,7 +262,9 @@ impl<'s, R: ServeRuntime> Worker<'s, R> {
         connecting: Connecting,
         peer: Peer,
         event: &SocketEvent,
-    ) -> Option<Box<OpenLink<'s, R>>> {
+    ) -> Option<Box<OpenLink<'s, R>>>
+        ensures { IfSome result (λ link. IsLinkOf connecting.client link.value) }
+    {
         let Connecting {
             client,
             server,
@@ -259,10 +272,10 @@ impl<'s, R: ServeRuntime> Worker<'s, R> {
             next: _,
             deadline: _,
         } = connecting;
-        let (number, place) = (client.taken.number, client.proxy);
+        let name = client.name();
         let Some(mut open) = self.make(client, server) else {
             self.links.close(key);
-            self.break_link(place, number, BreakCause::Memory);
+            self.break_link(name, BreakCause::Memory);
             return None;
         };
         // The report may also say that the peer sends no more, which isn't reported again.
@@ -270,47 +283,12 @@ impl<'s, R: ServeRuntime> Worker<'s, R> {
         Some(open)
     }
 
-    fn make(&mut self, client: Client, server: TcpStream) -> Option<Box<OpenLink<'s, R>>> {
-        let (run, rt) = (self.run, self.rt);
+    /// The link of a client whose upstream is connected. None if out of memory or the run is stopping.
+    fn make(&mut self, client: Client, server: TcpStream) -> Option<Box<OpenLink<'s, R>>>
+        ensures { IfSome result (λ link. IsLinkOf client link.value) }
+    {
         let links = &self.workers.proxies.get(client.proxy)?.links;
-        let served = links.proxy;
-        let courses = courses_of(run, &served.name, client.taken.number)?;
-        print_open(
-            rt,
-            run,
-            &served.name,
-            client.taken.number,
-            &client.taken.client,
-            &courses,
-        );
-        let Client {
-            taken,
-            proxy,
-            since,
-            closing,
-        } = client;
-        let Taken { client, number } = taken;
-        let sockets = LinkSockets::new(run.alloc, client, server)?;
-        let shared = sockets.clone().ok()?;
-        let live = run.live.add(rt, LiveSocket::Link(shared)).ok()?;
-        let opening = Opening {
-            number,
-            proxy,
-            sockets,
-            live,
-            since,
-            closing,
-        };
-        let open = OpenLink::new(rt, run.alloc, opening, courses);
-        let Some(mut open) = open.and_then(|open| Box::new(run.alloc, open).ok()) else {
-            run.live.remove(rt, live);
-            return None;
-        };
-        // The logs are begun once nothing can fail any more: a link that is broken before has logs that tell just that.
-        let up = notes_of(rt, run, links, number, Stream::Upstream);
-        let down = notes_of(rt, run, links, number, Stream::Downstream);
-        open.log(up, down);
-        Some(open)
+        make_link(self.rt, self.run, links, client, server)
     }
 
     /// Breaks a link whose upstream isn't connected. Its client is closed.
@@ -320,24 +298,26 @@ impl<'s, R: ServeRuntime> Worker<'s, R> {
     }
 
     fn end_broken(&mut self, client: Client) {
-        let (number, place) = (client.taken.number, client.proxy);
+        let name = client.name();
         drop(client);
-        self.break_link(place, number, BreakCause::Upstream);
+        self.break_link(name, BreakCause::Upstream);
     }
 
-    /// Settles a link of the proxy at a place that carried nothing, for this cause unless the run was told to stop.
-    fn break_link(&self, place: usize, number: u64, cause: BreakCause) {
+    /// Settles a link that carried nothing, for this cause unless the run was told to stop.
+    fn break_link(&self, name: LinkName, cause: BreakCause) {
         let (rt, run) = (self.rt, self.run);
-        if let Some(proxy) = self.workers.proxies.get(place) {
+        if let Some(proxy) = self.workers.proxies.get(name.place) {
             let cause = unless_stopped(rt, run, cause);
-            let end = broken_link(rt, run, &proxy.links, number, cause);
-            self.end_link(place, &end);
+            let end = broken_link(rt, run, &proxy.links, name.number, cause);
+            self.end_link(name, &end);
         }
     }
 
-    /// Settles a link of the proxy at a place.
-    pub(super) fn end_link(&self, place: usize, end: &LinkEnd) {
-        if let Some(proxy) = self.workers.proxies.get(place) {
+    /// Settles a link. Its end has its number.
+    pub(super) fn end_link(&self, name: LinkName, end: &LinkEnd)
+        requires { end.now.number ≡ name.number }
+    {
+        if let Some(proxy) = self.workers.proxies.get(name.place) {
             proxy.links.end_link(self.rt, self.run, end);
         }
     }

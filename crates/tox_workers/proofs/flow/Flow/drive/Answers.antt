@@ -1,5 +1,4 @@
 -- A direction that goes on is ready again.
-use Rattle.std.proofs.Common.{◌≡◌}
 use Rattle.tox_workers.proofs.ReadyLemmas.{fault-of, unlimited-of}
 use Rattle.tox_workers.proofs.flow.Flow.drive.Goals as goal
 
