@@ -11,4 +11,5 @@ pub mod Reports
 pub mod Steps
 pub mod Timers
 pub mod Tokens
+pub mod Turns
 pub mod Waits

@@ -1,6 +1,9 @@
 //! Driving the directions of links: after an event, at a timer, or in their turn.
 ghost use Rattle.std.specs.Prelude.{◌≡◌};
+ghost use Rattle.std.specs.Bool.{OnTrue};
 ghost use Rattle.tox_workers.specs.Peers.{other_stream};
+ghost use Rattle.tox_workers.specs.Timers.{timers_of};
+ghost use Rattle.tox_workers.specs.Turns.{HasTurns};
 
 use crate::link_key::LinkKey;
 use crate::link_state::LinkState;
@@ -8,7 +11,7 @@ use crate::open_direction::DirectionProgress;
 use crate::open_link::OpenLink;
 use crate::peer::Peer;
 use crate::socket_event::SocketEvent;
-use crate::timers::Turn;
+use crate::timers::{Timers, Turn};
 use crate::worker::Worker;
 use std::boxed::Box;
 use std::mem;
@@ -23,6 +26,26 @@ fn other(stream: Stream) -> Stream
     match stream {
         Stream::Upstream => Stream::Downstream,
         Stream::Downstream => Stream::Upstream,
+    }
+}
+
+/// Sees to it that a direction is driven again. Once it has ended the other one has a turn: its sockets may have been cut. False if
+/// out of memory.
+fn keep(timers: &mut Timers, turns: &mut Vec<Turn>, turn: Turn, progress: DirectionProgress) -> bool
+    ensures { OnTrue result (HasTurns turn progress (timers_of timers.old) (timers_of timers.new)
+        turns.old.items turns.new.items) }
+{
+    match progress {
+        DirectionProgress::Waits => true,
+        DirectionProgress::WaitsUntil(due) => timers.set(due, turn),
+        DirectionProgress::Again => turns.push(turn).is_ok(),
+        DirectionProgress::Ended => {
+            let after = Turn {
+                key: turn.key,
+                stream: other(turn.stream),
+            };
+            turns.push(after).is_ok()
+        }
     }
 }
 
@@ -86,8 +109,7 @@ impl<'s, R: ServeRuntime> Worker<'s, R> {
         self.settle(key, open);
     }
 
-    /// Drives a direction, and sees to it that it is driven again. Once it has ended the other one has a turn: its sockets may
-    /// have been cut.
+    /// Drives a direction, and sees to it that it is driven again.
     fn drive(
         &mut self,
         key: LinkKey,
@@ -95,16 +117,9 @@ impl<'s, R: ServeRuntime> Worker<'s, R> {
         stream: Stream,
         scratch: &mut [u8; READ_SIZE],
     ) {
-        let kept = match open.drive(self.rt, self.run.alloc, stream, scratch) {
-            DirectionProgress::Waits => true,
-            DirectionProgress::WaitsUntil(due) => self.timers.set(due, Turn { key, stream }),
-            DirectionProgress::Again => self.turns.push(Turn { key, stream }).is_ok(),
-            DirectionProgress::Ended => {
-                let stream = other(stream);
-                self.turns.push(Turn { key, stream }).is_ok()
-            }
-        };
-        if !kept {
+        let progress = open.drive(self.rt, self.run.alloc, stream, scratch);
+        let turn = Turn { key, stream };
+        if !keep(&mut self.timers, &mut self.turns, turn, progress) {
             open.break_off();
         }
     }
