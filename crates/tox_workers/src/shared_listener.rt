@@ -1,4 +1,6 @@
 //! Where the connections of a proxy come from, which all workers share.
+ghost use Rattle.std.specs.Prelude.{◌≡◌, ◌+◌, ◌-◌, ◌^◌, min};
+
 use mio::unix::SourceFd;
 use mio::{Interest, Registry, Token};
 use std::alloc::Global;
@@ -16,6 +18,17 @@ struct Listener {
     listener: Option<Arc<TcpListener, Global>>,
     /// How many connections were taken.
     connections: u64,
+}
+
+impl Listener {
+    /// One more connection was taken.
+    fn count(&mut self)
+        ensures { self.new ≡ record self.old {
+          connections = min (self.old.connections + 1) (2 ^ 64 - 1);
+        } }
+    {
+        self.connections = self.connections.saturating_add(1);
+    }
 }
 
 /// The listener of a proxy. Its lock is held from a connection's `accept` until it has its number, so that numbers follow the order in
@@ -91,7 +104,7 @@ impl SharedListener {
         if !is_enough(run.options.links, shared.connections, &book.book) {
             match listener.accept() {
                 Ok((client, _)) => {
-                    shared.connections = shared.connections.saturating_add(1);
+                    shared.count();
                     return match number_link(&mut book, client) {
                         Some(taken) => Accepted::Client(taken),
                         None => Accepted::Dropped,
