@@ -1,5 +1,6 @@
 //! One direction of a link while it goes on: the step machine and its two ends.
 ghost use Rattle.std.specs.Prelude.{◌≡◌, Bool, true, false, List, IfSome};
+ghost use Rattle.tox_time.specs.Time.{IsInstant};
 ghost use Rattle.tox_link.specs.direction.Driven.{IsAtEnd};
 ghost use Rattle.tox_link.specs.direction.Follows.{IsHeld, IsNew};
 ghost use Rattle.tox_link.specs.declared.source_ending.SourceEnding.TheVariants.{ReadFault as AtFault, ReadsUsedUp as AtLastRead};
@@ -188,7 +189,7 @@ fn end<R: Clock + Wait>(
     notes: &StreamNotes<'_, R>,
 ) -> Carried
     requires held { IsHeld link.value }
-    requires ended { IsAtEnd (λ _. Unit {0}) link.value ending.now }
+    requires ended { IsAtEnd IsInstant link.value ending.now }
     ensures { (was_stopped : Bool) × (result ≡ record {
       stream = stream;
       bytes = link.value.written;
@@ -224,7 +225,7 @@ fn last_reading<R: Clock + Wait>(
     ending: Ending,
 ) -> Micros
     requires held { IsHeld link.value }
-    requires ended { IsAtEnd (λ _. Unit {0}) link.value ending }
+    requires ended { IsAtEnd IsInstant link.value ending }
 {
     let link = Box::into_inner(link);
     let driven = Ok(ending);
