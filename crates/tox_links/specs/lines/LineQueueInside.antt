@@ -7,6 +7,6 @@ abbrev pub lines_seen : Inside → Lines
 lines_seen q = record { bytes = q.bytes.items; dropped = q.dropped }
 
 -- at most 65,536 bytes wait, and room for so many is reserved
-pub record IsKept (q : Inside) : Type 0 where
+pub record KeepsQueue (q : Inside) : Type 0 where
   pub few : length q.bytes.items ≤ 65536
   pub reserved : 65536 ≤ vec_capacity q.bytes

@@ -19,13 +19,13 @@ pub struct LineQueue {
 
 impl Model for LineQueue {
     ghost use Rattle.tox_links.specs.lines.LineQueue.{Lines};
-    ghost use Rattle.tox_links.specs.lines.LineQueueInside.{lines_seen, IsKept};
+    ghost use Rattle.tox_links.specs.lines.LineQueueInside.{lines_seen, KeepsQueue};
 
     ghost Value = { Lines };
 
     ghost view = { lines_seen };
 
-    ghost invariant = { IsKept };
+    ghost invariant = { KeepsQueue };
 }
 
 impl LineQueue {
