@@ -1,7 +1,7 @@
 -- The runs of all connections: there are some, they are in order, and not many.
 use Rattle.std.proofs.Common.{◌≡◌, ℕ, zero, suc, ◌+◌, ◌≤◌, List, [], ◌∷◌, length, Option, None, Some, arith, refl, sym, ap, ◌∙◌}
 use Rattle.std.proofs.lemmas.List.Elements.{All-cons, All-nil}
-use Rattle.tox_check.specs.Runs.{IsRun, IsRuns, ahead}
+use Rattle.tox_check.specs.Runs.{IsMetRun, IsRuns, ahead}
 use Rattle.tox_check.specs.Summary.{IsSome, Orders}
 use Rattle.tox_check.specs.declared.run.Run.{Run}
 use Rattle.tox_check.proofs.Joined.{IsRuns-earlier, ahead_runs}
@@ -10,7 +10,7 @@ use Rattle.tox_check.proofs.Joined.{IsRuns-earlier, ahead_runs}
 pub IsRuns-same : (f g : ℕ → Option ℕ) (at : ℕ) (runs : List Run) → ((conn : ℕ) → conn ≤ 1_000_000 → f conn ≡ g conn) → IsRuns f at runs → IsRuns g at runs
 IsRuns-same f g at [] same are = λ conn from to. sym (same conn (omega arith)) ∙ are conn from to
 IsRuns-same f g at (run ∷ rest) same are =
-    let whole : IsRun f run = are.1.1.0 in
+    let whole : IsMetRun f run = are.1.1.0 in
     let some = whole.some in
     let most = whole.numbered in (
       are.0,

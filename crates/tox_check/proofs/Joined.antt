@@ -1,7 +1,7 @@
 -- A run ahead of the runs of all connections behind it.
 use Rattle.std.proofs.Common.{◌≡◌, ◌≢◌, ℕ, ◌+◌, ◌<◌, ◌≤◌, inl, inr, Bool, true, false, cond, List, [], ◌∷◌, Option, None, Some, arith, refl, sym, ap, ◌∙◌}
 use Rattle.std.proofs.lemmas.Bool.Decides.{leb_tells}
-use Rattle.tox_check.specs.Runs.{IsRun, IsRuns, MeetNone, ahead, joins}
+use Rattle.tox_check.specs.Runs.{IsMetRun, IsRuns, MeetNone, ahead, joins}
 use Rattle.tox_check.specs.declared.run.Run.{Run}
 
 -- connections before the runs that meet no rule
@@ -30,7 +30,7 @@ ends_before : (met : ℕ → Option ℕ) (run next : Run) (rest : List Run) → 
 ends_before met run next rest apart runs within same =
     let first = runs.0 in
     let none = runs.1.0 in
-    let whole : IsRun met next = runs.1.1.0 in
+    let whole : IsMetRun met next = runs.1.1.0 in
     elim (leb_tells next.first (run.last + 1)) [
       | inl at ↦
           let begins : next.first ≡ run.last + 1 = omega arith in
@@ -62,7 +62,7 @@ ahead_runs met run [] some most meet runs = (
 )
 ahead_runs met run (next ∷ rest) some most meet runs = at (joins run next) refl
   where
-    whole : IsRun met next
+    whole : IsMetRun met next
     whole = runs.1.1.0
 
     at : (b : Bool) → joins run next ≡ b → IsRuns met run.first (cond b (record { first = run.first; last = next.last; rule = run.rule } ∷ rest) (run ∷ next ∷ rest))

@@ -3,7 +3,7 @@ use Rattle.std.proofs.Common.{◌≡◌, ◌≢◌, ℕ, ◌+◌, ◌≤◌, inl
 use Rattle.std.proofs.lemmas.Bool.{and_from, and_right, eq-eqb, false≢true, le-leb, ne_eqb}
 use Rattle.std.proofs.lemmas.Bool.Decides.{leb_tells}
 use Rattle.tox_check.specs.Coverage.{cut, meets, own_of, reaches, within}
-use Rattle.tox_check.specs.Runs.{IsRun, IsRuns}
+use Rattle.tox_check.specs.Runs.{IsMetRun, IsRuns}
 use Rattle.tox_check.specs.declared.run.Run.{Run}
 
 own-cons : (rule first last : ℕ) (run : Run) (rest : List Run) → own_of rule (within first last (run ∷ rest))
@@ -48,7 +48,7 @@ pub none_own : (met : ℕ → Option ℕ) (rule first last at : ℕ) (runs : Lis
 none_own met rule first last at [] are begins never = refl
 none_own met rule first last at (run ∷ rest) are begins never =
     let from = are.0 in
-    let whole : IsRun met run = are.1.1.0 in
+    let whole : IsMetRun met run = are.1.1.0 in
     let some = whole.some in
     let most = whole.numbered in
     let here : met run.first ≡ Some run.rule = whole.meet run.first (omega arith) some in

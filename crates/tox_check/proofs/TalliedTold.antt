@@ -5,7 +5,7 @@ use Rattle.tox_check.specs.Lines.{coverage_told, met_told}
 use Rattle.tox_check.specs.Listed.{IsListed}
 use Rattle.tox_check.specs.Sentences.{covered_text, partly_text}
 use Rattle.tox_check.specs.Summary.{greatest, least}
-use Rattle.tox_check.specs.Tallied.{IsTallied}
+use Rattle.tox_check.specs.Tallied.{TalliesRuns}
 use Rattle.tox_check.specs.declared.listed.Listed.{Listed}
 use Rattle.tox_check.specs.declared.run.Run.{Run}
 use Rattle.tox_check.specs.declared.tally.Tally.{Tally}
@@ -20,7 +20,7 @@ told_partly rule (run ∷ own) [] some others = absurd (others refl)
 told_partly rule (run ∷ own) (other ∷ taken) some others = refl
 
 -- the rule gets some of the runs, and others get the rest
-pub tallied_partly : (rule : ℕ) (runs : List Run) (tally : Tally) → IsTallied rule runs tally → tally.own.shown.items ≢ [] → tally.taken.shown.items ≢ []
+pub tallied_partly : (rule : ℕ) (runs : List Run) (tally : Tally) → TalliesRuns rule runs tally → tally.own.shown.items ≢ [] → tally.taken.shown.items ≢ []
     → partly_text tally.own.shown.items tally.own.more tally.taken.shown.items tally.taken.more ∷ [] ≡ met_told rule runs
 tallied_partly rule runs tally is some others =
     let own = own_of rule runs in

@@ -6,7 +6,7 @@ use Rattle.std.proofs.lemmas.List.Sums.{fold-append}
 use Rattle.tox_check.specs.Coverage.{meets, own_of, taken_of}
 use Rattle.tox_check.specs.Listed.{IsListed}
 use Rattle.tox_check.specs.Summary.{Sums, greatest, least}
-use Rattle.tox_check.specs.Tallied.{IsTallied}
+use Rattle.tox_check.specs.Tallied.{TalliesRuns}
 use Rattle.tox_check.specs.declared.listed.Listed.{Listed}
 use Rattle.tox_check.specs.declared.run.Run.{Run}
 use Rattle.tox_check.specs.declared.tally.Tally.{Tally}
@@ -36,10 +36,10 @@ least-append rule xs ys = fold-append (λ low (run : Run). min low run.rule) rul
 greatest-append : (rule : ℕ) (xs ys : List Run) → greatest rule (xs ++ ys) ≡ greatest (greatest rule xs) ys
 greatest-append rule xs ys = fold-append (λ high (run : Run). max high run.rule) rule xs ys
 
-pub IsTallied-count : (rule : ℕ) (runs more : List Run) (old new : Tally) (s : Summary) → s.high < rule → 8 ≤ length old.taken.shown.items
+pub TalliesRuns-count : (rule : ℕ) (runs more : List Run) (old new : Tally) (s : Summary) → s.high < rule → 8 ≤ length old.taken.shown.items
     → new.own ≡ old.own → new.taken.shown.items ≡ old.taken.shown.items → new.taken.more ≡ old.taken.more + s.count → new.low ≡ min old.low s.low → new.high ≡ max old.high s.high
-    → IsTallied rule runs old → Sums more s → IsTallied rule (runs ++ more) new
-IsTallied-count rule runs more old new s others full own shown count low high is sums =
+    → TalliesRuns rule runs old → Sums more s → TalliesRuns rule (runs ++ more) new
+TalliesRuns-count rule runs more old new s others full own shown count low high is sums =
     let top : greatest 0 more < rule = let h = sums.high 0 in omega arith in
     let same : own_of rule (runs ++ more) ≡ own_of rule runs =
     own_of-append rule runs more ∙ ap (λ xs. own_of rule runs ++ xs) (none_own rule 0 more top) ∙ append-nil (own_of rule runs) in

@@ -5,7 +5,7 @@ use Rattle.tox_script.specs.declared.index.step.Step.{Step}
 use Rattle.tox_check.specs.declared.run.Run.{Run}
 
 -- consecutive connections that meet a rule; the next one doesn't meet it
-pub record IsRun (met : ℕ → Option ℕ) (run : Run) : Type 0 where
+pub record IsMetRun (met : ℕ → Option ℕ) (run : Run) : Type 0 where
   pub some : run.first ≤ run.last
   pub numbered : run.last ≤ 1_000_000
   pub meet : (conn : ℕ) → run.first ≤ conn → conn ≤ run.last → met conn ≡ Some run.rule
@@ -19,7 +19,7 @@ MeetNone met at before = (conn : ℕ) → at ≤ conn → conn < before → met 
 abbrev pub IsRuns : (ℕ → Option ℕ) → ℕ → List Run → Type 0
 IsRuns met at [] = MeetNone met at 1_000_001
 IsRuns met at (run ∷ runs) =
-    (at ≤ run.first) × (MeetNone met at run.first × (IsRun met run × IsRuns met (run.last + 1) runs))
+    (at ≤ run.first) × (MeetNone met at run.first × (IsMetRun met run × IsRuns met (run.last + 1) runs))
 
 -- whether two runs are adjacent and meet the same rule
 abbrev pub joins : Run → Run → Bool

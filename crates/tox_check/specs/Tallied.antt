@@ -7,7 +7,7 @@ use Rattle.tox_check.specs.declared.run.Run.{Run}
 use Rattle.tox_check.specs.declared.tally.Tally.{Tally}
 
 -- the tally of a rule over some runs
-pub record IsTallied (rule : ℕ) (runs : List Run) (tally : Tally) : Type 0 where
+pub record TalliesRuns (rule : ℕ) (runs : List Run) (tally : Tally) : Type 0 where
   pub own : IsListed (own_of rule runs) tally.own
   pub taken : IsListed (taken_of rule runs) tally.taken
   pub low : tally.low ≡ least rule (taken_of rule runs)
@@ -16,7 +16,7 @@ pub record IsTallied (rule : ℕ) (runs : List Run) (tally : Tally) : Type 0 whe
 -- these runs were tallied behind those that were
 abbrev pub TalliesMore : ℕ → List Run → Tally → Tally → Type 0
 TalliesMore rule more old new =
-    (runs : List Run) → IsTallied rule runs old → IsTallied rule (runs ++ more) new
+    (runs : List Run) → TalliesRuns rule runs old → TalliesRuns rule (runs ++ more) new
 
 -- how many runs are only counted, and not shown
 abbrev pub unshown_count : Tally → ℕ

@@ -4,7 +4,7 @@ ghost use Rattle.tox_script.specs.chains.Chains.{on};
 ghost use Rattle.tox_forecast.specs.Totals.{place_on};
 ghost use Rattle.tox_check.specs.Coverage.{within};
 ghost use Rattle.tox_check.specs.Lines.{is_silent, met_told, silent_told, toxic_told};
-ghost use Rattle.tox_check.specs.Tallied.{IsTallied};
+ghost use Rattle.tox_check.specs.Tallied.{TalliesRuns};
 ghost use Rattle.tox_check.specs.Told.{IsTreeOf, TellMore, runs_by, told_by};
 ghost use Rattle.tox_check.specs.declared.run.Run.{Run};
 
@@ -34,7 +34,7 @@ pub(crate) fn coverage<'a>(tree: &Option<RunTree>, range: Range) -> Option<Warni
 
 /// What is told of a tally.
 fn warning_of<'a>(tally: Tally) -> Option<Warning<'a>>
-    ensures { (runs : List Run) → IsTallied tally.rule runs tally
+    ensures { (runs : List Run) → TalliesRuns tally.rule runs tally
         → told_by result ≡ met_told tally.rule runs }
 {
     if tally.own.is_empty() {

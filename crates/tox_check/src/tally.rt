@@ -2,7 +2,7 @@
 ghost use Rattle.std.specs.Prelude.{◌≡◌, ◌+◌, ◌<◌, ◌≤◌, ◌^◌, ◌↔◌, [], ◌∷◌, IsTrue, List, length};
 ghost use Rattle.tox_check.specs.declared.run.Run.{Run as SomeRun};
 ghost use Rattle.tox_check.specs.Summary.{Sums};
-ghost use Rattle.tox_check.specs.Tallied.{IsTallied, TalliesMore, unshown_count};
+ghost use Rattle.tox_check.specs.Tallied.{TalliesRuns, TalliesMore, unshown_count};
 
 use crate::listed::Listed;
 use crate::run::Run;
@@ -24,7 +24,7 @@ pub(crate) struct Tally {
 impl Tally {
     /// The tally of no runs.
     pub(crate) fn new(rule: usize) -> Tally
-        ensures tallied { IsTallied rule [] result }
+        ensures tallied { TalliesRuns rule [] result }
         ensures few { unshown_count result ≡ 0 }
         ensures rule { result.rule ≡ rule }
     {

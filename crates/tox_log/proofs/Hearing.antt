@@ -36,7 +36,7 @@ use Rattle.tox_log.specs.Lines.{IsWritable, line_words}
 use Rattle.tox_log.specs.Judging.{Hears, Judged, Refuses, RefusesEnding, source_heard}
 use Rattle.tox_log.specs.declared.replay.Verdict.{Verdict}
 use Rattle.tox_log.specs.declared.replay.Verdict.TheVariants.{Faithful, Unfinished, Unfaithful}
-use Rattle.tox_log.specs.Hearing.{AreCounts, Begins, HasHeard, HasNoEnding, HasReport, HasStopped, HearsLine, HearsToEnd, IsFaithfulText, IsRefusedText, IsTextOf, IsTold, IsUnfinishedText, SaysOf, SaysSo, event_lines}
+use Rattle.tox_log.specs.Hearing.{AreCounts, BeginsJudging, HasHeard, HasNoEnding, HasReport, HasStopped, HearsLine, HearsToEnd, IsFaithfulText, IsRefusedText, IsTextOf, IsTold, IsUnfinishedText, SaysOf, SaysSo, event_lines}
 use Rattle.tox_log.proofs.Refusing.{timely-told}
 
 told-front : (told : ℕ → Bool) (events : List LinkEvent) (event : LinkEvent) → IsTold told (events ++ event ∷ []) → IsTold told events
@@ -321,7 +321,7 @@ stopped-so means text over hearing (Some cause) says =
     )
 
 -- the lines behind the header that was read
-text-of : (before after : Option (List ℕ)) (log last : OpenLog) (hearing end : Hearing) (judged : JudgedLog) → Opens before after log → (begun : Begins log.heading log.chain hearing)
+text-of : (before after : Option (List ℕ)) (log last : OpenLog) (hearing end : Hearing) (judged : JudgedLog) → Opens before after log → (begun : BeginsJudging log.heading log.chain hearing)
     → (heard : HearsToEnd log last after hearing end) → judged.heading ≡ log.heading → judged.chain ≡ log.chain → IsTextOf before judged heard.text begun.means
 text-of before after log last hearing end judged opened begun heard heading chain =
     let header : Heading → Toxics → List ℕ = λ h c. header_text (string_bytes h.proxy) h.number h.stream h.seed c opened.names in
@@ -353,7 +353,7 @@ kept-stopped : (means : List Item → List Item) (text : List ℕ) (hearing : He
     → HasStopped means text judged.broken judged.heard judged.said judged.source_ended judged.writes late
 kept-stopped means text hearing judged late kept stopped = rw (kept.broken, kept.heard, kept.said, kept.ended, kept.writes) stopped
 
-module _ (before after : Option (List ℕ)) (log last : OpenLog) (hearing end : Hearing) (judged : JudgedLog) (opened : Opens before after log) (begun : Begins log.heading log.chain hearing)
+module _ (before after : Option (List ℕ)) (log last : OpenLog) (hearing end : Hearing) (judged : JudgedLog) (opened : Opens before after log) (begun : BeginsJudging log.heading log.chain hearing)
     (heard : HearsToEnd log last after hearing end) (kept : KeepsHearing end judged) (heading : judged.heading ≡ last.heading) (chain : judged.chain ≡ last.chain) where
   says : SaysSo begun.means heard.text last.over end judged.verdict
   says = subst (SaysSo begun.means heard.text last.over end) (sym kept.verdict) (heard.says begun.means (subst (λ over. SaysOf begun.means [] over hearing) (sym opened.going) begun.says))

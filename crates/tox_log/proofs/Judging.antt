@@ -25,7 +25,7 @@ use Rattle.tox_link.specs.Reports.{ReportsAt, HeardSo}
 use Rattle.tox_link.proofs.Logs.{stream-earlier, heard-piece, heard-end, heard-wrote, said-append, heard_bytes-append, gapless-append, gapless-bytes, by-later, by-append, faithful-append, ordered-piece, ordered-end, ordered-wrote, end-same}
 use Rattle.tox_link.proofs.StepLemmas.{faithful-nil}
 use Rattle.tox_log.specs.declared.judge.Judge.{Judge}
-use Rattle.tox_log.specs.Judging.{Follows, FollowsWith, IsHeld, Judged, Stays, part_from, rest_table, slice_in, source_heard}
+use Rattle.tox_log.specs.Judging.{AddsUp, FollowsWith, KeepsUp, Judged, Stays, part_from, rest_table, slice_in, source_heard}
 
 -- what stands now agrees with the plan
 agrees-now : (means : List Item → List Item) (core : CoreView) (given : List ℕ) (heard_to latest start : ℕ) (log : List LinkEvent)
@@ -38,7 +38,7 @@ agrees-now means core given heard_to latest start log tables gapless = record {
 
 -- nothing was heard yet
 pub follows-start : (means : List Item → List Item) (told : ℕ → Bool) (core : CoreView) → ((items : List Item) → IsStream items → remaining_output core items ≡ means items)
-    → Follows means told core [] 0 0 false 0 []
+    → AddsUp means told core [] 0 0 false 0 []
 follows-start means told core output = record {
   tables = λ items stream. ap table (sym (output items stream));
   endings = λ items stream. ap ending (sym (output items stream));
@@ -51,7 +51,7 @@ follows-start means told core output = record {
 
 module _ (means : List Item → List Item) (told : ℕ → Bool) (core : CoreView) (heard_to latest : ℕ) (ended : Bool) (start : ℕ) (log : List LinkEvent) where
   -- the clock goes on
-  pub follows-later : (given : List ℕ) (later : ℕ) → latest ≤ later → Follows means told core given heard_to latest ended start log → Follows means told core given heard_to later ended start log
+  pub follows-later : (given : List ℕ) (later : ℕ) → latest ≤ later → AddsUp means told core given heard_to latest ended start log → AddsUp means told core given heard_to later ended start log
   follows-later given later goes_on follows = record {
     tables = λ items stream. follows.tables items (stream-earlier heard_to latest later items goes_on stream);
     endings = λ items stream. follows.endings items (stream-earlier heard_to latest later items goes_on stream);
@@ -62,7 +62,7 @@ module _ (means : List Item → List Item) (told : ℕ → Bool) (core : CoreVie
     closed = follows.closed;
   }
 
-  leaves-follows : (new : CoreView) (front : List ℕ) → LeavesOutput core new latest → Follows means told core front heard_to latest ended start log → Follows means told new (front ++ []) heard_to latest ended start log
+  leaves-follows : (new : CoreView) (front : List ℕ) → LeavesOutput core new latest → AddsUp means told core front heard_to latest ended start log → AddsUp means told new (front ++ []) heard_to latest ended start log
   leaves-follows new front leaves follows = record {
     tables = λ items stream. follows.tables items stream
         ∙ ap (λ ts. slices_table (said log) ++ (front ++ ts)) (sym (leaves.output heard_to latest items (omega arith) stream).tables)
@@ -76,8 +76,8 @@ module _ (means : List Item → List Item) (told : ℕ → Bool) (core : CoreVie
   }
 
   -- the core is asked at the last reading
-  pub asked-follows : (new : CoreView) (front : List ℕ) (act : Act) → After core latest act new → Follows means told core front heard_to latest ended start log
-      → Follows means told new (front ++ rest_table (slice_in act)) heard_to latest ended start log
+  pub asked-follows : (new : CoreView) (front : List ℕ) (act : Act) → After core latest act new → AddsUp means told core front heard_to latest ended start log
+      → AddsUp means told new (front ++ rest_table (slice_in act)) heard_to latest ended start log
   asked-follows new front (Write slice) (due, takes) follows = record {
     tables = λ items stream. follows.tables items stream
         ∙ ap (λ ts. slices_table (said log) ++ (front ++ ts)) (takes.tables items)
@@ -97,7 +97,7 @@ module _ (means : List Item → List Item) (told : ℕ → Bool) (core : CoreVie
   module _ (new : CoreView) (given : List ℕ) (len instant : ℕ) (later : latest ≤ instant) (fits : IsInstant instant) (says : told instant ≡ true) (some : 0 < len) (going : ended ≡ false)
       (tables : (items : List Item) → table (remaining_output new items) ≡ table (remaining_output core (Chunk (record { start = heard_to; stop = heard_to + len }) instant ∷ items)))
       (endings : (items : List Item) → ending (remaining_output new items) ≡ ending (remaining_output core (Chunk (record { start = heard_to; stop = heard_to + len }) instant ∷ items)))
-      (follows : Follows means told core given heard_to latest ended start log) where
+      (follows : AddsUp means told core given heard_to latest ended start log) where
     piece : Item
     piece = Chunk (record { start = heard_to; stop = heard_to + len }) instant
 
@@ -118,7 +118,7 @@ module _ (means : List Item → List Item) (told : ℕ → Bool) (core : CoreVie
     new_gapless : IsGapless 0 (said (log ++ Piece len instant ∷ [])) start
     new_gapless = subst (λ slices. IsGapless 0 slices start) (sym said_is) follows.gapless
 
-    pub piece-follows : Follows means told new given (heard_to + len) instant ended start (log ++ Piece len instant ∷ [])
+    pub piece-follows : AddsUp means told new given (heard_to + len) instant ended start (log ++ Piece len instant ∷ [])
     piece-follows = record {
       tables = new_tables;
       endings = λ items stream. ap (λ items. ending (means items)) (heard_is items) ∙ follows.endings (Chunk (record { start = heard_to; stop = heard_to + len }) instant ∷ items) (goes_on items stream) ∙ sym (endings items);
@@ -133,7 +133,7 @@ module _ (means : List Item → List Item) (told : ℕ → Bool) (core : CoreVie
   -- the source's end is heard
   module _ (new : CoreView) (given : List ℕ) (instant : ℕ) (later : latest ≤ instant) (fits : IsInstant instant) (says : told instant ≡ true) (going : ended ≡ false)
       (output : (items : List Item) → remaining_output new items ≡ remaining_output core (Closed instant ∷ []))
-      (follows : Follows means told core given heard_to latest ended start log) where
+      (follows : AddsUp means told core given heard_to latest ended start log) where
     said_end : said (log ++ SourceEnd instant ∷ []) ≡ said log
     said_end = said-append log (SourceEnd instant ∷ []) ∙ append-nil (said log)
 
@@ -154,7 +154,7 @@ module _ (means : List Item → List Item) (told : ℕ → Bool) (core : CoreVie
     end_closed (SourceEnd t ∷ log) = refl
     end_closed (Wrote slice now ∷ log) = end_closed log
 
-    pub end-follows : Follows means told new given heard_to instant true start (log ++ SourceEnd instant ∷ [])
+    pub end-follows : AddsUp means told new given heard_to instant true start (log ++ SourceEnd instant ∷ [])
     end-follows = record {
       tables = end_tables;
       endings = λ items stream. ap (λ items. ending (means items)) (heard-end 0 log instant items) ∙ follows.endings (Closed instant ∷ []) end_goes_on ∙ ap ending (sym (output items));
@@ -168,7 +168,7 @@ module _ (means : List Item → List Item) (told : ℕ → Bool) (core : CoreVie
 
   -- a slice was said to its end
   module _ (rest : List ℕ) (slice : Slice) (says : told latest ≡ true) (due : slice.instant ≤ latest) (starts : slice.span.start ≡ start) (some : slice.span.start < slice.span.stop)
-      (follows : Follows means told core (replicate (span_len slice.span) slice.instant ++ rest) heard_to latest ended start log) where
+      (follows : AddsUp means told core (replicate (span_len slice.span) slice.instant ++ rest) heard_to latest ended start log) where
     said_wrote : said (log ++ Wrote slice latest ∷ []) ≡ said log ++ slice ∷ []
     said_wrote = said-append log (Wrote slice latest ∷ [])
 
@@ -184,7 +184,7 @@ module _ (means : List Item → List Item) (told : ℕ → Bool) (core : CoreVie
     wrote_gapless : IsGapless 0 (said (log ++ Wrote slice latest ∷ [])) slice.span.stop
     wrote_gapless = subst (λ slices. IsGapless 0 slices slice.span.stop) (sym said_wrote) (gapless-append 0 (said log) start slice follows.gapless starts some)
 
-    pub wrote-follows : Follows means told core rest heard_to latest ended slice.span.stop (log ++ Wrote slice latest ∷ [])
+    pub wrote-follows : AddsUp means told core rest heard_to latest ended slice.span.stop (log ++ Wrote slice latest ∷ [])
     wrote-follows = record {
       tables = wrote_tables;
       endings = λ items stream. ap (λ items. ending (means items)) (heard-wrote 0 log slice latest items) ∙ follows.endings items stream;
@@ -224,7 +224,7 @@ only-ending core last only a b = ap ending (only a ∙ sym (only b))
 
 -- a log whose plan has only an ending left to say
 pub follows-reports : (means : List Item → List Item) (told : ℕ → Bool) (core : CoreView) (heard_to latest : ℕ) (ended : Bool) (start : ℕ) (log : List LinkEvent) (last : Ending)
-    → Follows means told core [] heard_to latest ended start log → ((items : List Item) → remaining_output core items ≡ final_of last ∷ []) → told latest ≡ true → IsReached latest last
+    → AddsUp means told core [] heard_to latest ended start log → ((items : List Item) → remaining_output core items ≡ final_of last ∷ []) → told latest ≡ true → IsReached latest last
     → ReportsAt means (λ t. told t ≡ true) log heard_to start last (source_heard ended) latest
 follows-reports means told core heard_to latest ended start log last follows only says reached = record {
   faithful = follows.faithful;
@@ -264,18 +264,18 @@ say-table part said_to stop count starts some within counts = by (nat_lt stop pa
 
 module _ (means : List Item → List Item) (told : ℕ → Bool) (core : CoreView) (heard_to : ℕ) (ended : Bool) (start : ℕ) (log : List LinkEvent) (due : ℕ) (rest : List ℕ) where
   -- nothing is said yet of a slice that starts where the last one stopped
-  pub begins-saying : (latest later said_to : ℕ) → latest ≤ later → start ≡ said_to → Follows means told core rest heard_to latest ended said_to log
-      → Follows means told core (replicate (said_to - start) due ++ rest) heard_to later ended start log
+  pub begins-saying : (latest later said_to : ℕ) → latest ≤ later → start ≡ said_to → AddsUp means told core rest heard_to latest ended said_to log
+      → AddsUp means told core (replicate (said_to - start) due ++ rest) heard_to later ended start log
   begins-saying latest later said_to goes_on starts follows =
       let none : said_to - start ≡ 0 = omega arith in
-      subst (λ n. Follows means told core (replicate n due ++ rest) heard_to later ended start log) (sym none)
-      (subst (λ at. Follows means told core rest heard_to later ended at log) (sym starts) (follows-later means told core heard_to latest ended said_to log rest later goes_on follows))
+      subst (λ n. AddsUp means told core (replicate n due ++ rest) heard_to later ended start log) (sym none)
+      (subst (λ at. AddsUp means told core rest heard_to later ended at log) (sym starts) (follows-later means told core heard_to latest ended said_to log rest later goes_on follows))
 
   -- more of it is said
-  pub goes-saying : (latest a count b : ℕ) → b ≡ a + count → Follows means told core ((replicate a due ++ replicate count due) ++ rest) heard_to latest ended start log
-      → Follows means told core (replicate b due ++ rest) heard_to latest ended start log
+  pub goes-saying : (latest a count b : ℕ) → b ≡ a + count → AddsUp means told core ((replicate a due ++ replicate count due) ++ rest) heard_to latest ended start log
+      → AddsUp means told core (replicate b due ++ rest) heard_to latest ended start log
   goes-saying latest a count b counts follows =
-      subst (λ ts. Follows means told core (ts ++ rest) heard_to latest ended start log) (sym (ap (λ n. replicate n due) counts ∙ replicate-add a count due)) follows
+      subst (λ ts. AddsUp means told core (ts ++ rest) heard_to latest ended start log) (sym (ap (λ n. replicate n due) counts ∙ replicate-add a count due)) follows
 
 -- a judge that stays says as much as before
 pub judged-stays : (old new : Judge) → new.said ≡ old.said → Stays old new → (means : List Item → List Item) (told : ℕ → Bool) (log : List LinkEvent) → Judged means told old log → Judged means told new log
@@ -287,15 +287,15 @@ pub ended-reports : (old new : Judge) (last : Ending) (reading : ℕ) → Stays 
     → (means : List Item → List Item) (told : ℕ → Bool) (log : List LinkEvent) → told reading ≡ true → Judged means told old log
     → ReportsAt means (λ t. told t ≡ true) log old.heard old.said last (source_heard old.ended) reading
 ended-reports old new last reading stays heard_same latest_is ended_same none only reached means told log says judged =
-    let after : Follows means told new.core [] new.heard new.latest new.ended old.said log
-    = subst (λ rest. Follows means told new.core (rest_table rest) new.heard new.latest new.ended old.said log) none (stays means told [] old.said log judged) in
-    let at : Follows means told new.core [] new.heard reading new.ended old.said log = subst (λ t. Follows means told new.core [] new.heard t new.ended old.said log) latest_is after in
-    let heard : Follows means told new.core [] old.heard reading new.ended old.said log = subst (λ n. Follows means told new.core [] n reading new.ended old.said log) heard_same at in
+    let after : AddsUp means told new.core [] new.heard new.latest new.ended old.said log
+    = subst (λ rest. AddsUp means told new.core (rest_table rest) new.heard new.latest new.ended old.said log) none (stays means told [] old.said log judged) in
+    let at : AddsUp means told new.core [] new.heard reading new.ended old.said log = subst (λ t. AddsUp means told new.core [] new.heard t new.ended old.said log) latest_is after in
+    let heard : AddsUp means told new.core [] old.heard reading new.ended old.said log = subst (λ n. AddsUp means told new.core [] n reading new.ended old.said log) heard_same at in
     follows-reports means told new.core old.heard reading old.ended old.said log last
-    (subst (λ b. Follows means told new.core [] old.heard reading b old.said log) ended_same heard) only says reached
+    (subst (λ b. AddsUp means told new.core [] old.heard reading b old.said log) ended_same heard) only says reached
 
 -- a judge is held while the clock goes on
-pub begins-held : (judge : Judge) (later : ℕ) → judge.latest ≤ later → IsHeld judge → IsHeld (record judge { latest = later })
+pub begins-held : (judge : Judge) (later : ℕ) → judge.latest ≤ later → KeepsUp judge → KeepsUp (record judge { latest = later })
 begins-held judge later goes_on held = record { ended = held.ended; latest = omega (arith, held.latest, goes_on); live = held.live; rest = held.rest }
 
 -- all of a slice is said
@@ -305,10 +305,10 @@ pub said-all : (means : List Item → List Item) (told : ℕ → Bool) (judge : 
     → Judged means told judge (log ++ Wrote slice reading ∷ [])
 said-all means told judge slice reading log latest_is all says due some follows =
     let length_is : judge.said - slice.span.start ≡ span_len slice.span = omega (arith, all) in
-    let front : Follows means told judge.core (replicate (span_len slice.span) slice.instant ++ rest_table judge.rest) judge.heard judge.latest judge.ended slice.span.start log
-    = subst (λ n. Follows means told judge.core (replicate n slice.instant ++ rest_table judge.rest) judge.heard judge.latest judge.ended slice.span.start log) length_is follows in
-    let now : Follows means told judge.core (replicate (span_len slice.span) slice.instant ++ rest_table judge.rest) judge.heard reading judge.ended slice.span.start log
-    = subst (λ t. Follows means told judge.core (replicate (span_len slice.span) slice.instant ++ rest_table judge.rest) judge.heard t judge.ended slice.span.start log) latest_is front in
+    let front : AddsUp means told judge.core (replicate (span_len slice.span) slice.instant ++ rest_table judge.rest) judge.heard judge.latest judge.ended slice.span.start log
+    = subst (λ n. AddsUp means told judge.core (replicate n slice.instant ++ rest_table judge.rest) judge.heard judge.latest judge.ended slice.span.start log) length_is follows in
+    let now : AddsUp means told judge.core (replicate (span_len slice.span) slice.instant ++ rest_table judge.rest) judge.heard reading judge.ended slice.span.start log
+    = subst (λ t. AddsUp means told judge.core (replicate (span_len slice.span) slice.instant ++ rest_table judge.rest) judge.heard t judge.ended slice.span.start log) latest_is front in
     let wrote = wrote-follows means told judge.core judge.heard reading judge.ended slice.span.start log (rest_table judge.rest) slice says due refl some now in
-    subst (λ t. Follows means told judge.core (rest_table judge.rest) judge.heard t judge.ended judge.said (log ++ Wrote slice reading ∷ [])) (sym latest_is)
-    (subst (λ at. Follows means told judge.core (rest_table judge.rest) judge.heard reading judge.ended at (log ++ Wrote slice reading ∷ [])) (sym all) wrote)
+    subst (λ t. AddsUp means told judge.core (rest_table judge.rest) judge.heard t judge.ended judge.said (log ++ Wrote slice reading ∷ [])) (sym latest_is)
+    (subst (λ at. AddsUp means told judge.core (rest_table judge.rest) judge.heard reading judge.ended at (log ++ Wrote slice reading ∷ [])) (sym all) wrote)

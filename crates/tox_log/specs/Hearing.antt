@@ -125,7 +125,7 @@ abbrev pub IsMeaningOf : (List Item → List Item) → Toxics → List ℕ → T
 IsMeaningOf means chain words = (items : List Item) → IsStream items → means items ≡ chain_flow chain words items
 
 -- a hearing of which nothing was heard yet, under the meaning of a chain with the words of a link's stream
-pub record Begins (heading : Heading) (chain : Toxics) (hearing : Hearing) : Type 0 where
+pub record BeginsJudging (heading : Heading) (chain : Toxics) (hearing : Hearing) : Type 0 where
   pub means : List Item → List Item
   pub meaning : IsMeaningOf means chain (seeded_words heading.seed heading.number heading.stream)
   pub says : SaysOf means [] false hearing

@@ -41,7 +41,7 @@ IsRest None said_to position = said_to ≡ position
 IsRest (Some slice) said_to position = (slice.span.start ≡ said_to) × (said_to < slice.span.stop) × (slice.span.stop ≡ position)
 
 -- the core has heard of all that was heard, until its ending is known
-pub record IsHeld (judge : Judge) : Type 0 where
+pub record KeepsUp (judge : Judge) : Type 0 where
   pub ended : judge.core.ended ≡ judge.ended
   pub latest : judge.core.latest ≤ judge.latest
   pub live : core_ending judge.core ≡ None → judge.heard ≡ judge.core.bytes
@@ -49,7 +49,7 @@ pub record IsHeld (judge : Judge) : Type 0 where
 
 -- what was said up to a position, what the core gave since then, and what is to come are together what the plan means for what was
 -- heard and goes on from there; the log is faithful, and no reading of it is above the last one
-pub record Follows (means : List Item → List Item) (told : ℕ → Bool) (core : CoreView) (given : List ℕ) (heard latest : ℕ) (ended : Bool) (start : ℕ) (log : List LinkEvent) : Type 0 where
+pub record AddsUp (means : List Item → List Item) (told : ℕ → Bool) (core : CoreView) (given : List ℕ) (heard latest : ℕ) (ended : Bool) (start : ℕ) (log : List LinkEvent) : Type 0 where
   pub tables : (items : List Item) → IsStreamFrom heard latest items → table (means (heard_from 0 log items)) ≡ slices_table (said log) ++ (given ++ table (remaining_output core items))
   pub endings : (items : List Item) → IsStreamFrom heard latest items → ending (means (heard_from 0 log items)) ≡ ending (remaining_output core items)
   pub faithful : IsFaithful means (λ t. told t ≡ true) log
@@ -60,7 +60,7 @@ pub record Follows (means : List Item → List Item) (told : ℕ → Bool) (core
 
 -- a judge after a log, and after these instants of a slice that starts at a position
 abbrev pub FollowsWith : (List Item → List Item) → (ℕ → Bool) → Judge → List ℕ → ℕ → List LinkEvent → Type 0
-FollowsWith means told judge front start log = Follows means told judge.core (front ++ rest_table judge.rest) judge.heard judge.latest judge.ended start log
+FollowsWith means told judge front start log = AddsUp means told judge.core (front ++ rest_table judge.rest) judge.heard judge.latest judge.ended start log
 
 -- a judge after a log
 abbrev pub Judged : (List Item → List Item) → (ℕ → Bool) → Judge → List LinkEvent → Type 0
@@ -77,8 +77,8 @@ Hears old event new = (means : List Item → List Item) (told : ℕ → Bool) (l
     → Judged means told old log → Judged means told new (log ++ event ∷ [])
 
 -- the next bytes of a slice that leaves at an instant are said
-abbrev pub Says : Judge → ℕ → Judge → Type 0
-Says old due new = (means : List Item → List Item) (told : ℕ → Bool) (front : List ℕ) (start : ℕ) (log : List LinkEvent) (count : ℕ)
+abbrev pub SaysPart : Judge → ℕ → Judge → Type 0
+SaysPart old due new = (means : List Item → List Item) (told : ℕ → Bool) (front : List ℕ) (start : ℕ) (log : List LinkEvent) (count : ℕ)
     → new.said ≡ old.said + count → FollowsWith means told old front start log → FollowsWith means told new (front ++ replicate count due) start log
 
 -- the instants of what is to be said, if nothing else is heard

@@ -9,7 +9,7 @@ ghost use Rattle.tox_time.specs.declared.streams.ending.Ending.{Ending as OneEnd
 ghost use Rattle.tox_time.specs.streams.Table.{final_of};
 ghost use Rattle.tox_link.specs.log.Logged.{IsReached};
 ghost use Rattle.tox_link.specs.Reports.{ReportsAt};
-ghost use Rattle.tox_log.specs.Judging.{Expects, HasSaidAll, IsHeld, Judged, Refuses, RefusesEnding, Stays, Hears, Says, next_table, part_from, slice_in, source_heard};
+ghost use Rattle.tox_log.specs.Judging.{Expects, HasSaidAll, KeepsUp, Judged, Refuses, RefusesEnding, Stays, Hears, SaysPart, next_table, part_from, slice_in, source_heard};
 
 use std::alloc::{AllocError, Global};
 use tox_compile::Plan;
@@ -41,7 +41,7 @@ pub(crate) struct Judge {
 
 /// The judge of a log under this plan. Nothing was heard yet.
 pub(crate) fn begin(alloc: Global, plan: Plan, words: Words) -> Result<Judge, AllocError>
-    ensures held { IfOk result IsHeld }
+    ensures held { IfOk result KeepsUp }
     ensures start { IfOk result (λ judge. (judge.heard ≡ 0) × (judge.latest ≡ 0)
         × (judge.ended ≡ false)) }
     ensures judged { IfOk result (λ judge. (told : ℕ → Bool)
@@ -82,11 +82,11 @@ pub(crate) fn takes_at(judge: &Judge, reading: &Micros) -> bool
 
 /// A piece was heard. It is skipped where the plan takes none any more.
 pub(crate) fn hear_piece(judge: &mut Judge, len: u64, instant: &Micros) -> Result<(), TooDeep>
-    requires held { IsHeld judge.old }
+    requires held { KeepsUp judge.old }
     requires later { judge.old.latest ≤ instant.now }
     requires fits { IsInstant instant.now × (0 < len) × (judge.old.heard + len ≤ 2 ^ 40) }
     requires going { judge.old.ended ≡ false }
-    ensures held { IsHeld judge.new }
+    ensures held { KeepsUp judge.new }
     ensures counts { OnOk result ((judge.new.heard ≡ judge.old.heard + len)
         × (judge.new.latest ≡ instant.now) × (judge.new.ended ≡ judge.old.ended)) }
     ensures hears { OnOk result (Hears judge.old (OneEvent.Piece len instant.now) judge.new) }
@@ -105,9 +105,9 @@ pub(crate) fn hear_piece(judge: &mut Judge, len: u64, instant: &Micros) -> Resul
 
 /// Gives up the pieces that bring no further slice, where no room is left.
 fn make_room(judge: &mut Judge, instant: &Micros)
-    requires held { IsHeld judge.old }
+    requires held { KeepsUp judge.old }
     requires later { judge.old.latest ≤ instant.now }
-    ensures held { IsHeld judge.new }
+    ensures held { KeepsUp judge.new }
     ensures counts { (judge.new.heard ≡ judge.old.heard) × (judge.new.latest ≤ instant.now)
         × (judge.new.ended ≡ judge.old.ended) × (judge.new.said ≡ judge.old.said) }
     ensures stays { Stays judge.old judge.new }
@@ -119,14 +119,14 @@ fn make_room(judge: &mut Judge, instant: &Micros)
 
 /// A piece is heard that the plan doesn't take any more.
 fn skip_piece(judge: &mut Judge, len: u64, instant: &Micros)
-    requires held { IsHeld judge.old }
+    requires held { KeepsUp judge.old }
     requires later { judge.old.latest ≤ instant.now }
     requires fits { IsInstant instant.now × (0 < len) × (judge.old.heard + len ≤ 2 ^ 40) }
     requires going { judge.old.ended ≡ false }
     requires over { IsSome (core_ending judge.old.core) }
     requires only { (last : OneEnding) × ((items : List OneItem)
         → remaining_output judge.old.core items ≡ final_of last ∷ []) }
-    ensures held { IsHeld judge.new }
+    ensures held { KeepsUp judge.new }
     ensures counts { (judge.new.heard ≡ judge.old.heard + len) × (judge.new.latest ≡ instant.now)
         × (judge.new.ended ≡ judge.old.ended) }
     ensures hears { Hears judge.old (OneEvent.Piece len instant.now) judge.new }
@@ -137,13 +137,13 @@ fn skip_piece(judge: &mut Judge, len: u64, instant: &Micros)
 
 /// A piece is heard that waits.
 fn take_piece(judge: &mut Judge, len: u64, instant: &Micros)
-    requires held { IsHeld judge.old }
+    requires held { KeepsUp judge.old }
     requires later { judge.old.latest ≤ instant.now }
     requires fits { IsInstant instant.now × (0 < len) × (judge.old.heard + len ≤ 2 ^ 40) }
     requires going { judge.old.ended ≡ false }
     requires live { core_ending judge.old.core ≡ None }
     requires room { kept_count judge.old.core < 1024 }
-    ensures held { IsHeld judge.new }
+    ensures held { KeepsUp judge.new }
     ensures counts { (judge.new.heard ≡ judge.old.heard + len) × (judge.new.latest ≡ instant.now)
         × (judge.new.ended ≡ judge.old.ended) }
     ensures hears { Hears judge.old (OneEvent.Piece len instant.now) judge.new }
@@ -157,11 +157,11 @@ fn take_piece(judge: &mut Judge, len: u64, instant: &Micros)
 
 /// The source's end was heard.
 pub(crate) fn hear_end(judge: &mut Judge, instant: &Micros)
-    requires held { IsHeld judge.old }
+    requires held { KeepsUp judge.old }
     requires later { judge.old.latest ≤ instant.now }
     requires fits { IsInstant instant.now }
     requires going { judge.old.ended ≡ false }
-    ensures held { IsHeld judge.new }
+    ensures held { KeepsUp judge.new }
     ensures counts { (judge.new.heard ≡ judge.old.heard) × (judge.new.latest ≡ instant.now)
         × (judge.new.ended ≡ true) }
     ensures hears { Hears judge.old (OneEvent.SourceEnd instant.now) judge.new }
@@ -173,9 +173,9 @@ pub(crate) fn hear_end(judge: &mut Judge, instant: &Micros)
 
 /// A slice was said at a reading. False if the plan doesn't mean it: the judge then stands within that slice.
 pub(crate) fn hear_wrote(judge: &mut Judge, slice: &Slice, reading: &Micros) -> bool
-    requires held { IsHeld judge.old }
+    requires held { KeepsUp judge.old }
     requires later { judge.old.latest ≤ reading.now }
-    ensures held { IsHeld judge.new }
+    ensures held { KeepsUp judge.new }
     ensures counts { IsTrue result → (judge.new.heard ≡ judge.old.heard)
         × (judge.new.latest ≡ reading.now) × (judge.new.ended ≡ judge.old.ended) }
     ensures hears { IsTrue result
@@ -197,17 +197,17 @@ pub(crate) fn hear_wrote(judge: &mut Judge, slice: &Slice, reading: &Micros) -> 
     true
 }
 
-/// Says the next part of a slice. False if the plan doesn't mean it.
+/// SaysPart the next part of a slice. False if the plan doesn't mean it.
 fn say_part(judge: &mut Judge, slice: &Slice, reading: &Micros) -> bool
-    requires held { IsHeld judge.old }
+    requires held { KeepsUp judge.old }
     requires now { judge.old.latest ≡ reading.now }
     requires left { judge.old.said < slice.now.span.stop }
-    ensures held { IsHeld judge.new }
+    ensures held { KeepsUp judge.new }
     ensures counts { IsTrue result → (judge.new.heard ≡ judge.old.heard)
         × (judge.new.latest ≡ reading.now) × (judge.new.ended ≡ judge.old.ended) }
     ensures on { IsTrue result → (judge.old.said < judge.new.said)
         × (judge.new.said ≤ slice.now.span.stop) }
-    ensures says { IsTrue result → Says judge.old slice.now.instant judge.new }
+    ensures says { IsTrue result → SaysPart judge.old slice.now.instant judge.new }
     ensures expects { Expects judge.old (slice.now.span.stop - judge.old.said) slice.now.instant
         → slice.now.instant ≤ reading.now
         → (result ≡ true)
@@ -224,15 +224,15 @@ fn say_part(judge: &mut Judge, slice: &Slice, reading: &Micros) -> bool
     true
 }
 
-/// Says what is left of the core's slice, up to a position.
+/// SaysPart what is left of the core's slice, up to a position.
 fn say(judge: &mut Judge, part: &Slice, stop: u64)
-    requires held { IsHeld judge.old }
+    requires held { KeepsUp judge.old }
     requires part { judge.old.rest ≡ Some part.now }
     requires within { (judge.old.said < stop) × (stop ≤ part.now.span.stop) }
-    ensures held { IsHeld judge.new }
+    ensures held { KeepsUp judge.new }
     ensures counts { (judge.new.heard ≡ judge.old.heard) × (judge.new.latest ≡ judge.old.latest)
         × (judge.new.ended ≡ judge.old.ended) × (judge.new.said ≡ stop) }
-    ensures says { Says judge.old part.now.instant judge.new }
+    ensures says { SaysPart judge.old part.now.instant judge.new }
     ensures next { next_table judge.old
         ≡ replicate (stop - judge.old.said) part.now.instant ++ next_table judge.new }
 {
@@ -242,9 +242,9 @@ fn say(judge: &mut Judge, part: &Slice, stop: u64)
 
 /// Looks for the next slice that is due at a reading, where none is left.
 fn look(judge: &mut Judge, reading: &Micros)
-    requires held { IsHeld judge.old }
+    requires held { KeepsUp judge.old }
     requires later { judge.old.latest ≤ reading.now }
-    ensures held { IsHeld judge.new }
+    ensures held { KeepsUp judge.new }
     ensures counts { (judge.new.heard ≡ judge.old.heard) × (judge.new.latest ≡ reading.now)
         × (judge.new.ended ≡ judge.old.ended) × (judge.new.said ≡ judge.old.said) }
     ensures stays { Stays judge.old judge.new }
@@ -261,10 +261,10 @@ fn look(judge: &mut Judge, reading: &Micros)
 
 /// Asks the core for a slice that is due at a reading.
 fn ask(judge: &mut Judge, reading: &Micros)
-    requires held { IsHeld judge.old }
+    requires held { KeepsUp judge.old }
     requires none { judge.old.rest ≡ None }
     requires now { judge.old.latest ≡ reading.now }
-    ensures held { IsHeld judge.new }
+    ensures held { KeepsUp judge.new }
     ensures counts { (judge.new.heard ≡ judge.old.heard) × (judge.new.latest ≡ judge.old.latest)
         × (judge.new.ended ≡ judge.old.ended) × (judge.new.said ≡ judge.old.said) }
     ensures stays { Stays judge.old judge.new }
@@ -288,10 +288,10 @@ fn slice_in(act: &Act) -> Option<Slice>
 
 /// Whether the stream ended so at a reading: all was said, the ending is settled and reached, and it is the plan's.
 pub(crate) fn has_ended(judge: &mut Judge, ending: &Ending, reading: &Micros) -> bool
-    requires held { IsHeld judge.old }
+    requires held { KeepsUp judge.old }
     requires later { judge.old.latest ≤ reading.now }
     requires fits { IsInstant reading.now }
-    ensures held { IsHeld judge.new }
+    ensures held { KeepsUp judge.new }
     ensures counts { (judge.new.heard ≡ judge.old.heard) × (judge.new.said ≡ judge.old.said)
         × (judge.new.ended ≡ judge.old.ended) }
     ensures reports { IsTrue result

@@ -2,9 +2,9 @@
 ghost use Rattle.std.specs.Prelude.{◌≡◌, ◌≢◌, ℕ, List, [], ◌∷◌, false, IfErr, IfOk, MatchOption, OnOk};
 ghost use Rattle.tox_log.specs.Lateness.{ending_late};
 ghost use Rattle.tox_compile.specs.Meaning.{means};
-ghost use Rattle.tox_log.specs.Hearing.{Begins, HearsLine, HearsToEnd, IsFaithfulText, IsRefusedText, IsUnfinishedText};
+ghost use Rattle.tox_log.specs.Hearing.{BeginsJudging, HearsLine, HearsToEnd, IsFaithfulText, IsRefusedText, IsUnfinishedText};
 ghost use Rattle.tox_time.specs.declared.streams.ending.Ending.{Ending as OneEnding};
-ghost use Rattle.tox_log.specs.Judging.{IsHeld};
+ghost use Rattle.tox_log.specs.Judging.{KeepsUp};
 ghost use Rattle.tox_log.specs.Left.{AcceptsNext, ComesWith, HasLinesLeft, IsHeardTo, IsNoBadLine};
 ghost use Rattle.tox_log.specs.LinkLog.{IsLinkLog};
 ghost use Rattle.tox_log.specs.WrittenLog.{IsWrittenText, WrittenLog};
@@ -134,8 +134,8 @@ pub fn write_judged<'a, R: Source, W: Sink>(
 
 /// The hearing of a log of which only the header is read.
 fn begin(alloc: Global, log: &OpenLog) -> Result<Hearing, LogFault>
-    ensures held { IfOk result (λ hearing. IsHeld hearing.judge) }
-    ensures begins { IfOk result (Begins log.now.heading log.now.chain) }
+    ensures held { IfOk result (λ hearing. KeepsUp hearing.judge) }
+    ensures begins { IfOk result (BeginsJudging log.now.heading log.now.chain) }
     ensures start { IfOk result (λ hearing. IsHeardTo hearing.judge first_position) }
     ensures fault { IfErr result IsNoBadLine }
 {
@@ -158,7 +158,7 @@ fn hear_lines<R: Source>(
     hearing: &mut Hearing,
 ) -> Result<(), LogFault>
     requires works { R.failed reader.old ≡ false }
-    requires held { IsHeld hearing.old.judge }
+    requires held { KeepsUp hearing.old.judge }
     requires first { (hearing.old.verdict ≡ TheVerdict.Unfinished) × (log.old.over ≡ false) }
     ensures says { OnOk result
         (HearsToEnd log.old log.new (R.remaining reader.old) hearing.old hearing.new) }
@@ -185,9 +185,9 @@ fn hear_line(
     line: &LogLine,
     number: u64,
 ) -> Result<(), LogFault>
-    requires held { IsHeld hearing.old.judge }
+    requires held { KeepsUp hearing.old.judge }
     requires going { hearing.old.verdict ≡ TheVerdict.Unfinished }
-    ensures held { IsHeld hearing.new.judge }
+    ensures held { KeepsUp hearing.new.judge }
     ensures hears { OnOk result (HearsLine hearing.old line.now hearing.new) }
     ensures reads { AcceptsNext hearing.old line.now result }
     ensures follows { OnOk result (ComesWith hearing.old line.now hearing.new) }
@@ -216,9 +216,9 @@ fn hear_piece(
     instant: &Micros,
     number: u64,
 ) -> Result<(), LogFault>
-    requires held { IsHeld hearing.old.judge }
+    requires held { KeepsUp hearing.old.judge }
     requires going { hearing.old.verdict ≡ TheVerdict.Unfinished }
-    ensures held { IsHeld hearing.new.judge }
+    ensures held { KeepsUp hearing.new.judge }
     ensures hears { OnOk result (HearsLine hearing.old
         (OneLine.Event (OneEvent.Piece len instant.now)) hearing.new) }
     ensures reads { AcceptsNext hearing.old
@@ -236,9 +236,9 @@ fn hear_piece(
 }
 
 fn hear_source_end(hearing: &mut Hearing, instant: &Micros, number: u64) -> Result<(), LogFault>
-    requires held { IsHeld hearing.old.judge }
+    requires held { KeepsUp hearing.old.judge }
     requires going { hearing.old.verdict ≡ TheVerdict.Unfinished }
-    ensures held { IsHeld hearing.new.judge }
+    ensures held { KeepsUp hearing.new.judge }
     ensures hears { OnOk result (HearsLine hearing.old
         (OneLine.Event (OneEvent.SourceEnd instant.now)) hearing.new) }
     ensures reads { AcceptsNext hearing.old
@@ -260,9 +260,9 @@ fn hear_wrote(
     reading: &Micros,
     number: u64,
 ) -> Result<(), LogFault>
-    requires held { IsHeld hearing.old.judge }
+    requires held { KeepsUp hearing.old.judge }
     requires going { hearing.old.verdict ≡ TheVerdict.Unfinished }
-    ensures held { IsHeld hearing.new.judge }
+    ensures held { KeepsUp hearing.new.judge }
     ensures hears { OnOk result (HearsLine hearing.old
         (OneLine.Event (OneEvent.Wrote slice.now reading.now)) hearing.new) }
     ensures reads { AcceptsNext hearing.old
@@ -290,9 +290,9 @@ fn hear_ending(
     reading: &Micros,
     number: u64,
 ) -> Result<(), LogFault>
-    requires held { IsHeld hearing.old.judge }
+    requires held { KeepsUp hearing.old.judge }
     requires going { hearing.old.verdict ≡ TheVerdict.Unfinished }
-    ensures held { IsHeld hearing.new.judge }
+    ensures held { KeepsUp hearing.new.judge }
     ensures hears { OnOk result (HearsLine hearing.old
         (OneLine.Last (TheLast.Ended reading.now ending.now)) hearing.new) }
     ensures reads { AcceptsNext hearing.old

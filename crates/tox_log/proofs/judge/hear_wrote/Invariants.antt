@@ -3,12 +3,12 @@ use Rattle.std.proofs.Common.{◌≡◌, ℕ, ◌-◌, ◌≤◌, List, Bool, re
 use Rattle.tox_time.specs.declared.streams.item.Item.{Item}
 use Rattle.tox_time.specs.streams.Stream.{span_len}
 use Rattle.tox_link.specs.declared.notes.LinkEvent.{LinkEvent}
-use Rattle.tox_log.specs.Judging.{Expects, IsHeld, Judged, FollowsWith}
+use Rattle.tox_log.specs.Judging.{Expects, KeepsUp, Judged, FollowsWith}
 use Rattle.tox_log.proofs.judge.hear_wrote.Given as goal
 
 abbrev pub invariant-parts : goal.invariant-parts
 invariant-parts l = record {
-  held : IsHeld l.judge;
+  held : KeepsUp l.judge;
   heard : l.judge.heard ≡ l.fn.judge.heard;
   latest : l.judge.latest ≡ l.reading;
   ended : l.judge.ended ≡ l.fn.judge.ended;

@@ -3,7 +3,7 @@ use Rattle.std.proofs.Common.{◌≡◌, ℕ, ◌+◌, ◌-◌, List, [], ◌∷
 use Rattle.tox_time.specs.declared.streams.item.Item.TheVariants.{Quiet}
 use Rattle.tox_time.specs.streams.Table.{table}
 use Rattle.tox_link.specs.link_core.Core.{core_position, remaining_output}
-use Rattle.tox_log.specs.Judging.{Follows, IsRest, part_from, rest_table}
+use Rattle.tox_log.specs.Judging.{AddsUp, IsRest, part_from, rest_table}
 use Rattle.tox_log.proofs.Judging.{say-table}
 use Rattle.tox_log.proofs.judge.say.Goals as goal
 
@@ -16,8 +16,8 @@ returns-clause-says c = λ means told front start log count counts follows.
     ap (λ rest. front ++ rest_table rest) c.requires.part
     ∙ ap (λ ts. front ++ ts) (say-table part judge.said c.args.stop count held.0 c.requires.within.0 c.requires.within.1 counts)
     ∙ sym (append_assoc front (replicate count part.instant) (rest_table (part_from part c.args.stop))) in
-    subst (λ rest. Follows means told judge.core ((front ++ replicate count part.instant) ++ rest_table rest) judge.heard judge.latest judge.ended start log) (sym c.part_from-judge.ensures)
-    (subst (λ given. Follows means told judge.core given judge.heard judge.latest judge.ended start log) parts follows)
+    subst (λ rest. AddsUp means told judge.core ((front ++ replicate count part.instant) ++ rest_table rest) judge.heard judge.latest judge.ended start log) (sym c.part_from-judge.ensures)
+    (subst (λ given. AddsUp means told judge.core given judge.heard judge.latest judge.ended start log) parts follows)
 
 pub returns-clause-next : goal.returns-clause-next
 returns-clause-next c =

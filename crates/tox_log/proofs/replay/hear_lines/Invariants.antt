@@ -4,7 +4,7 @@ use Rattle.std.proofs.Common.{◌≡◌, ℕ, List, [], false}
 use Rattle.std.specs.Io.KnownBytes.{prepend_known}
 use Rattle.tox_time.specs.declared.streams.item.Item.{Item}
 use Rattle.tox_log.specs.Hearing.{SaysOf}
-use Rattle.tox_log.specs.Judging.{IsHeld}
+use Rattle.tox_log.specs.Judging.{KeepsUp}
 use Rattle.tox_log.specs.Left.{HasLinesLeft, IsHeardTo}
 use Rattle.tox_log.specs.declared.event_line.LogLine.{LogLine}
 use Rattle.tox_log.specs.declared.replay.Verdict.TheVariants.{Unfinished}
@@ -14,7 +14,7 @@ use Rattle.tox_log.proofs.replay.hear_lines.Given as goal
 abbrev pub invariant-lines : goal.invariant-lines
 invariant-lines g l = record {
   working : g.R.Source.failed l.reader ≡ false;
-  held : IsHeld l.hearing.judge;
+  held : KeepsUp l.hearing.judge;
   same : (l.log.heading ≡ l.fn.log.heading) × (l.log.chain ≡ l.fn.log.chain);
   text : (text : List ℕ)
       × (to_hand l.fn.log (g.R.Source.remaining l.fn.reader) ≡ prepend_known text (to_hand l.log (g.R.Source.remaining l.reader)))

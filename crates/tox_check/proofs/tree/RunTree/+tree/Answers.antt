@@ -1,7 +1,7 @@
 -- The runs of a fork that have connections of a range: none, all, or those of both halves.
 use Rattle.std.proofs.Common.{◌≡◌, ℕ, ◌++◌, [], List, append-nil, append_assoc, subst, sym}
 use Rattle.tox_check.specs.Coverage.{within}
-use Rattle.tox_check.specs.Tallied.{IsTallied}
+use Rattle.tox_check.specs.Tallied.{TalliesRuns}
 use Rattle.tox_check.specs.Tree.{runs_in}
 use Rattle.tox_check.specs.declared.run.Run.{Run}
 use Rattle.tox_check.proofs.Cuts.{within-append, within_all, within_none}
@@ -22,9 +22,9 @@ returns-in-Fork-2-clause-tallied t c = λ runs is.
     let inside = c.is_inside.ensures.0 c.if-is_inside.true in
     let all : within c.args.range.first c.args.range.last whole ≡ whole =
     within_all c.args.range.first c.args.range.last c.in-Fork-2.summary.first c.in-Fork-2.summary.last whole tree.0.each inside.0 inside.1 in
-    let before : IsTallied c.args.tally.now.rule runs c.args.tally.now = subst (λ (rule : ℕ). IsTallied rule runs c.args.tally.now) (sym c.requires.rule) is in
+    let before : TalliesRuns c.args.tally.now.rule runs c.args.tally.now = subst (λ (rule : ℕ). TalliesRuns rule runs c.args.tally.now) (sym c.requires.rule) is in
     rw (c.in-Fork-2.is, all)
-    (subst (λ (rule : ℕ). IsTallied rule (runs ++ whole) c.count.new.self) c.requires.rule (c.count.ensures.tallied whole tree.0 runs before))
+    (subst (λ (rule : ℕ). TalliesRuns rule (runs ++ whole) c.count.new.self) c.requires.rule (c.count.ensures.tallied whole tree.0 runs before))
 
 pub returns-in-Fork-3-clause-tallied : goal.returns-in-Fork-3-clause-tallied
 returns-in-Fork-3-clause-tallied t c = λ runs is.
