@@ -3,7 +3,7 @@ ghost use Rattle.std.specs.Prelude.{◌≡◌};
 ghost use Rattle.std.specs.Bool.{OnTrue};
 ghost use Rattle.tox_workers.specs.Peers.{other_stream};
 ghost use Rattle.tox_workers.specs.Timers.{timers_of};
-ghost use Rattle.tox_workers.specs.Turns.{HasTurns};
+ghost use Rattle.tox_workers.specs.Turns.{DrivesTurn, HasTurns};
 
 use crate::link_key::LinkKey;
 use crate::link_state::LinkState;
@@ -113,14 +113,18 @@ impl<'s, R: ServeRuntime> Worker<'s, R> {
     fn drive(
         &mut self,
         key: LinkKey,
-        open: &mut OpenLink<'s, R>,
+        link: &mut OpenLink<'s, R>,
         stream: Stream,
         scratch: &mut [u8; READ_SIZE],
-    ) {
-        let progress = open.drive(self.rt, self.run.alloc, stream, scratch);
+    )
+        ensures { DrivesTurn (record { key = key; stream = stream }) link.old link.new
+            (timers_of self.old.timers) (timers_of self.new.timers)
+            self.old.turns.items self.new.turns.items }
+    {
+        let progress = link.drive(self.rt, self.run.alloc, stream, scratch);
         let turn = Turn { key, stream };
         if !keep(&mut self.timers, &mut self.turns, turn, progress) {
-            open.break_off();
+            link.break_off();
         }
     }
 
