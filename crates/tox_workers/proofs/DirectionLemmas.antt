@@ -10,9 +10,9 @@ use Rattle.tox_workers.specs.declared.open_direction.OpenDirection.{OpenDirectio
 use Rattle.tox_workers.specs.declared.socket_event.SocketEvent.{SocketEvent}
 
 module _ {R : Type 0} where
-  pub new_direction : (course : Course) (direction : OpenDirection R) (flow : Flow R) → direction.state ≡ Going flow
-      → direction.armed ≡ None → BeginsCourse course flow → IsNewDirection course direction
-  new_direction course direction flow going idle begins =
+  pub new_direction : (course : Course) (closing : Bool) (direction : OpenDirection R) (flow : Flow R) → direction.state ≡ Going flow
+      → direction.armed ≡ None → BeginsCourse course closing flow → IsNewDirection course closing direction
+  new_direction course closing direction flow going idle begins =
       record { flow = flow; going = going; idle = idle; begins = begins }
 
   pub noted_so : (notes : Option (List ℕ)) (old after : Flow R) (state : DirectionState R) → state ≡ Going old

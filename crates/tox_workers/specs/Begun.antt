@@ -1,5 +1,5 @@
 -- A direction of a course at which nothing has come, and a link of such directions.
-use Rattle.std.specs.Prelude.{◌≡◌, ℕ, List, None, fold}
+use Rattle.std.specs.Prelude.{◌≡◌, ℕ, Bool, true, List, None, fold}
 use Rattle.tox_time.specs.declared.streams.item.Item.{Item}
 use Rattle.tox_time.specs.declared.streams.stream.Stream.{Stream}
 use Rattle.tox_time.specs.streams.Stream.{IsStream}
@@ -17,22 +17,26 @@ use Rattle.tox_workers.specs.declared.open_direction.OpenDirection.{OpenDirectio
 use Rattle.tox_workers.specs.declared.open_link.OpenLink.{OpenLink}
 use Rattle.tox_workers.specs.declared.open_link.Opening.{Opening}
 
--- nothing has come, it gives what the course's plan means under its words, and its ends are those of the course's stream
-pub record BeginsCourse {R : Type 0} (course : Course) (flow : Flow R) : Type 0 where
+-- nothing has come, it gives what the course's plan means under its words, and its ends are those of the course's stream, of which
+-- nothing is known but whether the source's peer sends no more
+pub record BeginsCourse {R : Type 0} (course : Course) (closing : Bool) (flow : Flow R) : Type 0 where
   pub its : flow.stream ≡ course.stream
   pub source : flow.source.stream ≡ course.stream
   pub sink : flow.sink.stream ≡ course.stream
+  pub readable : flow.source.readable ≡ true
+  pub closes : flow.source.closing ≡ closing
+  pub writable : flow.sink.writable ≡ true
   pub due : flow.sink.due ≡ fold after_op None course.plan.ops
   pub meaning : (items : List Item) → IsStream items
       → remaining_output flow.link.value.core items ≡ means course.plan course.words items
   pub fresh : IsNew flow.link.value
 
 -- a direction goes on that begins a course, and no timer is set
-pub record IsNewDirection {R : Type 0} (course : Course) (direction : OpenDirection R) : Type 0 where
+pub record IsNewDirection {R : Type 0} (course : Course) (closing : Bool) (direction : OpenDirection R) : Type 0 where
   pub flow : Flow R
   pub going : direction.state ≡ Going flow
   pub idle : direction.armed ≡ None
-  pub begins : BeginsCourse course flow
+  pub begins : BeginsCourse course closing flow
 
 -- a link is made of these parts
 pub record IsMadeOf {R : Type 0} (opening : Opening) (link : OpenLink R) : Type 0 where
@@ -50,7 +54,7 @@ pub record IsLinkOf {R : Type 0} (client : Client) (link : OpenLink R) : Type 0 
 
 -- a direction begins the course that the numbered connection of a proxy has on a stream in a run
 pub record HasCourse {R : Type 0} (run : ServeRun) (name : List ℕ) (number : ℕ) (stream : Stream)
-    (direction : OpenDirection R) : Type 0 where
+    (closing : Bool) (direction : OpenDirection R) : Type 0 where
   pub course : Course
   pub its : IsCourse run.script.now run.seed name number stream course
-  pub begins : IsNewDirection course direction
+  pub begins : IsNewDirection course closing direction

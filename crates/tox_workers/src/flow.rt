@@ -67,7 +67,7 @@ impl<'r, R: Clock + Wait> Flow<'r, R> {
         course: Course,
         closing: bool,
     ) -> Option<Flow<'r, R>>
-        ensures { IfSome result (BeginsCourse course) }
+        ensures { IfSome result (BeginsCourse course closing) }
     {
         let Course {
             stream,

@@ -1,5 +1,5 @@
 //! A link whose upstream is connected: its sockets and its two directions.
-ghost use Rattle.std.specs.Prelude.{◌≡◌, IfSome};
+ghost use Rattle.std.specs.Prelude.{◌≡◌, false, IfSome};
 ghost use Rattle.tox_time.specs.declared.streams.stream.Stream.TheVariants as StreamOf;
 
 use crate::flow::Flow;
@@ -64,8 +64,8 @@ impl<'r, R: Clock + Wait> OpenLink<'r, R> {
         requires up { courses.up.stream ≡ StreamOf.Upstream }
         requires down { courses.down.stream ≡ StreamOf.Downstream }
         ensures parts { IfSome result (λ link. IsMadeOf opening link.value) }
-        ensures up { IfSome result (λ link. IsNewDirection courses.up link.value.up) }
-        ensures down { IfSome result (λ link. IsNewDirection courses.down link.value.down) }
+        ensures up { IfSome result (λ link. IsNewDirection courses.up opening.closing link.value.up) }
+        ensures down { IfSome result (λ link. IsNewDirection courses.down false link.value.down) }
     {
         let Opening {
             number,

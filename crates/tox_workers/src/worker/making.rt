@@ -1,5 +1,5 @@
 //! Making an open link of a client and of the socket of its upstream.
-ghost use Rattle.std.specs.Prelude.{◌≡◌, IfSome};
+ghost use Rattle.std.specs.Prelude.{◌≡◌, false, IfSome};
 ghost use Rattle.tox_time.specs.declared.streams.stream.Stream.TheVariants as StreamOf;
 ghost use Rattle.tox_workers.specs.Begun.{HasCourse, IsLinkOf, IsNewDirection};
 
@@ -24,9 +24,9 @@ pub(crate) fn make_link<'r, R: ServeRuntime>(
 ) -> Option<Box<OpenLink<'r, R>>>
     ensures link { IfSome result (λ link. IsLinkOf client link.value) }
     ensures up { IfSome result (λ link. HasCourse run.now links.now.proxy.now.name
-        client.taken.number StreamOf.Upstream link.value.up) }
+        client.taken.number StreamOf.Upstream client.closing link.value.up) }
     ensures down { IfSome result (λ link. HasCourse run.now links.now.proxy.now.name
-        client.taken.number StreamOf.Downstream link.value.down) }
+        client.taken.number StreamOf.Downstream false link.value.down) }
 {
     let number = client.taken.number;
     let proxy = links.proxy;
@@ -51,8 +51,8 @@ fn add_link<'r, R: ServeRuntime>(
     requires up { courses.up.stream ≡ StreamOf.Upstream }
     requires down { courses.down.stream ≡ StreamOf.Downstream }
     ensures link { IfSome result (λ link. IsLinkOf client link.value) }
-    ensures up { IfSome result (λ link. IsNewDirection courses.up link.value.up) }
-    ensures down { IfSome result (λ link. IsNewDirection courses.down link.value.down) }
+    ensures up { IfSome result (λ link. IsNewDirection courses.up client.closing link.value.up) }
+    ensures down { IfSome result (λ link. IsNewDirection courses.down false link.value.down) }
 {
     let Client {
         taken,
