@@ -22,7 +22,6 @@ use tox_link::{
     Hangup, LinkFault, PollSink, PollSource, PolledLink, Progress, READ_SIZE, drive, finish,
 };
 use tox_links::{Carried, Course, StreamEnd};
-use tox_log::BreakCause;
 use tox_log_files::StreamNotes;
 use tox_sockets::{LinkSockets, LinkStart, ReadySink, ReadySource, SinceStart};
 use tox_time::{Ending, Micros, Stream};
@@ -201,21 +200,10 @@ fn end<R: Clock + Wait>(
     let carried = Carried {
         stream,
         bytes: link.written(),
-        end: end_before_stop(ends.was_stopped, *ending),
+        end: StreamEnd::before_stop(ends.was_stopped, *ending),
     };
     notes.end(&carried.last_line(last_reading(link, clock, *ending)));
     carried
-}
-
-/// How a stream ended that ended so by its plan: a stop of its link before that breaks it.
-fn end_before_stop(was_stopped: bool, ending: Ending) -> StreamEnd
-    ensures { result ≡ end_before_stop was_stopped ending }
-{
-    if was_stopped {
-        StreamEnd::Broken(BreakCause::Stopped)
-    } else {
-        StreamEnd::Ended(ending)
-    }
 }
 
 /// The reading of its clock at which a direction ended.

@@ -38,6 +38,19 @@ pub struct LinkEnd {
     pub downstream: SideEnd,
 }
 
+impl StreamEnd {
+    /// How a stream ended that ended so by its plan: a stop of its link before that breaks it.
+    pub fn before_stop(was_stopped: bool, ending: Ending) -> StreamEnd
+        ensures { result ≡ end_before_stop was_stopped ending }
+    {
+        if was_stopped {
+            StreamEnd::Broken(BreakCause::Stopped)
+        } else {
+            StreamEnd::Ended(ending)
+        }
+    }
+}
+
 impl Carried {
     /// What a stream carried that ended, by its plan or once its link was stopped.
     pub fn until_end<S>(stream: Stream, report: &LinkReport<S>, was_stopped: bool) -> Carried
@@ -47,15 +60,10 @@ impl Carried {
           end = end_before_stop was_stopped report.now.ending;
         } }
     {
-        let end = if was_stopped {
-            StreamEnd::Broken(BreakCause::Stopped)
-        } else {
-            StreamEnd::Ended(report.ending)
-        };
         Carried {
             stream,
             bytes: report.written,
-            end,
+            end: StreamEnd::before_stop(was_stopped, report.ending),
         }
     }
 
