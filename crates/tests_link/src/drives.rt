@@ -167,14 +167,18 @@ fn compare(rt: &(impl Abort + AllocGlobal), seed: u64) -> Result<bool, Fail> {
     let generator = &mut Lcg64Xsh32::new(seed, 3);
     let chain = drawn_chain(rt, generator);
     let bytes = drawn_bytes(alloc, generator)?;
-    let direction = driven_under(rt, generator, &chain, bytes.clone()?, seed)?;
-    let written = direction.written.as_slice();
-    assert_eq!(rt; Some(written), bytes.get(..written.len()), "seed {seed}");
-    let (arrivals, slices) = read_log(alloc, &direction.notes)?;
+    let DrivenDirection {
+        answer,
+        notes,
+        written,
+    } = driven_under(rt, generator, &chain, bytes.clone()?, seed)?;
+    let front = bytes.get(..written.len());
+    assert_eq!(rt; Some(written.as_slice()), front, "seed {seed}");
+    let (arrivals, slices) = read_log(alloc, &notes)?;
     let outcome = deliver(alloc, &chain, &words_of(alloc, seed)?, &arrivals)?;
     let said = table_of(alloc, &slices)?;
     let due = table_of(alloc, &outcome.slices)?;
-    match direction.answer {
+    match answer {
         Ok(timed) => {
             assert_eq!(rt; said, due, "seed {seed}");
             assert_eq!(rt; timed.report.ending, outcome.ending, "seed {seed}");
