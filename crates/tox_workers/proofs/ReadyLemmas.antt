@@ -1,7 +1,8 @@
 -- What is known of a direction that is ready, in parts.
-use Rattle.std.proofs.Common.{◌≡◌, ℕ, ◌≤◌, Bool, true, None, IfSome, arith}
+use Rattle.std.proofs.Common.{◌≡◌, ℕ, ◌≤◌, ◌⊎◌, inl, inr, Bool, true, None, IfSome, arith}
 use Rattle.tox_link.specs.declared.source_ending.SourceEnding.{SourceEnding}
 use Rattle.tox_link.specs.declared.source_ending.SourceEnding.TheVariants.{Eof, ReadFault, ReadsUsedUp, TooManyBytes, NotReached}
+use Rattle.tox_time.specs.Time.{IsInstant}
 use Rattle.tox_link.specs.ring.Messages.{EndsFor}
 use Rattle.tox_link.specs.Sources.{read_end_of}
 
@@ -22,3 +23,8 @@ unlimited-of ReadFault failed cause same = cc
 unlimited-of ReadsUsedUp failed cause same = let none : 1 ≤ 0 = cause 1 0 in omega arith
 unlimited-of TooManyBytes failed cause same = cc
 unlimited-of NotReached failed cause same = cc
+
+-- the last instant of a direction that is ready
+pub instant-of : (latest : ℕ) → (latest ≡ 0) ⊎ IsInstant latest → IsInstant latest
+instant-of latest (inl none) = omega (arith, none)
+instant-of latest (inr bound) = bound

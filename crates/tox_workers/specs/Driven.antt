@@ -16,7 +16,7 @@ use Rattle.tox_workers.specs.declared.flow.Flow.{Flow}
 -- one step machine was driven to another, at sockets that tell no bytes, by at least so many steps
 abbrev pub DroveOn : ℕ → PolledLink → PolledLink → Type 0
 DroveOn least old new =
-    Drove least IsInstant old (ends_view None None None) new (ends_view None None None)
+    Drove least (λ t. IsInstant t) old (ends_view None None None) new (ends_view None None None)
 
 -- a direction goes on, driven by at least so many steps
 pub record Continues {R : Type 0} (least : ℕ) (old new : Flow R) : Type 0 where
@@ -29,11 +29,11 @@ IsBreakOf link CauseOf.Write = Unit {0}
 IsBreakOf link CauseOf.Memory = Unit {0}
 IsBreakOf link CauseOf.Thread = Unit {0}
 IsBreakOf link CauseOf.Upstream = ⊥
-IsBreakOf link CauseOf.Stopped = (ending : Ending) × IsAtEnd IsInstant link ending
+IsBreakOf link CauseOf.Stopped = (ending : Ending) × IsAtEnd (λ t. IsInstant t) link ending
 
 -- how a stream ended whose step machine stands there
 abbrev pub IsEndOf : PolledLink → StreamEnd → Type 0
-IsEndOf link (EndOf.Ended ending) = IsAtEnd IsInstant link ending
+IsEndOf link (EndOf.Ended ending) = IsAtEnd (λ t. IsInstant t) link ending
 IsEndOf link (EndOf.Broken cause) = IsBreakOf link cause
 
 -- a direction is told as it ended: the bytes that it has written, and its plan's ending
@@ -47,6 +47,6 @@ pub record HasEndedAs {R : Type 0} (old : Flow R) (carried : Carried) : Type 0 w
 -- what a direction does next: it waits for what its step machine waits for, goes on at once, or has ended
 abbrev pub IsDrivenOf : {R : Type 0} → Flow R → Driven R → Type 0
 IsDrivenOf old (Waits flow until) = Continues 0 old flow
-    × WaitsFor IsInstant flow.link.value flow.source.waits flow.sink.waits flow.sink.due until
+    × WaitsFor (λ t. IsInstant t) flow.link.value flow.source.waits flow.sink.waits flow.sink.due until
 IsDrivenOf old (Again flow) = Continues 32 old flow
 IsDrivenOf old (Ended carried) = HasEndedAs old carried

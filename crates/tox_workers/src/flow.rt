@@ -36,6 +36,7 @@ pub(crate) struct Flow<'r, R> {
     pub(crate) sink: ReadySink<'r, R>,
     pub(crate) notes: StreamNotes<'r, R>,
     pub(crate) ghost held: { IsHeld link.value } by { IsHeld-prop link.value },
+    pub(crate) ghost read: { IsInstant link.value.core.latest },
     pub(crate) ghost readable: { link.value.ended ≡ false → source.failed ≡ false },
     pub(crate) ghost failed: { link.value.source ≡ AtFault → source.failed ≡ true } by { Prim.hlevel props },
     pub(crate) ghost unlimited: { ¬ (link.value.source ≡ AtLastRead) },
@@ -188,7 +189,7 @@ fn end<R: Clock + Wait>(
     notes: &StreamNotes<'_, R>,
 ) -> Carried
     requires held { IsHeld link.value }
-    requires ended { IsAtEnd IsInstant link.value ending.now }
+    requires ended { IsAtEnd (λ t. IsInstant t) link.value ending.now }
     ensures { (was_stopped : Bool) × (result ≡ record {
       stream = stream;
       bytes = link.value.written;
@@ -213,7 +214,7 @@ fn last_reading<R: Clock + Wait>(
     ending: Ending,
 ) -> Micros
     requires held { IsHeld link.value }
-    requires ended { IsAtEnd IsInstant link.value ending }
+    requires ended { IsAtEnd (λ t. IsInstant t) link.value ending }
 {
     let link = Box::into_inner(link);
     let driven = Ok(ending);

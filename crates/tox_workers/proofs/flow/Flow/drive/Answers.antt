@@ -1,10 +1,11 @@
 -- A direction that goes on is ready again.
-use Rattle.tox_workers.proofs.ReadyLemmas.{fault-of, unlimited-of}
+use Rattle.tox_workers.proofs.ReadyLemmas.{fault-of, instant-of, unlimited-of}
 use Rattle.tox_workers.proofs.flow.Flow.drive.Goals as goal
 
 pub invariant_of-flow : goal.invariant_of-flow
 invariant_of-flow g c = let ready = c.drive.ensures.ready in record {
   held = ready.held;
+  read = instant-of _ ready.read;
   readable = ready.working;
   failed = fault-of _ _ ready.cause;
   unlimited = unlimited-of _ _ ready.cause;
@@ -14,6 +15,7 @@ invariant_of-flow g c = let ready = c.drive.ensures.ready in record {
 pub invariant_of-result : goal.invariant_of-result
 invariant_of-result g c = let ready = c.drive.ensures.ready in record {
   held = ready.held;
+  read = instant-of _ ready.read;
   readable = ready.working;
   failed = fault-of _ _ ready.cause;
   unlimited = unlimited-of _ _ ready.cause;
