@@ -12,9 +12,9 @@ use Rattle.tox_serve.specs.Told.{IsToldOf, carried_after}
 
 pub told_of : {S : Type 0} (course : Course) (was_stopped : Bool) (done : Result (TimedReport S) LinkFault)
     (reads : ℕ) (given : NearEnd) (left : TimedReport S → NearEnd) (before after : FarEnd)
-    → IfOk done (λ timed. Carries (means course.plan course.words) IsInstant reads given (left timed) before after
+    → IfOk done (λ timed. Carries (means course.plan course.words) (λ t. IsInstant t) reads given (left timed) before after
     timed.report.taken timed.report.written timed.report.ending (read_end_of timed.report.source) timed.reading)
-    → IfErr done (BreaksAt (means course.plan course.words) IsInstant given before after)
+    → IfErr done (BreaksAt (means course.plan course.words) (λ t. IsInstant t) given before after)
     → IsToldOf course (carried_after course.stream was_stopped done)
 told_of course true (Ok timed) reads given left before after carried broken = record {
   its = refl;

@@ -34,12 +34,12 @@ pub record EndsSo (meaning : List Item → List Item) (bytes : ℕ) (ending : En
   pub taken : ℕ
   pub source : Option ReadEnd
   pub reading : ℕ
-  pub reports : ReportsAt meaning IsInstant log taken bytes ending source reading
+  pub reports : ReportsAt meaning (λ t. IsInstant t) log taken bytes ending source reading
 
 -- a link broke off after so many written bytes, no more than its plan means for what it heard
 pub record BreaksSo (meaning : List Item → List Item) (bytes : ℕ) : Type 0 where
   pub log : List LinkEvent
-  pub cut_off : IsCutOff meaning IsInstant bytes log
+  pub cut_off : IsCutOff meaning (λ t. IsInstant t) bytes log
 
 -- a stream broke after so many bytes: it was stopped once its plan had ended it, or broke off
 abbrev pub BreaksBy : (List Item → List Item) → ℕ → BreakCause → Type 0
