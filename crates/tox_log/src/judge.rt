@@ -197,7 +197,7 @@ pub(crate) fn hear_wrote(judge: &mut Judge, slice: &Slice, reading: &Micros) -> 
     true
 }
 
-/// SaysPart the next part of a slice. False if the plan doesn't mean it.
+/// Says the next part of a slice. False if the plan doesn't mean it.
 fn say_part(judge: &mut Judge, slice: &Slice, reading: &Micros) -> bool
     requires held { KeepsUp judge.old }
     requires now { judge.old.latest ≡ reading.now }
@@ -224,7 +224,7 @@ fn say_part(judge: &mut Judge, slice: &Slice, reading: &Micros) -> bool
     true
 }
 
-/// SaysPart what is left of the core's slice, up to a position.
+/// Says what is left of the core's slice, up to a position.
 fn say(judge: &mut Judge, part: &Slice, stop: u64)
     requires held { KeepsUp judge.old }
     requires part { judge.old.rest ≡ Some part.now }

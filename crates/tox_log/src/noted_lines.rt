@@ -13,8 +13,8 @@ ghost use Rattle.tox_log.specs.NotedLines.{AreNoted, broken_lines, ended_lines};
 
 use tox_link::Clock;
 
-/// A law, and no work: the events and the report of a link by this clock, written as lines, are a link's log, and so is each
-/// front of them.
+/// A lemma as a function, with no runtime effect: the events and the report of a link by this clock, written as lines, are a
+/// link's log, and so is each front of them.
 ///
 /// Behind a header that can be written, [`judge_log`](crate::judge_log) finds no bad line in them and doesn't call them
 /// unfaithful.

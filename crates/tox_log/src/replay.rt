@@ -175,6 +175,7 @@ fn hear_lines<R: Source>(
         }
         hear_line(alloc, hearing, &line, log.number())?;
     }
+    // More lines than a number can count: the log wasn't read to its end.
     Err(LogFault::ReadFault)
 }
 
