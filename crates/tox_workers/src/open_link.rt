@@ -64,7 +64,8 @@ impl<'r, R: Clock + Wait> OpenLink<'r, R> {
         requires up { courses.up.stream ≡ StreamOf.Upstream }
         requires down { courses.down.stream ≡ StreamOf.Downstream }
         ensures parts { IfSome result (λ link. IsMadeOf opening link.value) }
-        ensures up { IfSome result (λ link. IsNewDirection courses.up opening.closing link.value.up) }
+        ensures up { IfSome result
+            (λ link. IsNewDirection courses.up opening.closing link.value.up) }
         ensures down { IfSome result (λ link. IsNewDirection courses.down false link.value.down) }
     {
         let Opening {
