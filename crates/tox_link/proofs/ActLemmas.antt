@@ -59,6 +59,7 @@ settled-still core now invariant emptied none going before unended = record {
   leaves = record { output = λ position since items later stream. same-of _ _ refl; position = refl };
   emptied = emptied;
   drawing = refl;
+  piece = refl;
   ops = refl;
   ended = refl;
   bytes = refl;
@@ -94,6 +95,7 @@ module _ (core : CoreView) (last : Ending) where
       };
       emptied = quiet-emptied;
       drawing = refl;
+      piece = refl;
       ops = refl;
       ended = refl;
       bytes = refl;

@@ -35,6 +35,7 @@ use Rattle.tox_link.specs.declared.ring.message.ReadEnd.{ReadEnd}
 use Rattle.tox_link.specs.Sources.{read_end_of}
 use Rattle.tox_link.proofs.CarryLemmas.{append-nothing, prepend-nil}
 use Rattle.tox_link.proofs.FollowLemmas.{bare, clad, drives-ended, unsent-none}
+use Rattle.tox_link.proofs.Depths.{shallow-front}
 use Rattle.tox_link.proofs.StepLemmas.{start-carried, says-heard}
 use Rattle.tox_link.proofs.LoggedLemmas.{said-within}
 use Rattle.tox_link.proofs.Logs.{heard-wrote, heard_bytes-append, said-append, end-same, events-append, events-none, has_source_end-append}
@@ -211,7 +212,7 @@ said-of_heard log (Some unwritten) all =
     let more = Wrote unwritten.slice unwritten.reading ∷ [] in
     let heard_is = heard_bytes-append log more in
     let said_is = ap (λ slices. length (slices_table slices)) (said-append log more) ∙ ap length (slices_table-append (said log) (said more)) ∙ length-append (slices_table (said log)) (slices_table (said more)) in
-    record { few = omega (arith, heard_is, all.few); heard = omega (arith, heard_is, said_is, all.heard) }
+    record { few = omega (arith, heard_is, all.few); heard = omega (arith, heard_is, said_is, all.heard); shallow = shallow-front [] log _ all.shallow }
 
 -- a direction that broke off
 pub cut-follows : (means : List Item → List Item) (told : ℕ → Type 0) (link : PolledLink) (log : List LinkEvent) (came : List ℕ) (before after : Option (List ℕ)) → IsHeld link → Follows means told link log came before after
@@ -395,7 +396,7 @@ ready-new told link left failed new held works = record {
 -- and follows its plan
 pub follows-new : (means : List Item → List Item) (told : ℕ → Type 0) (link : PolledLink) (known : Option (List ℕ)) → IsNew link → ((items : List Item) → IsStream items → remaining_output link.core items ≡ means items) → Follows means told link [] [] known known
 follows-new means told link known new output =
-    let carried : Carried means told link.core [] = start-carried means told link.core new.bytes new.latest new.position output in
+    let carried : Carried means told link.core [] = start-carried means told link.core new.bytes new.latest new.position new.none_kept output in
     record {
       carried = clad means told link.core link.unwritten [] new.unwritten carried;
       faithful = carried.faithful;

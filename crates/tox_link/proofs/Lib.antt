@@ -4,6 +4,7 @@ pub mod Looks
 pub mod ActLemmas
 pub mod Sent
 pub mod Logs
+pub mod Depths
 pub mod StepLemmas
 pub mod HeldLemmas
 pub mod SideLemmas

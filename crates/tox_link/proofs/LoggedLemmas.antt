@@ -91,7 +91,7 @@ cut-within told old core slice written takes same few means log logged =
 -- nothing was heard yet
 pub logged-fresh : (means : List Item → List Item) (told : ℕ → Type 0) (side : WriterSide) → IsFresh side → ((items : List Item) → IsStream items → remaining_output side.core items ≡ means items) → Logged means told side []
 logged-fresh means told side fresh output = record {
-  carried = start-carried means told side.core fresh.bytes fresh.latest fresh.position output;
+  carried = start-carried means told side.core fresh.bytes fresh.latest fresh.position fresh.none_kept output;
   closed = sym (ap (λ source. is_some (read_end_of source)) fresh.source);
 }
 

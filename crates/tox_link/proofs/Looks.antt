@@ -1,24 +1,27 @@
 -- A look for the next slice.
-use Rattle.std.proofs.Common.{◌≡◌, ℕ, ◌+◌, ◌<◌, ◌≤◌, ◌^◌, Bool, true, false, List, [], ◌∷◌, ◌++◌, length, append_assoc, replicate, Option, Some, None, refl, ap, ◌∙◌, sym, subst, arith, ◌⊎◌, inl, inr, if◌then◌else◌}
-use Rattle.std.specs.Prelude.{IsNone, IfSome, IfNone, Ok, Err, nat_lt, ◌==◌, ◌↔◌}
+use Rattle.std.proofs.Common.{◌≡◌, ℕ, ◌+◌, ◌<◌, ◌≤◌, ◌^◌, Bool, true, false, List, [], ◌∷◌, ◌++◌, length, map, append_assoc, replicate, Option, Some, None, refl, ap, ◌∙◌, sym, subst, arith, ◌⊎◌, inl, inr, if◌then◌else◌}
+use Rattle.std.specs.Prelude.{IsNone, IfSome, IfNone, Ok, Err, nat_lt, is_some, ◌==◌, ◌↔◌}
+use Rattle.std.proofs.lemmas.List.Sums.{sum_by-append}
 use Rattle.std.proofs.lemmas.Bool.{le-ltb}
 use Rattle.tox_time.specs.declared.streams.slice.Slice.{Slice}
 use Rattle.tox_time.specs.declared.streams.item.Item.{Item}
 use Rattle.tox_time.specs.declared.streams.item.Item.TheVariants.{Quiet}
 use Rattle.tox_time.specs.declared.streams.ending.Ending.{Ending}
 use Rattle.tox_time.specs.declared.streams.arrivals.ArrivalFault.{ArrivalFault}
+use Rattle.tox_time.specs.declared.streams.arrivals.ArrivalFault.TheVariants.{TimeBack, EmptyPiece, TooManyBytes, AfterEnd}
+use Rattle.tox_time.specs.streams.Arrivals.{piece_fault}
 use Rattle.tox_time.specs.streams.Stream.{span_len}
 use Rattle.tox_time.specs.streams.Table.{SameResult, table, ending}
 use Rattle.std.proofs.lemmas.List.{append-nil}
 use Rattle.tox_defs.specs.operations.Look.{as_chunk}
 use Rattle.tox_plan.specs.OpCursors.{ops_of}
 use Rattle.tox_plan.specs.Cuts.{IsCut, IsWithin, GivesCut, GivesNoCut, KeepsOffers, BeginsApart}
-use Rattle.tox_plan.specs.RunnerView.{RunnerView, HasNoChunk, to_come, found_chunk, next_piece, offer_answer}
+use Rattle.tox_plan.specs.RunnerView.{RunnerView, HasNoChunk, to_come, found_chunk, known_ending, next_piece, answer_of, offer_answer}
 use Rattle.tox_plan.specs.Delivering.{PreservesOutput}
 use Rattle.tox_plan.proofs.Deliveries.{goes-cut}
-use Rattle.tox_plan.proofs.RunnerOutput.{to_come-ended, final-no_chunk}
+use Rattle.tox_plan.proofs.RunnerOutput.{to_come-ended}
 use Rattle.tox_link.specs.declared.link_core.waiting.WaitingPiece.{WaitingPiece}
-use Rattle.tox_link.specs.link_core.Core.{CoreView, remaining_output, arrivals_from, end_or, Looked, core_position, start_of, IsDrained}
+use Rattle.tox_link.specs.link_core.Core.{CoreView, remaining_output, arrivals_from, end_or, Looked, GivesUp, core_position, kept_lens, kept_start, next_start, IsDrained}
 use Rattle.tox_link.specs.link_core.CoreKept.{IsCore, IsOver, IsFoundSlice, AreTimely, arrived_by, total_len}
 use Rattle.tox_link.proofs.WaitingLemmas.{timely-earlier}
 use Rattle.tox_link.proofs.CoreLemmas.{over-same}
@@ -31,6 +34,22 @@ same-of xs ys same = record { tables = ap table same; endings = ap ending same }
 
 pub same-both : (xs ys zs : List Item) → SameResult xs ys → SameResult ys zs → SameResult xs zs
 same-both xs ys zs first second = record { tables = first.tables ∙ second.tables; endings = first.endings ∙ second.endings }
+
+-- nothing is given up
+pub gives-none : (core : CoreView) → GivesUp core core
+gives-none core = record { first = []; lens = refl; start = omega arith; before = λ before. before }
+
+pub gives-both : (a b c : CoreView) → GivesUp a b → GivesUp b c → GivesUp a c
+gives-both a b c first second = record {
+  first = first.first ++ second.first;
+  lens = first.lens ∙ ap (λ rest. first.first ++ rest) second.lens ∙ sym (append_assoc first.first second.first (kept_lens c));
+  start = let both = sum_by-append (λ x. x) first.first second.first in let one = first.start in let two = second.start in omega (arith, both, one, two);
+  before = λ before. second.before (first.before before);
+}
+
+-- whatever room there is
+pub gives-anyhow : (old new : CoreView) (before after : ℕ) → GivesUp old new → GivesUp (record old { room = before }) (record new { room = after })
+gives-anyhow old new before after gives = record { first = gives.first; lens = gives.lens; start = gives.start; before = gives.before }
 
 pub looked-none : (core : CoreView) → Looked core core
 looked-none core = record {
@@ -45,6 +64,8 @@ looked-none core = record {
   waiting = ([], refl);
   count = omega arith;
   finished = refl;
+  unknown = λ none. none;
+  given_up = λ none. gives-none core;
 }
 
 pub looked-both : (a b c : CoreView) → Looked a b → Looked b c → Looked a c
@@ -60,6 +81,8 @@ looked-both a b c first second = record {
   waiting = (first.waiting.0 ++ second.waiting.0, first.waiting.1 ∙ ap (λ rest. first.waiting.0 ++ rest) second.waiting.1 ∙ sym (append_assoc first.waiting.0 second.waiting.0 c.waiting));
   count = omega (arith, first.count, second.count);
   finished = second.finished ∙ first.finished;
+  unknown = λ none. first.unknown (second.unknown none);
+  given_up = λ none. gives-both a b c (first.given_up (second.unknown none)) (second.given_up none);
 }
 
 -- a cut of a runner, as one slice, has its part of the result
@@ -79,18 +102,43 @@ takes runner len instant later some few open_yet =
     let not_empty : (len == 0) ≡ false = grind (arith, some) in
     rw (in_time, not_empty, few_bytes, open_yet) refl
 
--- so where it refuses one, it is over
-refused-over : (runner : RunnerView) (len instant : ℕ) (fault : ArrivalFault) → runner.latest ≤ instant → 0 < len → runner.piece.span.stop + len ≤ 2 ^ 40 → offer_answer runner len instant ≡ Err fault → IsOver runner
-refused-over runner len instant fault later some few refused = by runner.ending refl
+-- so one that took a piece knows none
+pub taken-running : (runner : RunnerView) (len instant : ℕ) → Ok tt ≡ offer_answer runner len instant → runner.ending ≡ None
+taken-running runner len instant taken = by runner.ending refl
+  where
+    never : (back empty many : Bool) → Ok tt ≡ answer_of (if back then Some TimeBack else (if empty then Some EmptyPiece else (if many then Some TooManyBytes else Some AfterEnd))) → ⊥
+    never true empty many same = cc
+    never false true many same = cc
+    never false false true same = cc
+    never false false false same = cc
+
+    by : (known : Option Ending) → runner.ending ≡ known → runner.ending ≡ None
+    by None is = is
+    by (Some last) is =
+        absurd (never (nat_lt instant runner.latest) (len == 0) (nat_lt (2 ^ 40) (runner.piece.span.stop + len))
+        (subst (λ known. Ok tt ≡ answer_of (piece_fault runner.piece.span.stop runner.latest (is_some known) len instant)) is taken))
+
+-- the ending that a busy runner and an idle one know
+pub busy-unknown : (runner : RunnerView) → runner.idle ≡ false → known_ending runner ≡ None
+busy-unknown runner busy = ap (λ idle. if idle then runner.ending else None) busy
+
+pub idle-known : (runner : RunnerView) → runner.idle ≡ true → known_ending runner ≡ runner.ending
+idle-known runner idle = ap (λ idle. if idle then runner.ending else None) idle
+
+-- so where an idle one refuses a piece, it is over
+refused-over : (runner : RunnerView) (len instant : ℕ) (fault : ArrivalFault) → runner.idle ≡ true → runner.latest ≤ instant → 0 < len → runner.piece.span.stop + len ≤ 2 ^ 40 → offer_answer runner len instant ≡ Err fault → IsOver runner
+refused-over runner len instant fault idle later some few refused = by runner.ending refl
   where
     by : (known : Option Ending) → runner.ending ≡ known → IsOver runner
     by None is = absurd (let both : Ok tt ≡ Err fault = sym (takes runner len instant later some few is) ∙ refused in cc)
-    by (Some last) is = record { last = last; only = λ items. to_come-ended runner last items is }
+    by (Some last) is = record { last = last; known = idle-known runner idle ∙ is; only = λ items. to_come-ended runner last items is }
 
 -- a runner that has no next cut
 pub record Stays (old new : RunnerView) : Type 0 where
   pub idle : new.idle ≡ true
   pub position : new.position ≡ old.position
+  pub from : old.idle ≡ false → old.piece.span.start ≤ old.position
+  pub whole : new.ending ≡ None → new.position ≡ old.piece.span.stop
   pub same : (items : List Item) → to_come new items ≡ to_come old items
 
 -- where a slice that is the next cut stands
@@ -104,7 +152,6 @@ pub record Cuts (old new : RunnerView) (found : Option Slice) : Type 0 where
   pub some : IfSome found (IsCut old new)
   pub place : IfSome found (Stands old new)
   pub apart : IfSome found (λ slice. BeginsApart slice.instant (to_come new (Quiet ∷ [])))
-  pub none : HasNoChunk (to_come old (Quiet ∷ [])) → IsNone found
   pub drained : IsNone found → HasNoChunk (to_come old (Quiet ∷ []))
   pub idle : IfNone found (Stays old new)
   pub drawing : new.drawing ≡ old.drawing
@@ -127,7 +174,7 @@ apart_of old new None gives = tt
 apart_of old new (Some slice) gives = gives.apart
 
 stays_of : (old new : RunnerView) (found : Option Slice) → IfNone found (GivesNoCut old new) → IfNone found (Stays old new)
-stays_of old new None stays = record { idle = stays.idle; position = stays.position; same = stays.same }
+stays_of old new None stays = record { idle = stays.idle; position = stays.position; from = stays.from; whole = stays.whole; same = stays.same }
 stays_of old new (Some slice) stays = tt
 
 -- what the runner's call tells
@@ -137,7 +184,6 @@ cuts_of old new found gives none idle kept = record {
   some = cut_of old new found gives;
   place = stands_of old new found gives;
   apart = apart_of old new found gives;
-  none = none.1;
   drained = none.0;
   idle = stays_of old new found idle;
   drawing = kept.drawing;
@@ -178,13 +224,46 @@ module _ (core : CoreView) (new : RunnerView) (found : Option Slice) where
         same-both _ (as_chunk slice ∷ to_come new (came items)) _ (same-of _ _ (ap (λ items. as_chunk slice ∷ items) (after items)))
         (same-both _ (to_come core.runner (came items)) _ (cut-same core.runner new slice cut (came items)) (same-of _ _ (sym (before items))))
 
-    place : (is : Option Slice) → found ≡ is → start_of is new.position ≡ core_position core
+    place : (is : Option Slice) → found ≡ is → next_start is new.position ≡ core_position core
     place None is =
         let idle : Stays core.runner new = subst (λ found. IfNone found (Stays core.runner new)) is cuts.idle in
-        idle.position ∙ sym (ap (λ found. start_of found core.runner.position) unfound)
+        idle.position ∙ sym (ap (λ found. next_start found core.runner.position) unfound)
     place (Some slice) is =
         let place : Stands core.runner new slice = subst (λ found. IfSome found (Stands core.runner new)) is cuts.place in
-        place.starts ∙ sym (ap (λ found. start_of found core.runner.position) unfound)
+        place.starts ∙ sym (ap (λ found. next_start found core.runner.position) unfound)
+
+    -- a piece of which all was given is given up
+    gives : (is : Option Slice) → found ≡ is → known_ending new ≡ None → GivesUp core after_cut
+    gives None is unknown =
+        let idle : Stays core.runner new = subst (λ found. IfNone found (Stays core.runner new)) is cuts.idle in
+        let starts : kept_start core ≡ core.runner.piece.span.start = ap (λ idle. if idle then core.runner.piece.span.stop else core.runner.piece.span.start) busy in
+        let stops : kept_start after_cut ≡ core.runner.piece.span.stop = ap (λ idle. if idle then new.piece.span.stop else new.piece.span.start) idle.idle ∙ ap (λ piece. piece.span.stop) cuts.piece in
+        let stands : core_position after_cut ≡ core.runner.piece.span.stop = ap (λ found. next_start found new.position) is ∙ idle.whole (sym (idle-known new idle.idle) ∙ unknown) in
+        let moved : new.position ≡ core.runner.position = idle.position in
+        let whole : new.position ≡ core.runner.piece.span.stop = idle.whole (sym (idle-known new idle.idle) ∙ unknown) in
+        let from : core.runner.piece.span.start ≤ core.runner.position = idle.from busy in
+        record {
+          first = span_len core.runner.piece.span ∷ [];
+          lens = ap (λ idle. (if idle then [] else span_len core.runner.piece.span ∷ []) ++ map (λ (piece : WaitingPiece). piece.len) core.waiting) busy
+              ∙ ap (λ idle. span_len core.runner.piece.span ∷ ((if idle then [] else span_len new.piece.span ∷ []) ++ map (λ (piece : WaitingPiece). piece.len) core.waiting)) (sym idle.idle);
+          start = omega (arith, starts, stops, moved, whole, from);
+          before = λ before. omega (arith, stops, stands);
+        }
+    gives (Some slice) is unknown =
+        let cut : IsCut core.runner new slice = subst (λ found. IfSome found (IsCut core.runner new)) is cuts.some in
+        let place : Stands core.runner new slice = subst (λ found. IfSome found (Stands core.runner new)) is cuts.place in
+        let starts : kept_start core ≡ core.runner.piece.span.start = ap (λ idle. if idle then core.runner.piece.span.stop else core.runner.piece.span.start) busy in
+        let starts_still : kept_start after_cut ≡ core.runner.piece.span.start = ap (λ idle. if idle then new.piece.span.stop else new.piece.span.start) place.busy ∙ ap (λ piece. piece.span.start) cuts.piece in
+        let stands : core_position after_cut ≡ slice.span.start = ap (λ found. next_start found new.position) is in
+        let from : core.runner.piece.span.start ≤ slice.span.start = cut.within.from in
+        record {
+          first = [];
+          lens = ap (λ idle. (if idle then [] else span_len core.runner.piece.span ∷ []) ++ map (λ (piece : WaitingPiece). piece.len) core.waiting) busy
+              ∙ ap (λ piece. span_len piece.span ∷ map (λ (piece : WaitingPiece). piece.len) core.waiting) (sym cuts.piece)
+              ∙ ap (λ idle. (if idle then [] else span_len new.piece.span ∷ []) ++ map (λ (piece : WaitingPiece). piece.len) core.waiting) (sym place.busy);
+          start = omega (arith, starts, starts_still);
+          before = λ before. omega (arith, starts_still, stands, from);
+        }
 
     pub looked-cut : Looked core after_cut
     looked-cut = record {
@@ -199,23 +278,21 @@ module _ (core : CoreView) (new : RunnerView) (found : Option Slice) where
       waiting = ([], refl);
       count = cut_count (length core.waiting) core.runner.idle new.idle busy;
       finished = cuts.finished;
+      unknown = λ none. busy-unknown core.runner busy;
+      given_up = gives found refl;
     }
 
-    -- a runner that is over brings no slice, and is over still
-    over_still : IsOver core.runner → (is : Option Slice) → found ≡ is → (is ≡ None) × IsOver new
-    over_still over None is =
-        let idle : Stays core.runner new = subst (λ found. IfNone found (Stays core.runner new)) is cuts.idle in
-        (refl, record { last = over.last; only = λ items. idle.same items ∙ over.only items })
-    over_still over (Some slice) is =
-        absurd (let none : IsNone (Some slice) = subst IsNone is (cuts.none (subst HasNoChunk (sym (over.only (Quiet ∷ []))) (final-no_chunk over.last))) in cc)
+    -- a busy runner isn't over
+    not_over : IsOver core.runner → ⊥
+    not_over over = let both : Some over.last ≡ None = sym over.known ∙ busy-unknown core.runner busy in cc
 
     total : (core.runner.piece.span.stop + total_len core.waiting ≡ core.bytes) ⊎ IsOver core.runner → (new.piece.span.stop + total_len core.waiting ≡ core.bytes) ⊎ IsOver new
     total (inl all) = inl (ap (λ piece. piece.span.stop + total_len core.waiting) cuts.piece ∙ all)
-    total (inr over) = inr (over_still over found refl).1
+    total (inr over) = absurd (not_over over)
 
     is_found : (core.runner.piece.span.stop + total_len core.waiting ≡ core.bytes) ⊎ IsOver core.runner → (is : Option Slice) → found ≡ is → IfSome is (IsFoundSlice new core.bytes)
     is_found whole None is = tt
-    is_found (inr over) (Some slice) is = absurd (let none : Some slice ≡ None = (over_still over (Some slice) is).0 in cc)
+    is_found (inr over) (Some slice) is = absurd (not_over over)
     is_found (inl all) (Some slice) is =
         let cut : IsCut core.runner new slice = subst (λ found. IfSome found (IsCut core.runner new)) is cuts.some in
         let place : Stands core.runner new slice = subst (λ found. IfSome found (Stands core.runner new)) is cuts.place in
@@ -253,6 +330,7 @@ module _ (core : CoreView) (new : RunnerView) (piece : WaitingPiece) (rest : Lis
     pub waiting : core.waiting ≡ piece ∷ rest
     pub unfound : core.found ≡ None
     pub idle : core.runner.idle ≡ true
+    pub running : core.runner.ending ≡ None
     pub busy : new.idle ≡ false
     pub position : new.position ≡ core.runner.position
     pub offered : new.piece ≡ next_piece core.runner piece.len piece.instant
@@ -268,13 +346,30 @@ module _ (core : CoreView) (new : RunnerView) (piece : WaitingPiece) (rest : Lis
     count_offer false true busy idle = omega arith
     count_offer false false busy idle = absurd (cc)
 
+    -- the piece is kept still, and is the first one
+    gives_offer : GivesUp core after_offer
+    gives_offer =
+        let len_is : span_len new.piece.span ≡ piece.len = ap (λ piece. span_len piece.span) offers.offered ∙ omega arith in
+        let starts : kept_start core ≡ core.runner.piece.span.stop = ap (λ idle. if idle then core.runner.piece.span.stop else core.runner.piece.span.start) offers.idle in
+        let starts_still : kept_start after_offer ≡ core.runner.piece.span.stop = ap (λ idle. if idle then new.piece.span.stop else new.piece.span.start) offers.busy ∙ ap (λ piece. piece.span.start) offers.offered in
+        let stands : core_position after_offer ≡ core_position core = ap (λ position. next_start core.found position) offers.position in
+        record {
+          first = [];
+          lens = ap (λ idle. (if idle then [] else span_len core.runner.piece.span ∷ []) ++ map (λ (piece : WaitingPiece). piece.len) core.waiting) offers.idle
+              ∙ ap (λ waiting. map (λ (piece : WaitingPiece). piece.len) waiting) offers.waiting
+              ∙ ap (λ len. len ∷ map (λ (piece : WaitingPiece). piece.len) rest) (sym len_is)
+              ∙ ap (λ idle. (if idle then [] else span_len new.piece.span ∷ []) ++ map (λ (piece : WaitingPiece). piece.len) rest) (sym offers.busy);
+          start = omega (arith, starts, starts_still);
+          before = λ before. omega (arith, starts, starts_still, stands, before);
+        }
+
     pub looked-offer : Looked core after_offer
     looked-offer = record {
       output = λ items. same-of _ _ (ap (λ rest. found_chunk core.found ++ rest)
           (ap (λ piece. to_come new (arrivals_from piece.span.stop rest (end_or core.end items))) offers.offered
           ∙ offers.gives (arrivals_from (core.runner.piece.span.stop + piece.len) rest (end_or core.end items))
           ∙ sym (ap (λ waiting. to_come core.runner (arrivals_from core.runner.piece.span.stop waiting (end_or core.end items))) offers.waiting)));
-      position = ap (λ position. start_of core.found position) offers.position;
+      position = ap (λ position. next_start core.found position) offers.position;
       drawing = offers.drawing;
       ops = ap ops_of offers.cursors;
       end = refl;
@@ -284,6 +379,8 @@ module _ (core : CoreView) (new : RunnerView) (piece : WaitingPiece) (rest : Lis
       waiting = (piece ∷ [], offers.waiting);
       count = subst (λ waiting. length rest + (if new.idle then 0 else 1) ≤ length waiting + (if core.runner.idle then 0 else 1)) (sym offers.waiting) (count_offer new.idle core.runner.idle offers.busy offers.idle);
       finished = offers.finished;
+      unknown = λ none. idle-known core.runner offers.idle ∙ offers.running;
+      given_up = λ none. gives_offer;
     }
 
     total_offer : (core.runner.piece.span.stop + total_len core.waiting ≡ core.bytes) ⊎ IsOver core.runner → (new.piece.span.stop + total_len rest ≡ core.bytes) ⊎ IsOver new
@@ -291,7 +388,7 @@ module _ (core : CoreView) (new : RunnerView) (piece : WaitingPiece) (rest : Lis
         let stop : new.piece.span.stop ≡ core.runner.piece.span.stop + piece.len = ap (λ piece. piece.span.stop) offers.offered in
         let split : total_len core.waiting ≡ piece.len + total_len rest = ap total_len offers.waiting in
         inl (omega (arith, all, stop, split))
-    total_offer (inr over) = inr (record { last = over.last; only = λ items. offers.gives items ∙ over.only _ })
+    total_offer (inr over) = absurd (let both : Some over.last ≡ None = sym over.known ∙ idle-known core.runner offers.idle ∙ offers.running in cc)
 
     pub IsCore-after_offer : IsCore core → IsCore after_offer
     IsCore-after_offer invariant = record {
@@ -311,14 +408,14 @@ module _ (core : CoreView) (piece : WaitingPiece) (rest : List WaitingPiece) (fa
   abbrev pub after_refusal : CoreView
   after_refusal = record core { waiting = rest }
 
-  module _ (invariant : IsCore core) (waiting : core.waiting ≡ piece ∷ rest) (refused : offer_answer core.runner piece.len piece.instant ≡ Err fault) where
+  module _ (invariant : IsCore core) (idle : core.runner.idle ≡ true) (waiting : core.waiting ≡ piece ∷ rest) (refused : offer_answer core.runner piece.len piece.instant ≡ Err fault) where
     timely : AreTimely core.runner.latest (piece ∷ rest) (arrived_by core.end core.latest)
     timely = subst (λ waiting. AreTimely core.runner.latest waiting (arrived_by core.end core.latest)) waiting invariant.timely
 
     over_by : (core.runner.piece.span.stop + total_len core.waiting ≡ core.bytes) ⊎ IsOver core.runner → IsOver core.runner
     over_by (inl all) =
         let split : total_len core.waiting ≡ piece.len + total_len rest = ap total_len waiting in
-        refused-over core.runner piece.len piece.instant fault timely.0 timely.1 (omega (arith, all, split, invariant.few_bytes)) refused
+        refused-over core.runner piece.len piece.instant fault idle timely.0 timely.1 (omega (arith, all, split, invariant.few_bytes)) refused
     over_by (inr over) = over
 
     pub looked-refusal : Looked core after_refusal
@@ -334,6 +431,8 @@ module _ (core : CoreView) (piece : WaitingPiece) (rest : List WaitingPiece) (fa
       waiting = (piece ∷ [], waiting);
       count = let more : length core.waiting ≡ length (piece ∷ rest) = ap length waiting in omega (arith, more);
       finished = refl;
+      unknown = λ none. none;
+      given_up = λ none. absurd (let over = over_by invariant.total in let both : Some over.last ≡ None = sym over.known ∙ none in cc);
     }
 
     pub IsCore-after_refusal : IsCore after_refusal

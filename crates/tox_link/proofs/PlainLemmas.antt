@@ -45,6 +45,7 @@ pub plain-begins : (plan : Ops) (words : List ℕ) (so_far : StreamPosition) →
 plain-begins plan words so_far first none = record {
   meaning = λ items stream. plain-read 0 None so_far items ∙ sym (ap (λ ops. means (record plan { ops = ops }) words items) none);
   start = (refl, refl, ap (λ (place : StreamPosition). place.ended) first, ap (λ (place : StreamPosition). place.position) first, ap (λ (place : StreamPosition). place.latest) first, refl);
+  none_kept = (refl, refl);
 }
 
 -- the first instant of a nonempty chunk
@@ -92,6 +93,8 @@ module _ (given now : ℕ) (piece : WaitingPiece) (end : Option ℕ) (so_far : S
     unended = λ none. absurd (let both : Some piece.instant ≡ None = sym next ∙ none in cc);
     output = (omega (arith, early, later), gives);
     kept = record { drawing = refl; ops = refl; ended = refl; bytes = refl; waiting = (piece ∷ [], refl); count = omega arith; ending = λ last is. absurd (cc) };
+    given_up = λ unknown. record { first = piece.len ∷ []; lens = refl; start = omega arith; before = λ before. omega arith };
+    holds = λ t is ahead. let same : Some t ≡ Some piece.instant = sym is ∙ next in absurd (let at : t ≡ piece.instant = cc in omega (arith, early, later, at, ahead));
     latest = refl;
   }
 
@@ -138,6 +141,8 @@ module _ (given now : ℕ) (end : Option ℕ) (so_far : StreamPosition) (ended :
     unended = λ none. unended end;
     output = after;
     kept = keeps-later;
+    given_up = λ unknown. record { first = []; lens = refl; start = omega arith; before = λ before. before };
+    holds = λ t some. absurd (let both : None ≡ Some t = sym (none-next end) ∙ some in cc);
     latest = refl;
   }
 

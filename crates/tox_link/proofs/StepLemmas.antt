@@ -1,5 +1,5 @@
 -- The steps of a link that is carried.
-use Rattle.std.proofs.Common.{◌≡◌, ℕ, ◌+◌, ◌<◌, ◌≤◌, ◌^◌, inl, inr, true, false, List, [], ◌∷◌, ◌++◌, replicate, refl, ap, sym, ◌∙◌, subst, append_assoc, append-nil, zero-add, arith}
+use Rattle.std.proofs.Common.{◌≡◌, ℕ, ◌+◌, ◌<◌, ◌≤◌, ◌^◌, inl, inr, true, false, List, [], ◌∷◌, ◌++◌, replicate, None, refl, ap, sym, ◌∙◌, subst, append_assoc, append-nil, zero-add, arith}
 use Rattle.std.proofs.Math.Seq.{take-nil}
 use Rattle.tox_time.specs.declared.streams.slice.Slice.{Slice}
 use Rattle.tox_time.specs.declared.streams.item.Item.{Item}
@@ -12,10 +12,11 @@ use Rattle.tox_link.specs.declared.link_core.act.Act.{Act}
 use Rattle.tox_link.specs.declared.link_core.act.Act.TheVariants.{Write, WaitUntil, WaitForInput, End}
 use Rattle.tox_link.specs.declared.notes.LinkEvent.{LinkEvent}
 use Rattle.tox_link.specs.declared.notes.LinkEvent.TheVariants.{Piece, SourceEnd, Wrote}
-use Rattle.tox_link.specs.link_core.Core.{CoreView, TakesSlice, LeavesOutput, remaining_output, core_position}
+use Rattle.tox_link.specs.link_core.Core.{CoreView, TakesSlice, LeavesOutput, remaining_output, core_ending, core_position, kept_count, kept_lens, kept_start}
 use Rattle.tox_link.specs.link_core.Acts.{After}
-use Rattle.tox_link.specs.log.Log.{heard_from, said, heard_bytes, has_source_end, Agrees, IsGapless, IsFaithful, SaysHeard}
-use Rattle.tox_link.specs.log.Carried.{Carried, KeepsCarried, noted_of}
+use Rattle.tox_link.specs.log.Log.{heard_from, heard_lens, said, heard_bytes, has_source_end, Agrees, IsGapless, IsFaithful, SaysHeard}
+use Rattle.tox_link.specs.log.Carried.{Carried, KeepsCarried, KeepsLast, noted_of}
+use Rattle.tox_link.proofs.Depths.{few-waiting, keeps-none, keeps-piece, shallow-append}
 use Rattle.tox_link.proofs.Logs.{stream-earlier, heard-piece, heard-end, heard-wrote, said-append, heard_bytes-append, gapless-append, gapless-bytes, by-later, by-append, faithful-append, end-same, open-log, ordered-piece, ordered-end, ordered-wrote}
 
 -- what stands now agrees with the plan
@@ -32,10 +33,11 @@ module _ (told : ℕ → Type 0) (old new : CoreView) (len instant : ℕ) where
   abbrev piece : Item
   piece = Chunk (record { start = old.bytes; stop = old.bytes + len }) instant
 
-  pub piece-carried : old.latest ≤ instant → IsInstant instant → told instant → 0 < len → old.bytes + len ≤ 2 ^ 40 → old.ended ≡ false → new.latest ≡ instant → new.bytes ≡ old.bytes + len → core_position new ≡ core_position old
+  piece-carried : kept_count old < 1_024 → core_ending old ≡ None → new.runner ≡ old.runner → new.found ≡ old.found → new.waiting ≡ old.waiting ++ record { len = len; instant = instant } ∷ []
+      → old.latest ≤ instant → IsInstant instant → told instant → 0 < len → old.bytes + len ≤ 2 ^ 40 → old.ended ≡ false → new.latest ≡ instant → new.bytes ≡ old.bytes + len → core_position new ≡ core_position old
       → ((items : List Item) → remaining_output new items ≡ remaining_output old (Chunk (record { start = old.bytes; stop = old.bytes + len }) instant ∷ items))
       → KeepsCarried told old (Piece len instant ∷ []) new
-  piece-carried later fits says some few going latest bytes position output means log carried = record {
+  piece-carried room unknown runner found waiting later fits says some few going latest bytes position output means log carried = record {
     tables = tables;
     endings = λ rest stream. ap (λ items. ending (means items)) (heard_is rest) ∙ carried.endings (piece ∷ rest) (goes_on rest stream) ∙ ap ending (sym (output rest));
     stream = λ rest stream. subst IsStream (sym (heard_is rest)) (carried.stream (piece ∷ rest) (goes_on rest stream));
@@ -48,6 +50,9 @@ module _ (told : ℕ → Type 0) (old new : CoreView) (len instant : ℕ) where
     arrived = omega (arith, carried.arrived, bytes, position);
     few = omega (arith, bytes, few);
     read = inr (subst told (sym latest) says);
+    shallow = shallow-append [] log (Piece len instant ∷ []) carried.shallow
+        (let waiting = few-waiting old log (carried.kept going unknown) carried.gapless in omega (arith, waiting, room), tt);
+    kept = λ _ _. keeps-piece old new log len instant runner found waiting (carried.kept going unknown);
   }
     where
       unended : has_source_end log ≡ false
@@ -70,6 +75,14 @@ module _ (told : ℕ → Type 0) (old new : CoreView) (len instant : ℕ) where
       gapless : IsGapless 0 (said (log ++ Piece len instant ∷ [])) (core_position new)
       gapless = subst (λ slices. IsGapless 0 slices (core_position new)) (sym said_is) (subst (IsGapless 0 (said log)) (sym position) carried.gapless)
 
+  pub taken-carried : kept_count old < 1_024 → core_ending old ≡ None → old.latest ≤ instant → IsInstant instant → told instant → 0 < len → old.bytes + len ≤ 2 ^ 40 → old.ended ≡ false
+      → new ≡ record old { waiting = old.waiting ++ record { len = len; instant = instant } ∷ []; bytes = old.bytes + len; latest = instant }
+      → ((items : List Item) → remaining_output new items ≡ remaining_output old (Chunk (record { start = old.bytes; stop = old.bytes + len }) instant ∷ items))
+      → KeepsCarried told old (Piece len instant ∷ []) new
+  taken-carried room unknown later fits says some few going taken =
+      piece-carried room unknown (ap (λ (core : CoreView). core.runner) taken) (ap (λ (core : CoreView). core.found) taken) (ap (λ (core : CoreView). core.waiting) taken) later fits says some few going
+      (ap (λ (core : CoreView). core.latest) taken) (ap (λ (core : CoreView). core.bytes) taken) (ap core_position taken)
+
 -- the source's end arrives
 module _ (told : ℕ → Type 0) (old new : CoreView) (instant : ℕ) where
   pub end-carried : old.latest ≤ instant → IsInstant instant → told instant → old.ended ≡ false → new.ended ≡ true → new.latest ≡ instant → new.bytes ≡ old.bytes → core_position new ≡ core_position old
@@ -87,6 +100,8 @@ module _ (told : ℕ → Type 0) (old new : CoreView) (instant : ℕ) where
     arrived = omega (arith, carried.arrived, bytes, position);
     few = omega (arith, bytes, carried.few);
     read = inr (subst told (sym latest) says);
+    shallow = shallow-append [] log (SourceEnd instant ∷ []) carried.shallow (tt, tt);
+    kept = λ going. absurd (let both : true ≡ false = sym ended ∙ going in cc);
   }
     where
       said_is : said (log ++ SourceEnd instant ∷ []) ≡ said log
@@ -103,9 +118,14 @@ module _ (told : ℕ → Type 0) (old new : CoreView) (instant : ℕ) where
       gapless : IsGapless 0 (said (log ++ SourceEnd instant ∷ [])) (core_position new)
       gapless = subst (λ slices. IsGapless 0 slices (core_position new)) (sym said_is) (subst (IsGapless 0 (said log)) (sym position) carried.gapless)
 
+-- a step in which no piece is heard, after which the core keeps the last pieces still
+abbrev pub KeepsKept : CoreView → CoreView → Type 0
+KeepsKept old new = (log more : List LinkEvent) → heard_lens more ≡ [] → (old.ended ≡ false → core_ending old ≡ None → KeepsLast old log)
+    → new.ended ≡ false → core_ending new ≡ None → KeepsLast new (log ++ more)
+
 -- the clock is read
 module _ (told : ℕ → Type 0) (old new : CoreView) (now : ℕ) (later : old.latest ≤ now) (says : told now) (latest : new.latest ≡ now) (bytes : new.bytes ≡ old.bytes)
-    (stays : old.ended ≡ true → new.ended ≡ true) where
+    (stays : old.ended ≡ true → new.ended ≡ true) (keeps : KeepsKept old new) where
   -- what goes on from now goes on from before
   goes_on : (rest : List Item) → IsStreamFrom new.bytes new.latest rest → IsStreamFrom old.bytes now rest
   goes_on rest stream = subst (λ at. IsStreamFrom at now rest) bytes (subst (λ since. IsStreamFrom new.bytes since rest) latest stream)
@@ -126,6 +146,8 @@ module _ (told : ℕ → Type 0) (old new : CoreView) (now : ℕ) (later : old.l
     arrived = omega (arith, carried.arrived, bytes, leaves.position);
     few = omega (arith, bytes, carried.few);
     read = inr (subst told (sym latest) says);
+    shallow = carried.shallow;
+    kept = λ going unknown. subst (KeepsLast new) (append-nil log) (keeps log [] refl carried.kept going unknown);
   })
 
   pub wrote-carried : (slice : Slice) → slice.instant ≤ now → TakesSlice old new slice → KeepsCarried told old (Wrote slice now ∷ []) new
@@ -142,6 +164,8 @@ module _ (told : ℕ → Type 0) (old new : CoreView) (now : ℕ) (later : old.l
     arrived = omega (arith, takes.arrived, takes.stops);
     few = omega (arith, bytes, carried.few);
     read = inr (subst told (sym latest) says);
+    shallow = shallow-append [] log (Wrote slice now ∷ []) carried.shallow (tt, tt);
+    kept = keeps log (Wrote slice now ∷ []) refl carried.kept;
   }
     where
       said_is : said (log ++ Wrote slice now ∷ []) ≡ said log ++ slice ∷ []
@@ -174,7 +198,7 @@ module _ (told : ℕ → Type 0) (old new : CoreView) (now : ℕ) (later : old.l
 pub says-heard : (means : List Item → List Item) (told : ℕ → Type 0) (core : CoreView) (log : List LinkEvent) → Carried means told core log → SaysHeard log
 says-heard means told core log carried =
     let long = gapless-bytes 0 (said log) (core_position core) carried.gapless in
-    record { few = omega (arith, carried.bytes, carried.few); heard = omega (arith, long, carried.bytes, carried.arrived) }
+    record { few = omega (arith, carried.bytes, carried.few); heard = omega (arith, long, carried.bytes, carried.arrived); shallow = carried.shallow }
 
 -- an empty log is faithful
 pub faithful-nil : (means : List Item → List Item) (told : ℕ → Type 0) → IsFaithful means told []
@@ -186,8 +210,8 @@ faithful-nil means told = record {
 
 -- nothing was heard yet
 pub start-carried : (means : List Item → List Item) (told : ℕ → Type 0) (core : CoreView) → core.bytes ≡ 0 → core.latest ≡ 0 → core_position core ≡ 0
-    → ((items : List Item) → IsStream items → remaining_output core items ≡ means items) → Carried means told core []
-start-carried means told core bytes latest position output = record {
+    → (kept_lens core ≡ []) × (kept_start core ≡ 0) → ((items : List Item) → IsStream items → remaining_output core items ≡ means items) → Carried means told core []
+start-carried means told core bytes latest position none_kept output = record {
   tables = λ rest stream. ap table (sym (output rest (from_start rest stream)));
   endings = λ rest stream. ap ending (sym (output rest (from_start rest stream)));
   stream = from_start;
@@ -199,6 +223,8 @@ start-carried means told core bytes latest position output = record {
   arrived = omega (arith, position);
   few = omega (arith, bytes);
   read = inl latest;
+  shallow = tt;
+  kept = λ _ _. keeps-none core none_kept;
 }
   where
     from_start : (rest : List Item) → IsStreamFrom core.bytes core.latest rest → IsStream rest

@@ -3,6 +3,7 @@ pub mod ring
 pub mod log
 pub mod carrying
 pub mod Sources
+pub mod Meaning
 pub mod Reports
 pub mod Hangups
 pub mod direction

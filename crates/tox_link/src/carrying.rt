@@ -1,11 +1,9 @@
 //! One direction of a live link, from its reader's thread to its writer.
 ghost use Rattle.std.specs.Prelude.{◌≡◌, ℕ, List, [], false, IfOk, IfErr, MatchResult, Err};
 ghost use Rattle.rtrb.specs.Ring.{sent, IsPair};
-ghost use Rattle.tox_time.specs.declared.streams.item.Item.{Item as OneItem};
-ghost use Rattle.tox_time.specs.streams.Stream.{IsStream};
 ghost use Rattle.tox_compile.specs.Meaning.{means};
 ghost use Rattle.tox_link.specs.declared.link_fault.LinkFault.TheVariants.{SpawnRefused};
-ghost use Rattle.tox_link.specs.link_core.Core.{remaining_output};
+ghost use Rattle.tox_link.specs.Meaning.{MeansPlan};
 ghost use Rattle.tox_link.specs.Reports.{is_write_fault, written_before};
 ghost use Rattle.tox_link.specs.carrying.Results.{BreaksAt, Carries, far_end, near_end};
 ghost use Rattle.tox_link.specs.carrying.Side.{IsFresh};
@@ -50,8 +48,7 @@ fn start<
     gate: &Arc<G>,
 ) -> Result<(WriterSide<'w>, ReaderThread<S>), LinkFault>
     requires { S.failed reader ≡ false }
-    ensures meaning { IfOk result (λ started. (items : List OneItem) → IsStream items
-        → remaining_output started.0.core items ≡ means plan words.now items) }
+    ensures meaning { IfOk result (λ started. MeansPlan plan words.now started.0.core) }
     ensures fresh { IfOk result (λ started. IsFresh started.0) }
     ensures ring { IfOk result (λ started.
         IsPair started.1.promise.sender.value started.0.inbox.receiver) }

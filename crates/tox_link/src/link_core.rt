@@ -6,7 +6,7 @@ ghost use Rattle.tox_time.specs.streams.Arrivals.{piece_fault};
 ghost use Rattle.tox_time.specs.streams.Table.{final_of};
 ghost use Rattle.tox_compile.specs.Meaning.{deadline_of};
 ghost use Rattle.tox_plan.specs.OpCursors.{ops_of};
-ghost use Rattle.tox_plan.specs.RunnerView.{answer_of, no_piece};
+ghost use Rattle.tox_plan.specs.RunnerView.{answer_of, known_ending, no_piece};
 ghost use Rattle.tox_link.specs.link_core.Core.{remaining_output, core_ending, core_position, core_deadline, kept_count, next_instant, KeepsCore, Looked, IsDrained, IsEmptied, Settled, HandsOnEnd};
 ghost use Rattle.tox_link.specs.link_core.NewCore.{core_of, IsNewCore};
 ghost use Rattle.tox_link.specs.link_core.Acts.{idle_act, Answered, HearsEnd, HearsPiece};
@@ -179,7 +179,8 @@ impl<'w> LinkCore<'w> {
     fn answer(&mut self, now: Micros) -> Act
         requires emptied { self.old.found ≡ None → IsEmptied self.old }
         requires latest { self.old.latest ≡ now }
-        ensures { Answered self.old self.new now result }
+        ensures answered { Answered self.old self.new now result }
+        ensures unknown { core_ending self.new ≡ None → known_ending self.old.runner ≡ None }
     {
         let Some(slice) = self.found else {
             return self.act_without_slice(now);

@@ -24,7 +24,7 @@ use Rattle.tox_link.specs.Reports.{ReportsAt}
 use Rattle.tox_log.specs.declared.judge.Judge.{Judge}
 use Rattle.tox_log.specs.declared.replay.Hearing.{Hearing}
 use Rattle.tox_log.specs.Numbers.{Lacks}
-use Rattle.tox_log.specs.Reading.{LacksLine, is_last, to_hand}
+use Rattle.tox_log.specs.Reading.{LacksLine, is_last, to_hand, IsLineNumber, next_number}
 use Rattle.tox_log.specs.declared.event_line.LogLine.{LogLine}
 use Rattle.tox_log.specs.declared.event_line.LogLine.TheVariants.{Event, Last}
 use Rattle.tox_log.specs.declared.last_line.BreakCause.{BreakCause}
@@ -36,7 +36,7 @@ use Rattle.tox_log.specs.Lines.{IsWritable, line_words}
 use Rattle.tox_log.specs.Judging.{Hears, Judged, Refuses, RefusesEnding, source_heard}
 use Rattle.tox_log.specs.declared.replay.Verdict.{Verdict}
 use Rattle.tox_log.specs.declared.replay.Verdict.TheVariants.{Faithful, Unfinished, Unfaithful}
-use Rattle.tox_log.specs.Hearing.{AreCounts, BeginsJudging, HasHeard, HasNoEnding, HasReport, HasStopped, HearsLine, HearsToEnd, IsFaithfulText, IsRefusedText, IsTextOf, IsTold, IsUnfinishedText, SaysOf, SaysSo, event_lines}
+use Rattle.tox_log.specs.Hearing.{AreCounts, BeginsJudging, HasHeard, HasNoEnding, HasReport, HasStopped, HearsLine, HearsToEnd, IsFaithfulText, IsRefusedText, IsTextOf, IsTold, IsUnfinishedText, SaysOf, SaysSo, event_lines, HasRefusal}
 use Rattle.tox_log.proofs.Refusing.{timely-told}
 
 told-front : (told : ℕ → Bool) (events : List LinkEvent) (event : LinkEvent) → IsTold told (events ++ event ∷ []) → IsTold told events
@@ -139,17 +139,18 @@ hears-event means text old new event writable heard goes = record {
 }
 
 -- a verdict that stays open after an event
-pub says-event : (means : List Item → List Item) (text : List ℕ) (old new : Hearing) (event : LinkEvent) → new.verdict ≡ Unfinished → new.broken ≡ None
-    → GoesOn old new event → IsWritable (Event event) → HasHeard means text old → SaysOf means (text ++ (line_words (Event event) ++ 10 ∷ [])) false new
-says-event means text old new event going whole goes writable heard =
+pub says-event : (start : ℕ) (means : List Item → List Item) (text : List ℕ) (old new : Hearing) (event : LinkEvent) → new.verdict ≡ Unfinished → new.broken ≡ None
+    → GoesOn old new event → IsWritable (Event event) → HasHeard means text old → SaysOf start means (text ++ (line_words (Event event) ++ 10 ∷ [])) false new
+says-event start means text old new event going whole goes writable heard =
     let lines : List ℕ = text ++ (line_words (Event event) ++ 10 ∷ []) in
     let going_on : HasNoEnding means lines false new None = (refl, hears-event means text old new event writable heard goes) in
-    subst (SaysSo means lines false new) (sym going) (subst (HasNoEnding means lines false new) (sym whole) going_on)
+    subst (SaysSo start means lines false new) (sym going) (subst (HasNoEnding means lines false new) (sym whole) going_on)
 
 -- an event that no faithful log has here
-pub says-refused : (means : List Item → List Item) (text : List ℕ) (old new : Hearing) (event : LinkEvent) (number : ℕ) → new.broken ≡ None → Refuses old.judge event
-    → IsWritable (Event event) → HasHeard means text old → SaysSo means (text ++ (line_words (Event event) ++ 10 ∷ [])) false new (Unfaithful number)
-says-refused means text old new event number whole refuses writable heard = (
+pub says-refused : (start : ℕ) (means : List Item → List Item) (text : List ℕ) (old new : Hearing) (event : LinkEvent) (number : ℕ) → new.broken ≡ None → Refuses old.judge event
+    → IsWritable (Event event) → (heard : HasHeard means text old) → IsLineNumber number (start + length heard.events)
+    → SaysSo start means (text ++ (line_words (Event event) ++ 10 ∷ [])) false new (Unfaithful number)
+says-refused start means text old new event number whole refuses writable heard at = (
   whole,
   record {
     written = heard.written;
@@ -158,15 +159,18 @@ says-refused means text old new event number whole refuses writable heard = (
     line = Event event;
     more = [];
     lines = ap (λ lines. lines ++ (line_words (Event event) ++ 10 ∷ [])) heard.lines ∙ ap (λ line. event_lines heard.events ++ line) (sym (append-nil (line_words (Event event) ++ 10 ∷ [])));
+    faithful = λ told all. (heard.judged told all).faithful;
+    numbered = at;
     refused = λ told faithful. refuses means told heard.events
         (heard.judged told (told-front told heard.events event (timely-told told 0 (heard.events ++ event ∷ []) faithful.timely))) faithful;
   },
 )
 
 -- an ending that no link with these events reports
-pub says-other-end : (means : List Item → List Item) (text : List ℕ) (old new : Hearing) (reading : ℕ) (last : Ending) (number : ℕ) → new.broken ≡ None → RefusesEnding old.judge reading last
-    → IsWritable (Last (Ended reading last)) → HasHeard means text old → SaysSo means (text ++ (line_words (Last (Ended reading last)) ++ 10 ∷ [])) true new (Unfaithful number)
-says-other-end means text old new reading last number whole refuses writable heard =
+pub says-other-end : (start : ℕ) (means : List Item → List Item) (text : List ℕ) (old new : Hearing) (reading : ℕ) (last : Ending) (number : ℕ) → new.broken ≡ None → RefusesEnding old.judge reading last
+    → IsWritable (Last (Ended reading last)) → (heard : HasHeard means text old) → IsLineNumber number (start + length heard.events)
+    → SaysSo start means (text ++ (line_words (Last (Ended reading last)) ++ 10 ∷ [])) true new (Unfaithful number)
+says-other-end start means text old new reading last number whole refuses writable heard at =
     let words : List ℕ = line_words (Last (Ended reading last)) ++ 10 ∷ [] in (
       whole,
       record {
@@ -176,6 +180,8 @@ says-other-end means text old new reading last number whole refuses writable hea
         line = Last (Ended reading last);
         more = [];
         lines = ap (λ lines. lines ++ words) heard.lines ∙ ap (λ line. event_lines heard.events ++ line) (sym (append-nil words));
+        faithful = λ told all. (heard.judged told all).faithful;
+        numbered = at;
         refused = λ told taken written source report. refuses means told heard.events (heard.judged told (timely-told told 0 heard.events report.faithful.timely)) taken written source report;
       },
     )
@@ -193,22 +199,22 @@ same-heard means text old new judge writes late heard = record {
 }
 
 -- the last line tells that the stream broke off
-pub says-broken : (means : List Item → List Item) (text : List ℕ) (old new : Hearing) (cause : BreakCause) (bytes : ℕ) → new.verdict ≡ Unfinished → new.broken ≡ Some cause
+pub says-broken : (start : ℕ) (means : List Item → List Item) (text : List ℕ) (old new : Hearing) (cause : BreakCause) (bytes : ℕ) → new.verdict ≡ Unfinished → new.broken ≡ Some cause
     → new.judge ≡ old.judge → new.writes ≡ old.writes → new.late ≡ old.late → HasHeard means text old
-    → SaysOf means (text ++ (line_words (Last (Broken cause bytes)) ++ 10 ∷ [])) true new
-says-broken means text old new cause bytes going broken judge writes late heard =
+    → SaysOf start means (text ++ (line_words (Last (Broken cause bytes)) ++ 10 ∷ [])) true new
+says-broken start means text old new cause bytes going broken judge writes late heard =
     let lines : List ℕ = text ++ (line_words (Last (Broken cause bytes)) ++ 10 ∷ []) in
     let stopped : HasNoEnding means lines true new (Some cause) = (refl, record { front = text; bytes = bytes; heard = same-heard means text old new judge writes late heard; lines = refl }) in
-    subst (SaysSo means lines true new) (sym going) (subst (HasNoEnding means lines true new) (sym broken) stopped)
+    subst (SaysSo start means lines true new) (sym going) (subst (HasNoEnding means lines true new) (sym broken) stopped)
 
 -- the last line tells the ending
-pub says-ended : (means : List Item → List Item) (text : List ℕ) (old new : Hearing) (reading : ℕ) (last : Ending) → new.broken ≡ None → new.writes ≡ old.writes
+pub says-ended : (start : ℕ) (means : List Item → List Item) (text : List ℕ) (old new : Hearing) (reading : ℕ) (last : Ending) → new.broken ≡ None → new.writes ≡ old.writes
     → KeepsMore old.late (ending_late reading last) new.late → HasHeard means text old
     → (new.judge.heard ≡ old.judge.heard) × (new.judge.said ≡ old.judge.said) × (new.judge.ended ≡ old.judge.ended)
     → ((means : List Item → List Item) (told : ℕ → Bool) (log : List LinkEvent) → told reading ≡ true → Judged means told old.judge log
     → ReportsAt means (λ t. told t ≡ true) log old.judge.heard old.judge.said last (source_heard old.judge.ended) reading)
-    → SaysSo means (text ++ (line_words (Last (Ended reading last)) ++ 10 ∷ [])) true new (Faithful last)
-says-ended means text old new reading last whole writes late heard counts reports =
+    → SaysSo start means (text ++ (line_words (Last (Ended reading last)) ++ 10 ∷ [])) true new (Faithful last)
+says-ended start means text old new reading last whole writes late heard counts reports =
     let few = few-writes means text old heard in
     let same = lates-count heard.events in (
       refl,
@@ -226,14 +232,14 @@ says-ended means text old new reading last whole writes late heard counts report
     )
 
 -- a line that isn't heard: the verdict says no more than before
-pub says-skipped : (means : List Item → List Item) (text line : List ℕ) (over now : Bool) (hearing : Hearing) (verdict : Verdict) → (verdict ≡ Unfinished → ⊥) → over ≡ false
-    → SaysSo means text over hearing verdict → SaysSo means (text ++ line) now hearing verdict
-says-skipped means text line over now hearing (Faithful ending) known going says = absurd-over (sym going ∙ says.0)
+pub says-skipped : (start : ℕ) (means : List Item → List Item) (text line : List ℕ) (over now : Bool) (hearing : Hearing) (verdict : Verdict) → (verdict ≡ Unfinished → ⊥) → over ≡ false
+    → SaysSo start means text over hearing verdict → SaysSo start means (text ++ line) now hearing verdict
+says-skipped start means text line over now hearing (Faithful ending) known going says = absurd-over (sym going ∙ says.0)
   where
-    absurd-over : false ≡ true → SaysSo means (text ++ line) now hearing (Faithful ending)
+    absurd-over : false ≡ true → SaysSo start means (text ++ line) now hearing (Faithful ending)
     absurd-over same = cc
-says-skipped means text line over now hearing Unfinished known going says = absurd (known refl)
-says-skipped means text line over now hearing (Unfaithful number) known going says =
+says-skipped start means text line over now hearing Unfinished known going says = absurd (known refl)
+says-skipped start means text line over now hearing (Unfaithful number) known going says =
     let refusal = says.1 in (
       says.0,
       record {
@@ -244,26 +250,29 @@ says-skipped means text line over now hearing (Unfaithful number) known going sa
         more = refusal.more ++ line;
         lines = ap (λ text. text ++ line) refusal.lines ∙ append_assoc (event_lines refusal.events) ((line_words refusal.line ++ 10 ∷ []) ++ refusal.more) line
             ∙ ap (λ rest. event_lines refusal.events ++ rest) (append_assoc (line_words refusal.line ++ 10 ∷ []) refusal.more line);
+        faithful = refusal.faithful;
         refused = refusal.refused;
+        numbered = refusal.numbered;
       },
     )
 
 -- a line that is heard behind events alone
-says-next : (means : List Item → List Item) (text : List ℕ) (old new : Hearing) (line : LogLine) (broken : Option BreakCause) → old.broken ≡ broken → IsWritable line → HearsLine old line new
-    → HasNoEnding means text false old broken → SaysOf means (text ++ (line_words line ++ 10 ∷ [])) (is_last line) new
-says-next means text old new line None whole writable hears says = hears means text writable whole says.1
-says-next means text old new line (Some cause) whole writable hears says = absurd (not-over says.0)
+says-next : (start : ℕ) (means : List Item → List Item) (text : List ℕ) (old new : Hearing) (line : LogLine) (number : ℕ) (broken : Option BreakCause) → old.broken ≡ broken → IsWritable line → HearsLine old line number new
+    → ((heard : HasHeard means text old) → IsLineNumber number (start + length heard.events))
+    → HasNoEnding means text false old broken → SaysOf start means (text ++ (line_words line ++ 10 ∷ [])) (is_last line) new
+says-next start means text old new line number None whole writable hears at says = hears start means text writable whole says.1 (at says.1)
+says-next start means text old new line number (Some cause) whole writable hears at says = absurd (not-over says.0)
   where
     not-over : false ≡ true → ⊥
     not-over same = cc
 
 -- a line that is heard
-pub says-line : (means : List Item → List Item) (text : List ℕ) (over now : Bool) (old new : Hearing) (line : LogLine) → old.verdict ≡ Unfinished → over ≡ false → now ≡ is_last line
-    → IsWritable line → HearsLine old line new → SaysOf means text over old → SaysOf means (text ++ (line_words line ++ 10 ∷ [])) now new
-says-line means text over now old new line unfinished going last writable hears says =
+pub says-line : (start : ℕ) (means : List Item → List Item) (text : List ℕ) (over now : Bool) (old new : Hearing) (line : LogLine) (number : ℕ) → old.verdict ≡ Unfinished → over ≡ false → now ≡ is_last line
+    → IsWritable line → HearsLine old line number new → ((heard : HasHeard means text old) → IsLineNumber number (start + length heard.events)) → SaysOf start means text over old → SaysOf start means (text ++ (line_words line ++ 10 ∷ [])) now new
+says-line start means text over now old new line number unfinished going last writable hears at says =
     let going_on : HasNoEnding means text false old old.broken =
-    subst (λ over. HasNoEnding means text over old old.broken) going (subst (SaysSo means text over old) unfinished says) in
-    subst (λ now. SaysOf means (text ++ (line_words line ++ 10 ∷ [])) now new) (sym last) (says-next means text old new line old.broken refl writable hears going_on)
+    subst (λ over. HasNoEnding means text over old old.broken) going (subst (SaysSo start means text over old) unfinished says) in
+    subst (λ now. SaysOf start means (text ++ (line_words line ++ 10 ∷ [])) now new) (sym last) (says-next start means text old new line number old.broken refl writable hears at going_on)
 
 -- lines stand behind the header, and no line behind them
 behind-header : (before handed : Option (List ℕ)) (header torn lines : List ℕ) (left : Option (List ℕ)) → Lacks 10 torn → LacksLine left → before ≡ prepend_known (header ++ torn) handed
@@ -354,9 +363,13 @@ kept-stopped : (means : List Item → List Item) (text : List ℕ) (hearing : He
 kept-stopped means text hearing judged late kept stopped = rw (kept.broken, kept.heard, kept.said, kept.ended, kept.writes) stopped
 
 module _ (before after : Option (List ℕ)) (log last : OpenLog) (hearing end : Hearing) (judged : JudgedLog) (opened : Opens before after log) (begun : BeginsJudging log.heading log.chain hearing)
-    (heard : HearsToEnd log last after hearing end) (kept : KeepsHearing end judged) (heading : judged.heading ≡ last.heading) (chain : judged.chain ≡ last.chain) where
-  says : SaysSo begun.means heard.text last.over end judged.verdict
-  says = subst (SaysSo begun.means heard.text last.over end) (sym kept.verdict) (heard.says begun.means (subst (λ over. SaysOf begun.means [] over hearing) (sym opened.going) begun.says))
+    (heard : HearsToEnd log last after hearing end) (kept : KeepsHearing end judged) (heading : judged.heading ≡ last.heading) (chain : judged.chain ≡ last.chain)
+    (numbered : IsLineNumber (next_number log) (4 + length log.chain.entries)) where
+  abbrev start : ℕ
+  start = 4 + length log.chain.entries
+
+  says : SaysSo start begun.means heard.text last.over end judged.verdict
+  says = subst (SaysSo start begun.means heard.text last.over end) (sym kept.verdict) (heard.says start begun.means numbered (subst (λ over. SaysOf start begun.means [] over hearing) (sym opened.going) (begun.says start)))
 
   text : IsTextOf before judged heard.text begun.means
   text = text-of before after log last hearing end judged opened begun heard (heading ∙ heard.heading) (chain ∙ heard.chain)
@@ -364,7 +377,7 @@ module _ (before after : Option (List ℕ)) (log last : OpenLog) (hearing end : 
   -- a faithful verdict
   pub faithful-text : (last : Ending) → judged.verdict ≡ Faithful last → IsFaithfulText before judged last
   faithful-text ending faithful =
-      let (over, whole, late, keeps, report) = subst (SaysSo begun.means heard.text last.over end) faithful says in record {
+      let (over, whole, late, keeps, report) = subst (SaysSo start begun.means heard.text last.over end) faithful says in record {
         lines = heard.text;
         means = begun.means;
         text = text;
@@ -375,20 +388,20 @@ module _ (before after : Option (List ℕ)) (log last : OpenLog) (hearing end : 
       }
 
   -- an unfaithful one
-  pub refused-text : (number : ℕ) → judged.verdict ≡ Unfaithful number → IsRefusedText before judged
+  pub refused-text : (number : ℕ) → judged.verdict ≡ Unfaithful number → IsRefusedText before judged number
   refused-text number unfaithful =
-      let (whole, refusal) = subst (SaysSo begun.means heard.text last.over end) unfaithful says in record {
+      let (whole, refusal) = subst (SaysSo start begun.means heard.text last.over end) unfaithful says in record {
         lines = heard.text;
         means = begun.means;
         text = text;
-        refusal = refusal;
+        refusal = subst (λ (chain : Toxics). HasRefusal begun.means heard.text (4 + length chain.entries) number) (sym (chain ∙ heard.chain)) refusal;
         whole = kept.broken ∙ whole;
       }
 
   -- and an unfinished one
   pub unfinished-text : judged.verdict ≡ Unfinished → IsUnfinishedText before judged
   unfinished-text unfinished =
-      let (late, keeps, stopped) = stopped-so begun.means heard.text last.over end end.broken (subst (SaysSo begun.means heard.text last.over end) unfinished says) in record {
+      let (late, keeps, stopped) = stopped-so begun.means heard.text last.over end end.broken (subst (SaysSo start begun.means heard.text last.over end) unfinished says) in record {
         lines = heard.text;
         means = begun.means;
         text = text;

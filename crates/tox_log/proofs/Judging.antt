@@ -1,6 +1,6 @@
 -- The steps of a judge.
 use Rattle.std.proofs.Common.{◌≡◌, ℕ, ◌+◌, ◌-◌, ◌<◌, ◌≤◌, Bool, true, false, List, [], ◌∷◌, ◌++◌, replicate, Some, None, refl, ap, sym, ◌∙◌, subst, append_assoc, append-nil, zero-add, arith}
-use Rattle.std.specs.Prelude.{nat_lt, if◌then◌else◌}
+use Rattle.std.specs.Prelude.{nat_lt, if◌then◌else◌, IfSome, IsSome, Option}
 use Rattle.std.proofs.lemmas.Bool.Decides.{nat_tests}
 use Rattle.std.proofs.lemmas.List.{replicate-append-replicate}
 use Rattle.tox_time.specs.declared.streams.slice.Slice.{Slice}
@@ -17,15 +17,18 @@ use Rattle.tox_link.specs.declared.link_core.act.Act.{Act}
 use Rattle.tox_link.specs.declared.link_core.act.Act.TheVariants.{Write, WaitUntil, WaitForInput, End}
 use Rattle.tox_link.specs.declared.notes.LinkEvent.{LinkEvent}
 use Rattle.tox_link.specs.declared.notes.LinkEvent.TheVariants.{Piece, SourceEnd, Wrote}
-use Rattle.tox_link.specs.link_core.Core.{CoreView, LeavesOutput, remaining_output}
-use Rattle.tox_link.specs.link_core.Acts.{After}
+use Rattle.tox_link.specs.link_core.Core.{CoreView, LeavesOutput, core_ending, core_position, kept_count, kept_lens, kept_start, next_instant, remaining_output}
+use Rattle.tox_link.specs.link_core.Acts.{After, Answered, IsSliceAct}
 use Rattle.tox_link.specs.log.Log.{heard_from, heard, heard_bytes, has_source_end, said, Agrees, IsGapless}
+use Rattle.tox_link.specs.log.Carried.{KeepsLast}
 use Rattle.tox_link.specs.log.Logged.{IsReached}
 use Rattle.tox_link.specs.Reports.{ReportsAt, HeardSo}
 use Rattle.tox_link.proofs.Logs.{stream-earlier, heard-piece, heard-end, heard-wrote, said-append, heard_bytes-append, gapless-append, gapless-bytes, by-later, by-append, faithful-append, ordered-piece, ordered-end, ordered-wrote, end-same}
+use Rattle.tox_link.proofs.Depths.{keeps-after, keeps-none, keeps-piece}
+use Rattle.tox_link.proofs.Looks.{gives-none}
 use Rattle.tox_link.proofs.StepLemmas.{faithful-nil}
 use Rattle.tox_log.specs.declared.judge.Judge.{Judge}
-use Rattle.tox_log.specs.Judging.{AddsUp, FollowsWith, KeepsUp, Judged, Stays, part_from, rest_table, slice_in, source_heard}
+use Rattle.tox_log.specs.Judging.{AddsUp, FollowsWith, IsRest, KeepsUp, Judged, Stays, part_from, rest_table, slice_in, source_heard}
 
 -- what stands now agrees with the plan
 agrees-now : (means : List Item → List Item) (core : CoreView) (given : List ℕ) (heard_to latest start : ℕ) (log : List LinkEvent)
@@ -37,9 +40,9 @@ agrees-now means core given heard_to latest start log tables gapless = record {
 }
 
 -- nothing was heard yet
-pub follows-start : (means : List Item → List Item) (told : ℕ → Bool) (core : CoreView) → ((items : List Item) → IsStream items → remaining_output core items ≡ means items)
+pub follows-start : (means : List Item → List Item) (told : ℕ → Bool) (core : CoreView) → (kept_lens core ≡ []) × (kept_start core ≡ 0) → ((items : List Item) → IsStream items → remaining_output core items ≡ means items)
     → AddsUp means told core [] 0 0 false 0 []
-follows-start means told core output = record {
+follows-start means told core none output = record {
   tables = λ items stream. ap table (sym (output items stream));
   endings = λ items stream. ap ending (sym (output items stream));
   faithful = faithful-nil means (λ t. told t ≡ true);
@@ -47,6 +50,7 @@ follows-start means told core output = record {
   gapless = refl;
   bytes = refl;
   closed = refl;
+  kept = λ _ _. keeps-none core none;
 }
 
 module _ (means : List Item → List Item) (told : ℕ → Bool) (core : CoreView) (heard_to latest : ℕ) (ended : Bool) (start : ℕ) (log : List LinkEvent) where
@@ -60,10 +64,15 @@ module _ (means : List Item → List Item) (told : ℕ → Bool) (core : CoreVie
     gapless = follows.gapless;
     bytes = follows.bytes;
     closed = follows.closed;
+    kept = follows.kept;
   }
 
-  leaves-follows : (new : CoreView) (front : List ℕ) → LeavesOutput core new latest → AddsUp means told core front heard_to latest ended start log → AddsUp means told new (front ++ []) heard_to latest ended start log
-  leaves-follows new front leaves follows = record {
+  -- a step of the core that keeps the last pieces still
+  abbrev KeepsOn : CoreView → Type 0
+  KeepsOn new = (ended ≡ false → core_ending core ≡ None → KeepsLast core log) → ended ≡ false → core_ending new ≡ None → KeepsLast new log
+
+  leaves-follows : (new : CoreView) (front : List ℕ) → KeepsOn new → LeavesOutput core new latest → AddsUp means told core front heard_to latest ended start log → AddsUp means told new (front ++ []) heard_to latest ended start log
+  leaves-follows new front keeps leaves follows = record {
     tables = λ items stream. follows.tables items stream
         ∙ ap (λ ts. slices_table (said log) ++ (front ++ ts)) (sym (leaves.output heard_to latest items (omega arith) stream).tables)
         ∙ ap (λ ts. slices_table (said log) ++ (ts ++ table (remaining_output new items))) (sym (append-nil front));
@@ -73,12 +82,13 @@ module _ (means : List Item → List Item) (told : ℕ → Bool) (core : CoreVie
     gapless = follows.gapless;
     bytes = follows.bytes;
     closed = follows.closed;
+    kept = keeps follows.kept;
   }
 
   -- the core is asked at the last reading
-  pub asked-follows : (new : CoreView) (front : List ℕ) (act : Act) → After core latest act new → AddsUp means told core front heard_to latest ended start log
+  pub asked-follows : (new : CoreView) (front : List ℕ) (act : Act) → ((ended ≡ false → core_ending core ≡ None → KeepsLast core log) → ended ≡ false → core_ending new ≡ None → KeepsLast new log) → After core latest act new → AddsUp means told core front heard_to latest ended start log
       → AddsUp means told new (front ++ rest_table (slice_in act)) heard_to latest ended start log
-  asked-follows new front (Write slice) (due, takes) follows = record {
+  asked-follows new front (Write slice) keeps (due, takes) follows = record {
     tables = λ items stream. follows.tables items stream
         ∙ ap (λ ts. slices_table (said log) ++ (front ++ ts)) (takes.tables items)
         ∙ ap (λ ts. slices_table (said log) ++ ts) (sym (append_assoc front (replicate (span_len slice.span) slice.instant) (table (remaining_output new items))));
@@ -88,13 +98,15 @@ module _ (means : List Item → List Item) (told : ℕ → Bool) (core : CoreVie
     gapless = follows.gapless;
     bytes = follows.bytes;
     closed = follows.closed;
+    kept = keeps follows.kept;
   }
-  asked-follows new front (WaitUntil t) (before, leaves) follows = leaves-follows new front leaves follows
-  asked-follows new front WaitForInput leaves follows = leaves-follows new front leaves follows
-  asked-follows new front (End last) leaves follows = leaves-follows new front leaves follows
+  asked-follows new front (WaitUntil t) keeps (before, leaves) follows = leaves-follows new front keeps leaves follows
+  asked-follows new front WaitForInput keeps leaves follows = leaves-follows new front keeps leaves follows
+  asked-follows new front (End last) keeps leaves follows = leaves-follows new front keeps leaves follows
 
   -- a piece is heard
   module _ (new : CoreView) (given : List ℕ) (len instant : ℕ) (later : latest ≤ instant) (fits : IsInstant instant) (says : told instant ≡ true) (some : 0 < len) (going : ended ≡ false)
+      (keeps : (ended ≡ false → core_ending core ≡ None → KeepsLast core log) → ended ≡ false → core_ending new ≡ None → KeepsLast new (log ++ Piece len instant ∷ []))
       (tables : (items : List Item) → table (remaining_output new items) ≡ table (remaining_output core (Chunk (record { start = heard_to; stop = heard_to + len }) instant ∷ items)))
       (endings : (items : List Item) → ending (remaining_output new items) ≡ ending (remaining_output core (Chunk (record { start = heard_to; stop = heard_to + len }) instant ∷ items)))
       (follows : AddsUp means told core given heard_to latest ended start log) where
@@ -128,6 +140,7 @@ module _ (means : List Item → List Item) (told : ℕ → Bool) (core : CoreVie
       gapless = new_gapless;
       bytes = let more = heard_bytes-append log (Piece len instant ∷ []) in omega (arith, more, follows.bytes);
       closed = end-same log (Piece len instant ∷ []) refl ∙ follows.closed;
+      kept = keeps follows.kept;
     }
 
   -- the source's end is heard
@@ -164,6 +177,7 @@ module _ (means : List Item → List Item) (told : ℕ → Bool) (core : CoreVie
       gapless = end_gapless;
       bytes = let more = heard_bytes-append log (SourceEnd instant ∷ []) in omega (arith, more, follows.bytes);
       closed = end_closed log;
+      kept = λ open_yet. absurd (cc);
     }
 
   -- a slice was said to its end
@@ -194,6 +208,7 @@ module _ (means : List Item → List Item) (told : ℕ → Bool) (core : CoreVie
       gapless = wrote_gapless;
       bytes = let more = heard_bytes-append log (Wrote slice latest ∷ []) in omega (arith, more, follows.bytes);
       closed = end-same log (Wrote slice latest ∷ []) refl ∙ follows.closed;
+      kept = λ open_yet unknown. keeps-after core core log (Wrote slice latest ∷ []) refl (gives-none core) (follows.kept open_yet unknown);
     }
 
 -- how what was heard ends
@@ -296,7 +311,7 @@ ended-reports old new last reading stays heard_same latest_is ended_same none on
 
 -- a judge is held while the clock goes on
 pub begins-held : (judge : Judge) (later : ℕ) → judge.latest ≤ later → KeepsUp judge → KeepsUp (record judge { latest = later })
-begins-held judge later goes_on held = record { ended = held.ended; latest = omega (arith, held.latest, goes_on); live = held.live; rest = held.rest }
+begins-held judge later goes_on held = record { ended = held.ended; latest = omega (arith, held.latest, goes_on); live = held.live; rest = held.rest; within = held.within }
 
 -- all of a slice is said
 pub said-all : (means : List Item → List Item) (told : ℕ → Bool) (judge : Judge) (slice : Slice) (reading : ℕ) (log : List LinkEvent) → judge.latest ≡ reading → judge.said ≡ slice.span.stop
@@ -312,3 +327,35 @@ said-all means told judge slice reading log latest_is all says due some follows 
     let wrote = wrote-follows means told judge.core judge.heard reading judge.ended slice.span.start log (rest_table judge.rest) slice says due refl some now in
     subst (λ t. AddsUp means told judge.core (rest_table judge.rest) judge.heard t judge.ended judge.said (log ++ Wrote slice reading ∷ [])) (sym latest_is)
     (subst (λ at. AddsUp means told judge.core (rest_table judge.rest) judge.heard reading judge.ended at (log ++ Wrote slice reading ∷ [])) (sym all) wrote)
+
+-- a core that took a piece keeps it behind the others
+pub keeps-taken : (core new : CoreView) (log : List LinkEvent) (len instant : ℕ)
+    → new ≡ record core { waiting = core.waiting ++ record { len = len; instant = instant } ∷ []; bytes = core.bytes + len; latest = instant } → KeepsLast core log → KeepsLast new (log ++ Piece len instant ∷ [])
+keeps-taken core new log len instant taken keeps =
+    keeps-piece core new log len instant (ap (λ (core : CoreView). core.runner) taken) (ap (λ (core : CoreView). core.found) taken) (ap (λ (core : CoreView). core.waiting) taken) keeps
+
+-- a slice that is given lies in the runner's piece
+pub given-within : (core new : CoreView) (now : ℕ) (act : Act) → After core now act new → IfSome (slice_in act) (λ slice. slice.span.stop ≤ new.runner.piece.span.stop)
+given-within core new now (Write slice) (due, takes) = takes.within.to
+given-within core new now (WaitUntil t) after = tt
+given-within core new now WaitForInput after = tt
+given-within core new now (End last) after = tt
+
+-- so it ends behind what was said
+pub rest-behind : (rest : Option Slice) (said_to position stop : ℕ) → IsSome rest → IsRest rest said_to position → IfSome rest (λ slice. slice.span.stop ≤ stop) → said_to < stop
+rest-behind None said_to position stop some is within = absurd (cc)
+rest-behind (Some slice) said_to position stop some is within = omega (arith, is.1, within)
+
+-- and so it does where the next slice isn't due yet
+pub asked-behind : (core new : CoreView) (now : ℕ) (act : Act) (said_to : ℕ) → Answered core new now act → said_to ≡ core_position core → 0 < kept_count new → said_to < new.runner.piece.span.stop
+asked-behind core new now act said_to answered at many = by (next_instant (remaining_output core (Quiet ∷ []))) refl
+  where
+    given : (t : ℕ) (act : Act) → (now < t → core_position new < new.runner.piece.span.stop) → After core now act new → IsSliceAct t now act → said_to < new.runner.piece.span.stop
+    given t (Write slice) holds (due, takes) is = omega (arith, at, takes.starts, takes.within.some, takes.within.to)
+    given t (WaitUntil instant) holds (before, leaves) is = let ahead = holds is.1 in omega (arith, at, leaves.position, ahead)
+    given t WaitForInput holds after is = absurd is
+    given t (End last) holds after is = absurd is
+
+    by : (next : Option ℕ) → next_instant (remaining_output core (Quiet ∷ [])) ≡ next → said_to < new.runner.piece.span.stop
+    by None none = absurd (let dropped = answered.dropped none in omega (arith, dropped, many))
+    by (Some t) is = given t act (answered.holds t is) answered.output (answered.slice t is)

@@ -111,12 +111,12 @@ module _ (means : List Item → List Item) (told : ℕ → Bool) (lines : List L
   none-refused events (Last (Broken cause bytes)) rest is refused = refused
 
   -- nor has its text a refusal
-  pub no-refusal : (text torn : List ℕ) (handed left : Option (List ℕ)) → handed ≡ Some (log_lines lines ++ torn) → handed ≡ prepend_known text left → Lacks 10 torn → HasRefusal means text → ⊥
-  no-refusal text torn handed None bytes given lacks refusal = no-bytes (sym bytes ∙ given)
+  pub no-refusal : (start number : ℕ) (text torn : List ℕ) (handed left : Option (List ℕ)) → handed ≡ Some (log_lines lines ++ torn) → handed ≡ prepend_known text left → Lacks 10 torn → HasRefusal means text start number → ⊥
+  no-refusal start number text torn handed None bytes given lacks refusal = no-bytes (sym bytes ∙ given)
     where
       no-bytes : Some (log_lines lines ++ torn) ≡ None → ⊥
       no-bytes same = cc
-  no-refusal text torn handed (Some left) bytes given lacks refusal =
+  no-refusal start number text torn handed (Some left) bytes given lacks refusal =
       let line = line_words refusal.line ++ 10 ∷ [] in
       let whole : log_lines lines ++ torn ≡ text ++ left = bytes-of (sym bytes ∙ given) in
       let read : event_lines refusal.events ++ (line ++ (refusal.more ++ left)) ≡ log_lines lines ++ torn =

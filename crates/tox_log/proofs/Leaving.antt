@@ -1,5 +1,5 @@
 -- What is left of a log that a link can write, line by line.
-use Rattle.std.proofs.Common.{◌≡◌, ℕ, ◌<◌, ◌≤◌, Bool, true, false, List, [], ◌∷◌, ◌++◌, length, length-append, map, Option, Some, None, inl, inr, refl, ap, sym, subst, ◌∙◌, append_assoc, append-nil, arith}
+use Rattle.std.proofs.Common.{◌≡◌, ℕ, ◌≤◌, Bool, true, false, List, [], ◌∷◌, ◌++◌, length, length-append, map, Option, Some, None, inl, inr, refl, ap, sym, subst, ◌∙◌, append_assoc, append-nil, arith}
 use Rattle.std.specs.Io.KnownBytes.{prepend_known}
 use Rattle.std.specs.Prelude.{◌⊎◌, ◌≢◌, All, IsFalse, IsTrue, if◌then◌else◌}
 use Rattle.std.proofs.lemmas.List.Elements.{All-head, All-nil, All-tail}
@@ -9,8 +9,8 @@ use Rattle.tox_log.specs.declared.event_line.LogLine.{LogLine}
 use Rattle.tox_log.specs.declared.fault.LogFault.{LogFault}
 use Rattle.tox_log.specs.declared.open_log.OpenLog.{OpenLog}
 use Rattle.tox_log.specs.HeaderText.{toxic_line}
-use Rattle.tox_log.specs.HeaderLines.{IsWritableToxic, PrintsToxic}
-use Rattle.tox_log.specs.Left.{HandsFirst, HasLinesLeft, HasToxicsLeft, IsNextLine, IsNoBadLine}
+use Rattle.tox_log.specs.HeaderLines.{IsWritableToxic}
+use Rattle.tox_log.specs.Left.{HandsFirst, HasLinesLeft, HasToxicsLeft, IsNextLine, IsNextToxic, BlamesNoLine, ReadsChain}
 use Rattle.tox_log.specs.Lines.{IsWritable, line_words}
 use Rattle.tox_log.specs.Numbers.{Lacks}
 use Rattle.tox_log.specs.Opening.{SameHeading, named_lines}
@@ -103,15 +103,15 @@ module _ (mid next : OpenLog) (between after : Option (List ℕ)) (entries : Lis
 
   ends-by : (toxics : List (Entry × List ℕ)) (lines : List LogLine) (torn : List ℕ) → entries ≡ mid.chain.entries ++ map (λ named. named.0) toxics
       → to_take mid.lines between ≡ Some (named_lines toxics ++ (log_lines lines ++ torn)) → All IsWritableToxic toxics → AreInOrder mid.heard lines → next.waits ≡ false
-      → TakesRest mid.lines next.lines between after → (next.chain.entries ≡ entries) × HasLinesLeft next after lines
+      → TakesRest mid.lines next.lines between after → ReadsChain next after entries lines
   ends-by (named ∷ toxics) lines torn chain bytes writable order going rest =
       let more = named_lines toxics ++ (log_lines lines ++ torn) in
       absurd (no-rest mid.lines next.lines between after (toxic_words named) more (toxic-line-next (to_take mid.lines between) named more (All-head IsWritableToxic named toxics writable) (bytes ∙ ap Some (toxics-first named toxics (log_lines lines ++ torn)))) rest)
   ends-by [] (line ∷ more) torn chain bytes writable order going rest =
       absurd (no-rest mid.lines next.lines between after (line_words line) (log_lines more ++ torn) (log-line-next (to_take mid.lines between) line (log_lines more ++ torn) order.0 (bytes ∙ ap Some (lines-first line more torn))) rest)
-  ends-by [] [] torn chain bytes writable order going rest = (
-    ap (λ c. c.entries) kept ∙ sym (append-nil mid.chain.entries) ∙ sym chain,
-    record {
+  ends-by [] [] torn chain bytes writable order going rest = record {
+    chain = ap (λ c. c.entries) kept ∙ sym (append-nil mid.chain.entries) ∙ sym chain;
+    left = record {
       torn = [];
       bytes = ap (λ w. if w then prepend_known (next.lines.line.items ++ 10 ∷ []) (to_take next.lines after) else to_take next.lines after) going
           ∙ torn-taken (to_take mid.lines between) (to_take next.lines after) torn rest.torn bytes rest.given rest.ended;
@@ -119,24 +119,24 @@ module _ (mid next : OpenLog) (between after : Option (List ℕ)) (entries : Lis
       order = tt;
       over = λ _. refl;
       unended = All-nil (λ other. other ≢ 10);
-    },
-  )
+    };
+  }
     where
       no-wait : true ≡ false → ⊥
       no-wait same = cc
 
   -- no line is left
-  pub toxics-end : (lines : List LogLine) → HasToxicsLeft mid between entries lines → next.waits ≡ false → TakesRest mid.lines next.lines between after → (next.chain.entries ≡ entries) × HasLinesLeft next after lines
+  pub toxics-end : (lines : List LogLine) → HasToxicsLeft mid between entries lines → next.waits ≡ false → TakesRest mid.lines next.lines between after → ReadsChain next after entries lines
   toxics-end lines left = ends-by left.toxics lines left.torn left.chain left.bytes left.writable left.order
 
--- the line of the next toxic
-pub prints-toxic : (log : OpenLog) (remaining : Option (List ℕ)) (entries : List Entry) (lines : List LogLine) → (read : ReadToxic log remaining entries lines) → PrintsToxic (toxic_words read.named) read.named
-prints-toxic log remaining entries lines read = record { toxic = read.toxic; printed = toxic-parts read.named }
-
--- for which the chain has room
-pub has-room : (log : OpenLog) (remaining : Option (List ℕ)) (entries : List Entry) (lines : List LogLine) → ReadToxic log remaining entries lines → length log.chain.entries < lane_count log.chain.lanes
-has-room log remaining entries lines read =
-    omega (arith, ap length read.chain, length-append log.chain.entries (read.named.0 ∷ map (λ named. named.0) read.toxics), read.room)
+-- the line of the next toxic, for which the chain has room
+next-toxic : (log : OpenLog) (remaining : Option (List ℕ)) (entries : List Entry) (lines : List LogLine) → (read : ReadToxic log remaining entries lines) → IsNextToxic log read.named
+next-toxic log remaining entries lines read = record {
+  line = toxic_words read.named;
+  read = read.read;
+  printed = record { toxic = read.toxic; printed = toxic-parts read.named };
+  room = omega (arith, ap length read.chain, length-append log.chain.entries (read.named.0 ∷ map (λ named. named.0) read.toxics), read.room);
+}
 
 -- it was added
 pub toxic-added : (log new : OpenLog) (remaining : Option (List ℕ)) (entries : List Entry) (lines : List LogLine) → (read : ReadToxic log remaining entries lines)
@@ -155,10 +155,10 @@ toxic-added log new remaining entries lines read added same kept = record {
 
 -- the line behind the toxics waits
 pub other-waits : (log new : OpenLog) (remaining : Option (List ℕ)) (entries : List Entry) (lines : List LogLine) → ReadOther log remaining entries lines → new.chain ≡ log.chain → SameHeading log new
-    → new.lines ≡ log.lines → new.waits ≡ true → (new.chain.entries ≡ entries) × HasLinesLeft new remaining lines
-other-waits log new remaining entries lines read chain same kept waits = (
-  ap (λ c. c.entries) chain ∙ read.chain,
-  record {
+    → new.lines ≡ log.lines → new.waits ≡ true → ReadsChain new remaining entries lines
+other-waits log new remaining entries lines read chain same kept waits = record {
+  chain = ap (λ c. c.entries) chain ∙ read.chain;
+  left = record {
     torn = read.torn;
     bytes = ap (λ w. if w then prepend_known (new.lines.line.items ++ 10 ∷ []) (to_take new.lines remaining) else to_take new.lines remaining) waits
         ∙ ap (λ l. prepend_known (l.line.items ++ 10 ∷ []) (to_take l remaining)) kept
@@ -173,8 +173,8 @@ other-waits log new remaining entries lines read chain same kept waits = (
     order = subst (λ heard. AreInOrder heard lines) (sym same.3) read.order;
     over = λ over. absurd (no-over (sym over ∙ same.1 ∙ read.going));
     unended = read.unended;
-  },
-)
+  };
+}
   where
     no-over : true ≡ false → ⊥
     no-over same = cc
@@ -182,18 +182,17 @@ other-waits log new remaining entries lines read chain same kept waits = (
 module _ (log : OpenLog) (remaining : Option (List ℕ)) (entries : List Entry) (lines : List LogLine) where
   -- a line that isn't taken is no bad one
   pub toxic-fails : (fault : LogFault) → ReadToxic log remaining entries lines ⊎ ReadOther log remaining entries lines
-      → ((line : List ℕ) (named : Entry × List ℕ) → IsLineRead log.lines line → PrintsToxic line named → length log.chain.entries < lane_count log.chain.lanes → IsNoBadLine fault)
-      → ((line : LogLine) → IsLineRead log.lines (line_words line) → IsWritable line → IsNoBadLine fault) → IsNoBadLine fault
-  toxic-fails fault (inl toxic) takes skips = takes (toxic_words toxic.named) toxic.named toxic.read (prints-toxic log remaining entries lines toxic) (has-room log remaining entries lines toxic)
+      → ((named : Entry × List ℕ) → IsNextToxic log named → BlamesNoLine fault)
+      → ((line : LogLine) → IsLineRead log.lines (line_words line) → IsWritable line → BlamesNoLine fault) → BlamesNoLine fault
+  toxic-fails fault (inl toxic) takes skips = takes toxic.named (next-toxic log remaining entries lines toxic)
   toxic-fails fault (inr other) takes skips = skips other.line other.read other.writable
 
   -- one that was added was a toxic's
   pub toxic-goes : (new : OpenLog) (added : Bool) → added ≡ true → ReadToxic log remaining entries lines ⊎ ReadOther log remaining entries lines
-      → ((line : List ℕ) (named : Entry × List ℕ) → IsLineRead log.lines line → PrintsToxic line named → length log.chain.entries < lane_count log.chain.lanes
-      → IsTrue added × (new.chain.entries ≡ log.chain.entries ++ named.0 ∷ []))
+      → ((named : Entry × List ℕ) → IsNextToxic log named → IsTrue added × (new.chain.entries ≡ log.chain.entries ++ named.0 ∷ []))
       → ((line : LogLine) → IsLineRead log.lines (line_words line) → IsWritable line → IsFalse added) → SameHeading log new → new.lines ≡ log.lines → HasToxicsLeft new remaining entries lines
   toxic-goes new added was (inl toxic) takes skips same kept =
-      toxic-added log new remaining entries lines toxic (takes (toxic_words toxic.named) toxic.named toxic.read (prints-toxic log remaining entries lines toxic) (has-room log remaining entries lines toxic)).1 same kept
+      toxic-added log new remaining entries lines toxic (takes toxic.named (next-toxic log remaining entries lines toxic)).1 same kept
   toxic-goes new added was (inr other) takes skips same kept = absurd (both was (skips other.line other.read other.writable))
     where
       both : added ≡ true → IsFalse added → ⊥
@@ -201,10 +200,9 @@ module _ (log : OpenLog) (remaining : Option (List ℕ)) (entries : List Entry) 
 
   -- and else the one behind them, which waits
   pub other-goes : (new : OpenLog) (added : Bool) → added ≡ false → ReadToxic log remaining entries lines ⊎ ReadOther log remaining entries lines
-      → ((line : List ℕ) (named : Entry × List ℕ) → IsLineRead log.lines line → PrintsToxic line named → length log.chain.entries < lane_count log.chain.lanes
-      → IsTrue added × (new.chain.entries ≡ log.chain.entries ++ named.0 ∷ []))
-      → new.chain ≡ log.chain → SameHeading log new → new.lines ≡ log.lines → new.waits ≡ true → (new.chain.entries ≡ entries) × HasLinesLeft new remaining lines
-  other-goes new added was (inl toxic) takes chain same kept waits = absurd (both was (takes (toxic_words toxic.named) toxic.named toxic.read (prints-toxic log remaining entries lines toxic) (has-room log remaining entries lines toxic)).0)
+      → ((named : Entry × List ℕ) → IsNextToxic log named → IsTrue added × (new.chain.entries ≡ log.chain.entries ++ named.0 ∷ []))
+      → new.chain ≡ log.chain → SameHeading log new → new.lines ≡ log.lines → new.waits ≡ true → ReadsChain new remaining entries lines
+  other-goes new added was (inl toxic) takes chain same kept waits = absurd (both was (takes toxic.named (next-toxic log remaining entries lines toxic)).0)
     where
       both : added ≡ false → IsTrue added → ⊥
       both isnt is = let same : true ≡ false = sym is ∙ isnt in cc

@@ -20,4 +20,6 @@ pub mod ReadsBack
 pub mod Refusing
 pub mod RefusingEndings
 pub mod Judging
+pub mod Rooms
+pub mod Numbering
 pub mod Written

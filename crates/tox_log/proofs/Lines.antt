@@ -1,12 +1,12 @@
 -- Lines that are taken from blocks.
-use Rattle.std.proofs.Common.{◌≡◌, ℕ, List, [], ◌∷◌, ◌++◌, Option, ap, sym, subst, ◌∙◌, append_assoc}
+use Rattle.std.proofs.Common.{◌≡◌, ℕ, true, false, List, [], ◌∷◌, ◌++◌, Option, ap, sym, subst, ◌∙◌, append_assoc}
 use Rattle.std.specs.Io.KnownBytes.{IsAtEnd, prepend_known}
 use Rattle.std.specs.Prelude.{◌≢◌}
 use Rattle.std.proofs.lemmas.List.Elements.{All-append}
 use Rattle.tox_link.proofs.Sent.{prepend-append, prepend_more}
 use Rattle.tox_log.specs.declared.line_reader.LineReader.{LineReader}
 use Rattle.tox_log.specs.Numbers.{Lacks}
-use Rattle.tox_log.specs.Reading.{HasLine, Takes, TakesLine, TakesRest, to_take, waiting}
+use Rattle.tox_log.specs.Reading.{HasLine, Takes, TakesLine, TakesPart, TakesRest, to_take, waiting}
 
 -- a part more was taken, behind a block that was read
 takes-more : (old mid next new : LineReader) (before between after : Option (List ℕ)) (text part taken : List ℕ) → Takes old mid before between text text
@@ -21,24 +21,27 @@ takes-more old mid next new before between after text part taken takes filled sa
 -- a part without a line feed
 pub takes-part : (old mid next new : LineReader) (before between after : Option (List ℕ)) → (text : List ℕ) × Takes old mid before between text text × Lacks 10 text
     → to_take mid between ≡ to_take next after → (next.line ≡ mid.line) × (next.long ≡ mid.long)
-    → (part : List ℕ) × (waiting next ≡ part ++ waiting new) × ((text : List ℕ) → HasLine next text → HasLine new (text ++ part)) × Lacks 10 part
+    → TakesPart next new false
     → (text : List ℕ) × Takes old new before after text text × Lacks 10 text
-takes-part old mid next new before between after (text, takes, lacks) filled same (part, parts, line, part_lacks) =
-    (text ++ part, takes-more old mid next new before between after text part part takes filled same parts line, All-append (λ other. other ≢ 10) text part lacks part_lacks)
+takes-part old mid next new before between after (text, takes, lacks) filled same more = (
+  text ++ more.part,
+  takes-more old mid next new before between after text more.part more.part takes filled same more.given more.line,
+  All-append (λ other. other ≢ 10) text more.part lacks more.unended,
+)
 
 -- the last part of a line, and its line feed
 pub takes-line : (old mid next new : LineReader) (before between after : Option (List ℕ)) → (text : List ℕ) × Takes old mid before between text text × Lacks 10 text
     → to_take mid between ≡ to_take next after → (next.line ≡ mid.line) × (next.long ≡ mid.long)
-    → (part : List ℕ) × (waiting next ≡ part ++ 10 ∷ waiting new) × ((text : List ℕ) → HasLine next text → HasLine new (text ++ part)) × Lacks 10 part
+    → TakesPart next new true
     → TakesLine old new before after
-takes-line old mid next new before between after (text, takes, lacks) filled same (part, parts, line, part_lacks) = (
-  text ++ part,
-  subst-taken (takes-more old mid next new before between after text part (part ++ 10 ∷ []) takes filled same (parts ∙ simp append_assoc) line),
-  All-append (λ other. other ≢ 10) text part lacks part_lacks,
+takes-line old mid next new before between after (text, takes, lacks) filled same more = (
+  text ++ more.part,
+  subst-taken (takes-more old mid next new before between after text more.part (more.part ++ 10 ∷ []) takes filled same (more.given ∙ simp append_assoc) more.line),
+  All-append (λ other. other ≢ 10) text more.part lacks more.unended,
 )
   where
-    subst-taken : Takes old new before after (text ++ part) (text ++ (part ++ 10 ∷ [])) → Takes old new before after (text ++ part) ((text ++ part) ++ 10 ∷ [])
-    subst-taken = subst (Takes old new before after (text ++ part)) (sym (append_assoc text part (10 ∷ [])))
+    subst-taken : Takes old new before after (text ++ more.part) (text ++ (more.part ++ 10 ∷ [])) → Takes old new before after (text ++ more.part) ((text ++ more.part) ++ 10 ∷ [])
+    subst-taken = subst (Takes old new before after (text ++ more.part)) (sym (append_assoc text more.part (10 ∷ [])))
 
 -- a last part, and no more bytes
 pub takes-rest : (old mid next : LineReader) (before between after : Option (List ℕ)) → (text : List ℕ) × Takes old mid before between text text × Lacks 10 text

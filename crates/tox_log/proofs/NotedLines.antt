@@ -17,16 +17,17 @@ use Rattle.tox_link.specs.declared.notes.LinkEvent.{LinkEvent}
 use Rattle.tox_link.specs.declared.notes.LinkEvent.TheVariants.{Piece, SourceEnd, Wrote}
 use Rattle.tox_link.specs.declared.ring.message.ReadEnd.{ReadEnd}
 use Rattle.tox_link.specs.log.Carried.{IsBy}
-use Rattle.tox_link.specs.log.Log.{HearsNothing, IsFaithful, IsGapless, IsHeardInOrder, IsTimely, SaysHeard, heard, heard_bytes, heard_from, reading_of, said}
+use Rattle.tox_link.specs.log.Log.{HearsNothing, IsFaithful, IsGapless, IsHeardInOrder, IsShallowBehind, IsTimely, SaysHeard, heard, heard_bytes, heard_from, reading_of, said}
 use Rattle.tox_link.specs.log.Logged.{IsCutOff, IsReached}
 use Rattle.tox_link.specs.Reports.{ReportsAt}
+use Rattle.tox_link.proofs.Depths.{shallow-front}
 use Rattle.tox_link.proofs.Logs.{gapless-bytes, stream-earlier}
 use Rattle.tox_log.specs.declared.event_line.LogLine.{LogLine}
 use Rattle.tox_log.specs.declared.event_line.LogLine.TheVariants.{Event, Last}
 use Rattle.tox_log.specs.declared.last_line.BreakCause.{BreakCause}
 use Rattle.tox_log.specs.declared.last_line.LastLine.TheVariants.{Ended, Broken}
 use Rattle.tox_log.specs.Lines.{IsWritableEnding}
-use Rattle.tox_log.specs.LinkLog.{AreLinkLines, IsReported, events_in}
+use Rattle.tox_log.specs.LinkLog.{IsReported, events_in}
 use Rattle.tox_log.specs.NotedLines.{AreNoted, broken_lines, ended_lines}
 use Rattle.tox_log.specs.Order.{heard_with}
 use Rattle.tox_log.specs.Reading.{is_last}
@@ -187,6 +188,7 @@ noted-ended told instants means events taken written reading last source report 
             faithful = subst (IsFaithful other (λ t. true ≡ true)) (sym here) (faithful-other told instants means other same events report.faithful);
             reported = λ at end has. subst (λ events. IsReported other (λ reading. true) events at end) (sym here) (is-last (IsReported other (λ reading. true) events) at end reported (Contains-push_cases (map Event events) line (Last (Ended at end)) has));
           };
+      shallow = subst (IsShallowBehind []) (sym (events-behind events (line ∷ []) refl)) of_heard.shallow;
     }
   where
     is-last : (P : ℕ → Ending → Type 0) (at : ℕ) (end : Ending) → P reading last → Contains (map Event events) (Last (Ended at end)) ⊎ (Last (Ended reading last) ≡ Last (Ended at end)) → P at end
@@ -211,6 +213,7 @@ noted-broken told instants means events written cause cut =
             faithful = subst (IsFaithful other (λ t. true ≡ true)) (sym here) (faithful-other told instants means other same events cut.faithful);
             reported = λ at end has. absurd (no-last at end (Contains-push_cases (map Event events) line (Last (Ended at end)) has));
           };
+      shallow = subst (IsShallowBehind []) (sym (events-behind events (line ∷ []) refl)) cut.of_heard.shallow;
     }
   where
     no-last : (at : ℕ) (end : Ending) → Contains (map Event events) (Last (Ended at end)) ⊎ (Last (Broken cause written) ≡ Last (Ended at end)) → ⊥
@@ -257,4 +260,5 @@ noted-front means front back noted = record {
             let here : events_in (front ++ back) ≡ events_in front = ap (λ back. events_in (front ++ back)) none ∙ ap events_in (append-nil front) in
             subst (λ events. IsReported other (λ reading. true) events at end) here (kept.reported at end (Contains-append_left front back (Last (Ended at end)) has));
       };
+  shallow = shallow-front [] (events_in front) (events_in back) (subst (IsShallowBehind []) (events-front front back) noted.shallow);
 }

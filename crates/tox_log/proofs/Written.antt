@@ -13,7 +13,7 @@ use Rattle.tox_log.specs.declared.heading.Heading.{Heading}
 use Rattle.tox_log.specs.declared.line_reader.LineReader.{LineReader}
 use Rattle.tox_log.specs.declared.open_log.OpenLog.{OpenLog}
 use Rattle.tox_log.specs.HeaderText.{heading_lines, toxic_lines}
-use Rattle.tox_log.specs.Left.{HasLinesLeft, HasToxicsLeft, IsHeadingOf, OpensWritten}
+use Rattle.tox_log.specs.Left.{HasToxicsLeft, IsHeadingOf, OpensWritten, ReadsChain}
 use Rattle.tox_log.specs.Opening.{SameHeading}
 use Rattle.tox_log.specs.Reading.{to_take, waiting}
 use Rattle.tox_log.specs.WrittenLog.{AreInOrder, IsWritableLog, IsWrittenText, WrittenLog, log_lines}
@@ -49,11 +49,11 @@ chain-of lanes entries = record { lanes = lanes; entries = entries }
 
 -- and then its lines
 pub written-opened : (start log : OpenLog) (remaining : Option (List ℕ)) (written : WrittenLog) (heading : Heading) → IsHeadingOf heading written → start.heading ≡ heading
-    → start.chain.lanes ≡ written.chain.lanes → SameHeading start log → (log.chain.entries ≡ written.chain.entries) × HasLinesLeft log remaining written.lines → OpensWritten log remaining written
+    → start.chain.lanes ≡ written.chain.lanes → SameHeading start log → ReadsChain log remaining written.chain.entries written.lines → OpensWritten log remaining written
 written-opened start log remaining written heading is begun lanes same left = record {
   heading = subst (λ heading. IsHeadingOf heading written) (sym (same.0 ∙ begun)) is;
-  chain = chains log.chain written.chain (same.2 ∙ lanes) left.0;
-  left = left.1;
+  chain = chains log.chain written.chain (same.2 ∙ lanes) left.chain;
+  left = left.left;
 }
   where
     chains : (a b : Toxics) → a.lanes ≡ b.lanes → a.entries ≡ b.entries → a ≡ b

@@ -5,6 +5,7 @@ use Rattle.std.specs.Str.{IsUtf8}
 use Rattle.tox_time.specs.declared.streams.stream.Stream.{Stream}
 use Rattle.tox_defs.specs.chain.Chain.{IsEntry}
 use Rattle.tox_defs.specs.declared.chain.Entry.{Entry}
+use Rattle.tox_log.specs.declared.heading.LinkWords.{LinkWords}
 use Rattle.tox_log.specs.HeaderText.{link_line, toxic_line}
 
 -- a name that a log can have: text that isn't empty, without control characters
@@ -24,6 +25,12 @@ pub record PrintsLink (line name : List ℕ) (number : ℕ) (stream : Stream) : 
   pub named : IsWritableName name
   pub numbered : (1 ≤ number) × (number ≤ 1_000_000)
   pub printed : line ++ 10 ∷ [] ≡ link_line name number stream
+
+-- the words of a link are this name, number and stream
+pub record AreLinkWords (link : LinkWords) (name : List ℕ) (number : ℕ) (stream : Stream) : Type 0 where
+  pub its_name : link.proxy.now ≡ name
+  pub its_number : link.number ≡ number
+  pub its_stream : link.stream ≡ stream
 
 -- a line that prints a toxic with its name
 pub record PrintsToxic (line : List ℕ) (named : Entry × List ℕ) : Type 0 where

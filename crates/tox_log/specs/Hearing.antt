@@ -1,5 +1,5 @@
 -- What a verdict says of the lines that were read.
-use Rattle.std.specs.Prelude.{◌≡◌, ℕ, Bool, true, false, List, [], ◌∷◌, ◌++◌, All, flat_map, length, string_bytes, Option, Some, None}
+use Rattle.std.specs.Prelude.{◌≡◌, ℕ, ◌+◌, Bool, true, false, List, [], ◌∷◌, ◌++◌, All, flat_map, length, string_bytes, Option, Some, None}
 use Rattle.std.specs.Io.KnownBytes.{prepend_known}
 use Rattle.tox_time.specs.streams.Stream.{IsStream}
 use Rattle.tox_words.specs.Seeded.{seeded_words}
@@ -26,7 +26,7 @@ use Rattle.tox_log.specs.EventText.{event_line}
 use Rattle.tox_log.specs.LastText.{last_line}
 use Rattle.tox_log.specs.Lateness.{IsLate, KeepsLate, ending_late, lates}
 use Rattle.tox_log.specs.Lines.{IsWritable, line_words}
-use Rattle.tox_log.specs.Reading.{LacksLine, is_last, to_hand}
+use Rattle.tox_log.specs.Reading.{IsLineNumber, LacksLine, is_last, next_number, to_hand}
 use Rattle.tox_log.specs.Judging.{HasNoReport, Judged, source_heard}
 
 -- the lines of events
@@ -83,32 +83,36 @@ IsRefused means events (Event event) = (told : ℕ → Bool) → IsFaithful mean
 IsRefused means events (Last (Ended reading ending)) = (told : ℕ → Bool) → HasNoReport means told events reading ending
 IsRefused means events (Last (Broken cause bytes)) = ⊥
 
--- the text is the lines of events, one that is refused behind them, and more
-pub record HasRefusal (means : List Item → List Item) (text : List ℕ) : Type 0 where
+-- the text is the lines of faithful events, one that is refused behind them, and more; that line has this number, if the first of
+-- them is line `start`
+pub record HasRefusal (means : List Item → List Item) (text : List ℕ) (start number : ℕ) : Type 0 where
   pub events : List LinkEvent
   pub line : LogLine
   pub more : List ℕ
   pub written : All (λ event. IsWritable (Event event)) events
   pub writable : IsWritable line
   pub lines : text ≡ event_lines events ++ ((line_words line ++ 10 ∷ []) ++ more)
+  pub faithful : (told : ℕ → Bool) → IsTold told events → IsFaithful means (λ t. told t ≡ true) events
   pub refused : IsRefused means events line
+  pub numbered : IsLineNumber number (start + length events)
 
--- what a verdict says of the lines that were read so far, which have a last line or none yet
-abbrev pub SaysSo : (List Item → List Item) → List ℕ → Bool → Hearing → Verdict → Type 0
-SaysSo means text over hearing (Faithful ending) =
+-- what a verdict says of the lines that were read so far from line `start` on, which have a last line or none yet
+abbrev pub SaysSo : ℕ → (List Item → List Item) → List ℕ → Bool → Hearing → Verdict → Type 0
+SaysSo start means text over hearing (Faithful ending) =
     (over ≡ true) × (hearing.broken ≡ None) × (late : List ℕ) × KeepsLate late hearing.late
     × HasReport means text hearing.judge.heard hearing.judge.said hearing.judge.ended hearing.writes late ending
-SaysSo means text over hearing Unfinished = HasNoEnding means text over hearing hearing.broken
-SaysSo means text over hearing (Unfaithful number) = (hearing.broken ≡ None) × HasRefusal means text
+SaysSo start means text over hearing Unfinished = HasNoEnding means text over hearing hearing.broken
+SaysSo start means text over hearing (Unfaithful number) = (hearing.broken ≡ None) × HasRefusal means text start number
 
 -- a hearing says so of the lines that were read so far
-abbrev pub SaysOf : (List Item → List Item) → List ℕ → Bool → Hearing → Type 0
-SaysOf means text over hearing = SaysSo means text over hearing hearing.verdict
+abbrev pub SaysOf : ℕ → (List Item → List Item) → List ℕ → Bool → Hearing → Type 0
+SaysOf start means text over hearing = SaysSo start means text over hearing hearing.verdict
 
--- a line that can be written is heard
-abbrev pub HearsLine : Hearing → LogLine → Hearing → Type 0
-HearsLine old line new = (means : List Item → List Item) (text : List ℕ) → IsWritable line → old.broken ≡ None
-    → HasHeard means text old → SaysOf means (text ++ (line_words line ++ 10 ∷ [])) (is_last line) new
+-- a line of this number that can be written is heard
+abbrev pub HearsLine : Hearing → LogLine → ℕ → Hearing → Type 0
+HearsLine old line number new = (start : ℕ) (means : List Item → List Item) (text : List ℕ) → IsWritable line → old.broken ≡ None
+    → (heard : HasHeard means text old) → IsLineNumber number (start + length heard.events)
+    → SaysOf start means (text ++ (line_words line ++ 10 ∷ [])) (is_last line) new
 
 -- the lines that were left of a log were read, and these bytes are what is left behind them: a hearing says so of the lines
 pub record HearsToEnd (old new : OpenLog) (before : Option (List ℕ)) (first last : Hearing) : Type 0 where
@@ -116,7 +120,8 @@ pub record HearsToEnd (old new : OpenLog) (before : Option (List ℕ)) (first la
   pub left : Option (List ℕ)
   pub given : to_hand old before ≡ prepend_known text left
   pub rest : LacksLine left
-  pub says : (means : List Item → List Item) → SaysOf means [] old.over first → SaysOf means text new.over last
+  pub says : (start : ℕ) (means : List Item → List Item) → IsLineNumber (next_number old) start → SaysOf start means [] old.over first
+      → SaysOf start means text new.over last
   pub heading : new.heading ≡ old.heading
   pub chain : new.chain ≡ old.chain
 
@@ -128,7 +133,7 @@ IsMeaningOf means chain words = (items : List Item) → IsStream items → means
 pub record BeginsJudging (heading : Heading) (chain : Toxics) (hearing : Hearing) : Type 0 where
   pub means : List Item → List Item
   pub meaning : IsMeaningOf means chain (seeded_words heading.seed heading.number heading.stream)
-  pub says : SaysOf means [] false hearing
+  pub says : (start : ℕ) → SaysOf start means [] false hearing
   pub unfinished : hearing.verdict ≡ Unfinished
 
 -- bytes are the header of a judged log, these lines, and a rest without a line; and this is what the chain of that header does with
@@ -150,12 +155,13 @@ pub record IsFaithfulText (given : Option (List ℕ)) (judged : JudgedLog) (endi
   pub percentiles : IsLate late judged.late
   pub whole : judged.broken ≡ None
 
--- behind the header stand the lines of events and one that is refused
-pub record IsRefusedText (given : Option (List ℕ)) (judged : JudgedLog) : Type 0 where
+-- behind the header, which has three lines and one for each toxic, stand the lines of events and one that is refused, which has this
+-- number
+pub record IsRefusedText (given : Option (List ℕ)) (judged : JudgedLog) (number : ℕ) : Type 0 where
   pub lines : List ℕ
   pub means : List Item → List Item
   pub text : IsTextOf given judged lines means
-  pub refusal : HasRefusal means lines
+  pub refusal : HasRefusal means lines (4 + length judged.chain.entries) number
   pub whole : judged.broken ≡ None
 
 -- a last line that the stream broke off, if there is a cause

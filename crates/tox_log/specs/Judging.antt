@@ -1,5 +1,5 @@
 -- A log under judgement: what the plan still has to say, beside what the log said.
-use Rattle.std.specs.Prelude.{◌≡◌, ℕ, ◌+◌, ◌<◌, ◌≤◌, Bool, true, false, List, [], ◌∷◌, ◌++◌, replicate, nat_lt, if◌then◌else◌, Option, Some, None}
+use Rattle.std.specs.Prelude.{◌≡◌, ℕ, ◌+◌, ◌<◌, ◌≤◌, Bool, true, false, List, [], ◌∷◌, ◌++◌, replicate, nat_lt, if◌then◌else◌, Option, Some, None, IfSome}
 use Rattle.tox_time.specs.declared.streams.slice.Slice.{Slice}
 use Rattle.tox_time.specs.declared.streams.item.Item.{Item}
 use Rattle.tox_time.specs.declared.streams.item.Item.TheVariants.{Quiet}
@@ -12,8 +12,8 @@ use Rattle.tox_link.specs.declared.link_core.act.Act.TheVariants.{Write, WaitUnt
 use Rattle.tox_link.specs.declared.notes.LinkEvent.{LinkEvent}
 use Rattle.tox_link.specs.declared.ring.message.ReadEnd.{ReadEnd}
 use Rattle.tox_link.specs.declared.ring.message.ReadEnd.TheVariants.{Eof}
-use Rattle.tox_link.specs.link_core.Core.{CoreView, remaining_output, core_ending, core_position}
-use Rattle.tox_link.specs.log.Carried.{IsBy}
+use Rattle.tox_link.specs.link_core.Core.{CoreView, remaining_output, core_ending, core_position, kept_count}
+use Rattle.tox_link.specs.log.Carried.{IsBy, KeepsLast}
 use Rattle.tox_link.specs.log.Log.{heard_from, heard_bytes, has_source_end, said, reading_of, IsFaithful, IsGapless}
 use Rattle.tox_link.specs.Reports.{ReportsAt}
 use Rattle.tox_log.specs.declared.judge.Judge.{Judge}
@@ -40,15 +40,16 @@ abbrev pub IsRest : Option Slice → ℕ → ℕ → Type 0
 IsRest None said_to position = said_to ≡ position
 IsRest (Some slice) said_to position = (slice.span.start ≡ said_to) × (said_to < slice.span.stop) × (slice.span.stop ≡ position)
 
--- the core has heard of all that was heard, until its ending is known
+-- the core has heard of all that was heard, until its ending is known, and what is left of a slice lies in the runner's piece
 pub record KeepsUp (judge : Judge) : Type 0 where
   pub ended : judge.core.ended ≡ judge.ended
   pub latest : judge.core.latest ≤ judge.latest
   pub live : core_ending judge.core ≡ None → judge.heard ≡ judge.core.bytes
   pub rest : IsRest judge.rest judge.said (core_position judge.core)
+  pub within : judge.ended ≡ false → IfSome judge.rest (λ slice. slice.span.stop ≤ judge.core.runner.piece.span.stop)
 
 -- what was said up to a position, what the core gave since then, and what is to come are together what the plan means for what was
--- heard and goes on from there; the log is faithful, and no reading of it is above the last one
+-- heard and goes on from there; the log is faithful, and no reading of it is above the last one; the core keeps the last pieces heard
 pub record AddsUp (means : List Item → List Item) (told : ℕ → Bool) (core : CoreView) (given : List ℕ) (heard latest : ℕ) (ended : Bool) (start : ℕ) (log : List LinkEvent) : Type 0 where
   pub tables : (items : List Item) → IsStreamFrom heard latest items → table (means (heard_from 0 log items)) ≡ slices_table (said log) ++ (given ++ table (remaining_output core items))
   pub endings : (items : List Item) → IsStreamFrom heard latest items → ending (means (heard_from 0 log items)) ≡ ending (remaining_output core items)
@@ -57,6 +58,7 @@ pub record AddsUp (means : List Item → List Item) (told : ℕ → Bool) (core 
   pub gapless : IsGapless 0 (said log) start
   pub bytes : heard_bytes log ≡ heard
   pub closed : has_source_end log ≡ ended
+  pub kept : ended ≡ false → core_ending core ≡ None → KeepsLast core log
 
 -- a judge after a log, and after these instants of a slice that starts at a position
 abbrev pub FollowsWith : (List Item → List Item) → (ℕ → Bool) → Judge → List ℕ → ℕ → List LinkEvent → Type 0
@@ -75,6 +77,10 @@ Stays old new = (means : List Item → List Item) (told : ℕ → Bool) (front :
 abbrev pub Hears : Judge → LinkEvent → Judge → Type 0
 Hears old event new = (means : List Item → List Item) (told : ℕ → Bool) (log : List LinkEvent) → told (reading_of event) ≡ true
     → Judged means told old log → Judged means told new (log ++ event ∷ [])
+
+-- where it keeps 1,024 pieces, the runner's ends behind what was said
+abbrev pub HoldsUnsaid : Judge → Type 0
+HoldsUnsaid judge = judge.ended ≡ false → 1_024 ≤ kept_count judge.core → judge.said < judge.core.runner.piece.span.stop
 
 -- the next bytes of a slice that leaves at an instant are said
 abbrev pub SaysPart : Judge → ℕ → Judge → Type 0

@@ -1,17 +1,26 @@
 -- What is left to be read of a log that a link can write.
-use Rattle.std.specs.Prelude.{◌≡◌, ◌≢◌, ℕ, ◌≤◌, true, false, List, [], ◌∷◌, ◌++◌, All, length, map, string_bytes, Option, Some, None, Result, IfErr}
+use Rattle.std.specs.Prelude.{◌≡◌, ◌≢◌, ℕ, ◌<◌, ◌≤◌, true, false, List, [], ◌∷◌, ◌++◌, All, length, map, string_bytes, Option, Some, None, Result, IfErr}
+use Rattle.tox_time.specs.declared.streams.item.Item.{Item}
+use Rattle.std.specs.declared.alloc.Global.{Global}
+use Rattle.std.specs.declared.string.String.{String}
 use Rattle.tox_time.specs.declared.streams.position.StreamPosition.{StreamPosition}
+use Rattle.tox_time.specs.declared.streams.stream.Stream.{Stream}
 use Rattle.tox_words.specs.Draw.{lane_count}
+use Rattle.tox_words.specs.declared.lanes.Lanes.{Lanes}
 use Rattle.tox_defs.specs.declared.chain.Entry.{Entry}
+use Rattle.tox_link.specs.declared.notes.LinkEvent.{LinkEvent}
+use Rattle.tox_link.specs.log.Log.{IsShallowBehind}
 use Rattle.tox_log.specs.declared.event_line.LogLine.{LogLine}
 use Rattle.tox_log.specs.declared.fault.LogFault.{LogFault}
-use Rattle.tox_log.specs.declared.fault.LogFault.TheVariants.{BadLine}
+use Rattle.tox_log.specs.declared.fault.LogFault.TheVariants.{BadLine, TooDeep}
 use Rattle.tox_log.specs.declared.heading.Heading.{Heading}
 use Rattle.tox_log.specs.declared.judge.Judge.{Judge}
 use Rattle.tox_log.specs.declared.open_log.OpenLog.{OpenLog}
 use Rattle.tox_log.specs.declared.replay.Hearing.{Hearing}
 use Rattle.tox_log.specs.declared.replay.Verdict.TheVariants.{Unfinished}
-use Rattle.tox_log.specs.HeaderLines.{IsWritableToxic}
+use Rattle.tox_log.specs.Judging.{Judged}
+use Rattle.tox_log.specs.LinkLog.{events_in}
+use Rattle.tox_log.specs.HeaderLines.{IsWritableToxic, PrintsToxic}
 use Rattle.tox_log.specs.Lines.{IsWritable, line_words}
 use Rattle.tox_log.specs.Numbers.{Lacks}
 use Rattle.tox_log.specs.Opening.{named_lines}
@@ -22,6 +31,14 @@ use Rattle.tox_log.specs.WrittenLog.{AreInOrder, WrittenLog, log_lines}
 -- no line is called bad
 abbrev pub IsNoBadLine : LogFault → Type 0
 IsNoBadLine fault = (number : ℕ) → fault ≢ BadLine number
+
+-- none is called too deep
+abbrev pub IsNotTooDeep : LogFault → Type 0
+IsNotTooDeep fault = (number : ℕ) → fault ≢ TooDeep number
+
+-- neither: memory was refused, or a read failed
+abbrev pub BlamesNoLine : LogFault → Type 0
+BlamesNoLine fault = IsNoBadLine fault × IsNotTooDeep fault
 
 -- what the first three lines of a log say
 pub record IsHeadingOf (heading : Heading) (log : WrittenLog) : Type 0 where
@@ -36,6 +53,24 @@ pub record HasLineNext (given : Option (List ℕ)) (line more : List ℕ) : Type
   pub bytes : given ≡ Some ((line ++ 10 ∷ []) ++ more)
   pub unended : Lacks 10 line
   pub short : length line ≤ 4_096
+
+-- the second line of a log was read, and these bytes are left
+pub record ReadsLinkLine (log : WrittenLog) (more : List ℕ) (left : Option (List ℕ)) (link : String Global × ℕ × Stream) : Type 0 where
+  pub name : string_bytes link.0 ≡ log.name
+  pub number : link.1 ≡ log.number
+  pub stream : link.2 ≡ log.stream
+  pub behind : left ≡ Some more
+
+-- the third line of a log was read, and these bytes are left
+pub record ReadsSeedLine (log : WrittenLog) (more : List ℕ) (left : Option (List ℕ)) (settings : Lanes × ℕ) : Type 0 where
+  pub lanes : settings.0 ≡ log.chain.lanes
+  pub seed : settings.1 ≡ log.seed
+  pub behind : left ≡ Some more
+
+-- the first three lines of a log were read, and these bytes are left
+pub record ReadsHeading (log : WrittenLog) (more : List ℕ) (left : Option (List ℕ)) (heading : Heading) : Type 0 where
+  pub says : IsHeadingOf heading log
+  pub behind : left ≡ Some more
 
 -- toxics are left, with which the chain has these entries; behind them lines and a torn rest
 pub record HasToxicsLeft (log : OpenLog) (remaining : Option (List ℕ)) (entries : List Entry) (lines : List LogLine) : Type 0 where
@@ -61,6 +96,18 @@ pub record HasLinesLeft (log : OpenLog) (remaining : Option (List ℕ)) (lines :
   pub order : AreInOrder log.heard lines
   pub over : log.over ≡ true → lines ≡ []
   pub unended : Lacks 10 torn
+
+-- the toxics of a log were read: its chain has these entries, and these lines are left
+pub record ReadsChain (log : OpenLog) (remaining : Option (List ℕ)) (entries : List Entry) (lines : List LogLine) : Type 0 where
+  pub chain : log.chain.entries ≡ entries
+  pub left : HasLinesLeft log remaining lines
+
+-- the line that was read is a toxic's, for which the chain has room
+pub record IsNextToxic (log : OpenLog) (named : Entry × List ℕ) : Type 0 where
+  pub line : List ℕ
+  pub read : IsLineRead log.lines line
+  pub printed : PrintsToxic line named
+  pub room : length log.chain.entries < lane_count log.chain.lanes
 
 -- of the lines that are left the first one is handed out, if there is one
 abbrev pub HandsFirst : Option LogLine → OpenLog → Option (List ℕ) → List LogLine → Type 0
@@ -93,3 +140,13 @@ AcceptsNext hearing line result = (heard : StreamPosition) → IsHeardTo hearing
 -- the judge comes as far as the line, until the verdict is known
 abbrev pub ComesWith : Hearing → LogLine → Hearing → Type 0
 ComesWith old line new = (heard : StreamPosition) → IsHeardTo old.judge heard → new.verdict ≡ Unfinished → IsHeardTo new.judge (heard_with heard line)
+
+-- a line isn't called too deep behind events behind which it may come
+abbrev pub FindsRoom : {T : Type 0} → Hearing → LogLine → Result T LogFault → Type 0
+FindsRoom hearing line result = (means : List Item → List Item) (events : List LinkEvent) → Judged means (λ reading. true) hearing.judge events
+    → IsShallowBehind events (events_in (line ∷ [])) → IfErr result IsNotTooDeep
+
+-- the judge is one after the line's event too, until the verdict is known
+abbrev pub JudgesWith : Hearing → LogLine → Hearing → Type 0
+JudgesWith old line new = (means : List Item → List Item) (events : List LinkEvent) → Judged means (λ reading. true) old.judge events → new.verdict ≡ Unfinished
+    → Judged means (λ reading. true) new.judge (events ++ events_in (line ∷ []))

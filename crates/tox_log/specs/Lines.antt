@@ -1,5 +1,5 @@
 -- The lines behind the header.
-use Rattle.std.specs.Prelude.{◌≡◌, ◌≢◌, ℕ, ◌^◌, ◌≤◌, List, Option, MatchOption}
+use Rattle.std.specs.Prelude.{◌≡◌, ◌≢◌, ℕ, ◌^◌, ◌≤◌, List, ◌++◌, codes, decimal, Option, MatchOption}
 use Rattle.tox_time.specs.Time.{IsInstant}
 use Rattle.tox_time.specs.declared.streams.span.Span.{Span}
 use Rattle.tox_time.specs.declared.streams.ending.Ending.{Ending}
@@ -21,6 +21,16 @@ line_words (Last last) = last_words last
 -- positions that a log may have: at most 2^40
 abbrev pub IsWritableSpan : Span → Type 0
 IsWritableSpan span = (span.start ≤ 2 ^ 40) × (span.stop ≤ 2 ^ 40)
+
+-- a range, as a line has it
+abbrev pub span_words : Span → List ℕ
+span_words span = decimal span.start ++ codes ".." ++ decimal span.stop
+
+-- what a text is read as: the range that it writes, or none where it writes none that a log may have
+abbrev pub ReadsSpan : Option Span → List ℕ → Type 0
+ReadsSpan read text =
+    MatchOption read ((span : Span) → IsWritableSpan span → text ≢ span_words span)
+    (λ span. (text ≡ span_words span) × IsWritableSpan span)
 
 -- an ending whose instant, if it has one, is at most 10^15
 abbrev pub IsWritableEnding : Ending → Type 0

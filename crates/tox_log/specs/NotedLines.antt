@@ -5,11 +5,12 @@ use Rattle.tox_time.specs.declared.streams.item.Item.{Item}
 use Rattle.tox_time.specs.streams.Stream.{IsStream}
 use Rattle.tox_time.specs.streams.StreamPosition.{first_position}
 use Rattle.tox_link.specs.declared.notes.LinkEvent.{LinkEvent}
+use Rattle.tox_link.specs.log.Log.{IsShallowBehind}
 use Rattle.tox_log.specs.declared.event_line.LogLine.{LogLine}
 use Rattle.tox_log.specs.declared.event_line.LogLine.TheVariants.{Event, Last}
 use Rattle.tox_log.specs.declared.last_line.BreakCause.{BreakCause}
 use Rattle.tox_log.specs.declared.last_line.LastLine.TheVariants.{Ended, Broken}
-use Rattle.tox_log.specs.LinkLog.{AreLinkLines}
+use Rattle.tox_log.specs.LinkLog.{AreLinkLines, events_in}
 use Rattle.tox_log.specs.WrittenLog.{AreInOrder}
 
 -- the lines of a link with these events that ended so at a reading
@@ -20,8 +21,10 @@ ended_lines events reading ending = map Event events ++ Last (Ended reading endi
 abbrev pub broken_lines : List LinkEvent → BreakCause → ℕ → List LogLine
 broken_lines events cause bytes = map Event events ++ Last (Broken cause bytes) ∷ []
 
--- lines that a log may have behind its header, and that are a link's under each function that does the same with a stream
+-- lines that a log may have behind its header, that are a link's under each function that does the same with a stream, and of which no
+-- piece finds 1,024 waiting
 pub record AreNoted (means : List Item → List Item) (lines : List LogLine) : Type 0 where
   pub in_order : AreInOrder first_position lines
   pub linked : (other : List Item → List Item) → ((items : List Item) → IsStream items → other items ≡ means items)
       → AreLinkLines other (λ reading. true) lines
+  pub shallow : IsShallowBehind [] (events_in lines)

@@ -1,5 +1,5 @@
 -- The lines that are read of a log, beside the bytes that they come from.
-use Rattle.std.specs.Prelude.{◌≡◌, ℕ, Bool, true, false, if◌then◌else◌, List, [], ◌∷◌, ◌++◌, slice_range, Option}
+use Rattle.std.specs.Prelude.{◌≡◌, ℕ, ◌+◌, ◌<◌, ◌^◌, Bool, true, false, if◌then◌else◌, List, [], ◌∷◌, ◌++◌, slice_range, Option}
 use Rattle.std.specs.Io.KnownBytes.{IsAtEnd, prepend_known}
 use Rattle.tox_log.specs.declared.line_reader.LineReader.{LineReader}
 use Rattle.tox_log.specs.declared.open_log.OpenLog.{OpenLog}
@@ -29,6 +29,13 @@ pub record Takes (old new : LineReader) (before after : Option (List ℕ)) (text
   pub given : to_take old before ≡ prepend_known taken (to_take new after)
   pub line : HasLine new text
 
+-- bytes of the block were taken onto the line: those before a line feed, which goes with them, or all
+pub record TakesPart (old new : LineReader) (ended : Bool) : Type 0 where
+  pub part : List ℕ
+  pub given : waiting old ≡ part ++ (if ended then 10 ∷ waiting new else waiting new)
+  pub line : (text : List ℕ) → HasLine old text → HasLine new (text ++ part)
+  pub unended : Lacks 10 part
+
 -- a line was taken with its line feed
 abbrev pub TakesLine : LineReader → LineReader → Option (List ℕ) → Option (List ℕ) → Type 0
 TakesLine old new before after = (text : List ℕ) × Takes old new before after text (text ++ 10 ∷ []) × Lacks 10 text
@@ -52,6 +59,18 @@ pub record LacksLine (bytes : Option (List ℕ)) : Type 0 where
 abbrev pub to_hand : OpenLog → Option (List ℕ) → Option (List ℕ)
 to_hand log remaining =
     if log.waits then prepend_known (log.lines.line.items ++ 10 ∷ []) (to_take log.lines remaining) else to_take log.lines remaining
+
+-- a line's number, in a log of fewer than 2^64 lines
+abbrev pub IsLineNumber : ℕ → ℕ → Type 0
+IsLineNumber number line = line < 2 ^ 64 → number ≡ line
+
+-- the number of the line that is to be handed out next
+abbrev pub next_number : OpenLog → ℕ
+next_number log = if log.waits then log.number else log.number + 1
+
+-- a line more was read, or handed out
+abbrev pub CountsOn : ℕ → ℕ → Type 0
+CountsOn old new = (line : ℕ) → IsLineNumber old line → IsLineNumber new (line + 1)
 
 abbrev pub is_last : LogLine → Bool
 is_last (Event event) = false

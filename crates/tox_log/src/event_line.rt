@@ -1,10 +1,9 @@
 //! A line behind the header: an event, or the last line.
 ghost use Rattle.std.specs.Prelude.{◌≡◌, ◌≢◌, ◌++◌, ◌∷◌, [], codes, decimal, MatchOption, Some};
 ghost use Rattle.tox_time.specs.Time.{IsInstant};
-ghost use Rattle.tox_time.specs.declared.streams.span.Span.{Span as OneSpan};
 ghost use Rattle.tox_log.specs.declared.event_line.LogLine.{LogLine as OneLine};
 ghost use Rattle.tox_log.specs.declared.last_line.BreakCause.{BreakCause as OneCause};
-ghost use Rattle.tox_log.specs.Lines.{IsWritable, IsWritableSpan, ReadsLine, line_words};
+ghost use Rattle.tox_log.specs.Lines.{IsWritable, ReadsLine, ReadsSpan, line_words};
 ghost use Rattle.tox_log.specs.LastText.{cause_name};
 ghost use Rattle.tox_log.specs.Numbers.{Lacks};
 
@@ -83,11 +82,7 @@ fn wrote_of(reading: &Micros, words: &[u8]) -> Option<LogLine>
 
 /// A range of positions, `<start>..<stop>`.
 fn span_of(text: &[u8]) -> Option<Span>
-    ensures { MatchOption result
-        ((span : OneSpan) → IsWritableSpan span
-        → text.now ≢ decimal span.start ++ codes ".." ++ decimal span.stop)
-        (λ span. (text.now ≡ decimal span.start ++ codes ".." ++ decimal span.stop)
-        × IsWritableSpan span) }
+    ensures { ReadsSpan result text.now }
 {
     let (start, rest) = cut_at(text, b'.')?;
     let stop = rest.strip_prefix(b".")?;
@@ -101,7 +96,8 @@ fn ending_of(reading: &Micros, name: &[u8], instant: &[u8]) -> Option<LogLine>
     requires reading { IsInstant reading.now }
     requires one_word { Lacks 32 name.now }
     requires no_event { (name.now ≢ codes "piece") × (name.now ≢ codes "wrote") }
-    ensures { ReadsLine result (decimal reading.now ++ codes " " ++ name.now ++ codes " " ++ instant.now) }
+    ensures { ReadsLine result
+        (decimal reading.now ++ codes " " ++ name.now ++ codes " " ++ instant.now) }
 {
     let instant = instant_of(instant)?;
     if name == b"closed".as_slice() {

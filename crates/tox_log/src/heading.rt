@@ -8,7 +8,7 @@ ghost use Rattle.tox_defs.specs.chain.Chain.{IsEntry};
 ghost use Rattle.tox_defs.specs.declared.chain.Entry.{Entry as OneEntry};
 ghost use Rattle.tox_time.specs.declared.streams.stream.Stream.{Stream as OneStream};
 ghost use Rattle.tox_words.specs.declared.lanes.Lanes.{Lanes as OneLanes};
-ghost use Rattle.tox_log.specs.HeaderLines.{BeginsToxic, IsWritableName, PrintsLink, PrintsToxic};
+ghost use Rattle.tox_log.specs.HeaderLines.{AreLinkWords, BeginsToxic, IsWritableName, PrintsLink, PrintsToxic};
 ghost use Rattle.tox_log.specs.Numbers.{Lacks};
 
 use crate::log_bytes::LogBytes;
@@ -54,8 +54,8 @@ pub(crate) fn read_link(line: &[u8]) -> Option<LinkWords<'_>>
     ensures line { IfSome result
         (λ link. line.now ++ 10 ∷ [] ≡ link_line link.proxy.now link.number link.stream) }
     ensures back { (name : List ℕ) (number : ℕ) (stream : OneStream)
-        → PrintsLink line.now name number stream → IsSomeAnd result
-        (λ link. (link.proxy.now ≡ name) × (link.number ≡ number) × (link.stream ≡ stream)) }
+        → PrintsLink line.now name number stream
+        → IsSomeAnd result (λ link. AreLinkWords link name number stream) }
 {
     let rest = line.strip_prefix(b"link ")?;
     let (rest, stream) = cut_at_last(rest, b' ')?;

@@ -1,5 +1,5 @@
 //! The judge of a log: what the plan still has to say, beside what the log says.
-ghost use Rattle.std.specs.Prelude.{◌≡◌, ℕ, ◌+◌, ◌-◌, ◌++◌, ◌≤◌, ◌<◌, ◌^◌, ◌↔◌, Bool, List, [], ◌∷◌, IfOk, OnOk, true, false, Some, None, IsSome, IsTrue, replicate, slice_get};
+ghost use Rattle.std.specs.Prelude.{◌≡◌, ℕ, ◌+◌, ◌-◌, ◌++◌, ◌≤◌, ◌<◌, ◌^◌, ◌↔◌, Bool, List, [], ◌∷◌, IfOk, OnErr, OnOk, true, false, Some, None, IsSome, IsTrue, replicate, slice_get};
 ghost use Rattle.tox_time.specs.Time.{IsInstant};
 ghost use Rattle.tox_time.specs.declared.streams.item.Item.{Item as OneItem};
 ghost use Rattle.tox_compile.specs.Meaning.{means};
@@ -7,9 +7,10 @@ ghost use Rattle.tox_link.specs.declared.notes.LinkEvent.{LinkEvent as OneEvent}
 ghost use Rattle.tox_link.specs.link_core.Core.{core_ending, kept_count, remaining_output};
 ghost use Rattle.tox_time.specs.declared.streams.ending.Ending.{Ending as OneEnding};
 ghost use Rattle.tox_time.specs.streams.Table.{final_of};
+ghost use Rattle.tox_link.specs.log.Log.{waiting_pieces};
 ghost use Rattle.tox_link.specs.log.Logged.{IsReached};
 ghost use Rattle.tox_link.specs.Reports.{ReportsAt};
-ghost use Rattle.tox_log.specs.Judging.{Expects, HasSaidAll, KeepsUp, Judged, Refuses, RefusesEnding, Stays, Hears, SaysPart, next_table, part_from, slice_in, source_heard};
+ghost use Rattle.tox_log.specs.Judging.{Expects, HasSaidAll, HoldsUnsaid, KeepsUp, Judged, Refuses, RefusesEnding, Stays, Hears, SaysPart, next_table, part_from, slice_in, source_heard};
 
 use std::alloc::{AllocError, Global};
 use tox_compile::Plan;
@@ -90,6 +91,8 @@ pub(crate) fn hear_piece(judge: &mut Judge, len: u64, instant: &Micros) -> Resul
     ensures counts { OnOk result ((judge.new.heard ≡ judge.old.heard + len)
         × (judge.new.latest ≡ instant.now) × (judge.new.ended ≡ judge.old.ended)) }
     ensures hears { OnOk result (Hears judge.old (OneEvent.Piece len instant.now) judge.new) }
+    ensures deep { OnErr result ((means : List OneItem → List OneItem) (told : ℕ → Bool)
+        (log : List OneEvent) → Judged means told judge.old log → 1024 ≤ waiting_pieces log) }
 {
     make_room(judge, instant);
     if let Some(_last) = judge.core.ending() {
@@ -111,6 +114,7 @@ fn make_room(judge: &mut Judge, instant: &Micros)
     ensures counts { (judge.new.heard ≡ judge.old.heard) × (judge.new.latest ≤ instant.now)
         × (judge.new.ended ≡ judge.old.ended) × (judge.new.said ≡ judge.old.said) }
     ensures stays { Stays judge.old judge.new }
+    ensures deep { HoldsUnsaid judge.new }
 {
     if !judge.core.has_room() {
         look(judge, instant);
@@ -252,6 +256,7 @@ fn look(judge: &mut Judge, reading: &Micros)
     ensures finds { (due : ℕ) → slice_get (next_table judge.old) 0 ≡ Some due
         → due ≤ reading.now → IsSome judge.new.rest }
     ensures all { next_table judge.old ≡ [] → HasSaidAll judge.new reading.now }
+    ensures deep { HoldsUnsaid judge.new }
 {
     judge.latest = *reading;
     if judge.rest.is_none() {
@@ -272,6 +277,7 @@ fn ask(judge: &mut Judge, reading: &Micros)
     ensures finds { (due : ℕ) → slice_get (next_table judge.old) 0 ≡ Some due
         → due ≤ reading.now → IsSome judge.new.rest }
     ensures all { next_table judge.old ≡ [] → HasSaidAll judge.new reading.now }
+    ensures deep { HoldsUnsaid judge.new }
 {
     let act = judge.core.on_clock(*reading);
     judge.rest = slice_in(&act);

@@ -27,7 +27,7 @@ pub(crate) struct LineReader {
 
 impl LineReader {
     ghost use Rattle.tox_log.specs.Numbers.{Lacks};
-    ghost use Rattle.tox_log.specs.Reading.{HasLine, IsLineRead, TakesLine, TakesRest, to_take, waiting};
+    ghost use Rattle.tox_log.specs.Reading.{IsLineRead, TakesLine, TakesPart, TakesRest, to_take, waiting};
 
     pub(crate) fn new(alloc: Global) -> Result<LineReader, AllocError>
         ensures { IfOk result (λ lines. waiting lines ≡ []) }
@@ -95,9 +95,7 @@ impl LineReader {
 
     /// Takes the bytes up to the next line feed onto the line, or the rest of the block. Whether a line feed came.
     fn take(&mut self) -> bool
-        ensures { (part : List ℕ) × (waiting self.old ≡ part ++ (if result then 10 ∷ waiting self.new else waiting self.new))
-            × ((text : List ℕ) → HasLine self.old text → HasLine self.new (text ++ part))
-            × Lacks 10 part }
+        ensures { TakesPart self.old self.new result }
     {
         let waiting = &self.block[self.start..self.stop];
         match memchr(b'\n', waiting) {

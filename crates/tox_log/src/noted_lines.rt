@@ -16,8 +16,8 @@ use tox_link::Clock;
 /// A lemma as a function, with no runtime effect: the events and the report of a link by this clock, written as lines, are a
 /// link's log, and so is each front of them.
 ///
-/// Behind a header that can be written, [`judge_log`](crate::judge_log) finds no bad line in them and doesn't call them
-/// unfaithful.
+/// Behind a header that can be written, [`judge_log`](crate::judge_log) finds no line of them bad or too deep and doesn't
+/// call them unfaithful.
 pub fn noted_lines_are_a_log<C: Clock>(_clock: &C)
     ensures ended { (means : List OneItem → List OneItem) (events : List OneEvent)
         (taken written reading : ℕ) (ending : OneEnding) (source : Option OneEnd)

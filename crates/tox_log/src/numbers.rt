@@ -1,6 +1,6 @@
 //! Numbers of a log, and the parts of its lines.
-ghost use Rattle.std.specs.Prelude.{◌≡◌, ◌≢◌, ℕ, ◌≤◌, ◌<◌, ◌++◌, List, [], ◌∷◌, decimal, length, MatchOption, IfSome};
-ghost use Rattle.tox_log.specs.Numbers.{Lacks};
+ghost use Rattle.std.specs.Prelude.{◌≡◌, ◌++◌, ◌∷◌, MatchOption};
+ghost use Rattle.tox_log.specs.Numbers.{Lacks, ReadsNumber};
 
 use std::str;
 use tox_time::{HORIZON, Micros, parse_decimal};
@@ -10,8 +10,7 @@ const MAX_DIGITS: usize = 20;
 
 /// The number that a text writes in decimal digits without leading zeros, where it is at most `greatest`.
 pub(crate) fn number_of(text: &[u8], greatest: u64) -> Option<u64>
-    ensures { MatchOption result ((n : ℕ) → n ≤ greatest → text.now ≢ decimal n)
-        (λ n. (n ≤ greatest) × (text.now ≡ decimal n)) }
+    ensures { ReadsNumber result greatest text.now }
 {
     if text.len() > 1 && text[0] == b'0' {
         return None;
@@ -24,8 +23,7 @@ pub(crate) fn number_of(text: &[u8], greatest: u64) -> Option<u64>
 
 /// The instant that a text writes in decimal digits without leading zeros.
 pub(crate) fn instant_of(text: &[u8]) -> Option<Micros>
-    ensures { MatchOption result ((n : ℕ) → n ≤ 1_000_000_000_000_000 → text.now ≢ decimal n)
-        (λ n. (n ≤ 1_000_000_000_000_000) × (text.now ≡ decimal n)) }
+    ensures { ReadsNumber result 1_000_000_000_000_000 text.now }
 {
     let Some(micros) = number_of(text, HORIZON) else {
         return None;

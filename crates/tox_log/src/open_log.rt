@@ -1,5 +1,5 @@
 //! A log that is being read: its header, and then line by line.
-ghost use Rattle.std.specs.Prelude.{◌≡◌, ℕ, ◌<◌, ◌≤◌, ◌+◌, ◌++◌, ◌∷◌, [], List, true, false, length, OnOk, OnSome, IfErr, IfOk, IfSome, IfNone, IsFalse, IsTrue, MatchOption, MatchResult, Some, string_bytes, ◌↔◌};
+ghost use Rattle.std.specs.Prelude.{◌≡◌, ℕ, ◌≤◌, ◌+◌, ◌++◌, ◌∷◌, [], List, true, false, OnOk, OnSome, IfErr, IfOk, IfSome, IfNone, IsFalse, IsTrue, length, MatchOption, MatchResult, Some, string_bytes, ◌↔◌};
 ghost use Rattle.tox_log.specs.Lines.{IsWritable, line_words};
 ghost use Rattle.std.specs.Io.KnownBytes.{prepend_known};
 ghost use Rattle.tox_words.specs.Seeded.{seeded_words};
@@ -8,13 +8,11 @@ ghost use Rattle.tox_log.specs.Opening.{AddsToxic, Opens, ReadsToxics, SameHeadi
 ghost use Rattle.tox_log.specs.Order.{ComesNext, GoesOnWith};
 ghost use Rattle.tox_log.specs.declared.event_line.LogLine.TheVariants as OneLine;
 ghost use Rattle.tox_link.specs.declared.notes.LinkEvent.TheVariants as OneEvent;
-ghost use Rattle.tox_log.specs.Reading.{Hands, IsLineRead, LacksLine, TakesLine, TakesRest, is_last, to_hand, to_take};
-ghost use Rattle.tox_log.specs.Left.{HandsFirst, HasLinesLeft, HasToxicsLeft, IsHeadingOf, IsNextLine, IsNoBadLine, OpensWritten};
-ghost use Rattle.tox_log.specs.HeaderLines.{PrintsToxic};
+ghost use Rattle.tox_log.specs.Reading.{CountsOn, Hands, IsLineNumber, IsLineRead, LacksLine, TakesLine, TakesRest, is_last, next_number, to_hand, to_take};
+ghost use Rattle.tox_log.specs.Left.{BlamesNoLine, HandsFirst, HasLinesLeft, HasToxicsLeft, IsNextLine, IsNextToxic, OpensWritten, ReadsChain, ReadsHeading, ReadsLinkLine, ReadsSeedLine};
 ghost use Rattle.tox_log.specs.WrittenLog.{IsWritableLog, IsWrittenText, WrittenLog};
 ghost use Rattle.tox_log.specs.declared.event_line.LogLine.{LogLine as AnyLine};
 ghost use Rattle.tox_defs.specs.declared.chain.Entry.{Entry as OneEntry};
-ghost use Rattle.tox_words.specs.Draw.{lane_count};
 
 use crate::event_line::{LogLine, read_line};
 use crate::fault::LogFault;
@@ -50,7 +48,10 @@ impl OpenLog {
         ensures working { OnOk result (R.failed reader.new ≡ false) }
         ensures opens { IfOk result (Opens (R.remaining reader.old) (R.remaining reader.new)) }
         ensures reads { (written : WrittenLog) → IsWrittenText (R.remaining reader.old) written
-            → MatchResult result (λ log. OpensWritten log (R.remaining reader.new) written) IsNoBadLine }
+            → MatchResult result (λ log. OpensWritten log (R.remaining reader.new) written)
+            BlamesNoLine }
+        ensures numbered { IfOk result (λ log.
+            IsLineNumber (next_number log) (4 + length log.chain.entries)) }
     {
         let mut lines = LineReader::new(alloc)?;
         let heading = read_heading(alloc, &mut lines, reader)?;
@@ -92,7 +93,7 @@ impl OpenLog {
     /// The words of the stream.
     pub fn words(&self, alloc: Global) -> Result<Words, LogFault>
         ensures { MatchResult result (λ words. words ≡ seeded_words self.now.heading.seed
-            self.now.heading.number self.now.heading.stream) IsNoBadLine }
+            self.now.heading.number self.now.heading.stream) BlamesNoLine }
     {
         let heading = &self.heading;
         match Words::from_seed(alloc, heading.seed, heading.number, heading.stream) {
@@ -115,14 +116,18 @@ impl OpenLog {
         ensures same { OnOk result ((self.new.heading ≡ self.old.heading)
             × (self.new.chain ≡ self.old.chain)) }
         ensures hands { IfOk result (λ handed. MatchOption handed (self.new.over ≡ self.old.over)
-            (λ line. Hands self.old self.new (R.remaining reader.old) (R.remaining reader.new) line)) }
+            (Hands self.old self.new (R.remaining reader.old) (R.remaining reader.new))) }
         ensures order { IfOk result (λ handed. MatchOption handed (self.new.heard ≡ self.old.heard)
             (λ line. GoesOnWith self.old.heard line self.new.heard)) }
         ensures ends { IfOk result (λ handed.
             IfNone handed (LacksLine (to_hand self.old (R.remaining reader.old)))) }
-        ensures reads { (lines : List AnyLine) → HasLinesLeft self.old (R.remaining reader.old) lines
-            → MatchResult result (λ handed. HandsFirst handed self.new (R.remaining reader.new) lines)
-            IsNoBadLine }
+        ensures reads { (lines : List AnyLine)
+            → HasLinesLeft self.old (R.remaining reader.old) lines
+            → MatchResult result
+            (λ handed. HandsFirst handed self.new (R.remaining reader.new) lines) BlamesNoLine }
+        ensures numbered { IfOk result (λ handed. IfSome handed (λ _.
+            (line : ℕ) → IsLineNumber (next_number self.old) line
+            → IsLineNumber self.new.number line × IsLineNumber (next_number self.new) (line + 1))) }
     {
         if self.waits {
             self.waits = false;
@@ -145,8 +150,11 @@ impl OpenLog {
             (ReadsToxics self.old self.new (R.remaining reader.old) (R.remaining reader.new)) }
         ensures reads { (entries : List OneEntry) (lines : List AnyLine)
             → HasToxicsLeft self.old (R.remaining reader.old) entries lines
-            → MatchResult result (λ _. (self.new.chain.entries ≡ entries)
-            × HasLinesLeft self.new (R.remaining reader.new) lines) IsNoBadLine }
+            → MatchResult result
+            (λ _. ReadsChain self.new (R.remaining reader.new) entries lines) BlamesNoLine }
+        ensures numbered { OnOk result
+            (IsLineNumber self.old.number (3 + length self.old.chain.entries)
+            → IsLineNumber (next_number self.new) (4 + length self.new.chain.entries)) }
     {
         'toxics: for _ in 0..u64::MAX {
             if !self.advance(reader)? {
@@ -167,13 +175,12 @@ impl OpenLog {
         ensures added { IfOk result (λ added. IsTrue added → AddsToxic self.old self.new) }
         ensures other { IfOk result (λ added. IsFalse added
             → (self.new.chain ≡ self.old.chain) × (self.old.lines.long ≡ false)) }
-        ensures takes { (line : List ℕ) (named : OneEntry × List ℕ) → IsLineRead self.old.lines line
-            → PrintsToxic line named
-            → length self.old.chain.entries < lane_count self.old.chain.lanes
+        ensures takes { (named : OneEntry × List ℕ) → IsNextToxic self.old named
             → MatchResult result (λ added. IsTrue added
-            × (self.new.chain.entries ≡ self.old.chain.entries ++ named.0 ∷ [])) IsNoBadLine }
+            × (self.new.chain.entries ≡ self.old.chain.entries ++ named.0 ∷ [])) BlamesNoLine }
         ensures skips { (line : AnyLine) → IsLineRead self.old.lines (line_words line)
-            → IsWritable line → MatchResult result IsFalse IsNoBadLine }
+            → IsWritable line → MatchResult result IsFalse BlamesNoLine }
+        ensures number { OnOk result (self.new.number ≡ self.old.number) }
     {
         let Some(line) = self.lines.line() else {
             return Err(LogFault::BadLine(self.number));
@@ -200,7 +207,11 @@ impl OpenLog {
             (R.remaining reader.old) (R.remaining reader.new)) }
         ensures kept { (self.new.waits ≡ self.old.waits) × SameHeading self.old self.new
             × (self.new.chain ≡ self.old.chain) }
-        ensures fault { IfErr result IsNoBadLine }
+        ensures counts { IfOk result (λ came. IsTrue came
+            → CountsOn self.old.number self.new.number) }
+        ensures stands { IfOk result (λ came. IsFalse came
+            → self.new.number ≡ self.old.number) }
+        ensures fault { IfErr result BlamesNoLine }
     {
         if !self.lines.advance(reader)? {
             return Ok(false);
@@ -213,7 +224,7 @@ impl OpenLog {
     fn line_in_order(&mut self) -> Option<LogLine>
         ensures kept { OnSome result ((self.new.lines ≡ self.old.lines)
             × (self.new.waits ≡ self.old.waits) × (self.new.heading ≡ self.old.heading)
-            × (self.new.chain ≡ self.old.chain)) }
+            × (self.new.chain ≡ self.old.chain) × (self.new.number ≡ self.old.number)) }
         ensures reads { IfSome result (λ line. IsLineRead self.old.lines (line_words line)
             × IsWritable line) }
         ensures order { IfSome result (λ line. (self.old.over ≡ false)
@@ -307,8 +318,8 @@ fn read_heading<R: Source>(
     ensures reads { (log : WrittenLog) (more : List ℕ) → IsWritableLog log
         → to_take lines.old (R.remaining reader.old)
         ≡ Some (heading_lines log.name log.number log.stream log.chain.lanes log.seed ++ more)
-        → MatchResult result (λ heading. IsHeadingOf heading log
-        × (to_take lines.new (R.remaining reader.new) ≡ Some more)) IsNoBadLine }
+        → MatchResult result (ReadsHeading log more (to_take lines.new (R.remaining reader.new)))
+        BlamesNoLine }
 {
     read_title(lines, reader)?;
     let (proxy, number, stream) = read_link_line(alloc, lines, reader)?;
@@ -331,7 +342,7 @@ fn read_title<R: Source>(lines: &mut LineReader, reader: &mut R) -> Result<(), L
     ensures reads { (more : List ℕ)
         → to_take lines.old (R.remaining reader.old) ≡ Some (title_line ++ more)
         → MatchResult result (λ _. to_take lines.new (R.remaining reader.new) ≡ Some more)
-        IsNoBadLine }
+        BlamesNoLine }
 {
     if !lines.advance(reader)? {
         return Err(LogFault::BadLine(1));
@@ -357,9 +368,8 @@ fn read_link_line<R: Source>(
     ensures reads { (log : WrittenLog) (more : List ℕ) → IsWritableLog log
         → to_take lines.old (R.remaining reader.old)
         ≡ Some (link_line log.name log.number log.stream ++ more)
-        → MatchResult result (λ link. (string_bytes link.0 ≡ log.name) × (link.1 ≡ log.number)
-        × (link.2 ≡ log.stream) × (to_take lines.new (R.remaining reader.new) ≡ Some more))
-        IsNoBadLine }
+        → MatchResult result (ReadsLinkLine log more (to_take lines.new (R.remaining reader.new)))
+        BlamesNoLine }
 {
     if !lines.advance(reader)? {
         return Err(LogFault::BadLine(2));
@@ -385,8 +395,8 @@ fn read_seed_line<R: Source>(
     ensures reads { (log : WrittenLog) (more : List ℕ) → IsWritableLog log
         → to_take lines.old (R.remaining reader.old)
         ≡ Some (seed_line log.chain.lanes log.seed ++ more)
-        → MatchResult result (λ read. (read.0 ≡ log.chain.lanes) × (read.1 ≡ log.seed)
-        × (to_take lines.new (R.remaining reader.new) ≡ Some more)) IsNoBadLine }
+        → MatchResult result (ReadsSeedLine log more (to_take lines.new (R.remaining reader.new)))
+        BlamesNoLine }
 {
     if !lines.advance(reader)? {
         return Err(LogFault::BadLine(3));

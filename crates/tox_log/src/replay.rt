@@ -1,19 +1,22 @@
 //! What a log says, judged: whether the plan of its header means it, and how late its writes were.
-ghost use Rattle.std.specs.Prelude.{◌≡◌, ◌≢◌, ℕ, List, [], ◌∷◌, false, IfErr, IfOk, MatchOption, OnOk};
+ghost use Rattle.std.specs.Prelude.{◌≡◌, ◌≢◌, ℕ, List, [], ◌∷◌, true, false, IfErr, IfOk, MatchOption, OnOk};
 ghost use Rattle.tox_log.specs.Lateness.{ending_late};
 ghost use Rattle.tox_compile.specs.Meaning.{means};
 ghost use Rattle.tox_log.specs.Hearing.{BeginsJudging, HearsLine, HearsToEnd, IsFaithfulText, IsRefusedText, IsUnfinishedText};
 ghost use Rattle.tox_time.specs.declared.streams.ending.Ending.{Ending as OneEnding};
-ghost use Rattle.tox_log.specs.Judging.{KeepsUp};
-ghost use Rattle.tox_log.specs.Left.{AcceptsNext, ComesWith, HasLinesLeft, IsHeardTo, IsNoBadLine};
-ghost use Rattle.tox_log.specs.LinkLog.{IsLinkLog};
+ghost use Rattle.tox_log.specs.Judging.{Judged, KeepsUp};
+ghost use Rattle.tox_log.specs.Left.{AcceptsNext, BlamesNoLine, ComesWith, FindsRoom, HasLinesLeft, IsHeardTo, IsNoBadLine, IsNotTooDeep, JudgesWith};
+ghost use Rattle.tox_log.specs.LinkLog.{IsLinkLog, events_in};
 ghost use Rattle.tox_log.specs.WrittenLog.{IsWrittenText, WrittenLog};
 ghost use Rattle.tox_time.specs.streams.StreamPosition.{first_position};
 ghost use Rattle.tox_log.specs.declared.event_line.LogLine.{LogLine as AnyLine};
 ghost use Rattle.tox_log.specs.declared.replay.Verdict.TheVariants as TheVerdict;
 ghost use Rattle.tox_log.specs.declared.event_line.LogLine.TheVariants as OneLine;
 ghost use Rattle.tox_log.specs.declared.last_line.LastLine.TheVariants as TheLast;
+ghost use Rattle.tox_link.specs.declared.notes.LinkEvent.{LinkEvent as AnyEvent};
 ghost use Rattle.tox_link.specs.declared.notes.LinkEvent.TheVariants as OneEvent;
+ghost use Rattle.tox_link.specs.log.Log.{IsShallowBehind};
+ghost use Rattle.tox_time.specs.declared.streams.item.Item.{Item as OneItem};
 
 use crate::event_line::LogLine;
 use crate::fault::{LogFault, ReplayFault};
@@ -83,12 +86,14 @@ pub fn judge_log<R: Source>(alloc: Global, reader: &mut R) -> Result<JudgedLog, 
         → IsUnfinishedText (R.remaining reader.old) judged) }
     ensures refused { IfOk result (λ judged. (number : ℕ)
         → judged.verdict ≡ TheVerdict.Unfaithful number
-        → IsRefusedText (R.remaining reader.old) judged) }
+        → IsRefusedText (R.remaining reader.old) judged number) }
     ensures reads { (written : WrittenLog) → IsWrittenText (R.remaining reader.old) written
         → IfErr result IsNoBadLine }
     ensures keeps { (written : WrittenLog) → IsWrittenText (R.remaining reader.old) written
         → IsLinkLog written → IfOk result (λ judged. (number : ℕ)
         → judged.verdict ≢ TheVerdict.Unfaithful number) }
+    ensures finds_room { (written : WrittenLog) → IsWrittenText (R.remaining reader.old) written
+        → IsShallowBehind [] (events_in written.lines) → IfErr result IsNotTooDeep }
 {
     let mut log = OpenLog::new(alloc, reader)?;
     let mut hearing = begin(alloc, &log)?;
@@ -137,7 +142,9 @@ fn begin(alloc: Global, log: &OpenLog) -> Result<Hearing, LogFault>
     ensures held { IfOk result (λ hearing. KeepsUp hearing.judge) }
     ensures begins { IfOk result (BeginsJudging log.now.heading log.now.chain) }
     ensures start { IfOk result (λ hearing. IsHeardTo hearing.judge first_position) }
-    ensures fault { IfErr result IsNoBadLine }
+    ensures judged { IfOk result (λ hearing. (means : List OneItem → List OneItem)
+        × Judged means (λ reading. true) hearing.judge []) }
+    ensures fault { IfErr result BlamesNoLine }
 {
     let words = log.words(alloc)?;
     let plan = compile(log.chain(), &words);
@@ -165,6 +172,10 @@ fn hear_lines<R: Source>(
     ensures reads { (lines : List AnyLine)
         → HasLinesLeft log.old (R.remaining reader.old) lines
         → IsHeardTo hearing.old.judge log.old.heard → IfErr result IsNoBadLine }
+    ensures finds_room { (means : List OneItem → List OneItem) (events : List AnyEvent)
+        (lines : List AnyLine) → Judged means (λ reading. true) hearing.old.judge events
+        → HasLinesLeft log.old (R.remaining reader.old) lines
+        → IsShallowBehind events (events_in lines) → IfErr result IsNotTooDeep }
 {
     'lines: for _ in 0..u64::MAX {
         let Some(line) = log.next_line(reader)? else {
@@ -189,9 +200,11 @@ fn hear_line(
     requires held { KeepsUp hearing.old.judge }
     requires going { hearing.old.verdict ≡ TheVerdict.Unfinished }
     ensures held { KeepsUp hearing.new.judge }
-    ensures hears { OnOk result (HearsLine hearing.old line.now hearing.new) }
+    ensures hears { OnOk result (HearsLine hearing.old line.now number hearing.new) }
     ensures reads { AcceptsNext hearing.old line.now result }
     ensures follows { OnOk result (ComesWith hearing.old line.now hearing.new) }
+    ensures finds_room { FindsRoom hearing.old line.now result }
+    ensures judges { OnOk result (JudgesWith hearing.old line.now hearing.new) }
 {
     match line {
         LogLine::Event(LinkEvent::Piece(len, instant)) => {
@@ -221,10 +234,14 @@ fn hear_piece(
     requires going { hearing.old.verdict ≡ TheVerdict.Unfinished }
     ensures held { KeepsUp hearing.new.judge }
     ensures hears { OnOk result (HearsLine hearing.old
-        (OneLine.Event (OneEvent.Piece len instant.now)) hearing.new) }
+        (OneLine.Event (OneEvent.Piece len instant.now)) number hearing.new) }
     ensures reads { AcceptsNext hearing.old
         (OneLine.Event (OneEvent.Piece len instant.now)) result }
     ensures follows { OnOk result (ComesWith hearing.old
+        (OneLine.Event (OneEvent.Piece len instant.now)) hearing.new) }
+    ensures finds_room { FindsRoom hearing.old
+        (OneLine.Event (OneEvent.Piece len instant.now)) result }
+    ensures judges { OnOk result (JudgesWith hearing.old
         (OneLine.Event (OneEvent.Piece len instant.now)) hearing.new) }
 {
     if !takes_piece(&hearing.judge, len, instant) {
@@ -241,10 +258,13 @@ fn hear_source_end(hearing: &mut Hearing, instant: &Micros, number: u64) -> Resu
     requires going { hearing.old.verdict ≡ TheVerdict.Unfinished }
     ensures held { KeepsUp hearing.new.judge }
     ensures hears { OnOk result (HearsLine hearing.old
-        (OneLine.Event (OneEvent.SourceEnd instant.now)) hearing.new) }
+        (OneLine.Event (OneEvent.SourceEnd instant.now)) number hearing.new) }
     ensures reads { AcceptsNext hearing.old
         (OneLine.Event (OneEvent.SourceEnd instant.now)) result }
     ensures follows { OnOk result (ComesWith hearing.old
+        (OneLine.Event (OneEvent.SourceEnd instant.now)) hearing.new) }
+    ensures fault { IfErr result IsNotTooDeep }
+    ensures judges { OnOk result (JudgesWith hearing.old
         (OneLine.Event (OneEvent.SourceEnd instant.now)) hearing.new) }
 {
     if hearing.judge.ended || !takes_at(&hearing.judge, instant) {
@@ -265,10 +285,13 @@ fn hear_wrote(
     requires going { hearing.old.verdict ≡ TheVerdict.Unfinished }
     ensures held { KeepsUp hearing.new.judge }
     ensures hears { OnOk result (HearsLine hearing.old
-        (OneLine.Event (OneEvent.Wrote slice.now reading.now)) hearing.new) }
+        (OneLine.Event (OneEvent.Wrote slice.now reading.now)) number hearing.new) }
     ensures reads { AcceptsNext hearing.old
         (OneLine.Event (OneEvent.Wrote slice.now reading.now)) result }
     ensures follows { OnOk result (ComesWith hearing.old
+        (OneLine.Event (OneEvent.Wrote slice.now reading.now)) hearing.new) }
+    ensures fault { IfErr result IsNotTooDeep }
+    ensures judges { OnOk result (JudgesWith hearing.old
         (OneLine.Event (OneEvent.Wrote slice.now reading.now)) hearing.new) }
 {
     if !takes_at(&hearing.judge, reading) {
@@ -295,9 +318,10 @@ fn hear_ending(
     requires going { hearing.old.verdict ≡ TheVerdict.Unfinished }
     ensures held { KeepsUp hearing.new.judge }
     ensures hears { OnOk result (HearsLine hearing.old
-        (OneLine.Last (TheLast.Ended reading.now ending.now)) hearing.new) }
+        (OneLine.Last (TheLast.Ended reading.now ending.now)) number hearing.new) }
     ensures reads { AcceptsNext hearing.old
         (OneLine.Last (TheLast.Ended reading.now ending.now)) result }
+    ensures fault { IfErr result IsNotTooDeep }
     ensures over { OnOk result (hearing.new.verdict ≢ TheVerdict.Unfinished) }
 {
     if !takes_at(&hearing.judge, reading) {

@@ -12,9 +12,9 @@ use Rattle.tox_time.proofs.Numbers.{ascii_digits}
 use Rattle.tox_time.specs.declared.streams.stream.Stream.{Stream}
 use Rattle.tox_time.specs.declared.streams.stream.Stream.TheVariants.{Upstream, Downstream}
 use Rattle.tox_time.specs.streams.StreamName.{stream_name}
-use Rattle.tox_log_files.specs.FileName.{is_plain, suits_file, proxy_part, stream_part, log_name, is_file_byte, names_file}
+use Rattle.tox_log_files.specs.FileName.{is_plain_byte, suits_file, proxy_part, stream_part, log_name, is_file_byte, names_file}
 
-plain_byte : (byte : ℕ) → is_plain byte ≡ true → is_file_byte byte ≡ true
+plain_byte : (byte : ℕ) → is_plain_byte byte ≡ true → is_file_byte byte ≡ true
 plain_byte byte plain = grind (arith, nat_tests, plain)
 
 digit_byte : (byte : ℕ) → is_ascii_digit byte ≡ true → is_file_byte byte ≡ true
@@ -40,8 +40,8 @@ names-part : (name : List ℕ) (place : ℕ) → place < 2 ^ 64 → names_file (
 names-part name place fits = by_test (suits_file name) refl
   where
     by_test : (b : Bool) → suits_file name ≡ b → names_file (if b then name else codes "@" ++ decimal place) ≡ true
-    by_test true suits = all_weaker is_plain is_file_byte plain_byte name
-        (and_parts (not (length name == 0) && nat_le (length name) 64) (list_all is_plain name) suits).1
+    by_test true suits = all_weaker is_plain_byte is_file_byte plain_byte name
+        (and_parts (not (length name == 0) && nat_le (length name) 64) (list_all is_plain_byte name) suits).1
     by_test false suits = names-append (codes "@") (decimal place) refl (names-decimal place fits)
 
 -- what is made of parts that may stand there
@@ -63,7 +63,7 @@ names-apart (byte ∷ text) b place other number count one two suits placed same
     let first = λ (test : Bool). get_or ((if test then name else codes "@" ++ decimal place) ++ stream_part number one) 0 0 in
     let other_first = λ (test : Bool). get_or ((if test then b else codes "@" ++ decimal other) ++ stream_part count two) 0 0 in
     let here : byte ≡ 64 = sym (ap first suits) ∙ ap (λ bytes. get_or bytes 0 0) same ∙ ap other_first placed in
-    let all = (and_parts (not (length name == 0) && nat_le (length name) 64) (list_all is_plain name) suits).1 in
-    let plain = (and_parts (is_plain byte) (list_all is_plain text) all).0 in
-    let no : false ≡ true = sym (ap is_plain here) ∙ plain in
+    let all = (and_parts (not (length name == 0) && nat_le (length name) 64) (list_all is_plain_byte name) suits).1 in
+    let plain = (and_parts (is_plain_byte byte) (list_all is_plain_byte text) all).0 in
+    let no : false ≡ true = sym (ap is_plain_byte here) ∙ plain in
     (cc)

@@ -6,12 +6,12 @@ use Rattle.tox_time.specs.declared.streams.stream.Stream.{Stream}
 use Rattle.tox_time.specs.streams.StreamName.{stream_name}
 
 -- whether a byte is an ASCII letter, a digit, `_` or `-`
-abbrev pub is_plain : ℕ → Bool
-is_plain byte = is_ascii_alphanumeric byte || (byte == 95) || (byte == 45)
+abbrev pub is_plain_byte : ℕ → Bool
+is_plain_byte byte = is_ascii_alphanumeric byte || (byte == 95) || (byte == 45)
 
 -- whether a proxy's name may stand in the name of a file: 1 to 64 plain bytes
 abbrev pub suits_file : List ℕ → Bool
-suits_file name = not (length name == 0) && nat_le (length name) 64 && list_all is_plain name
+suits_file name = not (length name == 0) && nat_le (length name) 64 && list_all is_plain_byte name
 
 -- what stands for a proxy in the name of a file: its name, or else its place among all proxies
 abbrev pub proxy_part : List ℕ → ℕ → List ℕ
@@ -27,7 +27,7 @@ log_name name place number stream = proxy_part name place ++ stream_part number 
 
 -- whether a byte may stand in the name of a file
 abbrev pub is_file_byte : ℕ → Bool
-is_file_byte byte = is_plain byte || (byte == 64) || (byte == 46)
+is_file_byte byte = is_plain_byte byte || (byte == 64) || (byte == 46)
 
 -- whether all bytes of a name may stand in it
 abbrev pub names_file : List ℕ → Bool

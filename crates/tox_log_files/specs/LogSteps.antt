@@ -25,15 +25,15 @@ abbrev pub Adds : ℕ → List ℕ → List ℕ → List ℕ → LogState → Lo
 Adds room old text new next state = Keeps room old text new next state ⊎ ((new ≡ old) × (state ≡ Cut))
 
 -- whether a log is cut
-abbrev pub is_cut : LogState → Bool
-is_cut Goes = false
-is_cut Done = false
-is_cut Cut = true
-is_cut Told = false
+abbrev pub is_log_cut : LogState → Bool
+is_log_cut Goes = false
+is_log_cut Done = false
+is_log_cut Cut = true
+is_log_cut Told = false
 
 -- whether a log has something for its writer: lines, or that it was cut
 abbrev pub is_wanted : List ℕ → LogState → Bool
-is_wanted waiting state = not (length waiting == 0) || is_cut state
+is_wanted waiting state = not (length waiting == 0) || is_log_cut state
 
 -- whether a log is told that it has ended: its file failed, or it was cut and its file has all its lines. None is told twice
 abbrev pub tells : List ℕ → LogState → Bool → Bool

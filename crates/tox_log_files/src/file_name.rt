@@ -1,7 +1,7 @@
 //! The names of the files of logs.
 ghost use Rattle.std.specs.Prelude.{◌≡◌, ◌++◌, string_bytes, IfOk};
 ghost use Rattle.std.specs.List.{list_all};
-ghost use Rattle.tox_log_files.specs.FileName.{is_plain, log_name, stream_part, suits_file};
+ghost use Rattle.tox_log_files.specs.FileName.{is_plain_byte, log_name, stream_part, suits_file};
 
 use std::alloc::{AllocError, Global};
 use tox_log::LoggedLink;
@@ -43,13 +43,13 @@ fn suits(name: &str) -> bool
 
 /// Whether a name has ASCII letters, digits, `_` and `-` alone.
 fn are_plain(name: &str) -> bool
-    ensures { result ≡ list_all is_plain name.now }
+    ensures { result ≡ list_all is_plain_byte name.now }
 {
     name.bytes().all(is_plain)
 }
 
 fn is_plain(byte: u8) -> bool
-    ensures { result ≡ is_plain byte }
+    ensures { result ≡ is_plain_byte byte }
 {
     byte.is_ascii_alphanumeric() || byte == b'_' || byte == b'-'
 }

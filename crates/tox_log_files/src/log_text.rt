@@ -2,7 +2,7 @@
 ghost use Rattle.std.specs.Prelude.{◌≡◌, ◌≢◌, ℕ, ◌+◌, ◌-◌, ◌*◌, ◌<◌, ◌≤◌, ◌^◌, ◌&&◌, ◌||◌, List, [], ◌++◌, IsTrue, false, length, not, if◌then◌else◌};
 ghost use Rattle.tox_log_files.specs.WholeLines.{AreLines};
 ghost use Rattle.tox_log_files.specs.EntryText.{entry_text};
-ghost use Rattle.tox_log_files.specs.LogSteps.{Adds, IsShareOf, IsLogOf, is_wanted, state_behind, tells};
+ghost use Rattle.tox_log_files.specs.LogSteps.{Adds, IsShareOf, is_wanted, state_behind, tells};
 
 use crate::entry::Entry;
 use crate::entry_text::{print_entry, state_behind};
@@ -131,6 +131,8 @@ impl Drop for LogText {
 }
 
 impl LogText {
+    ghost use Rattle.tox_log_files.specs.LogOf.{HasLogOf};
+
     /// A log without lines, of at most so many bytes.
     pub(crate) fn new(alloc: Global, most: u64) -> LogText
         ensures empty { result.waiting ≡ ([], false) }
@@ -158,10 +160,8 @@ impl LogText {
 
     /// Adds an entry, unless the log has ended. Lines that may not wait end it. True if its writer must be called.
     pub(crate) fn add<R: Wait>(&mut self, rt: &R, all: &WaitingBytes, entry: &Entry<'_>) -> bool
-        ensures log { (taken told : List ℕ) → length taken ≡ self.old.taken
-            → IsLogOf self.old.most told (taken ++ self.old.waiting.0) self.old.state
-            → IsLogOf self.new.most (told ++ entry_text entry.now) (taken ++ self.new.waiting.0)
-            self.new.state }
+        ensures log { (taken told : List ℕ) → HasLogOf self.old taken told
+            → HasLogOf self.new taken (told ++ entry_text entry.now) }
         ensures adds { self.old.state ≡ LogState.Goes
             → Adds (self.old.most - (self.old.taken + length self.old.waiting.0)) self.old.waiting.0
             (entry_text entry.now) self.new.waiting.0 (state_behind entry.now) self.new.state }
@@ -253,7 +253,8 @@ impl LogText {
             then LogState.Told else self.old.state) }
         ensures waits { self.new.waiting.0 ≡ (if failed then [] else self.old.waiting.0) }
         ensures kept { (self.new.taken ≡ self.old.taken) × (self.new.most ≡ self.old.most) }
-        ensures share { self.new.share.bytes + back.new.bytes ≡ self.old.share.bytes + back.old.bytes }
+        ensures share { self.new.share.bytes + back.new.bytes
+            ≡ self.old.share.bytes + back.old.bytes }
     {
         self.lines = self.lines.saturating_add(lines);
         if failed {

@@ -2,7 +2,7 @@
 use Rattle.std.proofs.Common.{◌≡◌, ℕ, Bool, List, Option, None, refl, not, ◌&&◌, ◌||◌}
 use Rattle.tox_links.specs.declared.link.course.Course.{Course}
 use Rattle.tox_workers.specs.Begun.{BeginsCourse, IsNewDirection}
-use Rattle.tox_workers.specs.Reports.{GoesOnWith, HasSourceAfter, HasTargetAfter, IsNotedSo, drives_source, drives_target, reported_sink, reported_source}
+use Rattle.tox_workers.specs.Reports.{GoesOnWithEnds, HasSourceAfter, HasTargetAfter, IsNotedSo, drives_source, drives_target, reported_sink, reported_source}
 use Rattle.tox_workers.specs.declared.flow.Flow.{Flow}
 use Rattle.tox_workers.specs.declared.open_direction.DirectionState.{DirectionState}
 use Rattle.tox_workers.specs.declared.open_direction.DirectionState.TheVariants.{Going}
@@ -16,16 +16,16 @@ module _ {R : Type 0} where
       record { flow = flow; going = going; idle = idle; begins = begins }
 
   pub noted_so : (notes : Option (List ℕ)) (old after : Flow R) (state : DirectionState R) → state ≡ Going old
-      → GoesOnWith old old.source old.sink notes (Going after) → IsNotedSo notes state (Going after)
+      → GoesOnWithEnds old old.source old.sink notes (Going after) → IsNotedSo notes state (Going after)
   noted_so notes old after state is goes = rw is goes
 
   pub source_after : (event : SocketEvent) (old after : Flow R) (state : DirectionState R) → state ≡ Going old
-      → GoesOnWith old (reported_source event old.source) old.sink old.notes (Going after)
+      → GoesOnWithEnds old (reported_source event old.source) old.sink old.notes (Going after)
       → HasSourceAfter event state (Going after) × (event.readable ≡ drives_source event state)
   source_after event old after state is goes = rw is (goes, refl)
 
   pub target_after : (event : SocketEvent) (old after : Flow R) (state : DirectionState R) (answer : Bool) → state ≡ Going old
-      → GoesOnWith old old.source (reported_sink event old.sink) old.notes (Going after)
+      → GoesOnWithEnds old old.source (reported_sink event old.sink) old.notes (Going after)
       → answer ≡ (event.writable && (not old.sink.writable || event.gone))
       → HasTargetAfter event state (Going after) × (answer ≡ drives_target event state)
   target_after event old after state answer is goes drives = rw is (goes, drives)

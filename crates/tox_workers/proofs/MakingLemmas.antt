@@ -5,14 +5,14 @@ use Rattle.tox_links.specs.declared.run.ServeRun.{ServeRun}
 use Rattle.tox_links.specs.link.Courses.{IsCourse}
 use Rattle.tox_time.specs.declared.streams.stream.Stream.{Stream}
 use Rattle.tox_workers.specs.Begun.{BeginsCourse, HasCourse, IsNewDirection}
-use Rattle.tox_workers.specs.Reports.{GoesOnWith, IsNotedSo}
+use Rattle.tox_workers.specs.Reports.{GoesOnWithEnds, IsNotedSo}
 use Rattle.tox_workers.specs.declared.flow.Flow.{Flow}
 use Rattle.tox_workers.specs.declared.open_direction.DirectionState.{DirectionState}
 use Rattle.tox_workers.specs.declared.open_direction.OpenDirection.{OpenDirection}
 
 module _ {R : Type 0} where
   begins_noted : (course : Course) (closing : Bool) (old : Flow R) (notes : Option (List ℕ)) (state : DirectionState R)
-      (noted : GoesOnWith old old.source old.sink notes state) → BeginsCourse course closing old → BeginsCourse course closing noted.flow
+      (noted : GoesOnWithEnds old old.source old.sink notes state) → BeginsCourse course closing old → BeginsCourse course closing noted.flow
   begins_noted course closing old notes state noted begins = record {
     its = rw noted.its begins.its;
     source = rw noted.its_source begins.source;
@@ -28,7 +28,7 @@ module _ {R : Type 0} where
   new_noted : (course : Course) (closing : Bool) (old new : OpenDirection R) (notes : Option (List ℕ)) → IsNewDirection course closing old
       → IsNotedSo notes old.state new.state → new.armed ≡ old.armed → IsNewDirection course closing new
   new_noted course closing old new notes is noted armed =
-      let goes : GoesOnWith is.flow is.flow.source is.flow.sink notes new.state = rw is.going at noted in
+      let goes : GoesOnWithEnds is.flow is.flow.source is.flow.sink notes new.state = rw is.going at noted in
       record {
         flow = goes.flow;
         going = goes.going;

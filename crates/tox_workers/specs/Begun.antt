@@ -1,11 +1,8 @@
 -- A direction of a course at which nothing has come, and a link of such directions.
 use Rattle.std.specs.Prelude.{◌≡◌, ℕ, Bool, true, List, None, fold}
-use Rattle.tox_time.specs.declared.streams.item.Item.{Item}
 use Rattle.tox_time.specs.declared.streams.stream.Stream.{Stream}
-use Rattle.tox_time.specs.streams.Stream.{IsStream}
-use Rattle.tox_compile.specs.Meaning.{means}
+use Rattle.tox_link.specs.Meaning.{MeansPlan}
 use Rattle.tox_link.specs.direction.Follows.{IsNew}
-use Rattle.tox_link.specs.link_core.Core.{remaining_output}
 use Rattle.tox_sockets.specs.ResetDue.{after_op}
 use Rattle.tox_links.specs.declared.link.course.Course.{Course}
 use Rattle.tox_links.specs.declared.run.ServeRun.{ServeRun}
@@ -27,8 +24,7 @@ pub record BeginsCourse {R : Type 0} (course : Course) (closing : Bool) (flow : 
   pub closes : flow.source.closing ≡ closing
   pub writable : flow.sink.writable ≡ true
   pub due : flow.sink.due ≡ fold after_op None course.plan.ops
-  pub meaning : (items : List Item) → IsStream items
-      → remaining_output flow.link.value.core items ≡ means course.plan course.words items
+  pub meaning : MeansPlan course.plan course.words flow.link.value.core
   pub fresh : IsNew flow.link.value
 
 -- a direction goes on that begins a course, and no timer is set

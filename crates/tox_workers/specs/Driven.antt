@@ -19,7 +19,7 @@ DroveOn least old new =
     Drove least (λ t. IsInstant t) old (ends_view None None None) new (ends_view None None None)
 
 -- a direction goes on, driven by at least so many steps
-pub record Continues {R : Type 0} (least : ℕ) (old new : Flow R) : Type 0 where
+pub record ContinuesFlow {R : Type 0} (least : ℕ) (old new : Flow R) : Type 0 where
   pub its : new.stream ≡ old.stream
   pub drove : DroveOn least old.link.value new.link.value
 
@@ -46,7 +46,7 @@ pub record HasEndedAs {R : Type 0} (old : Flow R) (carried : Carried) : Type 0 w
 
 -- what a direction does next: it waits for what its step machine waits for, goes on at once, or has ended
 abbrev pub IsDrivenOf : {R : Type 0} → Flow R → Driven R → Type 0
-IsDrivenOf old (Waits flow until) = Continues 0 old flow
+IsDrivenOf old (Waits flow until) = ContinuesFlow 0 old flow
     × WaitsFor (λ t. IsInstant t) flow.link.value flow.source.waits flow.sink.waits flow.sink.due until
-IsDrivenOf old (Again flow) = Continues 32 old flow
+IsDrivenOf old (Again flow) = ContinuesFlow 32 old flow
 IsDrivenOf old (Ended carried) = HasEndedAs old carried

@@ -4,7 +4,7 @@ use Rattle.tox_time.specs.declared.streams.stream.Stream.{Stream}
 use Rattle.tox_time.specs.declared.streams.stream.Stream.TheVariants.{Upstream, Downstream}
 use Rattle.tox_links.specs.declared.link.end.Carried.{Carried}
 use Rattle.tox_links.specs.declared.link.end.LinkEnd.{LinkEnd}
-use Rattle.tox_links.specs.link.LinkEnds.{link_end}
+use Rattle.tox_links.specs.link.LinkEnds.{carried_link_end}
 use Rattle.tox_workers.specs.declared.open_direction.OpenDirection.{OpenDirection}
 use Rattle.tox_workers.specs.declared.open_link.OpenLink.{OpenLink}
 
@@ -23,6 +23,6 @@ pub record IsSameLink {R : Type 0} (old new : OpenLink R) : Type 0 where
 
 -- how a link ended whose directions carried this, once both have ended
 abbrev pub end_of_both : ℕ → Option Carried → Option Carried → Option LinkEnd
-end_of_both number (Some up) (Some down) = Some (link_end number up down)
+end_of_both number (Some up) (Some down) = Some (carried_link_end number up down)
 end_of_both number (Some up) None = None
 end_of_both number None down = None

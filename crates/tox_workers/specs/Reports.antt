@@ -18,7 +18,7 @@ abbrev pub reported_sink : {R : Type 0} → SocketEvent → ReadySink R → Read
 reported_sink event sink = if event.writable then record sink { writable = true } else sink
 
 -- a direction goes on at the same step machine, with these ends and notes
-pub record GoesOnWith {R : Type 0} (old : Flow R) (source : ReadySource) (sink : ReadySink R) (notes : Option (List ℕ)) (state : DirectionState R) : Type 0 where
+pub record GoesOnWithEnds {R : Type 0} (old : Flow R) (source : ReadySource) (sink : ReadySink R) (notes : Option (List ℕ)) (state : DirectionState R) : Type 0 where
   pub flow : Flow R
   pub going : state ≡ Going flow
   pub its : flow.stream ≡ old.stream
@@ -29,13 +29,13 @@ pub record GoesOnWith {R : Type 0} (old : Flow R) (source : ReadySource) (sink :
 
 -- a direction that goes on is noted so
 abbrev pub IsNotedSo : {R : Type 0} → Option (List ℕ) → DirectionState R → DirectionState R → Type 0
-IsNotedSo notes (Going flow) new = GoesOnWith flow flow.source flow.sink notes new
+IsNotedSo notes (Going flow) new = GoesOnWithEnds flow flow.source flow.sink notes new
 IsNotedSo notes (Ended carried) new = new ≡ Ended carried
 IsNotedSo notes Driven new = new ≡ Driven
 
 -- the source of a direction that goes on was reported
 abbrev pub HasSourceAfter : {R : Type 0} → SocketEvent → DirectionState R → DirectionState R → Type 0
-HasSourceAfter event (Going flow) new = GoesOnWith flow (reported_source event flow.source) flow.sink flow.notes new
+HasSourceAfter event (Going flow) new = GoesOnWithEnds flow (reported_source event flow.source) flow.sink flow.notes new
 HasSourceAfter event (Ended carried) new = new ≡ Ended carried
 HasSourceAfter event Driven new = new ≡ Driven
 
@@ -47,7 +47,7 @@ drives_source event Driven = false
 
 -- the target of a direction that goes on was reported
 abbrev pub HasTargetAfter : {R : Type 0} → SocketEvent → DirectionState R → DirectionState R → Type 0
-HasTargetAfter event (Going flow) new = GoesOnWith flow flow.source (reported_sink event flow.sink) flow.notes new
+HasTargetAfter event (Going flow) new = GoesOnWithEnds flow flow.source (reported_sink event flow.sink) flow.notes new
 HasTargetAfter event (Ended carried) new = new ≡ Ended carried
 HasTargetAfter event Driven new = new ≡ Driven
 

@@ -6,10 +6,7 @@ ghost use Rattle.tox_link.specs.direction.Follows.{IsHeld, IsNew};
 ghost use Rattle.tox_link.specs.declared.source_ending.SourceEnding.TheVariants.{ReadFault as AtFault, ReadsUsedUp as AtLastRead};
 ghost use Rattle.std.proofs.Props.{props};
 ghost use Rattle.tox_workers.specs.Ready.{IsHeld-prop};
-ghost use Rattle.tox_time.specs.declared.streams.item.Item.{Item as OneItem};
-ghost use Rattle.tox_time.specs.streams.Stream.{IsStream};
-ghost use Rattle.tox_compile.specs.Meaning.{means};
-ghost use Rattle.tox_link.specs.link_core.Core.{remaining_output};
+ghost use Rattle.tox_link.specs.Meaning.{MeansPlan};
 ghost use Rattle.tox_links.specs.link.LinkEnds.{carried_before, end_before_stop};
 
 use crate::socket_event::SocketEvent;
@@ -141,8 +138,7 @@ impl<'r, R: Clock + Wait> Flow<'r, R> {
 
 /// The step machine of a plan. It keeps its words where the plan draws.
 fn link_of(alloc: Global, plan: Plan, words: Words) -> Option<PolledLink>
-    ensures meaning { IfSome result (λ link. (items : List OneItem) → IsStream items
-        → remaining_output link.core items ≡ means plan words items) }
+    ensures meaning { IfSome result (λ link. MeansPlan plan words link.core) }
     ensures fresh { IfSome result IsNew }
     ensures held { IfSome result IsHeld }
 {

@@ -1,5 +1,6 @@
 -- A window that holds pieces of the heard bytes.
-use Rattle.std.specs.Prelude.{◌≡◌, ℕ, ◌<◌, ◌≤◌, Bool, false, None, List, [], ◌∷◌, ◌++◌, length, take, drop}
+use Rattle.std.specs.Prelude.{◌≡◌, ℕ, ◌<◌, ◌≤◌, Bool, false, Option, None, List, [], ◌∷◌, ◌++◌, length, take, drop}
+use Rattle.std.specs.Io.KnownBytes.{append_known}
 use Rattle.tox_time.specs.declared.streams.span.Span.{Span}
 use Rattle.tox_lend.specs.Run.{Run, stop_of}
 use Rattle.tox_lend.specs.Window.{Pieces, JoinUpTo, start_of}
@@ -11,8 +12,15 @@ AreOf heard [] = Unit {0}
 AreOf heard (piece ∷ pieces) = (piece.bytes ≡ take (length piece.bytes) (drop piece.start heard)) × AreOf heard pieces
 
 -- the window with one more piece
-abbrev pub with_piece : Pieces → Run → Pieces
-with_piece window piece = record window { held = window.held ++ piece ∷ []; stop = stop_of piece }
+abbrev pub with_held_piece : Pieces → Run → Pieces
+with_held_piece window piece = record window { held = window.held ++ piece ∷ []; stop = stop_of piece }
+
+-- writing went on from one position of what came to another, where the pieces of it are these
+abbrev pub WritesFromTo : List Run → ℕ → ℕ → Option (List ℕ) → Option (List ℕ) → Type 0
+WritesFromTo pieces start stop written written_after =
+    (base : Option (List ℕ)) (heard : List ℕ) → AreOf heard pieces
+    → written ≡ append_known base (take start heard)
+    → written_after ≡ append_known base (take stop heard)
 
 -- the window holds each position of the span
 pub record HoldsSpan (window : Pieces) (span : Span) : Type 0 where

@@ -1,5 +1,6 @@
 -- The writer's side of a link, and what holds of it between two steps.
-use Rattle.std.specs.Prelude.{◌≡◌, ℕ, ◌≤◌, false, true, List, [], ◌∷◌, ◌++◌, length, Some, None}
+use Rattle.std.specs.Prelude.{◌≡◌, ℕ, ◌≤◌, false, true, List, [], ◌∷◌, ◌++◌, length, take, Option, Some, None}
+use Rattle.std.specs.Io.KnownBytes.{append_known}
 use Rattle.rtrb.specs.Ring.{received}
 use Rattle.tox_time.specs.declared.streams.slice.Slice.{Slice}
 use Rattle.tox_lend.specs.Window.{JoinUpTo, start_of}
@@ -8,7 +9,7 @@ use Rattle.tox_link.specs.declared.ring.message.Message.TheVariants.{End}
 use Rattle.tox_link.specs.declared.ring.message.ReadEnd.{ReadEnd}
 use Rattle.tox_link.specs.declared.source_ending.SourceEnding.TheVariants.{NotReached}
 use Rattle.tox_link.specs.declared.carrying.writer_side.WriterSide.{WriterSide}
-use Rattle.tox_link.specs.link_core.Core.{CoreView, TakesSlice, KeepsCore, core_ending, core_position}
+use Rattle.tox_link.specs.link_core.Core.{CoreView, TakesSlice, KeepsCore, core_ending, core_position, kept_lens, kept_start}
 use Rattle.tox_link.specs.carrying.Held.{AreOf}
 use Rattle.tox_link.specs.ring.Messages.{bytes_of, has_end, Allows}
 use Rattle.tox_link.specs.Sources.{read_end_of}
@@ -17,11 +18,18 @@ use Rattle.tox_link.specs.Sources.{read_end_of}
 abbrev pub came : WriterSide → List ℕ
 came side = bytes_of (received side.inbox.receiver)
 
+-- what was written of what came is a front of it before a step and after it
+abbrev pub WritesFront : WriterSide → WriterSide → Option (List ℕ) → Option (List ℕ) → Type 0
+WritesFront old new written written_after =
+    (base : Option (List ℕ)) → written ≡ append_known base (take old.written (came old))
+    → written_after ≡ append_known base (take new.written (came new))
+
 -- nothing came yet
 pub record IsFresh (side : WriterSide) : Type 0 where
   pub position : core_position side.core ≡ 0
   pub bytes : side.core.bytes ≡ 0
   pub latest : side.core.latest ≡ 0
+  pub none_kept : (kept_lens side.core ≡ []) × (kept_start side.core ≡ 0)
   pub going : side.core.ended ≡ false
   pub held : side.window.held ≡ []
   pub stop : side.window.stop ≡ 0

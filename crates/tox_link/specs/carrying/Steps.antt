@@ -37,7 +37,7 @@ pub record NotesAll (told : ℕ → Type 0) (before after : Option (List LinkEve
   pub logs : LogsFrom told old log new
 
 -- a step of a link broke off by this fault and noted nothing
-pub record StopsAt (told : ℕ → Type 0) (before after : Option (List LinkEvent)) (old new : WriterSide) (writer_failed : Bool) (fault : LinkFault) : Type 0 where
+pub record StopsUnnoted (told : ℕ → Type 0) (before after : Option (List LinkEvent)) (old new : WriterSide) (writer_failed : Bool) (fault : LinkFault) : Type 0 where
   pub at : IsFaultAt new.written writer_failed fault
   pub cuts : CutsOff told old new.written
   pub reads : ReadsOn told old.core.latest new.core.latest

@@ -11,7 +11,7 @@ use Rattle.tox_link.specs.declared.notes.LinkEvent.TheVariants.{Wrote}
 use Rattle.tox_link.specs.declared.source_ending.SourceEnding.{SourceEnding}
 use Rattle.tox_link.specs.declared.source_ending.SourceEnding.TheVariants.{NotReached}
 use Rattle.tox_link.specs.log.Carried.{Carried}
-use Rattle.tox_link.specs.link_core.Core.{core_ending, core_position}
+use Rattle.tox_link.specs.link_core.Core.{core_ending, core_position, kept_lens, kept_start}
 use Rattle.tox_link.specs.link_core.NewCore.{room_of}
 use Rattle.tox_link.specs.carrying.Held.{AreOf}
 use Rattle.tox_link.specs.log.Log.{has_source_end, IsFaithful}
@@ -45,6 +45,7 @@ pub record IsNew (link : PolledLink) : Type 0 where
   pub position : core_position link.core ≡ 0
   pub bytes : link.core.bytes ≡ 0
   pub latest : link.core.latest ≡ 0
+  pub none_kept : (kept_lens link.core ≡ []) × (kept_start link.core ≡ 0)
   pub going : link.core.ended ≡ false
   pub held : link.window.held ≡ []
   pub stop : link.window.stop ≡ 0

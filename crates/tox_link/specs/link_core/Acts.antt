@@ -10,7 +10,7 @@ use Rattle.tox_plan.specs.RunnerView.{answer_of}
 use Rattle.tox_plan.specs.Unended.{IsUnended}
 use Rattle.tox_link.specs.declared.link_core.act.Act.{Act}
 use Rattle.tox_link.specs.declared.link_core.act.Act.TheVariants.{Write, WaitUntil, WaitForInput, End}
-use Rattle.tox_link.specs.link_core.Core.{CoreView, TakesSlice, LeavesOutput, KeepsCore, remaining_output, next_instant, core_ending, core_deadline, core_position, kept_count}
+use Rattle.tox_link.specs.link_core.Core.{CoreView, TakesSlice, LeavesOutput, KeepsCore, GivesUp, remaining_output, next_instant, core_ending, core_deadline, core_position, kept_count}
 
 -- until the deadline, or without one for input
 abbrev pub wait_act : Option ℕ → Act
@@ -53,6 +53,8 @@ pub record Answered (old new : CoreView) (now : ℕ) (act : Act) : Type 0 where
   pub unended : next_instant (remaining_output old (Quiet ∷ [])) ≡ None → core_ending new ≡ None → IsUnended (remaining_output new) now
   pub output : After old now act new
   pub kept : KeepsCore old new
+  pub given_up : core_ending new ≡ None → GivesUp old new
+  pub holds : (t : ℕ) → next_instant (remaining_output old (Quiet ∷ [])) ≡ Some t → now < t → core_position new < new.runner.piece.span.stop
   pub latest : new.latest ≡ now
 
 -- what a core at rest says at `now`, by what is next: a slice, the deadline or the ending

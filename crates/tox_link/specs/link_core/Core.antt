@@ -1,5 +1,6 @@
 -- A link core as a value, and its remaining output.
-use Rattle.std.specs.Prelude.{◌≡◌, ℕ, ◌+◌, ◌≤◌, Bool, true, if◌then◌else◌, List, [], ◌∷◌, ◌++◌, length, replicate, slice_get, Option, Some, None, IsSome}
+use Rattle.std.specs.Prelude.{◌≡◌, ℕ, ◌+◌, ◌≤◌, Bool, true, if◌then◌else◌, List, [], ◌∷◌, ◌++◌, length, map, replicate, slice_get, Option, Some, None, IsSome}
+use Rattle.std.specs.List.{sum}
 use Rattle.tox_time.specs.declared.streams.slice.Slice.{Slice}
 use Rattle.tox_time.specs.declared.streams.item.Item.{Item}
 use Rattle.tox_time.specs.declared.streams.item.Item.TheVariants.{Chunk, Closed, Quiet}
@@ -34,6 +35,13 @@ pub record CoreView : Type 0 where
 abbrev pub kept_count : CoreView → ℕ
 kept_count core = length core.waiting + (if core.runner.idle then 0 else 1)
 
+-- the lengths of the kept pieces, and where the first of them starts
+abbrev pub kept_lens : CoreView → List ℕ
+kept_lens core = (if core.runner.idle then [] else span_len core.runner.piece.span ∷ []) ++ map (λ piece. piece.len) core.waiting
+
+abbrev pub kept_start : CoreView → ℕ
+kept_start core = if core.runner.idle then core.runner.piece.span.stop else core.runner.piece.span.start
+
 -- the waiting pieces as chunks from a position on, then these items
 abbrev pub arrivals_from : ℕ → List WaitingPiece → List Item → List Item
 arrivals_from start [] items = items
@@ -60,12 +68,12 @@ abbrev pub core_ending : CoreView → Option Ending
 core_ending core = ending_behind core.waiting (known_ending core.runner)
 
 -- where the next slice starts
-abbrev pub start_of : Option Slice → ℕ → ℕ
-start_of None position = position
-start_of (Some slice) position = slice.span.start
+abbrev pub next_start : Option Slice → ℕ → ℕ
+next_start None position = position
+next_start (Some slice) position = slice.span.start
 
 abbrev pub core_position : CoreView → ℕ
-core_position core = start_of core.found core.runner.position
+core_position core = next_start core.found core.runner.position
 
 -- the plan's deadline
 abbrev pub core_deadline : CoreView → Option ℕ
@@ -90,6 +98,13 @@ pub record LeavesOutput (old new : CoreView) (now : ℕ) : Type 0 where
   pub output : (position since : ℕ) (items : List Item) → now ≤ since → IsStreamFrom position since items → SameResult (remaining_output new items) (remaining_output old items)
   pub position : core_position new ≡ core_position old
 
+-- only the first kept pieces are given up, and of those no byte is still to be given
+pub record GivesUp (old new : CoreView) : Type 0 where
+  pub first : List ℕ
+  pub lens : kept_lens old ≡ first ++ kept_lens new
+  pub start : kept_start old + sum first ≡ kept_start new
+  pub before : kept_start old ≤ core_position old → kept_start new ≤ core_position new
+
 -- only the front of the waiting pieces is dropped, and no piece that waits is added
 pub record KeepsCore (old new : CoreView) : Type 0 where
   pub drawing : new.runner.drawing ≡ old.runner.drawing
@@ -113,6 +128,8 @@ pub record Looked (old new : CoreView) : Type 0 where
   pub waiting : (dropped : List WaitingPiece) × (old.waiting ≡ dropped ++ new.waiting)
   pub count : kept_count new ≤ kept_count old
   pub finished : new.runner.finished ≡ old.runner.finished
+  pub unknown : known_ending new.runner ≡ None → known_ending old.runner ≡ None
+  pub given_up : known_ending new.runner ≡ None → GivesUp old new
 
 -- where no slice is found, the runner is idle and has none
 pub record IsDrained (core : CoreView) : Type 0 where
@@ -130,6 +147,7 @@ pub record Settled (old new : CoreView) (now : ℕ) : Type 0 where
   pub leaves : LeavesOutput old new now
   pub emptied : IsEmptied new
   pub drawing : new.runner.drawing ≡ old.runner.drawing
+  pub piece : new.runner.piece ≡ old.runner.piece
   pub ops : ops_of new.runner.cursors ≡ ops_of old.runner.cursors
   pub ended : new.ended ≡ old.ended
   pub bytes : new.bytes ≡ old.bytes
@@ -146,6 +164,7 @@ pub record HandsOnEnd (old new : CoreView) : Type 0 where
   pub emptied : IsEmptied new
   pub end : new.end ≡ None
   pub drawing : new.runner.drawing ≡ old.runner.drawing
+  pub piece : new.runner.piece ≡ old.runner.piece
   pub ops : ops_of new.runner.cursors ≡ ops_of old.runner.cursors
   pub ended : new.ended ≡ old.ended
   pub bytes : new.bytes ≡ old.bytes

@@ -5,7 +5,7 @@ use Rattle.tox_time.specs.declared.streams.item.Item.{Item}
 use Rattle.tox_time.specs.declared.streams.item.Item.TheVariants.{Quiet}
 use Rattle.tox_time.specs.declared.streams.ending.Ending.{Ending}
 use Rattle.tox_time.specs.streams.Table.{final_of}
-use Rattle.tox_plan.specs.RunnerView.{RunnerView, to_come}
+use Rattle.tox_plan.specs.RunnerView.{RunnerView, known_ending, to_come}
 use Rattle.tox_plan.specs.Cuts.{IsWithin, BeginsApart}
 use Rattle.tox_link.specs.declared.link_core.waiting.WaitingPiece.{WaitingPiece}
 use Rattle.tox_link.specs.link_core.Core.{CoreView, kept_count}
@@ -20,9 +20,10 @@ abbrev pub AreTimely : ℕ → List WaitingPiece → ℕ → Type 0
 AreTimely since [] until = since ≤ until
 AreTimely since (piece ∷ pieces) until = (since ≤ piece.instant) × (0 < piece.len) × AreTimely piece.instant pieces until
 
--- whatever comes, this runner gives an ending alone
+-- the runner knows its ending, and whatever comes, it gives that alone
 pub record IsOver (runner : RunnerView) : Type 0 where
   pub last : Ending
+  pub known : known_ending runner ≡ Some last
   pub only : (items : List Item) → to_come runner items ≡ final_of last ∷ []
 
 -- the source's last instant: its end, if it is kept

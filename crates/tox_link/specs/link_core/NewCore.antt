@@ -6,7 +6,7 @@ use Rattle.tox_defs.specs.declared.operations.op.Op.{Op}
 use Rattle.tox_compile.specs.Meaning.{Ops, means}
 use Rattle.tox_plan.specs.OpCursors.{ops_of}
 use Rattle.tox_plan.specs.RunnerView.{RunnerView}
-use Rattle.tox_link.specs.link_core.Core.{CoreView, core_position, remaining_output}
+use Rattle.tox_link.specs.link_core.Core.{CoreView, core_position, kept_lens, kept_start, remaining_output}
 
 -- the core of a runner that was offered nothing
 abbrev pub core_of : RunnerView → CoreView
@@ -26,6 +26,7 @@ pub record Begins (plan : Ops) (words : List ℕ) (core : CoreView) : Type 0 whe
   pub meaning : (items : List Item) → IsStream items → remaining_output core items ≡ means plan words items
   pub start : (core.waiting ≡ []) × (core.runner.idle ≡ true) × (core.ended ≡ false) × (core.bytes ≡ 0) × (core.latest ≡ 0)
       × (core_position core ≡ 0)
+  pub none_kept : (kept_lens core ≡ []) × (kept_start core ≡ 0)
 
 -- and its runner is the plan's, and draws these words
 pub record IsNewCore (plan : Ops) (words : List ℕ) (core : CoreView) : Type 0 where

@@ -1,5 +1,6 @@
 -- A link that is carried: its log beside its core.
-use Rattle.std.specs.Prelude.{◌≡◌, ℕ, ◌≤◌, ◌^◌, ◌⊎◌, true, List, [], ◌∷◌, ◌++◌}
+use Rattle.std.specs.Prelude.{◌≡◌, ℕ, ◌≤◌, ◌^◌, ◌⊎◌, true, false, List, [], ◌∷◌, ◌++◌, None}
+use Rattle.std.specs.List.{sum}
 use Rattle.tox_time.specs.declared.streams.item.Item.{Item}
 use Rattle.tox_time.specs.streams.Stream.{IsStream, IsStreamFrom}
 use Rattle.tox_time.specs.streams.Table.{table, slices_table, ending}
@@ -7,13 +8,20 @@ use Rattle.tox_link.specs.declared.link_core.act.Act.{Act}
 use Rattle.tox_link.specs.declared.link_core.act.Act.TheVariants.{Write, WaitUntil, WaitForInput, End}
 use Rattle.tox_link.specs.declared.notes.LinkEvent.{LinkEvent}
 use Rattle.tox_link.specs.declared.notes.LinkEvent.TheVariants.{Wrote}
-use Rattle.tox_link.specs.link_core.Core.{CoreView, remaining_output, core_position}
-use Rattle.tox_link.specs.log.Log.{heard_from, heard_bytes, has_source_end, said, reading_of, IsFaithful, IsGapless}
+use Rattle.tox_link.specs.link_core.Core.{CoreView, core_ending, core_position, kept_lens, kept_start, remaining_output}
+use Rattle.tox_link.specs.log.Log.{heard_from, heard_bytes, heard_lens, has_source_end, said, reading_of, IsFaithful, IsGapless, IsShallowBehind}
 
 -- no reading is above this one
 abbrev pub IsBy : ℕ → List LinkEvent → Type 0
 IsBy latest [] = Unit {0}
 IsBy latest (event ∷ log) = (reading_of event ≤ latest) × IsBy latest log
+
+-- the core keeps the last pieces that were heard, and of those before them no byte is still to be given
+pub record KeepsLast (core : CoreView) (log : List LinkEvent) : Type 0 where
+  pub given_up : List ℕ
+  pub lens : heard_lens log ≡ given_up ++ kept_lens core
+  pub start : sum given_up ≡ kept_start core
+  pub before : kept_start core ≤ core_position core
 
 -- what was said and what is to come are together what the plan means for what was heard and goes on from there;
 -- the log is faithful, and its numbers are the core's: no slice passes the bytes that arrived, at most 2^40
@@ -29,6 +37,8 @@ pub record Carried (means : List Item → List Item) (told : ℕ → Type 0) (co
   pub few : core.bytes ≤ 2 ^ 40
   pub closed : has_source_end log ≡ true → core.ended ≡ true
   pub read : (core.latest ≡ 0) ⊎ told core.latest
+  pub shallow : IsShallowBehind [] log
+  pub kept : core.ended ≡ false → core_ending core ≡ None → KeepsLast core log
 
 -- a core's last instant after another: it is 0 or a reading that the clock told
 pub record ReadsOn (told : ℕ → Type 0) (earlier latest : ℕ) : Type 0 where

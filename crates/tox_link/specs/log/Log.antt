@@ -1,5 +1,5 @@
 -- The log of a link: what was heard, what was said, and when a log is faithful to a plan.
-use Rattle.std.specs.Prelude.{◌≡◌, ℕ, ◌+◌, ◌<◌, ◌≤◌, ◌^◌, Bool, true, false, List, [], ◌∷◌, length, take}
+use Rattle.std.specs.Prelude.{◌≡◌, ℕ, ◌+◌, ◌<◌, ◌≤◌, ◌^◌, Bool, true, false, List, [], ◌∷◌, ◌++◌, length, take, nat_lt, if◌then◌else◌}
 use Rattle.tox_time.specs.declared.streams.slice.Slice.{Slice}
 use Rattle.tox_time.specs.declared.streams.item.Item.{Item}
 use Rattle.tox_time.specs.declared.streams.item.Item.TheVariants.{Chunk, Closed, Quiet}
@@ -40,6 +40,33 @@ heard_bytes (Piece len instant ∷ log) = len + heard_bytes log
 heard_bytes (SourceEnd instant ∷ log) = heard_bytes log
 heard_bytes (Wrote slice now ∷ log) = heard_bytes log
 
+-- the lengths of the pieces
+abbrev pub heard_lens : List LinkEvent → List ℕ
+heard_lens [] = []
+heard_lens (Piece len instant ∷ log) = len ∷ heard_lens log
+heard_lens (SourceEnd instant ∷ log) = heard_lens log
+heard_lens (Wrote slice now ∷ log) = heard_lens log
+
+-- of pieces with these lengths, the first of which starts at `start`, so many end behind a position
+abbrev pub ends_behind : ℕ → ℕ → List ℕ → ℕ
+ends_behind position start [] = 0
+ends_behind position start (len ∷ lens) = (if nat_lt position (start + len) then 1 else 0) + ends_behind position (start + len) lens
+
+-- how many pieces wait: those of which some byte wasn't said yet
+abbrev pub waiting_pieces : List LinkEvent → ℕ
+waiting_pieces log = ends_behind (length (slices_table (said log))) 0 (heard_lens log)
+
+-- a piece finds fewer than 1,024 waiting
+abbrev pub FindsFewWaiting : List LinkEvent → LinkEvent → Type 0
+FindsFewWaiting log (Piece len instant) = waiting_pieces log < 1_024
+FindsFewWaiting log (SourceEnd instant) = Unit {0}
+FindsFewWaiting log (Wrote slice now) = Unit {0}
+
+-- behind a log these events come so that no piece finds 1,024 waiting
+abbrev pub IsShallowBehind : List LinkEvent → List LinkEvent → Type 0
+IsShallowBehind before [] = Unit {0}
+IsShallowBehind before (event ∷ log) = FindsFewWaiting before event × IsShallowBehind (before ++ event ∷ []) log
+
 -- the reading of the clock that an event has
 abbrev pub reading_of : LinkEvent → ℕ
 reading_of (Piece len instant) = instant
@@ -67,10 +94,11 @@ pub record Agrees (means : List Item → List Item) (log : List LinkEvent) : Typ
   pub gapless : (stop : ℕ) × IsGapless 0 (said log) stop
   pub prefix : IsPrefix (slices_table (said log)) (table (means (heard log)))
 
--- what was said is of bytes that were heard, at most 2^40 of them
+-- what was said is of bytes that were heard, at most 2^40 of them, and each piece came while fewer than 1,024 waited
 pub record SaysHeard (log : List LinkEvent) : Type 0 where
   pub few : heard_bytes log ≤ 2 ^ 40
   pub heard : length (slices_table (said log)) ≤ heard_bytes log
+  pub shallow : IsShallowBehind [] log
 
 -- neither a piece nor an end is heard
 abbrev pub HearsNothing : List LinkEvent → Type 0

@@ -1,5 +1,5 @@
 //! The writer's side at work: takes from the ring and does what the core says, until the link ends.
-ghost use Rattle.std.specs.Prelude.{◌≡◌, ℕ, ◌<◌, ◌≤◌, ◌⊎◌, List, [], ◌∷◌, Option, All, length, take, false, IfOk, IfErr, IfSome, OnOk, OnErr};
+ghost use Rattle.std.specs.Prelude.{◌≡◌, ℕ, ◌<◌, ◌≤◌, ◌⊎◌, List, [], ◌∷◌, All, length, take, false, IfOk, IfErr, IfSome, OnOk, OnErr};
 ghost use Rattle.std.specs.Io.KnownBytes.{append_known};
 ghost use Rattle.rtrb.specs.Ring.{received, SameConsumer};
 ghost use Rattle.tox_lend.specs.Run.{stop_of};
@@ -7,8 +7,8 @@ ghost use Rattle.tox_link.specs.declared.notes.LinkEvent.{LinkEvent as OneEvent}
 ghost use Rattle.tox_link.specs.log.Events.{with_events};
 ghost use Rattle.tox_link.specs.log.Logged.{HasEnded};
 ghost use Rattle.tox_link.specs.Reports.{IsFaultAt};
-ghost use Rattle.tox_link.specs.carrying.Steps.{NotesAll, NotesOn, StopsAfter, StopsAt};
-ghost use Rattle.tox_link.specs.carrying.Side.{IsFresh, IsSound, GivesSlice, came};
+ghost use Rattle.tox_link.specs.carrying.Steps.{NotesAll, NotesOn, StopsAfter, StopsUnnoted};
+ghost use Rattle.tox_link.specs.carrying.Side.{IsFresh, IsSound, GivesSlice, WritesFront, came};
 
 use crate::carrying::steps::decide;
 use crate::carrying::taking::take_message;
@@ -33,9 +33,7 @@ fn write_next<N: Notes, W: Sink>(
     requires working { W.failed writer.old ≡ false }
     ensures same { (side.new.core ≡ side.old.core) × (side.new.inbox ≡ side.old.inbox)
         × (side.new.source ≡ side.old.source) × (side.new.ended ≡ side.old.ended) }
-    ensures written { (base : Option (List _))
-        → W.written writer.old ≡ append_known base (take side.old.written (came side.old))
-        → W.written writer.new ≡ append_known base (take side.new.written (came side.new)) }
+    ensures written { WritesFront side.old side.new (W.written writer.old) (W.written writer.new) }
     ensures few { side.new.written ≤ slice.now.span.stop }
     ensures ok { OnOk result (IsSound side.new (received side.new.inbox.receiver)
         × (W.failed writer.new ≡ false)
@@ -72,16 +70,14 @@ fn act<R: Wait, C: Clock, N: Notes, W: Sink>(
     requires read { (side.old.core.latest ≡ 0) ⊎ C.told clock.now side.old.core.latest }
     requires working { W.failed writer.old ≡ false }
     ensures inbox { side.new.inbox.receiver ≡ side.old.inbox.receiver }
-    ensures written { (base : Option (List _))
-        → W.written writer.old ≡ append_known base (take side.old.written (came side.old))
-        → W.written writer.new ≡ append_known base (take side.new.written (came side.new)) }
+    ensures written { WritesFront side.old side.new (W.written writer.old) (W.written writer.new) }
     ensures few { side.new.written ≤ length (came side.new) }
     ensures ok { IfOk result (λ ending. IsSound side.new (received side.new.inbox.receiver)
         × (W.failed writer.new ≡ false)
         × IfSome ending (HasEnded (C.told clock.now) side.new.core side.new.ended)) }
     ensures log { OnOk result (NotesOn (C.told clock.now)
         (N.events notes.old) (N.events notes.new) side.old side.new) }
-    ensures broken { IfErr result (StopsAt (C.told clock.now)
+    ensures broken { IfErr result (StopsUnnoted (C.told clock.now)
         (N.events notes.old) (N.events notes.new) side.old side.new (W.failed writer.new)) }
 {
     let (act, now) = decide(&mut side.core, clock);

@@ -1,6 +1,6 @@
 //! The steps of a link: a piece, the source's end or a reading of the clock reaches the core.
 ghost use Rattle.std.specs.Prelude.{◌≡◌, ◌+◌, ◌<◌, ◌≤◌, ◌^◌, ◌⊎◌, ◌↔◌, List, length, vec_capacity, IsTrue, false, true, None, IsSome, is_none, OnOk, OnErr};
-ghost use Rattle.tox_link.specs.carrying.Held.{MayTake, with_piece};
+ghost use Rattle.tox_link.specs.carrying.Held.{MayTake, with_held_piece};
 ghost use Rattle.tox_link.specs.link_core.Core.{core_ending, kept_count};
 ghost use Rattle.tox_link.specs.link_core.Acts.{Answered};
 ghost use Rattle.tox_link.specs.log.Carried.{KeepsCarried, ReadsOn, noted_of};
@@ -40,7 +40,7 @@ pub(crate) fn take_piece<C: Clock, N: Notes>(
     ensures reads { ReadsOn (C.told clock.now) core.old.latest core.new.latest }
     ensures carried { OnOk result (CarriesOn (C.told clock.now)
         (N.events notes.old) (N.events notes.new) core.old core.new false) }
-    ensures kept { OnOk result (window.new ≡ with_piece window.old (record {
+    ensures kept { OnOk result (window.new ≡ with_held_piece window.old (record {
       start = window.old.stop;
       bytes = bytes.items;
       instant = core.new.latest;

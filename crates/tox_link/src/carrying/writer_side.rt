@@ -1,13 +1,10 @@
 //! The writer's side of a link: what came through the ring, and how much of it is written.
 ghost use Rattle.std.specs.Prelude.{◌≡◌, ◌↔◌, [], List, filter, nat_lt, IsTrue, IfOk};
 ghost use Rattle.rtrb.specs.Ring.{sent, received, IsPair};
-ghost use Rattle.tox_time.specs.declared.streams.item.Item.{Item as OneItem};
-ghost use Rattle.tox_time.specs.streams.Stream.{IsStream};
-ghost use Rattle.tox_compile.specs.Meaning.{means};
 ghost use Rattle.tox_lend.specs.Run.{stop_of};
 ghost use Rattle.tox_link.specs.carrying.Held.{MayTake};
 ghost use Rattle.tox_link.specs.carrying.Side.{IsFresh};
-ghost use Rattle.tox_link.specs.link_core.Core.{remaining_output};
+ghost use Rattle.tox_link.specs.Meaning.{MeansPlan};
 
 use crate::carrying::steps::may_take;
 use crate::link_core::direction_core::{DirectionCore, room_of};
@@ -49,8 +46,7 @@ impl<'w> WriterSide<'w> {
         plan: Plan,
         words: &'w Words,
     ) -> Result<(WriterSide<'w>, Sender, Vectors), AllocError>
-        ensures meaning { IfOk result (λ made. (items : List OneItem) → IsStream items
-            → remaining_output made.0.core items ≡ means plan words.now items) }
+        ensures meaning { IfOk result (λ made. MeansPlan plan words.now made.0.core) }
         ensures fresh { IfOk result (λ made. IsFresh made.0) }
         ensures ring { IfOk result (λ made. (sent made.1 ≡ [])
             × (IsPair made.1 made.0.inbox.receiver)) }

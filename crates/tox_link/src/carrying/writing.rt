@@ -1,8 +1,8 @@
 //! Writes of a link: the bytes of a slice, from the pieces that hold them.
-ghost use Rattle.std.specs.Prelude.{◌≡◌, ℕ, ◌+◌, ◌<◌, ◌≤◌, List, length, take, drop, false, true, IfErr, OnOk, OnErr, Option};
+ghost use Rattle.std.specs.Prelude.{◌≡◌, ℕ, ◌+◌, ◌<◌, ◌≤◌, List, length, take, drop, false, true, IfErr, OnOk, OnErr};
 ghost use Rattle.std.specs.Io.KnownBytes.{append_known};
 ghost use Rattle.tox_time.specs.streams.Stream.{span_len};
-ghost use Rattle.tox_link.specs.carrying.Held.{AreOf, HoldsSpan};
+ghost use Rattle.tox_link.specs.carrying.Held.{AreOf, HoldsSpan, WritesFromTo};
 
 use tox_lend::Window;
 use tox_time::{Micros, Sink, Slice, Span};
@@ -57,15 +57,11 @@ pub(crate) fn write_slice<W: Sink>(
 ) -> Result<(), u64>
     requires working { W.failed writer.old ≡ false }
     requires held { HoldsSpan window.now slice.now.span }
-    ensures ok { OnOk result ((base : Option (List ℕ)) (heard : List ℕ)
-        → AreOf heard window.now.held → W.written writer.old
-        ≡ append_known base (take slice.now.span.start heard)
-        → W.written writer.new ≡ append_known base (take slice.now.span.stop heard)) }
+    ensures ok { OnOk result (WritesFromTo window.now.held slice.now.span.start
+        slice.now.span.stop (W.written writer.old) (W.written writer.new)) }
     ensures working { OnOk result (W.failed writer.new ≡ false) }
-    ensures err { IfErr result (λ n. (base : Option (List ℕ)) (heard : List ℕ)
-        → AreOf heard window.now.held → W.written writer.old
-        ≡ append_known base (take slice.now.span.start heard)
-        → W.written writer.new ≡ append_known base (take (slice.now.span.start + n) heard)) }
+    ensures err { IfErr result (λ n. WritesFromTo window.now.held slice.now.span.start
+        (slice.now.span.start + n) (W.written writer.old) (W.written writer.new)) }
     ensures few { IfErr result (λ n. n ≤ span_len slice.now.span) }
     ensures failed { OnErr result (W.failed writer.new ≡ true) }
 {

@@ -1,10 +1,7 @@
 //! What a direction holds between two events.
 ghost use Rattle.std.specs.Prelude.{◌≡◌, ℕ, List, IfOk, false};
-ghost use Rattle.tox_time.specs.declared.streams.item.Item.{Item as OneItem};
-ghost use Rattle.tox_time.specs.streams.Stream.{IsStream};
 ghost use Rattle.tox_compile.specs.Drawing.{plan_draws};
-ghost use Rattle.tox_compile.specs.Meaning.{means};
-ghost use Rattle.tox_link.specs.link_core.Core.{remaining_output};
+ghost use Rattle.tox_link.specs.Meaning.{MeansPlan};
 ghost use Rattle.tox_link.specs.direction.Follows.{HasRoomOf, IsHeld, IsNew};
 
 use crate::direction::unwritten::Unwritten;
@@ -35,8 +32,7 @@ pub struct PolledLink {
 impl PolledLink {
     /// A direction under a plan, at which nothing has arrived. It keeps its words.
     pub fn new(alloc: Global, plan: Plan, words: Words) -> Result<PolledLink, AllocError>
-        ensures meaning { IfOk result (λ link. (items : List OneItem) → IsStream items
-            → remaining_output link.core items ≡ means plan words items) }
+        ensures meaning { IfOk result (λ link. MeansPlan plan words link.core) }
         ensures fresh { IfOk result IsNew }
         ensures held { IfOk result IsHeld }
         ensures room { IfOk result (HasRoomOf plan.ops) }
@@ -54,8 +50,7 @@ impl PolledLink {
     /// A direction under a plan that draws no words, at which nothing has arrived. It keeps none but a table of one word.
     pub fn without_words(alloc: Global, plan: Plan) -> Result<PolledLink, AllocError>
         requires { plan_draws plan.ops ≡ false }
-        ensures meaning { IfOk result (λ link. (words : List ℕ) (items : List OneItem)
-            → IsStream items → remaining_output link.core items ≡ means plan words items) }
+        ensures meaning { IfOk result (λ link. (words : List ℕ) → MeansPlan plan words link.core) }
         ensures fresh { IfOk result IsNew }
         ensures held { IfOk result IsHeld }
         ensures room { IfOk result (HasRoomOf plan.ops) }

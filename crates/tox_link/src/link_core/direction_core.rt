@@ -126,7 +126,8 @@ impl<'w> DirectionCore<'w> {
     pub fn on_piece(&mut self, len: u64, instant: Micros) -> Result<(), ArrivalFault>
         requires room { kept_count self.old < self.old.room }
         requires later { self.old.latest ≤ instant }
-        ensures { HearsPiece self.old self.new len instant result }
+        ensures hears { HearsPiece self.old self.new len instant result }
+        ensures small { self.old.room ≤ 1024 }
     {
         match &mut self.kind {
             CoreKind::Plain(core) => core.on_piece(len, instant),

@@ -79,7 +79,8 @@ impl PlainCore {
     pub fn on_piece(&mut self, len: u64, instant: Micros) -> Result<(), ArrivalFault>
         requires room { kept_count self.old < self.old.room }
         requires later { self.old.latest ≤ instant }
-        ensures { HearsPiece self.old self.new len instant result }
+        ensures hears { HearsPiece self.old self.new len instant result }
+        ensures small { self.old.room ≡ 1 }
     {
         self.so_far = self.so_far.with_piece(len, instant)?;
         self.waiting = Some(WaitingPiece { len, instant });

@@ -24,8 +24,8 @@ link_object name end =
     ++ (text_field (codes "down_end") (end_word end.downstream.ending) ++ codes "}\n"))))))
 
 -- the proxy of this name ended: how many links it had, and their bytes on both streams
-abbrev pub total_object : List ℕ → List Link → List ℕ
-total_object name links =
+abbrev pub proxy_total_object : List ℕ → List Link → List ℕ
+proxy_total_object name links =
     codes "{\"event\":\"total\",\"proxy\":" ++ json_text name ++ codes ",\"links\":" ++ decimal (length links)
     ++ codes ",\"up\":" ++ decimal (total_of Upstream links)
     ++ codes ",\"down\":" ++ decimal (total_of Downstream links) ++ codes "}\n"

@@ -63,8 +63,8 @@ abbrev pub side_end : Carried → SideEnd
 side_end carried = record { bytes = carried.bytes; ending = ending_of carried.end }
 
 -- a link whose directions carried this: where either was refused, both are broken
-abbrev pub link_end : ℕ → Carried → Carried → LinkEnd
-link_end number up down =
+abbrev pub carried_link_end : ℕ → Carried → Carried → LinkEnd
+carried_link_end number up down =
     if is_refused up.end || is_refused down.end
     then record { number = number; upstream = broken_side up; downstream = broken_side down }
     else record { number = number; upstream = side_end up; downstream = side_end down }

@@ -15,15 +15,15 @@ has_broken code =
     (pos 1 ∷ pos 64 ∷ pos 71 ∷ pos 92 ∷ pos 95 ∷ pos 110 ∷ pos 112 ∷ [])
 
 -- a lack of descriptors, in the process or the system, of buffers or of streams
-abbrev pub is_lack : ℤ → Bool
-is_lack code =
+abbrev pub is_lack_code : ℤ → Bool
+is_lack_code code =
     list_any (λ known. int_eq known code) (pos 24 ∷ pos 23 ∷ pos 105 ∷ pos 63 ∷ [])
 
 -- what follows a failure of no kind of its own
 abbrev pub next_of_code : Option ℤ → Next
 next_of_code None = GiveUp
 next_of_code (Some code) =
-    if has_broken code then TryAgain else (if is_lack code then Rest else GiveUp)
+    if has_broken code then TryAgain else (if is_lack_code code then Rest else GiveUp)
 
 -- what follows a failure: a momentary one is tried again, at a lack after a rest
 abbrev pub next_of : ErrorKind → Option ℤ → Next

@@ -1,6 +1,6 @@
 //! The lines that serving prints, as objects of JSON.
 ghost use Rattle.tox_links.specs.lines.LineText.{IsLine};
-ghost use Rattle.tox_links.specs.lines.JsonLines.{link_object, listening_object, total_object};
+ghost use Rattle.tox_links.specs.lines.JsonLines.{link_object, listening_object, proxy_total_object};
 
 use crate::lines::LineText;
 use crate::lines::serve_lines::end_word;
@@ -37,7 +37,7 @@ pub(crate) fn link_json(name: &str, end: &LinkEnd) -> Option<LineText>
 
 /// The object of a proxy's totals. None if it is too long, which none is.
 pub(crate) fn total_json(name: &str, book: &Book) -> Option<LineText>
-    ensures { IsLine result (total_object name.now book.now) }
+    ensures { IsLine result (proxy_total_object name.now book.now) }
 {
     let fields = [
         JsonField::text("proxy", name),

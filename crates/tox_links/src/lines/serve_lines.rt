@@ -1,7 +1,7 @@
 //! The lines that serving prints.
 ghost use Rattle.std.specs.Prelude.{◌≡◌};
 ghost use Rattle.tox_links.specs.lines.LineText.{IsLine};
-ghost use Rattle.tox_links.specs.lines.ServeLines.{end_word, link_line, listening_line, total_line};
+ghost use Rattle.tox_links.specs.lines.ServeLines.{end_word, link_end_line, listening_line, proxy_total_line};
 
 use crate::lines::LineText;
 use crate::link::end::LinkEnd;
@@ -25,7 +25,7 @@ pub(crate) fn listening_text<'x>(name: &'x str, address: &'x str) -> Option<Line
 
 /// The line of a link that ended. None if it is too long, which none is.
 pub(crate) fn link_text(name: &str, end: &LinkEnd) -> Option<LineText>
-    ensures { IsLine result (link_line name.now end.now) }
+    ensures { IsLine result (link_end_line name.now end.now) }
 {
     let parts = [
         Word("link "),
@@ -59,7 +59,7 @@ pub(crate) fn end_word(ending: &Option<Ending>) -> &'static str
 /// The line of a proxy's totals: how many links its book has, and their bytes on both streams. None if it is too long, which
 /// none is.
 pub(crate) fn total_text(name: &str, book: &Book) -> Option<LineText>
-    ensures { IsLine result (total_line name.now book.now) }
+    ensures { IsLine result (proxy_total_line name.now book.now) }
 {
     let upstream = book.total(Stream::Upstream);
     let downstream = book.total(Stream::Downstream);

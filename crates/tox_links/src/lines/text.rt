@@ -56,7 +56,8 @@ impl LineText {
     /// Adds parts behind the others. None if the text is then too long, which no line is.
     pub(crate) fn add(&mut self, parts: &[Part<'_>]) -> Option<()>
         requires { self.old.failed ≡ false }
-        ensures text { IsSome result → self.new.bytes.items ≡ self.old.bytes.items ++ text_of parts.now }
+        ensures text { IsSome result
+            → self.new.bytes.items ≡ self.old.bytes.items ++ text_of parts.now }
         ensures working { IsSome result → self.new.failed ≡ false }
         ensures long { IfNone result (6144 < length (self.old.bytes.items ++ text_of parts.now)) }
     {

@@ -1,7 +1,7 @@
 //! How a served link ended, and what the book keeps of it.
 ghost use Rattle.std.specs.Prelude.{◌≡◌};
 ghost use Rattle.tox_time.specs.declared.streams.stream.Stream.TheVariants as StreamOf;
-ghost use Rattle.tox_links.specs.link.LinkEnds.{broken_link, broken_side, carried_before, end_before_stop, ending_of, is_refused, last_at, link_end, nothing_carried, settled, side_end};
+ghost use Rattle.tox_links.specs.link.LinkEnds.{broken_link, broken_side, carried_before, carried_link_end, end_before_stop, ending_of, is_refused, last_at, nothing_carried, settled, side_end};
 
 use tox_book::Book;
 use tox_link::{LinkFault, LinkReport};
@@ -158,7 +158,7 @@ impl LinkEnd {
     pub fn of(number: u64, upstream: &Carried, downstream: &Carried) -> LinkEnd
         requires up { upstream.now.stream ≡ StreamOf.Upstream }
         requires down { downstream.now.stream ≡ StreamOf.Downstream }
-        ensures { result ≡ link_end number upstream.now downstream.now }
+        ensures { result ≡ carried_link_end number upstream.now downstream.now }
     {
         if upstream.is_refused() || downstream.is_refused() {
             return LinkEnd {

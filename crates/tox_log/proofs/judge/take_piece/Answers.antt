@@ -4,7 +4,7 @@ use Rattle.tox_time.specs.declared.streams.item.Item.TheVariants.{Chunk}
 use Rattle.tox_time.specs.streams.Table.{table, ending}
 use Rattle.tox_link.specs.link_core.Core.{remaining_output}
 use Rattle.tox_log.specs.Judging.{rest_table}
-use Rattle.tox_log.proofs.Judging.{piece-follows}
+use Rattle.tox_log.proofs.Judging.{keeps-taken, piece-follows}
 use Rattle.tox_log.proofs.judge.take_piece.Goals as goal
 
 pub returns-clause-hears : goal.returns-clause-hears
@@ -14,6 +14,7 @@ returns-clause-hears c = λ means told log says follows.
     let instant = c.args.instant.now in
     let bytes = sym (c.requires.held.live c.requires.live) in
     piece-follows means told judge.core judge.heard judge.latest judge.ended judge.said log c.on_piece.new.self (rest_table judge.rest) len instant c.requires.later c.requires.fits.0 says c.requires.fits.1 c.requires.going
+    (λ kept open_yet _. keeps-taken judge.core c.on_piece.new.self log len instant c.in-Ok.ensures.taken (kept open_yet c.requires.live))
     (λ items. ap table (c.in-Ok.ensures.output items) ∙ ap (λ at. table (remaining_output judge.core (Chunk (record { start = at; stop = at + len }) instant ∷ items))) bytes)
     (λ items. ap ending (c.in-Ok.ensures.output items) ∙ ap (λ at. ending (remaining_output judge.core (Chunk (record { start = at; stop = at + len }) instant ∷ items))) bytes)
     follows

@@ -1,5 +1,7 @@
 -- An answer is one step of the link.
-use Rattle.std.proofs.Common.{◌∙◌, arith}
+use Rattle.std.proofs.Common.{sym, ◌∙◌, arith}
+use Rattle.tox_link.proofs.Depths.{keeps-after}
+use Rattle.tox_link.proofs.SideLemmas.{unknown-before}
 use Rattle.tox_link.proofs.StepLemmas.{act-carried}
 use Rattle.tox_link.proofs.carrying.steps.decide.Goals as goal
 
@@ -7,4 +9,7 @@ pub returns-clause-carried : goal.returns-clause-carried
 returns-clause-carried g c =
     let told = c.on_clock.ensures in
     act-carried (g.C.Clock.told c.args.clock.now) c.args.core.now c.on_clock.new.self c.reading-now.result (omega (arith, c.reading-now.ensures.later, c.latest.ensures)) c.reading-now.ensures.told told.latest told.kept.bytes
-    (λ ended. told.kept.ended ∙ ended) c.on_clock.result told.output
+    (λ ended. told.kept.ended ∙ ended)
+    (λ log more none keeps going unknown. keeps-after c.args.core.now c.on_clock.new.self log more none (told.given_up unknown)
+    (keeps (sym told.kept.ended ∙ going) (unknown-before c.args.core.now c.on_clock.new.self told.kept unknown)))
+    c.on_clock.result told.output

@@ -1,5 +1,5 @@
 -- The source's end is one more event, or none where the ending is known.
-use Rattle.std.proofs.Common.{[], ◌∷◌, ap, sym, ◌∙◌, arith}
+use Rattle.std.proofs.Common.{◌≡◌, true, false, [], ◌∷◌, ap, sym, ◌∙◌, arith}
 use Rattle.std.specs.Prelude.{is_none}
 use Rattle.tox_time.specs.declared.streams.item.Item.TheVariants.{Closed}
 use Rattle.tox_link.specs.declared.notes.LinkEvent.TheVariants.{SourceEnd}
@@ -17,6 +17,7 @@ returns-in-Some-clause-carried g c =
       noted = events-none (g.N.Notes.events c.args.notes.now);
       keeps = wait-carried (g.C.Clock.told c.args.clock.now) c.args.core.now c.on_end.new.self c.reading-now.result
           (omega (arith, c.reading-now.ensures.later, c.latest.ensures)) c.reading-now.ensures.told told.ended.1 told.kept.0.bytes (λ ended. told.ended.0)
+          (λ log more none keeps going. absurd (let both : true ≡ false = sym told.ended.0 ∙ going in cc))
           (record {
             output = λ position since items later stream. same-of _ _ (told.output items ∙ only (Closed c.reading-now.result ∷ []) ∙ sym (only items));
             position = told.kept.2;

@@ -1,8 +1,9 @@
 -- A look at a later instant, and then an answer.
 use Rattle.std.proofs.Common.{◌≤◌, sym, subst, rules}
-use Rattle.tox_link.specs.link_core.Core.{CoreView, KeepsCore}
+use Rattle.tox_link.specs.link_core.Core.{CoreView, GivesUp, KeepsCore}
 use Rattle.tox_link.specs.link_core.CoreInside.{core_view}
 use Rattle.tox_link.proofs.CoreLemmas.{IsCore-later}
+use Rattle.tox_link.proofs.Looks.{gives-both}
 use Rattle.tox_link.proofs.ActLemmas.{keeps-after}
 use Rattle.tox_link.proofs.link_core.LinkCore.on_clock.Goals as goal
 
@@ -25,6 +26,11 @@ returns c =
       unended = search rules;
       output = search rules;
       kept = subst (λ old. KeepsCore old c.answer.new.self) c.self.view_is
-          (keeps-after core c.look.new.self c.answer.new.self c.args.now c.look.ensures.looked c.look.ensures.known c.answer.ensures.kept);
+          (keeps-after core c.look.new.self c.answer.new.self c.args.now c.look.ensures.looked c.look.ensures.known c.answer.ensures.answered.kept);
+      given_up = λ unknown.
+          let looked : GivesUp (record core { latest = c.args.now }) c.look.new.self = c.look.ensures.looked.given_up (c.answer.ensures.unknown unknown) in
+          let gives : GivesUp core c.look.new.self = record { first = looked.first; lens = looked.lens; start = looked.start; before = looked.before } in
+          subst (λ old. GivesUp old c.answer.new.self) c.self.view_is (gives-both core c.look.new.self c.answer.new.self gives (c.answer.ensures.answered.given_up unknown));
+      holds = search rules;
       latest = search rules;
     }

@@ -4,16 +4,16 @@ use Rattle.tox_time.specs.declared.streams.stream.Stream.TheVariants.{Upstream, 
 use Rattle.tox_book.specs.declared.sides.Link.{Link}
 use Rattle.tox_book.specs.Links.{total_of}
 use Rattle.tox_text.specs.Names.{visible_name}
-use Rattle.tox_links.specs.lines.ServeLines.{total_line}
+use Rattle.tox_links.specs.lines.ServeLines.{proxy_total_line}
 use Rattle.tox_links.specs.lines.LineText.{IsLine}
 use Rattle.tox_links.proofs.lines.serve_lines.total_text.Goals as goal
 
-total_line-parts : (name : List ℕ) (links : List Link)
+proxy_total_line-parts : (name : List ℕ) (links : List Link)
     → codes "total " ++ (visible_name name ++ (codes " " ++ (decimal (length links) ++ (codes " up " ++ (decimal (total_of Upstream links) ++ (codes " down " ++ (decimal (total_of Downstream links) ++ codes "\n")))))))
-    ≡ total_line name links
-total_line-parts name links = simp append_assoc
+    ≡ proxy_total_line name links
+proxy_total_line-parts name links = simp append_assoc
 
 pub returns : goal.returns
 returns c =
-    subst (IsLine c.of.result) (total_line-parts c.args.name.now c.args.book.now)
+    subst (IsLine c.of.result) (proxy_total_line-parts c.args.name.now c.args.book.now)
     (rw (c.links.ensures, c.total-upstream.ensures, c.total-downstream.ensures) at c.of.ensures.line)

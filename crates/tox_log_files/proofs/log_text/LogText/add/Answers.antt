@@ -1,4 +1,4 @@
-use Rattle.std.proofs.Common.{◌++◌, ap, ◌∙◌}
+use Rattle.std.proofs.Common.{◌++◌, ap, sym, ◌∙◌}
 use Rattle.tox_log_files.specs.declared.log_text.LogText.{LogText}
 use Rattle.tox_log_files.specs.EntryText.{entry_text}
 use Rattle.tox_log_files.specs.LogSteps.{state_behind}
@@ -6,14 +6,16 @@ use Rattle.tox_log_files.proofs.Steps.{log-entry, log-of}
 use Rattle.tox_log_files.proofs.log_text.LogText.add.Goals as goal
 
 pub returns-clause-log : goal.returns-clause-log
-returns-clause-log g c = λ taken told len log.
+returns-clause-log g c = λ taken told log.
     let old = c.args.self.now in
     let new = c.grow.new.self in
     let text = entry_text c.args.entry.now in
     let grown = log-entry old.most old.taken told text taken old.waiting.0 new.waiting.0 old.state (state_behind c.args.entry.now) new.state
-    len c.grow.ensures.adds c.grow.ensures.ended log in
-    log-of old.most c.call.new.self.most (told ++ text) (taken ++ new.waiting.0) (taken ++ c.call.new.self.waiting.0) new.state c.call.new.self.state
-    (ap (λ (log : LogText). log.most) c.call.ensures.kept ∙ c.grow.ensures.kept.1)
-    (ap (λ (log : LogText). taken ++ log.waiting.0) c.call.ensures.kept)
-    (ap (λ (log : LogText). log.state) c.call.ensures.kept)
-    grown
+    log.counted c.grow.ensures.adds c.grow.ensures.ended log.bytes in record {
+      counted = log.counted ∙ sym c.grow.ensures.kept.0 ∙ ap (λ (log : LogText). log.taken) (sym c.call.ensures.kept);
+      bytes = log-of old.most c.call.new.self.most (told ++ text) (taken ++ new.waiting.0) (taken ++ c.call.new.self.waiting.0) new.state c.call.new.self.state
+          (ap (λ (log : LogText). log.most) c.call.ensures.kept ∙ c.grow.ensures.kept.1)
+          (ap (λ (log : LogText). taken ++ log.waiting.0) c.call.ensures.kept)
+          (ap (λ (log : LogText). log.state) c.call.ensures.kept)
+          grown;
+    }
