@@ -121,7 +121,7 @@ fn compare<S: Drop>(
     ending: Ending,
     source: SourceEnding,
 ) {
-    let report = answer.expect(rt, "no fault");
+    let report = answer.as_ref().expect(rt, "no fault");
     assert_eq!(rt; (report.taken, report.written), (bytes, bytes));
     assert_eq!(rt; report.ending, ending);
     assert_eq!(rt; report.source, source);
@@ -143,6 +143,17 @@ fn compare_notes(rt: &impl Abort, notes: &Noted, expected: &[LinkEvent], ends: &
     assert!(rt; end.is_some_and(|end| ends.contains(&end)));
 }
 
+/// Compares how often the hangup was told of the link's end, and whether of its source's end.
+fn compare_hangup(rt: &impl Abort, hangup: &HungUp, calls: u64, source_ended: bool) {
+    assert_eq!(rt; (hangup.calls, hangup.source_ended), (calls, source_ended));
+}
+
+/// Compares what was written before a link was reset at 0.
+fn compare_reset(rt: &impl Abort, set: &CarryCase, written: &[u8]) {
+    assert_eq!(rt; set.ends.writer.sink.bytes(), written);
+    assert_eq!(rt; set.ends.hangup.ending, Ending::Reset(at(0)));
+}
+
 fn wrote(start: u64, stop: u64, micros: u64) -> LinkEvent {
     LinkEvent::Wrote(slice(start, stop, micros), at(micros))
 }
@@ -160,10 +171,7 @@ fn latency_delays_two_bytes(rt: HostRuntime) -> Result<(), Fail> {
     compare_notes(&rt, &set.notes, &expected, &[(1, 0), (1, 1000), (2, 1000)]);
     assert_eq!(rt; set.ends.writer.sink.bytes(), b"ab".as_slice());
     assert_eq!(rt; set.ends.writer.first, Some(1000));
-    assert_eq!(rt;
-        (set.ends.hangup.calls, set.ends.hangup.source_ended),
-        (1, true)
-    );
+    compare_hangup(&rt, &set.ends.hangup, 1, true);
     assert_eq!(rt; set.ends.hangup.ending, closed(1000));
     Ok(())
 }
@@ -185,41 +193,49 @@ fn a_muted_link_stays_open(rt: HostRuntime) -> Result<(), Fail> {
     let answer = passed(&rt, "timeout:timeout=0", b"", 16, None, 10, &mut set)?;
     compare(&rt, answer, 0, Ending::StillOpen, SourceEnding::NotReached);
     assert!(rt; set.notes.events.is_empty());
-    assert_eq!(rt;
-        (set.ends.hangup.calls, set.ends.hangup.source_ended),
-        (1, true)
-    );
+    compare_hangup(&rt, &set.ends.hangup, 1, true);
     Ok(())
 }
 
 #[test]
 fn a_later_piece_has_a_later_instant(rt: HostRuntime) -> Result<(), Fail> {
-    let alloc = rt.alloc();
-    let mut set = CarryCase::new(alloc, 16, None)?;
-    let gate = Arc::new(alloc, OpenGate)?;
-    let missed = Arc::new(alloc, AtomicBool::new(false))?;
-    let reader = WaitingSource {
-        source: MemorySource::new(b"ab".to_vec(alloc)?, 1, None),
-        bytes: set.bytes.clone()?,
-        reads: 0,
-        missed: missed.clone()?,
-    };
+    let mut set = CarryCase::new(rt.alloc(), 16, None)?;
+    let gate = Arc::new(rt.alloc(), OpenGate)?;
+    let missed = Arc::new(rt.alloc(), AtomicBool::new(false))?;
+    let reader = waiting_source(rt.alloc(), &set.bytes, &missed)?;
     let answer = carried(&rt, "latency:latency=1", reader, 10, &mut set, &gate)?;
     assert!(rt; !missed.load(Ordering::SeqCst));
     compare(&rt, answer, 2, closed(2000), SourceEnding::Eof);
+    compare_two_pieces(&rt, &set.notes);
+    Ok(())
+}
+
+/// Two bytes, one a read, each read waiting for the last one's byte to be written.
+fn waiting_source(
+    alloc: Global,
+    bytes: &Arc<AtomicU64>,
+    missed: &Arc<AtomicBool>,
+) -> Result<WaitingSource<MemorySource>, Fail>
+    ensures { IfOk result (λ made. made.source.failed ≡ false) }
+{
+    let source = MemorySource::new(b"ab".to_vec(alloc)?, 1, None);
+    Ok(WaitingSource {
+        source,
+        bytes: bytes.clone()?,
+        reads: 0,
+        missed: missed.clone()?,
+    })
+}
+
+/// Compares the notes of two bytes, the second of which comes once the first is written.
+fn compare_two_pieces(rt: &impl Abort, notes: &Noted) {
     let expected = [
         LinkEvent::Piece(1, at(0)),
         wrote(0, 1, 1000),
         LinkEvent::Piece(1, at(1000)),
         wrote(1, 2, 2000),
     ];
-    compare_notes(
-        &rt,
-        &set.notes,
-        &expected,
-        &[(3, 1000), (3, 2000), (4, 2000)],
-    );
-    Ok(())
+    compare_notes(rt, notes, &expected, &[(3, 1000), (3, 2000), (4, 2000)]);
 }
 
 /// The clock is read anew for each message, once it is taken.
@@ -284,12 +300,8 @@ fn a_failing_writer_resets_the_link(rt: HostRuntime) -> Result<(), Fail> {
     let mut set = CarryCase::new(rt.alloc(), 1, Some(3))?;
     let answer = passed(&rt, "", b"abc", 16, None, 10, &mut set)?;
     assert!(rt; matches!(answer, Err(LinkFault::WriteFault(2))));
-    assert_eq!(rt; set.ends.writer.sink.bytes(), b"ab".as_slice());
-    assert_eq!(rt; set.ends.hangup.ending, Ending::Reset(at(0)));
-    assert_eq!(rt;
-        (set.ends.hangup.calls, set.ends.hangup.source_ended),
-        (1, false)
-    );
+    compare_reset(&rt, &set, b"ab");
+    compare_hangup(&rt, &set.ends.hangup, 1, false);
     Ok(())
 }
 
@@ -299,7 +311,6 @@ fn a_writer_that_takes_nothing_resets_the_link(rt: HostRuntime) -> Result<(), Fa
     let mut set = CarryCase::with_sink(rt.alloc(), sink)?;
     let answer = passed(&rt, "", b"abc", 16, None, 10, &mut set)?;
     assert!(rt; matches!(answer, Err(LinkFault::WriteFault(0))));
-    assert!(rt; set.ends.writer.sink.bytes().is_empty());
-    assert_eq!(rt; set.ends.hangup.ending, Ending::Reset(at(0)));
+    compare_reset(&rt, &set, b"");
     Ok(())
 }

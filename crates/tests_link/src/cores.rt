@@ -31,6 +31,34 @@ pub fn give(
     core.on_piece(len, now)
 }
 
+/// Compares what the core answers at an instant.
+fn answers(rt: &impl Abort, core: &mut LinkCore<'_>, now: Micros, act: Act)
+    ensures { core.new.ended ≡ core.old.ended }
+{
+    assert_eq!(rt; ask(rt, core, now), act);
+}
+
+/// Compares whether the core takes a piece.
+fn takes(
+    rt: &impl Abort,
+    core: &mut LinkCore<'_>,
+    len: u64,
+    now: Micros,
+    answer: Result<(), ArrivalFault>,
+)
+    ensures { core.new.ended ≡ core.old.ended }
+{
+    assert_eq!(rt; give(rt, core, len, now), answer);
+}
+
+fn compare_ending(rt: &impl Abort, core: &LinkCore<'_>, ending: Option<Ending>) {
+    assert_eq!(rt; core.ending(), ending);
+}
+
+fn compare_latest(rt: &impl Abort, core: &LinkCore<'_>, latest: Micros) {
+    assert_eq!(rt; core.latest(), latest);
+}
+
 fn end(rt: &impl Abort, core: &mut LinkCore<'_>, now: Micros)
     requires { core.old.ended ≡ false }
 {
@@ -38,27 +66,25 @@ fn end(rt: &impl Abort, core: &mut LinkCore<'_>, now: Micros)
     core.on_end(now);
 }
 
+fn closed(micros: u64) -> Ending {
+    Ending::Closed(at(micros))
+}
+
 #[test]
 fn latency_waits_writes_and_closes(rt: HostRuntime) -> Result<(), Fail> {
     let words = Words::from_list(rt.alloc(), &[0])?;
     let chain = chain_of("latency:latency=1").expect(&rt, "a short form");
     let mut core = LinkCore::new(rt.alloc(), compile(&chain, &words), &words)?;
-    assert_eq!(rt; core.latest(), at(0));
-    assert_eq!(rt; give(&rt, &mut core, 2, at(0)), Ok(()));
-    assert_eq!(rt; ask(&rt, &mut core, at(0)), Act::WaitUntil(at(1000)));
-    assert_eq!(rt;
-        ask(&rt, &mut core, at(1000)),
-        Act::Write(slice(0, 2, 1000))
-    );
-    assert_eq!(rt; ask(&rt, &mut core, at(1000)), Act::WaitForInput);
-    assert_eq!(rt; core.ending(), None);
+    compare_latest(&rt, &core, at(0));
+    takes(&rt, &mut core, 2, at(0), Ok(()));
+    answers(&rt, &mut core, at(0), Act::WaitUntil(at(1000)));
+    answers(&rt, &mut core, at(1000), Act::Write(slice(0, 2, 1000)));
+    answers(&rt, &mut core, at(1000), Act::WaitForInput);
+    compare_ending(&rt, &core, None);
     end(&rt, &mut core, at(1500));
-    assert_eq!(rt; core.latest(), at(1500));
-    assert_eq!(rt;
-        ask(&rt, &mut core, at(1500)),
-        Act::End(Ending::Closed(at(1500)))
-    );
-    assert_eq!(rt; core.ending(), Some(Ending::Closed(at(1500))));
+    compare_latest(&rt, &core, at(1500));
+    answers(&rt, &mut core, at(1500), Act::End(closed(1500)));
+    compare_ending(&rt, &core, Some(closed(1500)));
     Ok(())
 }
 
@@ -67,23 +93,16 @@ fn a_reset_comes_at_its_deadline(rt: HostRuntime) -> Result<(), Fail> {
     let words = Words::from_list(rt.alloc(), &[0])?;
     let chain = chain_of("reset_peer:timeout=20").expect(&rt, "a short form");
     let mut core = LinkCore::new(rt.alloc(), compile(&chain, &words), &words)?;
-    assert_eq!(rt; ask(&rt, &mut core, at(5)), Act::WaitUntil(at(20000)));
-    assert_eq!(rt;
-        give(&rt, &mut core, 0, at(19999)),
-        Err(ArrivalFault::EmptyPiece)
+    answers(&rt, &mut core, at(5), Act::WaitUntil(at(20000)));
+    takes(&rt, &mut core, 0, at(19999), Err(ArrivalFault::EmptyPiece));
+    takes(&rt, &mut core, 1, at(19999), Ok(()));
+    answers(&rt, &mut core, at(20000), Act::Write(slice(0, 1, 19999)));
+    answers(
+        &rt,
+        &mut core,
+        at(20000),
+        Act::End(Ending::Reset(at(20000))),
     );
-    assert_eq!(rt; give(&rt, &mut core, 1, at(19999)), Ok(()));
-    assert_eq!(rt;
-        ask(&rt, &mut core, at(20000)),
-        Act::Write(slice(0, 1, 19999))
-    );
-    assert_eq!(rt;
-        ask(&rt, &mut core, at(20000)),
-        Act::End(Ending::Reset(at(20000)))
-    );
-    assert_eq!(rt;
-        give(&rt, &mut core, 1, at(20001)),
-        Err(ArrivalFault::AfterEnd)
-    );
+    takes(&rt, &mut core, 1, at(20001), Err(ArrivalFault::AfterEnd));
     Ok(())
 }

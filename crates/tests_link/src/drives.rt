@@ -17,7 +17,9 @@ use std::test::Fail;
 use tests_support::{below, drawn_words, table_of};
 use tox_compile::compile;
 use tox_defs::Chain;
-use tox_link::{LinkEvent, LinkFault, PolledLink, Progress, TimedReport, drive, finish};
+use tox_link::{
+    LinkEvent, LinkFault, LinkReport, PolledLink, Progress, TimedReport, drive, finish,
+};
 use tox_plan::deliver;
 use tox_time::{Arrivals, Ending, MemorySink, MemorySource, Micros, SliceList};
 use tox_words::{Words, WordsFault};
@@ -123,6 +125,28 @@ pub struct DrivenDirection {
     pub written: Vec<u8>,
 }
 
+/// A source of these bytes, which gives as many a call as the generator draws.
+fn drawn_source(generator: &mut Lcg64Xsh32, bytes: Vec<u8>, seed: u64) -> BusyEnd<MemorySource>
+    ensures { result.end.failed ≡ false }
+{
+    let most = 1 + below(generator, 60) as usize;
+    let reader = MemorySource::new(bytes, most, drawn_fault(generator));
+    BusyEnd::new(reader, seed)
+}
+
+/// A sink with room for 600 bytes, which takes as many a call as the generator draws.
+fn drawn_sink(
+    alloc: Global,
+    generator: &mut Lcg64Xsh32,
+    seed: u64,
+) -> Result<BusyEnd<MemorySink>, AllocError>
+    ensures { IfOk result (λ sink. sink.end.failed ≡ false) }
+{
+    let most = 1 + below(generator, 60) as usize;
+    let writer = MemorySink::new(alloc, 600, most, drawn_fault(generator))?;
+    Ok(BusyEnd::new(writer, seed))
+}
+
 /// Drives a direction under a chain to its end. Its ends give and take as the generator draws.
 pub fn driven_under(
     rt: &(impl Abort + AllocGlobal),
@@ -133,18 +157,13 @@ pub fn driven_under(
 ) -> Result<DrivenDirection, Fail> {
     let alloc = rt.alloc();
     let mut link = link_of(alloc, chain, seed)?;
-    let clock = RestingClock {
-        micros: Arc::new(alloc, AtomicU64::new(0))?,
-    };
+    let micros = Arc::new(alloc, AtomicU64::new(0))?;
+    let clock = RestingClock { micros };
     let mut notes = Noted {
         events: Vec::new(alloc),
     };
-    let most = 1 + below(generator, 60) as usize;
-    let reader = MemorySource::new(bytes, most, drawn_fault(generator));
-    let mut source = BusyEnd::new(reader, seed);
-    let most = 1 + below(generator, 60) as usize;
-    let writer = MemorySink::new(alloc, 600, most, drawn_fault(generator))?;
-    let mut sink = BusyEnd::new(writer, seed);
+    let mut source = drawn_source(generator, bytes, seed);
+    let mut sink = drawn_sink(alloc, generator, seed)?;
     let driven = drive_on(
         rt,
         generator,
@@ -161,37 +180,66 @@ pub fn driven_under(
     })
 }
 
+/// The instants of the bytes that a direction said, those that are due, and the ending that is due.
+#[derive(Drop)]
+struct Comparison {
+    said: Vec<u64>,
+    due: Vec<u64>,
+    ending: Ending,
+}
+
+/// What a log says, beside what is delivered of what it heard.
+fn comparison_of(
+    alloc: Global,
+    notes: &Noted,
+    chain: &Chain,
+    seed: u64,
+) -> Result<Comparison, Fail> {
+    let (arrivals, slices) = read_log(alloc, notes)?;
+    let outcome = deliver(alloc, chain, &words_of(alloc, seed)?, &arrivals)?;
+    Ok(Comparison {
+        said: table_of(alloc, &slices)?,
+        due: table_of(alloc, &outcome.slices)?,
+        ending: outcome.ending,
+    })
+}
+
+impl Comparison {
+    /// A direction that ended said and wrote all that is due.
+    fn compare_all<S>(&self, rt: &impl Abort, report: &LinkReport<S>, written: usize, seed: u64) {
+        assert_eq!(rt; self.said, self.due, "seed {seed}");
+        assert_eq!(rt; report.ending, self.ending, "seed {seed}");
+        assert_eq!(rt; report.written, written as u64, "seed {seed}");
+    }
+
+    /// A direction that broke off said and wrote the first of what is due.
+    fn compare_part(&self, rt: &impl Abort, fault: &LinkFault, written: usize, seed: u64) {
+        let due = self.due.get(..self.said.len());
+        assert_eq!(rt; fault.written(), written as u64, "seed {seed}");
+        assert_eq!(rt; Some(self.said.as_slice()), due, "seed {seed}");
+        assert!(rt; written <= self.due.len(), "seed {seed}");
+    }
+}
+
+fn compare_bytes(rt: &impl Abort, written: &[u8], bytes: &[u8], seed: u64) {
+    let front = bytes.get(..written.len());
+    assert_eq!(rt; Some(written), front, "seed {seed}");
+}
+
 /// Compares a direction that a seed draws with what is delivered. Returns whether it broke off.
 fn compare(rt: &(impl Abort + AllocGlobal), seed: u64) -> Result<bool, Fail> {
-    let alloc = rt.alloc();
     let generator = &mut Lcg64Xsh32::new(seed, 3);
     let chain = drawn_chain(rt, generator);
-    let bytes = drawn_bytes(alloc, generator)?;
-    let DrivenDirection {
-        answer,
-        notes,
-        written,
-    } = driven_under(rt, generator, &chain, bytes.clone()?, seed)?;
-    let front = bytes.get(..written.len());
-    assert_eq!(rt; Some(written.as_slice()), front, "seed {seed}");
-    let (arrivals, slices) = read_log(alloc, &notes)?;
-    let outcome = deliver(alloc, &chain, &words_of(alloc, seed)?, &arrivals)?;
-    let said = table_of(alloc, &slices)?;
-    let due = table_of(alloc, &outcome.slices)?;
-    match answer {
-        Ok(timed) => {
-            assert_eq!(rt; said, due, "seed {seed}");
-            assert_eq!(rt; timed.report.ending, outcome.ending, "seed {seed}");
-            assert_eq!(rt; timed.report.written, written.len() as u64, "seed {seed}");
-            Ok(false)
-        }
-        Err(fault) => {
-            assert_eq!(rt; fault.written(), written.len() as u64, "seed {seed}");
-            assert_eq!(rt; Some(said.as_slice()), due.get(..said.len()), "seed {seed}");
-            assert!(rt; written.len() <= due.len(), "seed {seed}");
-            Ok(true)
-        }
+    let bytes = drawn_bytes(rt.alloc(), generator)?;
+    let driven = driven_under(rt, generator, &chain, bytes.clone()?, seed)?;
+    compare_bytes(rt, &driven.written, &bytes, seed);
+    let comparison = comparison_of(rt.alloc(), &driven.notes, &chain, seed)?;
+    let written = driven.written.len();
+    match &driven.answer {
+        Ok(timed) => comparison.compare_all(rt, &timed.report, written, seed),
+        Err(fault) => comparison.compare_part(rt, fault, written, seed),
     }
+    Ok(driven.answer.is_err())
 }
 
 #[test]

@@ -1,6 +1,6 @@
 //! The command `check` and its options.
 use crate::argument::Argument;
-use crate::commands::{config, script, with_arguments};
+use crate::commands::{command_with, config, script};
 use crate::help;
 use clap::{ArgMatches, Command};
 use std::alloc::{AllocError, Global};
@@ -19,9 +19,6 @@ pub struct CheckArguments<'a> {
 
 /// The command.
 pub(crate) fn check<'a>(alloc: Global) -> Result<Command<'a>, AllocError> {
-    let check = Command::new(alloc, "check")
-        .about("Prints which rules and toxics of a script have no effect")
-        .after_help(help::CHECK);
     let strict = Argument::flag(
         "strict",
         "Ends with V1 and status 1 where a line was printed",
@@ -30,9 +27,11 @@ pub(crate) fn check<'a>(alloc: Global) -> Result<Command<'a>, AllocError> {
         "verbose",
         "Prints the numbers of proxies, rules and toxics too",
     );
-    with_arguments(
+    command_with(
         alloc,
-        check,
+        "check",
+        "Prints which rules and toxics of a script have no effect",
+        help::CHECK,
         &[config().needed(), script().needed(), strict, verbose],
     )
 }

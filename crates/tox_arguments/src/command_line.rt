@@ -40,23 +40,42 @@ pub enum Task<'a> {
 /// Reads the command line. An error is `clap`'s own text, help too.
 #[inline(never)]
 pub fn read<'a, S: AsStr>(alloc: Global, words: &'a [S]) -> Result<Task<'a>, Error> {
-    let matches = toxi(alloc)?.try_get_matches_from(words)?;
-    if let Some(("help", given)) = matches.subcommand() {
-        return help_task(alloc, given.get_str("topic"));
-    }
-    match task_of(alloc, &matches)? {
-        Some(Task::Replay(arguments)) => replay_task(alloc, arguments),
-        Some(task) => Ok(task),
+    let matches = matches_of(alloc, words)?;
+    match matches.subcommand() {
+        Some((name, given)) => command_task(alloc, name, given),
         None => Err(no_command(alloc)?),
     }
 }
 
+/// The task of a command.
+fn command_task<'a>(alloc: Global, name: &str, given: &ArgMatches<'a>) -> Result<Task<'a>, Error> {
+    match name {
+        "help" => help_task(alloc, given.get_str("topic")),
+        "replay" => replay_task(alloc, given),
+        name => match task_of(alloc, name, given)? {
+            Some(task) => Ok(task),
+            None => Err(no_command(alloc)?),
+        },
+    }
+}
+
+/// The words by the rules of the program's command line.
+fn matches_of<'a, S: AsStr>(alloc: Global, words: &'a [S]) -> Result<ArgMatches<'a>, Error> {
+    toxi(alloc)?.try_get_matches_from(words)
+}
+
 /// The refusal of a command line without a command.
 fn no_command(alloc: Global) -> Result<Error, AllocError> {
-    toxi(alloc)?.error(
+    refusal(
+        alloc,
         ErrorKind::MissingRequiredArgument,
         "a command with its options is required",
     )
+}
+
+/// A refusal in `clap`'s form, with the program's usage.
+fn refusal(alloc: Global, kind: ErrorKind, why: &str) -> Result<Error, AllocError> {
+    toxi(alloc)?.error(kind, why)
 }
 
 /// The task of `help`: a text, or `clap`'s own help of a command, which is an error.
@@ -72,30 +91,46 @@ fn help_task<'a>(alloc: Global, topic: Option<&str>) -> Result<Task<'a>, Error> 
 
 /// What `clap` answers a command line that asks for help.
 fn command_help<'a>(alloc: Global, words: &[&str]) -> Result<Task<'a>, Error> {
-    toxi(alloc)?.try_get_matches_from(words)?;
+    matches_of(alloc, words)?;
     Err(no_command(alloc)?)
 }
 
 /// The task of `replay`, unless it is given more logs than it takes.
-fn replay_task<'a>(alloc: Global, arguments: ReplayArguments<'a>) -> Result<Task<'a>, Error> {
+fn replay_task<'a>(alloc: Global, given: &ArgMatches<'a>) -> Result<Task<'a>, Error> {
+    let arguments = replay_of(alloc, given)?;
     if arguments.lacks_one_file() {
-        return Err(toxi(alloc)?.error(ErrorKind::TooManyValues, ONE_FILE)?);
+        return Err(refusal(alloc, ErrorKind::TooManyValues, ONE_FILE)?);
     }
     Ok(Task::Replay(arguments))
 }
 
-/// The task of a command with its options. `clap` has rejected a command line without them.
-fn task_of<'a>(alloc: Global, matches: &ArgMatches<'a>) -> Result<Option<Task<'a>>, AllocError> {
-    Ok(match matches.subcommand() {
-        Some(("dry", given)) => Some(Task::Dry(link_of(alloc, given)?)),
-        Some(("draw", given)) => Some(Task::Draw(draw_of(alloc, given)?)),
-        Some(("plan", given)) => Some(Task::Plan(link_of(alloc, given)?)),
-        Some(("stages", given)) => Some(Task::Stages(cap_of(given), link_of(alloc, given)?)),
-        Some(("replay", given)) => Some(Task::Replay(replay_of(alloc, given)?)),
-        Some(("serve", given)) => serve_task(alloc, given)?,
-        Some(("report", given)) => Some(Task::Report(report_of(alloc, given)?)),
-        Some((name, given)) => files_task(name, given),
-        None => None,
+/// The task of another command with its options. `clap` has rejected a command line without them.
+fn task_of<'a>(
+    alloc: Global,
+    name: &str,
+    given: &ArgMatches<'a>,
+) -> Result<Option<Task<'a>>, AllocError> {
+    match name {
+        "dry" | "plan" | "stages" => link_task(alloc, name, given),
+        "draw" => Ok(Some(Task::Draw(draw_of(alloc, given)?))),
+        "serve" => serve_task(alloc, given),
+        "report" => Ok(Some(Task::Report(report_of(alloc, given)?))),
+        name => Ok(files_task(name, given)),
+    }
+}
+
+/// The task of a command that is given a link.
+fn link_task<'a>(
+    alloc: Global,
+    name: &str,
+    given: &ArgMatches<'a>,
+) -> Result<Option<Task<'a>>, AllocError> {
+    let link = link_of(alloc, given)?;
+    Ok(match name {
+        "dry" => Some(Task::Dry(link)),
+        "plan" => Some(Task::Plan(link)),
+        "stages" => Some(Task::Stages(cap_of(given), link)),
+        _ => None,
     })
 }
 

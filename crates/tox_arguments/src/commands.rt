@@ -80,13 +80,24 @@ fn command<'a>(alloc: Global, name: CommandName) -> Result<Command<'a>, AllocErr
     }
 }
 
-/// A command with these arguments, in the order of its help.
-pub(crate) fn with_arguments<'a>(
+/// A command with these arguments, in the order of its help. `examples` stands below them.
+pub(crate) fn command_with<'a>(
     alloc: Global,
-    command: Command<'a>,
+    name: &'static str,
+    about: &'static str,
+    examples: &'static str,
     arguments: &[Argument],
 ) -> Result<Command<'a>, AllocError> {
-    let mut command = command;
+    let command = Command::new(alloc, name).about(about).after_help(examples);
+    with_arguments(alloc, command, arguments)
+}
+
+/// Adds arguments to a command, behind those that it has.
+pub(crate) fn with_arguments<'a>(
+    alloc: Global,
+    mut command: Command<'a>,
+    arguments: &[Argument],
+) -> Result<Command<'a>, AllocError> {
     for argument in arguments {
         command = command.arg(argument.arg(alloc)?)?;
     }
@@ -94,10 +105,13 @@ pub(crate) fn with_arguments<'a>(
 }
 
 fn dry<'a>(alloc: Global) -> Result<Command<'a>, AllocError> {
-    let dry = Command::new(alloc, "dry")
-        .about("Prints when each byte would leave, and how the link would end")
-        .after_help(help::DRY);
-    with_arguments(alloc, dry, &[lanes(), words(), toxics()])
+    command_with(
+        alloc,
+        "dry",
+        "Prints when each byte would leave, and how the link would end",
+        help::DRY,
+        &[lanes(), words(), toxics()],
+    )
 }
 
 fn draw<'a>(alloc: Global) -> Result<Command<'a>, AllocError> {
@@ -107,17 +121,23 @@ fn draw<'a>(alloc: Global) -> Result<Command<'a>, AllocError> {
         "Draws the log of a stream of `serve` instead: what was due beside what was written",
     )
     .without(&["lanes", "words", "toxics"]);
-    let draw = Command::new(alloc, "draw")
-        .about("Prints a picture of what arrives, what leaves and what is held between")
-        .after_help(help::DRAW);
-    with_arguments(alloc, draw, &[log, lanes(), words(), toxics()])
+    command_with(
+        alloc,
+        "draw",
+        "Prints a picture of what arrives, what leaves and what is held between",
+        help::DRAW,
+        &[log, lanes(), words(), toxics()],
+    )
 }
 
 fn plan<'a>(alloc: Global) -> Result<Command<'a>, AllocError> {
-    let plan = Command::new(alloc, "plan")
-        .about("Prints what the toxics are compiled into")
-        .after_help(help::PLAN);
-    with_arguments(alloc, plan, &[lanes(), words(), toxics()])
+    command_with(
+        alloc,
+        "plan",
+        "Prints what the toxics are compiled into",
+        help::PLAN,
+        &[lanes(), words(), toxics()],
+    )
 }
 
 fn stages<'a>(alloc: Global) -> Result<Command<'a>, AllocError> {
@@ -127,21 +147,23 @@ fn stages<'a>(alloc: Global) -> Result<Command<'a>, AllocError> {
         "The room of each ring, in items: 1 to 1024 [default: 4]",
     )
     .within(1, MAX_CAP as u64);
-    let stages = Command::new(alloc, "stages")
-        .about("Prints what `dry` prints, by a thread for each toxic")
-        .after_help(help::STAGES);
-    with_arguments(alloc, stages, &[cap, lanes(), words(), toxics()])
+    command_with(
+        alloc,
+        "stages",
+        "Prints what `dry` prints, by a thread for each toxic",
+        help::STAGES,
+        &[cap, lanes(), words(), toxics()],
+    )
 }
 
 fn pick<'a>(alloc: Global) -> Result<Command<'a>, AllocError> {
-    let pick = Command::new(alloc, "pick")
-        .about("Prints what a numbered connection meets, from the files and the seed alone")
-        .after_help(help::PICK);
     let conn = connections("conn", "The number of the connection, 1 to 1000000").needed();
     let stream = Argument::option("stream", "STREAM", "upstream or downstream").needed();
-    with_arguments(
+    command_with(
         alloc,
-        pick,
+        "pick",
+        "Prints what a numbered connection meets, from the files and the seed alone",
+        help::PICK,
         &[
             config().needed(),
             script().needed(),
@@ -154,10 +176,13 @@ fn pick<'a>(alloc: Global) -> Result<Command<'a>, AllocError> {
 }
 
 fn migrate<'a>(alloc: Global) -> Result<Command<'a>, AllocError> {
-    let migrate = Command::new(alloc, "migrate")
-        .about("Prints a script of version 1 as a script of version 2")
-        .after_help(help::MIGRATE);
-    with_arguments(alloc, migrate, &[script().needed()])
+    command_with(
+        alloc,
+        "migrate",
+        "Prints a script of version 1 as a script of version 2",
+        help::MIGRATE,
+        &[script().needed()],
+    )
 }
 
 pub(crate) fn config() -> Argument {

@@ -2,7 +2,7 @@
 ghost use Rattle.std.specs.Prelude.{◌≤◌};
 
 use crate::argument::Argument;
-use crate::commands::{config, connections, json, proxy, script, seed, with_arguments};
+use crate::commands::{command_with, config, connections, json, proxy, script, seed};
 use crate::help;
 use clap::{ArgMatches, Command};
 use std::alloc::{AllocError, Global};
@@ -31,11 +31,6 @@ pub struct ForecastArguments<'a> {
 
 /// The command.
 pub(crate) fn forecast<'a>(alloc: Global) -> Result<Command<'a>, AllocError> {
-    let forecast = Command::new(alloc, "forecast")
-        .about(
-            "Prints what the connections of a proxy will meet, and how often each toxic is applied",
-        )
-        .after_help(help::FORECAST);
     let stream = Argument::option(
         "stream",
         "STREAM",
@@ -46,9 +41,11 @@ pub(crate) fn forecast<'a>(alloc: Global) -> Result<Command<'a>, AllocError> {
         "NAME",
         "Only lines with an applied toxic of this name",
     );
-    with_arguments(
+    command_with(
         alloc,
-        forecast,
+        "forecast",
+        "Prints what the connections of a proxy will meet, and how often each toxic is applied",
+        help::FORECAST,
         &[
             config().needed(),
             script().needed(),

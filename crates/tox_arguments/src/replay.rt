@@ -1,6 +1,6 @@
 //! The command `replay` and its options.
 use crate::argument::Argument;
-use crate::commands::{json, with_arguments};
+use crate::commands::{command_with, json};
 use crate::help;
 use clap::{ArgMatches, Command};
 use std::alloc::{AllocError, Global};
@@ -49,9 +49,6 @@ impl<'a> ReplayArguments<'a> {
 
 /// The command.
 pub(crate) fn replay<'a>(alloc: Global) -> Result<Command<'a>, AllocError> {
-    let replay = Command::new(alloc, "replay")
-        .about("Says of each log of `serve` whether it is faithful, and how late it was")
-        .after_help(help::REPLAY);
     let arrivals = Argument::flag(
         "arrivals",
         "Prints what the log heard as the arrivals of `dry`, its bytes as zeros",
@@ -71,9 +68,11 @@ pub(crate) fn replay<'a>(alloc: Global) -> Result<Command<'a>, AllocError> {
     )
     .beside(&["result"]);
     let json = json().without(&["arrivals", "words", "result"]);
-    with_arguments(
+    command_with(
         alloc,
-        replay,
+        "replay",
+        "Says of each log of `serve` whether it is faithful, and how late it was",
+        help::REPLAY,
         &[arrivals, words, result, other, json, files()],
     )
 }

@@ -1,6 +1,6 @@
 //! The command `report` and its options.
 use crate::argument::Argument;
-use crate::commands::with_arguments;
+use crate::commands::command_with;
 use crate::help;
 use crate::replay::{files, strs_of};
 use clap::{ArgMatches, Command};
@@ -23,16 +23,19 @@ pub struct ReportArguments<'a> {
 
 /// The command.
 pub(crate) fn report<'a>(alloc: Global) -> Result<Command<'a>, AllocError> {
-    let report = Command::new(alloc, "report")
-        .about("Prints a page of a run: what its logs are, with their pictures")
-        .after_help(help::REPORT);
     let pictures = Argument::option(
         "pictures",
         "N",
         "How many of the first rows have pictures, 0 to 1000000 [default: 100]",
     )
     .within(0, MAX_PICTURES);
-    with_arguments(alloc, report, &[pictures, files()])
+    command_with(
+        alloc,
+        "report",
+        "Prints a page of a run: what its logs are, with their pictures",
+        help::REPORT,
+        &[pictures, files()],
+    )
 }
 
 /// What the command is given.

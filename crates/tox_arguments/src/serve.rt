@@ -1,6 +1,6 @@
 //! The command `serve` and its options.
 use crate::argument::Argument;
-use crate::commands::{config, connections, json, script, seed, with_arguments};
+use crate::commands::{command_with, config, connections, json, script, seed, with_arguments};
 use crate::help;
 use clap::{ArgMatches, Command};
 use std::alloc::{AllocError, Global};
@@ -83,10 +83,13 @@ pub struct LogArguments<'a> {
 
 /// The command.
 pub(crate) fn serve<'a>(alloc: Global) -> Result<Command<'a>, AllocError> {
-    let serve = Command::new(alloc, "serve")
-        .about("Listens for each proxy, and carries its connections under their toxics")
-        .after_help(help::SERVE);
-    let serve = with_arguments(alloc, serve, &source_arguments())?;
+    let serve = command_with(
+        alloc,
+        "serve",
+        "Listens for each proxy, and carries its connections under their toxics",
+        help::SERVE,
+        &source_arguments(),
+    )?;
     let serve = with_arguments(alloc, serve, &link_arguments())?;
     with_arguments(alloc, serve, &output_arguments())
 }

@@ -1,6 +1,6 @@
 //! The command `help`: of a command, of toxics, scripts and faults, and of a fault by its code.
 use crate::argument::Argument;
-use crate::commands::with_arguments;
+use crate::commands::command_with;
 use crate::faults::fault_of;
 use crate::help;
 use clap::Command;
@@ -17,17 +17,18 @@ pub enum HelpText {
 
 /// The command.
 pub(crate) fn help_command<'a>(alloc: Global) -> Result<Command<'a>, AllocError> {
-    let help = Command::new(alloc, "help")
-        .about(
-            "Prints the help of a command, of toxics, scripts or faults, or of a fault by its code",
-        )
-        .after_help(help::HELP);
     let topic = Argument::place(
         "topic",
         "TOPIC",
         "A command, toxics, scripts, faults, or the code of a fault",
     );
-    with_arguments(alloc, help, &[topic])
+    command_with(
+        alloc,
+        "help",
+        "Prints the help of a command, of toxics, scripts or faults, or of a fault by its code",
+        help::HELP,
+        &[topic],
+    )
 }
 
 /// The text of a topic that is no command.
