@@ -1,5 +1,5 @@
 //! The book of a proxy's links: which were opened, the bytes that passed on each side, and how each side ended.
-ghost use Rattle.std.specs.Prelude.{◌≡◌, ◌+◌, ◌<◌, ◌≤◌, ◌↔◌, [], ◌∷◌, ◌++◌, length, All, MatchResult, slice_index_or, IfOk, OnErr, Ok, Err};
+ghost use Rattle.std.specs.Prelude.{◌≡◌, ◌+◌, ◌<◌, ◌≤◌, ◌↔◌, [], ◌∷◌, ◌++◌, length, All, MatchResult, slice_index_or, IfOk, OnErr, OnOk, Ok, Err};
 ghost use Rattle.tox_book.specs.Links.{IsBounded, MakesChange, changed, new_link, running_link, total_of, with_bytes, with_end};
 ghost use Rattle.tox_book.specs.declared.book.OpenFault.TheVariants.{BookFull};
 
@@ -69,7 +69,8 @@ impl Book {
 
     /// Opens a link, and returns its number. An `Err` changes nothing.
     pub fn opened(&mut self) -> Result<u64, OpenFault>
-        ensures opened { IfOk result (λ number. (self.new ≡ self.old ++ new_link ∷ []) × (number ≡ length self.new)) }
+        ensures opened { OnOk result (self.new ≡ self.old ++ new_link ∷ []) }
+        ensures number { IfOk result (λ number. number ≡ length self.new) }
         ensures bound { IfOk result (λ number. number ≤ 1_000_000) }
         ensures refused { OnErr result (self.new ≡ self.old) }
         ensures full { (length self.old ≡ 1_000_000) ↔ (result ≡ Err BookFull) }
@@ -120,7 +121,8 @@ impl Book {
 
     /// Counts more bytes of a side of a link. An `Err` changes nothing.
     pub fn add_bytes(&mut self, number: u64, stream: Stream, count: u64) -> Result<(), BookFault>
-        ensures { MakesChange self.old result self.new (changed (with_bytes count) self.old number stream) }
+        ensures { MakesChange self.old result self.new
+            (changed (with_bytes count) self.old number stream) }
     {
         let (place, link) = self.running(number, stream)?;
         let side = link.side(stream);
@@ -143,7 +145,8 @@ impl Book {
         stream: Stream,
         ending: Option<Ending>,
     ) -> Result<(), BookFault>
-        ensures { MakesChange self.old result self.new (changed (with_end ending) self.old number stream) }
+        ensures { MakesChange self.old result self.new
+            (changed (with_end ending) self.old number stream) }
     {
         let (place, link) = self.running(number, stream)?;
         let side = Side {

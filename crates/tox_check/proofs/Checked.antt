@@ -9,7 +9,7 @@ use Rattle.tox_text.specs.declared.pick_text.PrintPickFault.TheVariants.{OutOfMe
 use Rattle.tox_text.proofs.Writes.{AppendsFront-more, append_known-nil}
 use Rattle.tox_check.specs.Checking.{AreRuns, Checks, PrintsCheck, StopsCheck, end_text, has_failed, held, met}
 use Rattle.tox_check.specs.Lines.{check_lines}
-use Rattle.tox_check.specs.Printing.{joined}
+use Rattle.tox_check.specs.Printing.{joined_lines}
 use Rattle.tox_check.specs.declared.run.Run.{Run}
 use Rattle.tox_check.proofs.AllRuns.{all_runs}
 use Rattle.tox_check.proofs.EndedWrites.{Writes-ended}
@@ -18,7 +18,7 @@ use Rattle.tox_check.proofs.NeverTold.{TellsNever-runs}
 module _ (proxies : List Proxy) (script : Rules) (verbose : Bool) where
   -- the lines by these runs, and the last one
   checks : (runs : List ℕ → List Run) → AreRuns proxies script runs → (warned : ℕ) → warned ≡ held (length (check_lines proxies script runs))
-      → Checks proxies script verbose (joined (check_lines proxies script runs) ++ end_text verbose proxies script) warned
+      → Checks proxies script verbose (joined_lines (check_lines proxies script runs) ++ end_text verbose proxies script) warned
   checks runs are warned counted = record {
     runs = runs;
     are_runs = are;
@@ -39,27 +39,27 @@ module _ (proxies : List Proxy) (script : Rules) (verbose : Bool) where
 
   -- the lines broke off
   pub StopsCheck-lines : (runs : List ℕ → List Run) → AreRuns proxies script runs → (old new : Option (List ℕ)) (failed : Bool) (fault : PrintPickFault)
-      → AppendsFront old new (joined (check_lines proxies script runs)) × (failed ≡ has_failed fault) → StopsCheck proxies script verbose old new failed fault
+      → AppendsFront old new (joined_lines (check_lines proxies script runs)) × (failed ≡ has_failed fault) → StopsCheck proxies script verbose old new failed fault
   StopsCheck-lines runs are old new failed fault front = record {
     text = _;
     warned = _;
     checks = checks runs are _ refl;
-    left = AppendsFront-more old new (joined (check_lines proxies script runs)) (end_text verbose proxies script) front.0;
+    left = AppendsFront-more old new (joined_lines (check_lines proxies script runs)) (end_text verbose proxies script) front.0;
     told = front.1;
   }
 
   -- what waited was not written, or not the last line
   pub StopsCheck-end : (runs : List ℕ → List Run) → AreRuns proxies script runs → (first old new : Option (List ℕ)) (waiting : List ℕ) (failed : Bool) (fault : EndFault)
-      → Passes first [] old waiting (joined (check_lines proxies script runs)) → Writes (Err fault) old new failed (waiting ++ end_text verbose proxies script)
+      → Passes first [] old waiting (joined_lines (check_lines proxies script runs)) → Writes (Err fault) old new failed (waiting ++ end_text verbose proxies script)
       → StopsCheck proxies script verbose first new failed WriteFault
   StopsCheck-end runs are first old new waiting failed fault passed wrote =
-      let front = Writes-ended (Err fault) first old new failed [] waiting (joined (check_lines proxies script runs)) (end_text verbose proxies script) passed wrote in
+      let front = Writes-ended (Err fault) first old new failed [] waiting (joined_lines (check_lines proxies script runs)) (end_text verbose proxies script) passed wrote in
       record { text = _; warned = _; checks = checks runs are _ refl; left = front.0; told = front.1 }
 
   -- all was written
   pub PrintsCheck-end : (runs : List ℕ → List Run) → AreRuns proxies script runs → (first old new : Option (List ℕ)) (waiting : List ℕ) (failed : Bool) (warned : ℕ)
-      → warned ≡ held (length (check_lines proxies script runs)) → Passes first [] old waiting (joined (check_lines proxies script runs))
+      → warned ≡ held (length (check_lines proxies script runs)) → Passes first [] old waiting (joined_lines (check_lines proxies script runs))
       → Writes {E = EndFault} (Ok tt) old new failed (waiting ++ end_text verbose proxies script) → PrintsCheck proxies script verbose first new warned
   PrintsCheck-end runs are first old new waiting failed warned counted passed wrote =
-      let whole = Writes-ended (Ok tt) first old new failed [] waiting (joined (check_lines proxies script runs)) (end_text verbose proxies script) passed wrote in
+      let whole = Writes-ended (Ok tt) first old new failed [] waiting (joined_lines (check_lines proxies script runs)) (end_text verbose proxies script) passed wrote in
       record { text = _; checks = checks runs are warned counted; written = whole.0 }

@@ -4,7 +4,7 @@ use Rattle.std.proofs.lemmas.Grind.{flat_map-append}
 use Rattle.std.proofs.lemmas.List.{length-map, take_more}
 use Rattle.tox_text.proofs.Listed.{IsAt}
 use Rattle.tox_check.specs.Checking.{held}
-use Rattle.tox_check.specs.Printing.{joined}
+use Rattle.tox_check.specs.Printing.{joined_lines}
 use Rattle.tox_check.specs.Sentences.{sentence, told}
 use Rattle.tox_check.specs.declared.warning.Warning.{Warning}
 
@@ -12,17 +12,17 @@ use Rattle.tox_check.specs.declared.warning.Warning.{Warning}
 abbrev pub lines_of : ℕ → List Warning → List (List ℕ)
 lines_of number warnings = map (λ text. (codes "rule " ++ decimal number) ++ text) (map told warnings)
 
-pub joined-lines_of : (number : ℕ) (warnings : List Warning) → flat_map (sentence number) warnings ≡ joined (lines_of number warnings)
-joined-lines_of number [] = refl
-joined-lines_of number (warning ∷ warnings) = ap (λ lines. sentence number warning ++ lines) (joined-lines_of number warnings)
+pub joined_lines-lines_of : (number : ℕ) (warnings : List Warning) → flat_map (sentence number) warnings ≡ joined_lines (lines_of number warnings)
+joined_lines-lines_of number [] = refl
+joined_lines-lines_of number (warning ∷ warnings) = ap (λ lines. sentence number warning ++ lines) (joined_lines-lines_of number warnings)
 
 pub length-lines_of : (number : ℕ) (warnings : List Warning) → length (lines_of number warnings) ≡ length warnings
 length-lines_of number warnings = length-map (map told warnings) (λ text. (codes "rule " ++ decimal number) ++ text) ∙ length-map warnings told
 
 -- lines by elements of a list, joined element by element
-pub joined-flat_map : {X : Type 0} (f : X → List (List ℕ)) (xs : List X) → flat_map (λ x. joined (f x)) xs ≡ joined (flat_map f xs)
-joined-flat_map f [] = refl
-joined-flat_map f (x ∷ xs) = ap (λ lines. joined (f x) ++ lines) (joined-flat_map f xs) ∙ sym (flat_map-append (λ line. line) (f x) (flat_map f xs))
+pub joined_lines-flat_map : {X : Type 0} (f : X → List (List ℕ)) (xs : List X) → flat_map (λ x. joined_lines (f x)) xs ≡ joined_lines (flat_map f xs)
+joined_lines-flat_map f [] = refl
+joined_lines-flat_map f (x ∷ xs) = ap (λ lines. joined_lines (f x) ++ lines) (joined_lines-flat_map f xs) ∙ sym (flat_map-append (λ line. line) (f x) (flat_map f xs))
 
 -- a number is added to one that is held
 pub held-plus : (most a b : ℕ) → min (min a most + b) most ≡ min (a + b) most

@@ -9,7 +9,7 @@ use Rattle.tox_script.specs.Rule.{Rule, Rules}
 use Rattle.tox_script.specs.Scopes.{RuleScope, scope_of}
 use Rattle.tox_script.specs.index.Numbered.{chains_numbered, order_numbered}
 use Rattle.tox_check.specs.Coverage.{last_of, within}
-use Rattle.tox_check.specs.Lines.{names_of, known_told, met_told, proxy_told, rule_told, toxics_told}
+use Rattle.tox_check.specs.Lines.{known_told, met_told, proxy_names, proxy_told, rule_told, toxics_told}
 use Rattle.tox_near.specs.Nearest.{nearest}
 use Rattle.tox_check.specs.Sentences.{unknown_text}
 use Rattle.tox_check.specs.Told.{runs_by}
@@ -26,10 +26,10 @@ known_lines script number scope tree proxy =
 
 module _ (script : Rules) (proxies : List Proxy) (trees : List (Option RunTree)) (number : ℕ) (rule : Rule) (is : slice_get script.rules number ≡ Some rule) (scope : RuleScope) (same : scope ≡ scope_of rule) where
   pub rule_told-unknown : position (is_named scope.proxy) proxies ≡ None
-      → unknown_text scope.proxy (nearest scope.proxy (names_of proxies)) ∷ [] ≡ rule_told proxies (runs_named proxies trees) (number + 1) rule
+      → unknown_text scope.proxy (nearest scope.proxy (proxy_names proxies)) ∷ [] ≡ rule_told proxies (runs_named proxies trees) (number + 1) rule
   rule_told-unknown none =
       let nowhere = ap (λ (s : RuleScope). position (is_named s.proxy) proxies) (sym same) ∙ none in
-      ap (λ (s : RuleScope). unknown_text s.proxy (nearest s.proxy (names_of proxies)) ∷ []) same
+      ap (λ (s : RuleScope). unknown_text s.proxy (nearest s.proxy (proxy_names proxies)) ∷ []) same
       ∙ ap (known_told proxies (number + 1) rule (runs_named proxies trees rule.proxy)) (sym (position-none (is_named rule.proxy) proxies nowhere))
 
   pub rule_told-known : AreTrees script proxies trees → (d : Proxy) (e : Option RunTree) (place : ℕ) → position (is_named scope.proxy) proxies ≡ Some place

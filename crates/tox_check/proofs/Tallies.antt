@@ -1,6 +1,6 @@
 -- Runs of other rules in a tally.
 use Rattle.std.proofs.Common.{◌≡◌, ℕ, ◌<◌, ◌≤◌, false, cond, not, List, [], ◌∷◌, max, arith, refl, ap, ◌∙◌}
-use Rattle.tox_check.specs.Coverage.{meets, own_of, taken_of}
+use Rattle.tox_check.specs.Coverage.{meets_rule, own_of, taken_of}
 use Rattle.tox_check.specs.Summary.{greatest}
 use Rattle.tox_check.specs.declared.run.Run.{Run}
 
@@ -10,7 +10,7 @@ from_first rule [] = omega arith
 from_first rule (run ∷ runs) = let h : max rule run.rule ≤ greatest (max rule run.rule) runs = from_first (max rule run.rule) runs in omega arith
 
 -- a run of another rule
-other : (rule : ℕ) (run : Run) → run.rule < rule → meets rule run ≡ false
+other : (rule : ℕ) (run : Run) → run.rule < rule → meets_rule rule run ≡ false
 other rule run below = grind arith
 
 -- runs of rules before one

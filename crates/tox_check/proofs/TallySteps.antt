@@ -3,7 +3,7 @@ use Rattle.std.proofs.Common.{◌≡◌, ℕ, ◌+◌, ◌<◌, ◌≤◌, not, 
 use Rattle.std.proofs.lemmas.List.{take-append-le}
 use Rattle.std.proofs.lemmas.List.Elements.{filter-append}
 use Rattle.std.proofs.lemmas.List.Sums.{fold-append}
-use Rattle.tox_check.specs.Coverage.{meets, own_of, taken_of}
+use Rattle.tox_check.specs.Coverage.{meets_rule, own_of, taken_of}
 use Rattle.tox_check.specs.Listed.{IsListed}
 use Rattle.tox_check.specs.Summary.{Sums, greatest, least}
 use Rattle.tox_check.specs.Tallied.{TalliesRuns}
@@ -25,10 +25,10 @@ IsListed-skip xs ys old new full shown more is =
     }
 
 own_of-append : (rule : ℕ) (runs more : List Run) → own_of rule (runs ++ more) ≡ own_of rule runs ++ own_of rule more
-own_of-append rule runs more = filter-append (meets rule) runs more
+own_of-append rule runs more = filter-append (meets_rule rule) runs more
 
 taken_of-append : (rule : ℕ) (runs more : List Run) → taken_of rule (runs ++ more) ≡ taken_of rule runs ++ taken_of rule more
-taken_of-append rule runs more = filter-append (λ run. not (meets rule run)) runs more
+taken_of-append rule runs more = filter-append (λ run. not (meets_rule rule run)) runs more
 
 least-append : (rule : ℕ) (xs ys : List Run) → least rule (xs ++ ys) ≡ least (least rule xs) ys
 least-append rule xs ys = fold-append (λ low (run : Run). min low run.rule) rule xs ys

@@ -65,12 +65,12 @@ abbrev pub proxy_told : Proxy → List (List ℕ)
 proxy_told proxy = if proxy.enabled then [] else disabled_text proxy.name ∷ []
 
 -- the names of proxies
-abbrev pub names_of : List Proxy → List (List ℕ)
-names_of proxies = map (λ proxy. proxy.name) proxies
+abbrev pub proxy_names : List Proxy → List (List ℕ)
+proxy_names proxies = map (λ proxy. proxy.name) proxies
 
 -- what is told of the rule of a number from 1, by its proxy, if there is one, and by the runs of this
 abbrev pub known_told : List Proxy → ℕ → Rule → List Run → Option Proxy → List (List ℕ)
-known_told proxies number rule runs None = unknown_text rule.proxy (nearest rule.proxy (names_of proxies)) ∷ []
+known_told proxies number rule runs None = unknown_text rule.proxy (nearest rule.proxy (proxy_names proxies)) ∷ []
 known_told proxies number rule runs (Some proxy) =
     met_told number (within rule.first (last_of rule.last) runs)
     ++ (toxics_told rule.chains rule.order ++ proxy_told proxy)

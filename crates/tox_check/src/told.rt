@@ -5,7 +5,7 @@ ghost use Rattle.tox_config.specs.Populate.{is_named};
 ghost use Rattle.tox_script.specs.Rule.{Rule};
 ghost use Rattle.tox_script.specs.index.Numbered.{chains_numbered, order_numbered};
 ghost use Rattle.tox_check.specs.Coverage.{last_of, within};
-ghost use Rattle.tox_check.specs.Lines.{met_told, names_of, proxy_told, rule_told, toxics_told};
+ghost use Rattle.tox_check.specs.Lines.{met_told, proxy_names, proxy_told, rule_told, toxics_told};
 ghost use Rattle.tox_check.specs.Sentences.{told, unknown_text};
 ghost use Rattle.tox_check.specs.Told.{IsTreeOf, TellMore, runs_by};
 ghost use Rattle.tox_check.specs.Trees.{AreTrees, runs_named};
@@ -65,7 +65,7 @@ fn unknown<'a>(
     proxies: &'a [ProxyDef],
 ) -> Result<Vec<Warning<'a>>, AllocError>
     ensures { IfOk result (λ warnings. map told warnings.items
-        ≡ unknown_text name.now (nearest name.now (names_of proxies.now)) ∷ []) }
+        ≡ unknown_text name.now (nearest name.now (proxy_names proxies.now)) ∷ []) }
 {
     let names = names_of(alloc, proxies)?;
     let near = nearest(alloc, name, &names)?;
@@ -77,7 +77,7 @@ fn unknown<'a>(
 /// The names of proxies.
 fn names_of<'a>(alloc: Global, proxies: &'a [ProxyDef]) -> Result<Vec<&'a str>, AllocError>
     ensures { IfOk result
-        (λ names. map (λ name. name.now) names.items ≡ names_of proxies.now) }
+        (λ names. map (λ name. name.now) names.items ≡ proxy_names proxies.now) }
 {
     let mut names = Vec::new(alloc);
     for proxy in proxies {

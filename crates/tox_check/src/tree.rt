@@ -1,6 +1,6 @@
 //! A tree over the runs of a proxy. Each fork has a summary of its runs, so that a range of connections is tallied quickly.
 ghost use Rattle.std.specs.Prelude.{◌≡◌, ◌+◌, ◌<◌, ◌≤◌, ◌^◌, ◌↔◌, ◌⊎◌, ◌++◌, ◌∷◌, [], IsTrue, List, length, IfOk};
-ghost use Rattle.tox_check.specs.Coverage.{cut, reaches, within};
+ghost use Rattle.tox_check.specs.Coverage.{cut_to_range, reaches, within};
 ghost use Rattle.tox_check.specs.declared.run.Run.{Run as SomeRun};
 ghost use Rattle.tox_check.specs.Summary.{Orders, Sums};
 ghost use Rattle.tox_check.specs.Tallied.{TalliesMore, unshown_count};

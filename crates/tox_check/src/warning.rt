@@ -174,7 +174,8 @@ fn print_partly<W: Sink>(
 ) -> Result<(), EndFault>
     requires { W.failed writer.old ≡ false }
     ensures { Prints result (W.written writer.old) buffer.old (W.written writer.new) buffer.new
-        (W.failed writer.new) (partly_text own.now.shown.items own.now.more taken.now.shown.items taken.now.more) }
+        (W.failed writer.new) (partly_text
+        own.now.shown.items own.now.more taken.now.shown.items taken.now.more) }
 {
     buffer.print(writer, &[Word(" applies to ")])?;
     print_ranges(buffer, writer, own.shown.as_slice())?;

@@ -2,7 +2,7 @@
 use Rattle.std.proofs.Common.{◌≡◌, ℕ, ◌<◌, ◌≤◌, Bool, true, false, List, [], ◌∷◌, ◌&&◌, nat_lt, nat_le, refl, arith, cond, unwrap_or, Some}
 use Rattle.std.specs.Int.{div_ceil}
 use Rattle.std.specs.List.{find, list_all}
-use Rattle.tox_draw.specs.Axes.{first_from, step_of, steps}
+use Rattle.tox_draw.specs.Axes.{axis_steps, first_from, step_of}
 
 -- whether a step is above 0 and not greater than the last
 abbrev pub is_step : ℕ → Bool
@@ -28,5 +28,5 @@ in_range : (step : ℕ) → is_step step ≡ true → (0 < step) × (step ≤ 50
 in_range step is = (grind arith, grind arith)
 
 pub step_of-in_range : (greatest : ℕ) → (0 < step_of greatest) × (step_of greatest ≤ 500000000000000)
-unfolding step_of steps
-step_of-in_range greatest = in_range _ (first_from-is_step steps (div_ceil greatest 8) refl)
+unfolding step_of axis_steps
+step_of-in_range greatest = in_range _ (first_from-is_step axis_steps (div_ceil greatest 8) refl)

@@ -5,7 +5,7 @@ use Rattle.std.proofs.lemmas.List.Sums.{sum_by-append}
 use Rattle.std.proofs.lemmas.List.Folds.{sum_by-replicate}
 use Rattle.tox_draw.specs.declared.frame.Frame.{Frame}
 use Rattle.tox_draw.specs.Frames.{column_of}
-use Rattle.tox_draw.specs.Lines.{in_column, in_first, last_of}
+use Rattle.tox_draw.specs.Lines.{in_column, in_first, last_byte_at}
 
 one : (n k : ℕ) → cond {A = ℕ} (nat_lt n (k + 1)) 1 0 ≡ cond (nat_lt n k) 1 0 + cond (n == k) 1 0
 one n k = grind arith
@@ -66,18 +66,18 @@ in_column-more frame table len t column =
     sum_by-append (λ u. cond (column_of frame (Some u) == column) 1 0) table (replicate len t)
     ∙ ap (λ n. in_column frame table column + n) (sum_by-replicate (λ u. cond (column_of frame (Some u) == column) 1 0) len t)
 
-last_of-append : (before : ℕ) (xs ys : List ℕ) → fold (λ a t. t) before (xs ++ ys) ≡ fold (λ a t. t) (fold (λ a t. t) before xs) ys
-last_of-append before [] ys = refl
-last_of-append before (x ∷ xs) ys = last_of-append x xs ys
+last_byte_at-append : (before : ℕ) (xs ys : List ℕ) → fold (λ a t. t) before (xs ++ ys) ≡ fold (λ a t. t) (fold (λ a t. t) before xs) ys
+last_byte_at-append before [] ys = refl
+last_byte_at-append before (x ∷ xs) ys = last_byte_at-append x xs ys
 
-last_of-replicate : (n t before : ℕ) → fold (λ a u. u) before (replicate (suc n) t) ≡ t
-last_of-replicate zero t before = refl
-last_of-replicate (suc n) t before = last_of-replicate n t t
+last_byte_at-replicate : (n t before : ℕ) → fold (λ a u. u) before (replicate (suc n) t) ≡ t
+last_byte_at-replicate zero t before = refl
+last_byte_at-replicate (suc n) t before = last_byte_at-replicate n t t
 
 -- the last of them
-pub last_of-more : (table : List ℕ) (len t : ℕ) → 0 < len → last_of (table ++ replicate len t) ≡ t
-last_of-more table zero t some = absurd (omega arith)
-last_of-more table (suc n) t some = last_of-append 0 table (replicate (suc n) t) ∙ last_of-replicate n t (last_of table)
+pub last_byte_at-more : (table : List ℕ) (len t : ℕ) → 0 < len → last_byte_at (table ++ replicate len t) ≡ t
+last_byte_at-more table zero t some = absurd (omega arith)
+last_byte_at-more table (suc n) t some = last_byte_at-append 0 table (replicate (suc n) t) ∙ last_byte_at-replicate n t (last_byte_at table)
 
 -- a line that has one column more
 pub line_next : (ys : List ℕ) (at new : ℕ) (y : ℕ → ℕ) → length ys ≡ 751 → at < 751 → new ≡ y at → ((k : ℕ) → k < at → slice_index ys k ≡ y k) → (k : ℕ) → k < at + 1 → slice_index (set ys at new) k ≡ y k

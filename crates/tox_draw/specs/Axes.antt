@@ -9,8 +9,8 @@ abbrev pub round_ones : ℕ → List ℕ
 round_ones power = power ∷ 2 * power ∷ 5 * power ∷ []
 
 -- the steps, up to 5 * 10^14
-unfoldable pub steps : List ℕ
-steps =
+unfoldable pub axis_steps : List ℕ
+axis_steps =
     flat_map round_ones
     (1 ∷ 10 ∷ 100 ∷ 1000 ∷ 10000 ∷ 100000 ∷ 1000000 ∷ 10000000 ∷ 100000000 ∷ 1000000000
     ∷ 10000000000 ∷ 100000000000 ∷ 1000000000000 ∷ 10000000000000 ∷ 100000000000000 ∷ [])
@@ -21,7 +21,7 @@ first_from steps least = unwrap_or (find (λ step. nat_le least step) steps) 500
 
 -- the smallest step that is at least an eighth of a greatest value: at most eight of it reach that value
 unfoldable pub step_of : ℕ → ℕ
-step_of greatest = first_from steps (div_ceil greatest 8)
+step_of greatest = first_from axis_steps (div_ceil greatest 8)
 
 -- the axis of a step: so many of it that a value is reached
 abbrev pub axis_by : ℕ → ℕ → Axis

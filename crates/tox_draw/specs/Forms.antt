@@ -50,5 +50,5 @@ applied_forms draws mark place (entry ∷ entries) =
     ++ applied_forms draws (mark_behind mark (is_applied entry place draws)) (place + 1) entries
 
 -- a form of more than 94 characters, as the heading shows it
-abbrev pub cut : List ℕ → List ℕ
-cut form = take 91 form ++ codes "..."
+abbrev pub cut_form : List ℕ → List ℕ
+cut_form form = take 91 form ++ codes "..."

@@ -9,8 +9,8 @@ abbrev pub texts_of : List (String Global) → List (List ℕ)
 texts_of forms = map string_bytes forms
 
 -- the start of a line
-abbrev pub opening : ℕ → List ℕ
-opening line =
+abbrev pub heading_line_start : ℕ → List ℕ
+heading_line_start line =
     codes "<text class=\"chain\" x=\"64\" y=\"" ++ decimal (32 + 20 * line) ++ codes "\">"
 
 -- how many characters fit into a line
@@ -24,7 +24,7 @@ rest place (form ∷ forms) =
     if nat_le (place.used + length form + 3) (limit_of place.line)
     then codes " &#8594; " ++ form ++ rest (record { line = place.line; used = place.used + length form + 3 }) forms
     else (if place.line == 2 then codes " + " ++ decimal (length forms + 1) ++ codes " more</text>\n"
-    else codes "</text>\n" ++ opening (place.line + 1) ++ codes "&#8594; " ++ form
+    else codes "</text>\n" ++ heading_line_start (place.line + 1) ++ codes "&#8594; " ++ form
     ++ rest (record { line = place.line + 1; used = length form + 2 }) forms)
 
 -- how many lines there then are
@@ -38,7 +38,7 @@ rest_lines place (form ∷ forms) =
 
 -- the one line of a chain without toxics
 unfoldable pub no_toxics : List ℕ
-no_toxics = opening 0 ++ codes "no toxics</text>\n"
+no_toxics = heading_line_start 0 ++ codes "no toxics</text>\n"
 
 -- the place behind the first form
 abbrev pub behind_first : List ℕ → HeadingPlace
@@ -46,7 +46,7 @@ behind_first form = record { line = 0; used = length form }
 
 -- the first form, and then the others
 unfoldable pub first_on : List ℕ → List (List ℕ) → List ℕ
-first_on form forms = opening 0 ++ (form ++ rest (behind_first form) forms)
+first_on form forms = heading_line_start 0 ++ (form ++ rest (behind_first form) forms)
 
 -- the lines of the heading
 abbrev pub heading : List (List ℕ) → List ℕ
@@ -54,6 +54,6 @@ heading [] = no_toxics
 heading (form ∷ forms) = first_on form forms
 
 -- how many they are
-abbrev pub heading_lines : List (List ℕ) → ℕ
-heading_lines [] = 1
-heading_lines (form ∷ forms) = rest_lines (behind_first form) forms
+abbrev pub heading_line_count : List (List ℕ) → ℕ
+heading_line_count [] = 1
+heading_line_count (form ∷ forms) = rest_lines (behind_first form) forms

@@ -4,7 +4,7 @@ use Rattle.tox_draw.specs.declared.frame.Frame.{Frame}
 use Rattle.tox_draw.specs.declared.link_end.LinkEnd.{LinkEnd}
 use Rattle.tox_draw.specs.declared.place.Point.{Point}
 use Rattle.tox_draw.specs.Frames.{x_of, y_of}
-use Rattle.tox_draw.specs.LinkEnds.{end_instant, end_word}
+use Rattle.tox_draw.specs.LinkEnds.{end_instant, link_end_word}
 use Rattle.tox_draw.specs.Parts.{text_end, text_line, text_start}
 use Rattle.tox_draw.specs.Units.{byte_unit, quantity, time_unit}
 
@@ -42,4 +42,4 @@ instant_text None = []
 -- the label of an end
 unfoldable pub end_label : LinkEnd → ℕ → ℕ → List ℕ
 end_label end x y =
-    text_start (codes "mark halo") x y ++ (end_word end ++ (instant_text (end_instant end) ++ text_end))
+    text_start (codes "mark halo") x y ++ (link_end_word end ++ (instant_text (end_instant end) ++ text_end))

@@ -20,9 +20,9 @@ end_instant (Broken t) = Some t
 end_instant (Missing t) = Some t
 
 -- its word
-abbrev pub end_word : LinkEnd → List ℕ
-end_word Open = codes "open"
-end_word (Closed t) = codes "closed"
-end_word (Reset t) = codes "reset"
-end_word (Broken t) = codes "broken"
-end_word (Missing t) = codes "no end"
+abbrev pub link_end_word : LinkEnd → List ℕ
+link_end_word Open = codes "open"
+link_end_word (Closed t) = codes "closed"
+link_end_word (Reset t) = codes "reset"
+link_end_word (Broken t) = codes "broken"
+link_end_word (Missing t) = codes "no end"

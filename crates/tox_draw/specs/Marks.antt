@@ -29,16 +29,16 @@ unfoldable pub vertical : ℕ → ℕ → ℕ → List ℕ
 vertical x top base = path_start (codes "axis") ++ (move_to x top ++ (down base ++ path_end))
 
 -- the vertical line of an end at an instant
-abbrev pub line_at : Frame → ℕ → List ℕ
-line_at frame t = vertical (x_of frame (Some t)) frame.top frame.base
+abbrev pub end_line_at : Frame → ℕ → List ℕ
+end_line_at frame t = vertical (x_of frame (Some t)) frame.top frame.base
 
 -- the vertical line of an end, unless it is open
 abbrev pub end_line : Frame → LinkEnd → List ℕ
 end_line frame Open = []
-end_line frame (Closed t) = line_at frame t
-end_line frame (Reset t) = line_at frame t
-end_line frame (Broken t) = line_at frame t
-end_line frame (Missing t) = line_at frame t
+end_line frame (Closed t) = end_line_at frame t
+end_line frame (Reset t) = end_line_at frame t
+end_line frame (Broken t) = end_line_at frame t
+end_line frame (Missing t) = end_line_at frame t
 
 -- the mark of the source's end, where it ended
 abbrev pub source_mark : Frame → Option ℕ → ℕ → List ℕ

@@ -41,8 +41,8 @@ labelled setting =
     ++ (id_end setting ++ (codes " toxi-desc" ++ (id_end setting ++ codes "\">\n")))
 
 -- the line of the title
-unfoldable pub title_line : Setting → List (List ℕ) → List ℕ
-title_line setting forms =
+unfoldable pub title_element : Setting → List (List ℕ) → List ℕ
+title_element setting forms =
     codes "<title id=\"toxi-title"
     ++ (id_end setting ++ (codes "\">" ++ (title forms ++ codes "</title>\n")))
 
@@ -80,7 +80,7 @@ unfoldable pub front : Picture → List ℕ
 front picture =
     opening (picture.frame.base + 44)
     ++ (labelled picture.setting
-    ++ (title_line picture.setting (texts_of picture.forms.items)
+    ++ (title_element picture.setting (texts_of picture.forms.items)
     ++ (description picture
     ++ (own_style picture.setting ++ paper (picture.frame.base + 44)))))
 

@@ -1,7 +1,7 @@
 -- What a picture says to those who don't see it.
 use Rattle.std.specs.Prelude.{ℕ, ◌==◌, List, [], ◌∷◌, ◌++◌, flat_map, Option, Some, None, codes, decimal, if◌then◌else◌}
 use Rattle.tox_draw.specs.declared.link_end.LinkEnd.{LinkEnd}
-use Rattle.tox_draw.specs.LinkEnds.{end_instant, end_word}
+use Rattle.tox_draw.specs.LinkEnds.{end_instant, link_end_word}
 
 -- the title: the forms in order
 abbrev pub title : List (List ℕ) → List ℕ
@@ -13,13 +13,13 @@ unfoldable pub count : List ℕ → ℕ → List ℕ
 count word total = codes " " ++ word ++ codes " " ++ decimal total ++ codes " B"
 
 -- when the last byte passed
-unfoldable pub last_at : ℕ → List ℕ
-last_at t = codes ", the last at " ++ decimal t ++ codes " us."
+unfoldable pub last_byte_text : ℕ → List ℕ
+last_byte_text t = codes ", the last at " ++ decimal t ++ codes " us."
 
 -- bytes that passed a point of the link, the last at an instant
 unfoldable pub some_passed : List ℕ → ℕ → ℕ → List ℕ
 some_passed word total last =
-    count word total ++ last_at last
+    count word total ++ last_byte_text last
 
 -- what passed a point of the link
 abbrev pub passed : List ℕ → ℕ → ℕ → List ℕ
@@ -38,4 +38,4 @@ ended_at word None = codes " The link stayed open."
 
 -- how the link ended
 abbrev pub ended : LinkEnd → List ℕ
-ended end = ended_at (end_word end) (end_instant end)
+ended end = ended_at (link_end_word end) (end_instant end)

@@ -6,7 +6,7 @@ use Rattle.tox_draw.specs.declared.unit.Unit.{Unit}
 use Rattle.tox_draw.specs.Axes.{part_of}
 use Rattle.tox_draw.specs.Marks.{down}
 use Rattle.tox_draw.specs.Parts.{move_to, path_end, path_start, text_end, text_start}
-use Rattle.tox_draw.specs.Units.{byte_unit, figure, time_unit, unit_name}
+use Rattle.tox_draw.specs.Units.{byte_unit, figure_in_unit, time_unit, unit_name}
 
 -- the texts of the first so many numbers, in order
 abbrev pub firsts : (ℕ → List ℕ) → ℕ → List ℕ
@@ -20,7 +20,7 @@ unit_text last unit = if last then codes " " ++ unit_name unit else []
 -- the value at a place of an axis, in a unit
 unfoldable pub label : Axis → ℕ → Unit → List ℕ
 label axis index unit =
-    figure (index * axis.step) unit ++ (unit_text (index == axis.count) unit ++ text_end)
+    figure_in_unit (index * axis.step) unit ++ (unit_text (index == axis.count) unit ++ text_end)
 
 -- the y at a place of the axis of bytes
 abbrev pub tick_y : Frame → ℕ → ℕ

@@ -35,8 +35,8 @@ byte_unit count =
     else (if nat_le 1000 count then Kilobytes else Bytes))
 
 -- a point and thousandths, without the zeros at their end
-unfoldable pub fraction : ℕ → List ℕ
-fraction r =
+unfoldable pub fraction_text : ℕ → List ℕ
+fraction_text r =
     let first = codes "." ++ decimal (r / 100) in
     if not (r % 10 == 0) then first ++ decimal (r / 10 % 10) ++ decimal (r % 10)
     else (if not (r / 10 % 10 == 0) then first ++ decimal (r / 10 % 10) else first)
@@ -46,12 +46,12 @@ abbrev pub thousandths_of : ℕ → Unit → ℕ
 thousandths_of value unit = value % unit_size unit * 1000 / unit_size unit
 
 -- the figure of a value in a unit
-unfoldable pub figure : ℕ → Unit → List ℕ
-figure value unit =
+unfoldable pub figure_in_unit : ℕ → Unit → List ℕ
+figure_in_unit value unit =
     decimal (value / unit_size unit)
-    ++ (if nat_lt (value / unit_size unit) 1000 && not (thousandths_of value unit == 0) then fraction (thousandths_of value unit)
+    ++ (if nat_lt (value / unit_size unit) 1000 && not (thousandths_of value unit == 0) then fraction_text (thousandths_of value unit)
     else [])
 
 -- its figure, a space, and the unit's name
 unfoldable pub quantity : ℕ → Unit → List ℕ
-quantity value unit = figure value unit ++ codes " " ++ unit_name unit
+quantity value unit = figure_in_unit value unit ++ codes " " ++ unit_name unit

@@ -26,8 +26,9 @@ pub(crate) struct Course {
 impl Course {
     /// Nothing happened yet.
     pub(crate) fn new(alloc: Global) -> Result<Course, AllocError>
-        ensures { IfOk result (λ course. (course.source_end ≡ None)
-            × ((frame : OneFrame) → IsStrand frame [] course.arrived × IsStrand frame [] course.planned)) }
+        ensures ended { IfOk result (λ course. course.source_end ≡ None) }
+        ensures drawn { IfOk result (λ course. (frame : OneFrame)
+            → IsStrand frame [] course.arrived × IsStrand frame [] course.planned) }
     {
         Ok(Course {
             arrived: Strand::new(alloc)?,
@@ -64,7 +65,8 @@ impl Course {
         requires { runner.old.idle ≡ true }
         ensures idle { runner.new.idle ≡ true }
         ensures ended { self.new ≡ record self.old { source_end = Some instant.now } }
-        ensures due { (frame : OneFrame) → DrawsSourceEnd frame self.old.planned runner.old instant.now runner.new }
+        ensures due { (frame : OneFrame)
+            → DrawsSourceEnd frame self.old.planned runner.old instant.now runner.new }
     {
         self.source_end = Some(*instant);
         let end = runner.latest().later(*instant);

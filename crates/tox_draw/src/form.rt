@@ -3,7 +3,7 @@ ghost use Rattle.std.specs.Prelude.{◌≡◌, ◌≤◌, ◌<◌, ◌++◌, cod
 ghost use Rattle.std.specs.List.{zip};
 ghost use Rattle.std.specs.Str.{IsCharBoundary};
 ghost use Rattle.tox_draw.specs.Adding.{AddsText};
-ghost use Rattle.tox_draw.specs.Forms.{applied_forms, bare, cut, form, form_if, in_parentheses, mark_behind, next_mark, pair, pairs};
+ghost use Rattle.tox_draw.specs.Forms.{applied_forms, bare, cut_form, form, form_if, in_parentheses, mark_behind, next_mark, pair, pairs};
 ghost use Rattle.tox_defs.specs.Flow.{chain_draws};
 ghost use Rattle.tox_words.specs.Draw.{draws_of};
 
@@ -104,7 +104,7 @@ fn cut_form(alloc: Global, form: &str) -> Result<String, AllocError>
     ensures short { length form.now ≤ 94
         → IfOk result (λ shown. string_bytes shown ≡ form.now) }
     ensures long { 94 < length form.now → IsCharBoundary form.now 91
-        → IfOk result (λ shown. string_bytes shown ≡ cut form.now) }
+        → IfOk result (λ shown. string_bytes shown ≡ cut_form form.now) }
 {
     if form.len() <= LONGEST {
         return String::from_str(alloc, form);

@@ -3,7 +3,7 @@ ghost use Rattle.std.specs.Prelude.{◌≤◌, OnOk};
 ghost use Rattle.tox_draw.specs.Adding.{AddsText};
 ghost use Rattle.tox_draw.specs.Frames.{IsFrame};
 ghost use Rattle.tox_draw.specs.Headings.{texts_of};
-ghost use Rattle.tox_draw.specs.Pictures.{description, due_told, front, labelled, left_told, opening, paper, sentences, title_line};
+ghost use Rattle.tox_draw.specs.Pictures.{description, due_told, front, labelled, left_told, opening, paper, sentences, title_element};
 
 use crate::curve::Curve;
 use crate::parts::{push_number, push_word};
@@ -55,10 +55,10 @@ fn push_labelled(text: &mut String, setting: &Setting) -> Result<(), AllocError>
 }
 
 /// Adds the line of the title.
-#[tactic(auto, using(crate::proofs::Growing::adds_then), unfolding(crate::specs::Pictures::title_line))]
+#[tactic(auto, using(crate::proofs::Growing::adds_then), unfolding(crate::specs::Pictures::title_element))]
 fn push_title_line(text: &mut String, setting: &Setting, forms: &[String]) -> Result<(), AllocError>
     ensures { OnOk result
-        (AddsText text.old text.new (title_line setting.now (texts_of forms.now))) }
+        (AddsText text.old text.new (title_element setting.now (texts_of forms.now))) }
 {
     push_word(text, "<title id=\"toxi-title")?;
     push_id_end(text, setting)?;

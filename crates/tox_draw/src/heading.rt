@@ -1,7 +1,7 @@
 //! The heading of a picture: its toxics, in one to three lines.
 ghost use Rattle.std.specs.Prelude.{◌≡◌, ◌≤◌, ◌<◌, ◌+◌, ◌^◌, length, string_len, OnOk, IfOk, All};
 ghost use Rattle.tox_draw.specs.Adding.{AddsText};
-ghost use Rattle.tox_draw.specs.Headings.{behind_first, first_on, heading, heading_lines, limit_of, no_toxics, opening, rest, rest_lines, texts_of};
+ghost use Rattle.tox_draw.specs.Headings.{behind_first, first_on, heading, heading_line_count, heading_line_start, limit_of, no_toxics, rest, rest_lines, texts_of};
 
 use crate::parts::push_word;
 use std::alloc::AllocError;
@@ -19,7 +19,7 @@ struct HeadingPlace {
 /// Adds the lines of the heading. Returns how many there are.
 pub(crate) fn push_heading(text: &mut String, forms: &[String]) -> Result<u64, AllocError>
     ensures adds { OnOk result (AddsText text.old text.new (heading (texts_of forms.now))) }
-    ensures lines { IfOk result (λ lines. lines ≡ heading_lines (texts_of forms.now)) }
+    ensures lines { IfOk result (λ lines. lines ≡ heading_line_count (texts_of forms.now)) }
     ensures few { IfOk result (λ lines. lines ≤ 3) }
 {
     let Some((first, others)) = forms.split_first() else {
@@ -59,7 +59,7 @@ fn push_no_toxics(text: &mut String) -> Result<(), AllocError>
 /// Adds the start of a line from 0 to 2.
 fn push_opening(text: &mut String, line: u64) -> Result<(), AllocError>
     requires { line ≤ 2 }
-    ensures { OnOk result (AddsText text.old text.new (opening line)) }
+    ensures { OnOk result (AddsText text.old text.new (heading_line_start line)) }
 {
     let y = 32 + 20 * line;
     write!(text, "<text class=\"chain\" x=\"64\" y=\"{y}\">")

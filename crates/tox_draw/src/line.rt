@@ -1,8 +1,8 @@
 //! A line of a picture: bytes by column.
-ghost use Rattle.std.specs.Prelude.{◌≡◌, ◌<◌, ◌+◌, ℕ, List, [], length, slice_index, IfOk};
+ghost use Rattle.std.specs.Prelude.{◌≡◌, ℕ, List, [], length, IfOk};
 ghost use Rattle.tox_draw.specs.declared.frame.Frame.{Frame as OneFrame};
-ghost use Rattle.tox_draw.specs.Frames.{IsFrame, y_of};
-ghost use Rattle.tox_draw.specs.Lines.{IsCurve, IsStrand, PassesBytes, in_first};
+ghost use Rattle.tox_draw.specs.Frames.{IsFrame};
+ghost use Rattle.tox_draw.specs.Lines.{AreYsOf, IsCurve, IsStrand, PassesBytes};
 
 use crate::curve::Curve;
 use crate::frame::Frame;
@@ -53,9 +53,8 @@ impl Strand {
     fn ys(&self, alloc: Global, frame: &Frame) -> Result<Vec<u16>, AllocError>
         requires { IsFrame frame.now }
         ensures columns { IfOk result (λ ys. length ys.items ≡ 751) }
-        ensures line { IfOk result (λ ys. (table : List ℕ) → IsStrand frame.now table self.now
-            → (column : ℕ) → column < 751
-            → slice_index ys.items column ≡ y_of frame.now (in_first frame.now table (column + 1))) }
+        ensures line { IfOk result (λ ys. (table : List ℕ)
+            → IsStrand frame.now table self.now → AreYsOf frame.now table ys.items) }
     {
         let mut ys = vec![in alloc; 0; COLUMNS]?;
         let mut so_far = 0u64;

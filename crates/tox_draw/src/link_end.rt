@@ -1,6 +1,6 @@
 //! How a drawn link ended.
 ghost use Rattle.std.specs.Prelude.{◌≡◌};
-ghost use Rattle.tox_draw.specs.LinkEnds.{end_instant, end_of, end_word};
+ghost use Rattle.tox_draw.specs.LinkEnds.{end_instant, end_of, link_end_word};
 
 use tox_time::{Ending, Micros};
 
@@ -42,7 +42,7 @@ impl LinkEnd {
     }
 
     pub(crate) fn word(&self) -> &'static str
-        ensures { result.now ≡ end_word self.now }
+        ensures { result.now ≡ link_end_word self.now }
     {
         match self {
             LinkEnd::Open => "open",

@@ -200,7 +200,8 @@ fn hear_lines<R: Source>(
         × (log.new.chain ≡ log.old.chain)) }
     ensures hears { OnOk result ((means : List OneItem → List OneItem)
         → BeginsHearing frame.now means log.old hearing.old runner.old
-        → HearsAll frame.now means (to_hand log.old (R.remaining reader.old)) hearing.new runner.new) }
+        → HearsAll frame.now means (to_hand log.old (R.remaining reader.old)) hearing.new
+        runner.new) }
 {
     'lines: for _ in 0..u64::MAX {
         let Some(line) = log.next_line(reader)? else {

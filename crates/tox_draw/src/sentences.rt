@@ -2,7 +2,7 @@
 ghost use Rattle.std.specs.Prelude.{◌≡◌, OnOk};
 ghost use Rattle.tox_draw.specs.Adding.{AddsText};
 ghost use Rattle.tox_draw.specs.Headings.{texts_of};
-ghost use Rattle.tox_draw.specs.Sentences.{count, ended, last_at, passed, some_passed, source_ended, title};
+ghost use Rattle.tox_draw.specs.Sentences.{count, ended, last_byte_text, passed, some_passed, source_ended, title};
 
 use crate::link_end::LinkEnd;
 use std::alloc::AllocError;
@@ -53,10 +53,10 @@ fn push_some_passed(
     push_last(text, last)
 }
 
-#[tactic(auto, unfolding(crate::specs::Sentences::last_at))]
+#[tactic(auto, unfolding(crate::specs::Sentences::last_byte_text))]
 /// Adds when the last byte passed.
 fn push_last(text: &mut String, last: &Micros) -> Result<(), AllocError>
-    ensures { OnOk result (AddsText text.old text.new (last_at last.now)) }
+    ensures { OnOk result (AddsText text.old text.new (last_byte_text last.now)) }
 {
     let last = last.get();
     write!(text, ", the last at {last} us.")

@@ -1,7 +1,7 @@
 //! Units, and values in them.
 ghost use Rattle.std.specs.Prelude.{◌≡◌, ◌<◌, OnOk};
 ghost use Rattle.tox_draw.specs.Adding.{AddsText};
-ghost use Rattle.tox_draw.specs.Units.{byte_unit, figure, fraction, quantity, time_unit, unit_name, unit_size};
+ghost use Rattle.tox_draw.specs.Units.{byte_unit, figure_in_unit, fraction_text, quantity, time_unit, unit_name, unit_size};
 
 use std::alloc::AllocError;
 
@@ -68,10 +68,10 @@ impl Unit {
     }
 }
 
-#[tactic(auto, unfolding(crate::specs::Units::figure))]
+#[tactic(auto, unfolding(crate::specs::Units::figure_in_unit))]
 /// Adds the figure of a value in a unit: below 1000 with up to three digits behind the point.
 pub(crate) fn push_figure(text: &mut String, value: u64, unit: Unit) -> Result<(), AllocError>
-    ensures { OnOk result (AddsText text.old text.new (figure value unit)) }
+    ensures { OnOk result (AddsText text.old text.new (figure_in_unit value unit)) }
 {
     let size = unit.size();
     let whole = value / size;
@@ -83,11 +83,11 @@ pub(crate) fn push_figure(text: &mut String, value: u64, unit: Unit) -> Result<(
     Ok(())
 }
 
-#[tactic(auto, unfolding(crate::specs::Units::fraction))]
+#[tactic(auto, unfolding(crate::specs::Units::fraction_text))]
 /// Adds a point and thousandths, without the zeros at their end.
 fn push_fraction(text: &mut String, thousandths: u64) -> Result<(), AllocError>
     requires { thousandths < 1000 }
-    ensures { OnOk result (AddsText text.old text.new (fraction thousandths)) }
+    ensures { OnOk result (AddsText text.old text.new (fraction_text thousandths)) }
 {
     let first = thousandths / 100;
     let second = thousandths / 10 % 10;

@@ -5,7 +5,7 @@ use Rattle.tox_time.specs.streams.StreamName.{stream_name}
 use Rattle.tox_text.specs.Json.{array_text}
 use Rattle.tox_text.specs.JsonLine.{event_text, field_text, key_text, number_field, object_line, text_field}
 use Rattle.tox_text.specs.declared.json_line.JsonField.{JsonField}
-use Rattle.tox_forecast.specs.Objects.{number_of, place_items, stream_object, total_object}
+use Rattle.tox_forecast.specs.Objects.{place_items, rule_number, stream_object, total_object}
 
 -- two texts, one behind the other
 beside : {a b c d : List ℕ} → a ≡ b → c ≡ d → a ++ c ≡ b ++ d
@@ -13,7 +13,7 @@ beside first second = ap₂ (λ (x y : List ℕ). x ++ y) first second
 
 pub stream_object-fields : (proxy : List ℕ) (conn : ℕ) (stream : Stream) (rule : Option ℕ) (flags : List Bool) (f1 f2 f3 f4 f5 : JsonField)
     → field_text f1 ≡ text_field (codes "proxy") proxy → field_text f2 ≡ number_field (codes "link") conn
-    → field_text f3 ≡ text_field (codes "stream") (stream_name stream) → field_text f4 ≡ number_field (codes "rule") (number_of rule)
+    → field_text f3 ≡ text_field (codes "stream") (stream_name stream) → field_text f4 ≡ number_field (codes "rule") (rule_number rule)
     → field_text f5 ≡ key_text (codes "applied") ++ array_text (place_items flags)
     → object_line (codes "forecast") (f1 ∷ f2 ∷ f3 ∷ f4 ∷ f5 ∷ []) ≡ stream_object proxy conn stream rule flags
 stream_object-fields proxy conn stream rule flags f1 f2 f3 f4 f5 e1 e2 e3 e4 e5 =

@@ -11,7 +11,7 @@ use Rattle.tox_script.specs.Rule.{Rules}
 use Rattle.tox_script.specs.index.Numbered.{chains_numbered, covering_number, order_numbered}
 use Rattle.tox_forecast.specs.Applied.{flags_for, meets_name}
 use Rattle.tox_forecast.specs.Counted.{numbers_from}
-use Rattle.tox_forecast.specs.Objects.{number_of, stream_object}
+use Rattle.tox_forecast.specs.Objects.{rule_number, stream_object}
 use Rattle.tox_forecast.specs.Totals.{rule_totals, totals_of}
 use Rattle.tox_forecast.specs.declared.question.Question.{Question}
 
@@ -27,7 +27,7 @@ places_text flags = flat_map (λ placed. place_text placed.0 placed.1) (enumerat
 -- the line of a connection's stream, which meets a rule, up to the places
 abbrev pub line_head : ℕ → Stream → Option ℕ → List ℕ
 line_head conn stream rule =
-    decimal conn ++ codes " " ++ stream_name stream ++ codes " rule " ++ decimal (number_of rule)
+    decimal conn ++ codes " " ++ stream_name stream ++ codes " rule " ++ decimal (rule_number rule)
     ++ codes " applied"
 
 -- the line of a connection's stream, which meets a rule
@@ -59,16 +59,16 @@ wanted_line question proxy conn stream rule names flags =
     else []
 
 -- what the forecast says of a connection's stream
-abbrev pub stream_text : Question → List ℕ → Rules → ℕ → Stream → List ℕ
-stream_text question proxy script conn stream =
+abbrev pub stream_forecast : Question → List ℕ → Rules → ℕ → Stream → List ℕ
+stream_forecast question proxy script conn stream =
     wanted_line question proxy conn stream (covering_number proxy conn script)
     (toxics_for proxy conn stream script).names (flags_for proxy script question.seed conn stream)
 
 -- what it says of a connection
 abbrev pub link_text : Question → List ℕ → Rules → ℕ → List ℕ
 link_text question proxy script conn =
-    stream_text question proxy script conn Upstream
-    ++ stream_text question proxy script conn Downstream
+    stream_forecast question proxy script conn Upstream
+    ++ stream_forecast question proxy script conn Downstream
 
 -- the lines of all connections
 abbrev pub links_text : Question → List ℕ → Rules → List ℕ

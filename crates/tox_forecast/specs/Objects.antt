@@ -13,9 +13,9 @@ abbrev pub object_of : List ℕ → List (List ℕ) → List ℕ
 object_of event fields = event_text event ++ (flat_map (λ field. field) fields ++ codes "}\n")
 
 -- the number of a rule from 1, or 0 for none
-abbrev pub number_of : Option ℕ → ℕ
-number_of None = 0
-number_of (Some rule) = rule + 1
+abbrev pub rule_number : Option ℕ → ℕ
+rule_number None = 0
+rule_number (Some rule) = rule + 1
 
 -- the place of a toxic, where it is applied
 abbrev pub place_item : ℕ → Bool → List JsonItem
@@ -30,7 +30,7 @@ place_items flags = flat_map (λ placed. place_item placed.0 placed.1) (enumerat
 abbrev pub stream_object : List ℕ → ℕ → Stream → Option ℕ → List Bool → List ℕ
 stream_object proxy conn stream rule flags =
     object_of (codes "forecast") (text_field (codes "proxy") proxy ∷ number_field (codes "link") conn
-    ∷ text_field (codes "stream") (stream_name stream) ∷ number_field (codes "rule") (number_of rule)
+    ∷ text_field (codes "stream") (stream_name stream) ∷ number_field (codes "rule") (rule_number rule)
     ∷ (key_text (codes "applied") ++ array_text (place_items flags)) ∷ [])
 
 -- how often a toxic of a rule is applied, by the numbers of the rule and of the toxic, from 1

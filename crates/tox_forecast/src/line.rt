@@ -4,7 +4,7 @@ ghost use Rattle.std.specs.Option.{ForSome};
 ghost use Rattle.tox_time.specs.declared.streams.stream.Stream.TheVariants.{Upstream as Up, Downstream as Down};
 ghost use Rattle.tox_text.specs.Writing.{Prints};
 ghost use Rattle.tox_forecast.specs.ForecastText.{has_wanted, is_asked, line_head, line_in, place_text, places_text, stream_line, wanted_line};
-ghost use Rattle.tox_forecast.specs.Objects.{number_of};
+ghost use Rattle.tox_forecast.specs.Objects.{rule_number};
 
 use crate::flags::{LinkFlags, meets_name};
 use crate::object::print_stream_object;
@@ -37,10 +37,10 @@ pub(crate) fn print_link<W: Sink>(
     requires downstream { length flags.now.downstream.items ≤ 32 }
     ensures { Prints result (W.written writer.old) buffer.old (W.written writer.new) buffer.new
         (W.failed writer.new)
-        (wanted_line question.now met.now.proxy.now met.now.conn Up met.now.rule chains.now.upstream.names
-        flags.now.upstream.items
-        ++ wanted_line question.now met.now.proxy.now met.now.conn Down met.now.rule chains.now.downstream.names
-        flags.now.downstream.items) }
+        (wanted_line question.now met.now.proxy.now met.now.conn Up met.now.rule
+        chains.now.upstream.names flags.now.upstream.items
+        ++ wanted_line question.now met.now.proxy.now met.now.conn Down met.now.rule
+        chains.now.downstream.names flags.now.downstream.items) }
 {
     let up = Stream::Upstream;
     print_wanted(
@@ -78,7 +78,8 @@ fn print_wanted<W: Sink>(
     requires few { length flags.now ≤ 32 }
     ensures { Prints result (W.written writer.old) buffer.old (W.written writer.new) buffer.new
         (W.failed writer.new)
-        (wanted_line question.now met.now.proxy.now met.now.conn stream met.now.rule toxics.now.names flags.now) }
+        (wanted_line question.now met.now.proxy.now met.now.conn stream met.now.rule
+        toxics.now.names flags.now) }
 {
     if is_asked(question.stream, stream) && has_wanted(question.named, toxics.names(), flags) {
         print_line(buffer, writer, question.json, met, stream, flags)
@@ -119,7 +120,8 @@ fn print_line<W: Sink>(
     requires working { W.failed writer.old ≡ false }
     requires few { length flags.now ≤ 32 }
     ensures { Prints result (W.written writer.old) buffer.old (W.written writer.new) buffer.new
-        (W.failed writer.new) (line_in json met.now.proxy.now met.now.conn stream met.now.rule flags.now) }
+        (W.failed writer.new)
+        (line_in json met.now.proxy.now met.now.conn stream met.now.rule flags.now) }
 {
     if json {
         print_stream_object(buffer, writer, met, stream, flags)
@@ -170,7 +172,7 @@ fn print_head<W: Sink>(
 /// The number of a rule from 1, or 0 for none.
 pub(crate) fn number_of(rule: Option<usize>) -> u64
     requires { ForSome rule (λ number. number + 1 < 2 ^ 64) }
-    ensures { result ≡ number_of rule }
+    ensures { result ≡ rule_number rule }
 {
     match rule {
         None => 0,

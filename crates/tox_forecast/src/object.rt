@@ -82,8 +82,8 @@ pub(crate) fn print_total_object<W: Sink>(
     requires { W.failed writer.old ≡ false }
     ensures { Prints result (W.written writer.old) buffer.old (W.written writer.new) buffer.new
         (W.failed writer.new)
-        (total_object total.now.proxy.now total.now.rule total.now.number total.now.applied total.now.met
-        total.now.name.now) }
+        (total_object total.now.proxy.now total.now.rule total.now.number
+        total.now.applied total.now.met total.now.name.now) }
 {
     let fields = [
         JsonField::text("proxy", total.proxy),

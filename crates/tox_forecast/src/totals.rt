@@ -37,8 +37,8 @@ pub(crate) fn print_rule<W: Sink>(
     requires short { length order.now + 1 < 2 ^ 64 }
     ensures { Prints result (W.written writer.old) buffer.old (W.written writer.new) buffer.new
         (W.failed writer.new)
-        (rule_totals counted.now.json counted.now.proxy.now counted.now.rule (totals_in counted.now.tally.now) counted.now.chains.now
-        order.now) }
+        (rule_totals counted.now.json counted.now.proxy.now counted.now.rule
+        (totals_in counted.now.tally.now) counted.now.chains.now order.now) }
 {
     if counted.tally.met == 0 {
         return Ok(());
@@ -65,8 +65,8 @@ fn print_toxics<W: Sink>(
     requires downstream { at.downstream ≤ at.number }
     ensures { Prints result (W.written writer.old) buffer.old (W.written writer.new) buffer.new
         (W.failed writer.new)
-        (toxic_totals counted.now.json counted.now.proxy.now counted.now.rule (totals_in counted.now.tally.now) counted.now.chains.now at
-        order.now) }
+        (toxic_totals counted.now.json counted.now.proxy.now counted.now.rule
+        (totals_in counted.now.tally.now) counted.now.chains.now at order.now) }
 {
     let [stream, order @ ..] = order else {
         return Ok(());
@@ -86,7 +86,8 @@ fn print_toxic<W: Sink>(
     requires { W.failed writer.old ≡ false }
     ensures { Prints result (W.written writer.old) buffer.old (W.written writer.new) buffer.new
         (W.failed writer.new)
-        (toxic_total counted.now.json counted.now.proxy.now counted.now.rule (totals_in counted.now.tally.now) counted.now.chains.now
+        (toxic_total counted.now.json counted.now.proxy.now counted.now.rule
+        (totals_in counted.now.tally.now) counted.now.chains.now
         (record { number = at.number; stream = stream; place = place_on stream at })) }
 {
     let place = at.on(stream);
@@ -126,8 +127,8 @@ fn print_total<W: Sink>(
     requires { W.failed writer.old ≡ false }
     ensures { Prints result (W.written writer.old) buffer.old (W.written writer.new) buffer.new
         (W.failed writer.new)
-        (total_in json total.now.proxy.now total.now.rule total.now.number total.now.applied total.now.met
-        total.now.name.now) }
+        (total_in json total.now.proxy.now total.now.rule total.now.number
+        total.now.applied total.now.met total.now.name.now) }
 {
     if json {
         print_total_object(buffer, writer, total)
@@ -145,7 +146,8 @@ fn print_words<W: Sink>(
     requires { W.failed writer.old ≡ false }
     ensures { Prints result (W.written writer.old) buffer.old (W.written writer.new) buffer.new
         (W.failed writer.new)
-        (total_line total.now.rule total.now.number total.now.applied total.now.met total.now.name.now) }
+        (total_line total.now.rule total.now.number total.now.applied total.now.met
+        total.now.name.now) }
 {
     let parts = [
         Word("rule "),

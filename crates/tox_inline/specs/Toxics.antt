@@ -1,5 +1,5 @@
 -- The toxics of a command line, in the order typed.
-use Rattle.std.specs.Prelude.{ℕ, ◌+◌, Bool, List, [], ◌∷◌, ◌++◌, count_by, length, nat_le, Result, Ok, Err, if◌then◌else◌}
+use Rattle.std.specs.Prelude.{ℕ, ◌+◌, List, [], ◌∷◌, ◌++◌, count_by, length, nat_le, Result, Ok, Err, if◌then◌else◌}
 use Rattle.tox_time.specs.Steps.{◌>>=◌}
 use Rattle.tox_time.specs.declared.streams.stream.Stream.{Stream}
 use Rattle.tox_time.specs.streams.StreamName.{same_stream}
@@ -11,13 +11,9 @@ use Rattle.tox_runs.specs.declared.files.toxics.ToxicsFault.TheVariants.{Short, 
 use Rattle.tox_inline.specs.declared.toxics.InlineToxic.{InlineToxic}
 use Rattle.tox_inline.specs.declared.toxics.NumberedToxic.{NumberedToxic}
 
--- whether a toxic is on a stream
-abbrev pub is_on : Stream → NumberedToxic → Bool
-is_on stream toxic = same_stream toxic.stream stream
-
 -- how many of some toxics are on a stream
 abbrev pub count_on : Stream → List NumberedToxic → ℕ
-count_on stream toxics = count_by (is_on stream) toxics
+count_on stream toxics = count_by (λ toxic. same_stream toxic.stream stream) toxics
 
 -- the toxic of a short form behind these: the next one of its stream, which has at most 32
 abbrev pub parsed_behind : List NumberedToxic → Stream → Result (Toxic × ℕ) ShortFault
@@ -33,16 +29,16 @@ parsed_behind earlier side (Ok read) =
     })
 
 -- the toxic that was typed behind these
-abbrev pub behind : List NumberedToxic → InlineToxic → Result NumberedToxic ToxicsFault
-behind earlier toxic = parsed_behind earlier toxic.stream (short_of toxic.short.now)
+abbrev pub typed_behind : List NumberedToxic → InlineToxic → Result NumberedToxic ToxicsFault
+typed_behind earlier toxic = parsed_behind earlier toxic.stream (short_of toxic.short.now)
 
 -- these toxics and those that were typed behind them, or the first fault
-abbrev pub toxics_from : List NumberedToxic → List InlineToxic
+abbrev pub typed_toxics : List NumberedToxic → List InlineToxic
     → Result (List NumberedToxic) ToxicsFault
-toxics_from earlier [] = Ok earlier
-toxics_from earlier (toxic ∷ toxics) =
-    behind earlier toxic >>= (λ next. toxics_from (earlier ++ next ∷ []) toxics)
+typed_toxics earlier [] = Ok earlier
+typed_toxics earlier (toxic ∷ toxics) =
+    typed_behind earlier toxic >>= (λ next. typed_toxics (earlier ++ next ∷ []) toxics)
 
 -- the toxics that were typed, each with its number on its stream
 abbrev pub numbered_toxics : List InlineToxic → Result (List NumberedToxic) ToxicsFault
-numbered_toxics toxics = toxics_from [] toxics
+numbered_toxics toxics = typed_toxics [] toxics

@@ -1,6 +1,6 @@
 //! The toxics of a command line.
-ghost use Rattle.std.specs.Prelude.{◌≡◌, ◌≢◌, IfOk, IfErr, Ok, Err, count_by};
-ghost use Rattle.tox_inline.specs.Toxics.{behind, is_on, numbered_toxics};
+ghost use Rattle.std.specs.Prelude.{◌≡◌, ◌≢◌, IfOk, IfErr, Ok, Err};
+ghost use Rattle.tox_inline.specs.Toxics.{count_on, numbered_toxics, typed_behind};
 ghost use Rattle.tox_inline.specs.Setup.{IsInlineFault};
 
 use crate::fault::InlineFault;
@@ -45,7 +45,7 @@ fn read_behind(
     earlier: &[NumberedToxic],
     toxic: &InlineToxic<'_>,
 ) -> Result<NumberedToxic, ToxicsFault>
-    ensures { result ≡ behind earlier.now toxic.now }
+    ensures { result ≡ typed_behind earlier.now toxic.now }
 {
     let place = earlier.len() + 1;
     let (read, toxicity) = match read_short(toxic.short) {
@@ -68,7 +68,7 @@ fn read_behind(
 
 /// How many of some toxics are on a stream.
 fn count_on(toxics: &[NumberedToxic], stream: Stream) -> usize
-    ensures { result ≡ count_by (is_on stream) toxics.now }
+    ensures { result ≡ count_on stream toxics.now }
 {
     toxics.iter().filter(|toxic| toxic.stream == stream).count()
 }

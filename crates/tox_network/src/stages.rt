@@ -14,8 +14,8 @@ pub(crate) fn first_stages<'w>(
     chain: &Chain,
     words: &'w Words,
 ) -> Result<Vec<Stage<'w>>, AllocError>
-    ensures stages { IfOk result
-        (λ stages. stages.items ≡ map (placed_stage (chain_drawing chain.now words.now)) (applied chain.now words.now)) }
+    ensures stages { IfOk result (λ stages. stages.items
+        ≡ map (placed_stage (chain_drawing chain.now words.now)) (applied chain.now words.now)) }
     ensures chain { IsChain chain.now }
 {
     let lanes = chain.lanes();

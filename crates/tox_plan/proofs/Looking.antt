@@ -138,6 +138,11 @@ module _ (old : RunnerView) (cursors : List OpCursor) (turns : ℕ) (ended : Boo
           looked = λ some. rw unfound (omega (arith, cuts_looked (rw (← same_length) some), more));
         }
 
+-- a piece that was read to its end was given whole, unless the ending is known
+pub read-whole : (runner : RunnerView) → IsRunning runner → runner.drained ≡ true → runner.lookahead ≡ None → runner.ending ≡ None → runner.position ≡ runner.piece.span.stop
+read-whole runner invariant read none open_yet =
+    sym (drained-at runner.position runner.cursors runner.piece (subst (λ found. AreDrained (reader_at runner.position found) runner.cursors runner.piece) none (invariant.drained read open_yet)))
+
 -- where a look finds no cut, no chunk is left
 pub look-none : (old new : RunnerView) → IsRunning new → (IsNone new.lookahead → new.drained ≡ true) → new.lookahead ≡ None → ((items : List Item) → to_come new items ≡ to_come old items)
     → HasNoChunk (to_come new (Quiet ∷ [])) × HasNoChunk (to_come old (Quiet ∷ []))

@@ -1,5 +1,5 @@
 -- The cuts that a slice is made of.
-use Rattle.std.specs.Prelude.{◌≡◌, ◌≢◌, ◌⊎◌, ℕ, ◌+◌, ◌<◌, ◌≤◌, List, [], ◌∷◌, ◌++◌, map, length, false, true}
+use Rattle.std.specs.Prelude.{◌≡◌, ◌≢◌, ◌⊎◌, ℕ, ◌+◌, ◌<◌, ◌≤◌, List, [], ◌∷◌, ◌++◌, map, length, None, false, true}
 use Rattle.tox_time.specs.declared.streams.slice.Slice.{Slice}
 use Rattle.tox_time.specs.declared.streams.item.Item.{Item}
 use Rattle.tox_time.specs.declared.streams.item.Item.TheVariants.{Chunk, Closed, Reset, Quiet}
@@ -60,10 +60,12 @@ pub record GivesCut (old new : RunnerView) (slice : Slice) : Type 0 where
   pub apart : BeginsApart slice.instant (to_come new (Quiet ∷ []))
   pub ends : EndsHere slice.instant new
 
--- the runner had nothing to give: it is idle, and stands where it stood
+-- the runner had nothing to give: it is idle, and stands where it stood; that is at the piece's end, unless the ending is known
 pub record GivesNoCut (old new : RunnerView) : Type 0 where
   pub idle : new.idle ≡ true
   pub position : new.position ≡ old.position
+  pub from : old.idle ≡ false → old.piece.span.start ≤ old.position
+  pub whole : new.ending ≡ None → new.position ≡ old.piece.span.stop
   pub cuts : new.cuts ≡ old.cuts
   pub same : (items : List Item) → to_come new items ≡ to_come old items
 

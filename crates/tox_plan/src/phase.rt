@@ -68,7 +68,8 @@ impl Phase {
     /// After an offer.
     pub fn after_offer(&self) -> Phase
         requires { (phase_view self.now).ending ≡ None }
-        ensures { phase_view result ≡ record (phase_view self.now) { drained = false; idle = false } }
+        ensures { phase_view result
+            ≡ record (phase_view self.now) { drained = false; idle = false } }
     {
         Phase::Cutting
     }

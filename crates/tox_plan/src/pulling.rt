@@ -51,7 +51,8 @@ pub(crate) fn pull(
     requires nested { AreNested start cursors.old source.now }
     requires few { source.now.span.stop ≤ 2 ^ 40 }
     requires room { looks.old.turns + length cursors.old < 2 ^ 64 }
-    ensures pulled { MatchPulled (draws_of drawing.now) start cursors.old cursors.new source.now result }
+    ensures pulled { MatchPulled
+        (draws_of drawing.now) start cursors.old cursors.new source.now result }
     ensures ops { ops_of cursors.new ≡ ops_of cursors.old }
     ensures turns { LooksOnce (length cursors.old) looks.old.turns looks.new.turns }
     ensures ended { AreOpenUnless looks.old.ended cursors.old
@@ -91,7 +92,8 @@ fn pull_nearest(
     requires nested { AreNested start cursors.old source.now }
     requires unread { BeginsUnread start cursors.old }
     requires room { looks.old.turns + length cursors.old < 2 ^ 64 }
-    ensures pulled { MatchPulled (draws_of drawing.now) start cursors.old cursors.new source.now result }
+    ensures pulled { MatchPulled
+        (draws_of drawing.now) start cursors.old cursors.new source.now result }
     ensures from { source.now.span.stop ≤ 2 ^ 40 → IsFrom start result }
     ensures ops { ops_of cursors.new ≡ ops_of cursors.old }
     ensures turns { LooksOnce (length cursors.old) looks.old.turns looks.new.turns }

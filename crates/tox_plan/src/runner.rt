@@ -180,9 +180,10 @@ impl<'w> Runner<'w> {
 
     /// Gives the next cut if it leaves at this instant, and returns where it stops.
     fn cut_at(&mut self, instant: &Micros) -> Option<u64>
-        ensures some { IfSome result
-            (λ stop. IsOneCut self.old self.new
-            (record { span = record { start = self.old.position; stop = stop }; instant = instant.now })) }
+        ensures some { IfSome result (λ stop. IsOneCut self.old self.new (record {
+          span = record { start = self.old.position; stop = stop };
+          instant = instant.now;
+        })) }
         ensures none { IfNone result (GivesNoMore instant.now self.old self.new) }
         ensures idle { self.new.idle ≡ self.old.idle }
         ensures turns { self.new.turns ≤ self.old.turns + length self.old.cursors }

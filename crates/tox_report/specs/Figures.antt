@@ -5,7 +5,7 @@ use Rattle.std.specs.declared.alloc.Global.{Global}
 use Rattle.tox_time.specs.streams.StreamName.{stream_name}
 use Rattle.tox_report.specs.declared.row.StreamFacts.{StreamFacts}
 use Rattle.tox_report.specs.Escaping.{html}
-use Rattle.tox_report.specs.Outcomes.{verdict_word}
+use Rattle.tox_report.specs.Outcomes.{outcome_verdict}
 
 -- the start of a figure of this number, up to its caption
 unfoldable pub figure_head : ℕ → List ℕ
@@ -18,7 +18,7 @@ unfoldable pub caption : StreamFacts → List ℕ
 caption facts =
     html (string_bytes facts.proxy)
     ++ (codes " " ++ (decimal facts.link ++ (codes " " ++ (stream_name facts.stream
-    ++ (codes ", " ++ verdict_word facts.outcome)))))
+    ++ (codes ", " ++ outcome_verdict facts.outcome)))))
 
 -- a picture in a part of the page that scrolls
 unfoldable pub scrolled : ℕ → List ℕ → List ℕ

@@ -2,7 +2,7 @@
 use Rattle.std.specs.Prelude.{ℕ, List, ◌++◌, codes}
 use Rattle.tox_draw.specs.Style.{style}
 use Rattle.tox_report.specs.declared.row.Row.{Row}
-use Rattle.tox_report.specs.Totals.{totals_text}
+use Rattle.tox_report.specs.Totals.{row_totals_text}
 
 -- the page up to the style of its pictures
 unfoldable pub page_style : List ℕ
@@ -25,4 +25,4 @@ table_head =
 
 -- all that stands before the rows, which are of so many links
 unfoldable pub page_front : List Row → ℕ → List ℕ
-page_front rows links = page_head ++ (body_start ++ (totals_text rows links ++ table_head))
+page_front rows links = page_head ++ (body_start ++ (row_totals_text rows links ++ table_head))

@@ -25,4 +25,4 @@ MayLack (Some (Some bytes)) = ⊥
 pub record IsJudged (given : Option (List ℕ)) (log : JudgedLog) : Type 0 where
   pub faithful : (ending : Ending) → log.verdict ≡ verdict.Faithful ending
       → IsFaithfulText given log ending
-  pub refused : (line : ℕ) → log.verdict ≡ verdict.Unfaithful line → IsRefusedText given log
+  pub refused : (line : ℕ) → log.verdict ≡ verdict.Unfaithful line → IsRefusedText given log line

@@ -9,14 +9,14 @@ use Rattle.tox_report.specs.declared.outcome.Outcome.{Outcome}
 use Rattle.tox_report.specs.declared.outcome.Outcome.TheVariants.{Open, Closed, Cut, Reset, Broken, Missing, Unfaithful}
 
 -- what `replay` calls such a log
-abbrev pub verdict_word : Outcome → List ℕ
-verdict_word Open = codes "faithful"
-verdict_word (Closed t) = codes "faithful"
-verdict_word (Cut t) = codes "faithful"
-verdict_word (Reset t) = codes "faithful"
-verdict_word (Broken cause) = codes "unfinished"
-verdict_word Missing = codes "unfinished"
-verdict_word (Unfaithful line) = codes "unfaithful"
+abbrev pub outcome_verdict : Outcome → List ℕ
+outcome_verdict Open = codes "faithful"
+outcome_verdict (Closed t) = codes "faithful"
+outcome_verdict (Cut t) = codes "faithful"
+outcome_verdict (Reset t) = codes "faithful"
+outcome_verdict (Broken cause) = codes "unfinished"
+outcome_verdict Missing = codes "unfinished"
+outcome_verdict (Unfaithful line) = codes "unfaithful"
 
 -- a faithful log whose stream broke off, or that has no last line
 abbrev pub unfinished_outcome : Option BreakCause → Outcome

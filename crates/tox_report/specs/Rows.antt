@@ -11,7 +11,7 @@ use Rattle.tox_report.specs.declared.row.Told.{Told}
 use Rattle.tox_report.specs.declared.row.Told.TheVariants.{Stream, Fault}
 use Rattle.tox_report.specs.Cells.{counted_cell, number_cell, text_cell, word_cell}
 use Rattle.tox_report.specs.Escaping.{html}
-use Rattle.tox_report.specs.Outcomes.{verdict_word}
+use Rattle.tox_report.specs.Outcomes.{outcome_verdict}
 
 -- the row of a log that can't be judged
 unfoldable pub fault_row : List ℕ → List ℕ → List ℕ
@@ -68,7 +68,7 @@ unfaithful_cell line =
 
 abbrev pub verdict_cell : Outcome → List ℕ
 verdict_cell (Unfaithful line) = unfaithful_cell line
-verdict_cell outcome = word_cell (verdict_word outcome)
+verdict_cell outcome = word_cell (outcome_verdict outcome)
 
 -- what stands before a percentile that may be too high
 abbrev pub exactness : Bool → List ℕ

@@ -76,8 +76,8 @@ outcome_entries rows =
     ++ number_entry (codes "Unfaithful") (count_by (has kind.Unfaithful) rows))))
 
 -- what the rows of so many links come to
-unfoldable pub totals_text : List Row → ℕ → List ℕ
-totals_text rows links =
+unfoldable pub row_totals_text : List Row → ℕ → List ℕ
+row_totals_text rows links =
     number_entry (codes "Links") links
     ++ (number_entry (codes "Streams") (count_by (has kind.Judged) rows)
     ++ (outcome_entries rows

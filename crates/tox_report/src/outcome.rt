@@ -1,6 +1,6 @@
 //! What came of a stream, by its log.
 ghost use Rattle.std.specs.Prelude.{◌≡◌};
-ghost use Rattle.tox_report.specs.Outcomes.{closed_outcome, outcome_of, unfinished_outcome, verdict_word};
+ghost use Rattle.tox_report.specs.Outcomes.{closed_outcome, outcome_of, unfinished_outcome, outcome_verdict};
 
 use tox_log::{BreakCause, JudgedLog, Verdict};
 use tox_time::{Ending, Micros};
@@ -38,7 +38,7 @@ impl Outcome {
 
     /// What `replay` calls such a log.
     pub(crate) fn verdict(&self) -> &'static str
-        ensures { result.now ≡ verdict_word self.now }
+        ensures { result.now ≡ outcome_verdict self.now }
     {
         match self {
             Outcome::Open | Outcome::Closed(_) | Outcome::Cut(_) | Outcome::Reset(_) => "faithful",

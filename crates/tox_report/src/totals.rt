@@ -2,7 +2,7 @@
 ghost use Rattle.std.specs.Prelude.{◌≡◌, count_by, OnOk};
 ghost use Rattle.tox_report.specs.Kinds.{has};
 ghost use Rattle.tox_draw.specs.Adding.{AddsText};
-ghost use Rattle.tox_report.specs.Totals.{greater, latest_entry, latest_of, latest_with, number_entry, outcome_entries, seed_entry, seed_of, seed_with, told_latest, told_seed, totals_text, word_entry, worst_entry};
+ghost use Rattle.tox_report.specs.Totals.{greater, latest_entry, latest_of, latest_with, number_entry, outcome_entries, row_totals_text, seed_entry, seed_of, seed_with, told_latest, told_seed, word_entry, worst_entry};
 
 use crate::kind::{Kind, count_of};
 use crate::outcome::Outcome;
@@ -22,9 +22,9 @@ pub(crate) enum Seed {
 }
 
 /// Adds what the rows come to. They are of so many links.
-#[tactic(auto, using(tox_draw::proofs::Growing::adds_then), unfolding(crate::specs::Totals::totals_text))]
+#[tactic(auto, using(tox_draw::proofs::Growing::adds_then), unfolding(crate::specs::Totals::row_totals_text))]
 pub(crate) fn push_totals(text: &mut String, rows: &[Row], links: u64) -> Result<(), AllocError>
-    ensures { OnOk result (AddsText text.old text.new (totals_text rows.now links)) }
+    ensures { OnOk result (AddsText text.old text.new (row_totals_text rows.now links)) }
 {
     push_number_entry(text, "Links", links)?;
     push_number_entry(text, "Streams", count_of(rows, Kind::Judged))?;

@@ -4,7 +4,7 @@ use Rattle.std.proofs.lemmas.Bool.{le-leb, lt-leb, eq-eqb}
 use Rattle.std.proofs.lemmas.Bool.Decides.{eqb_tells, leb_tells}
 use Rattle.std.specs.Option.{option_or}
 use Rattle.tox_script.specs.declared.index.step.Step.{Step}
-use Rattle.tox_script.specs.index.Overlay.{behind, joined, rule_in}
+use Rattle.tox_script.specs.index.Overlay.{latest_step, rule_in, without_latest}
 use Rattle.tox_script.specs.index.Steps.{Descends, rule_at}
 
 -- the rule of a connection, where later steps follow that give this rule
@@ -34,7 +34,7 @@ rule_at-from conn first [] by from = refl
 rule_at-from conn first (step ∷ steps) by from = let here : leb step.first conn ≡ true = le-leb step.first conn (omega arith) in ap (λ b. cond b step.rule (rule_at conn steps)) here
 
 -- a connection before a latest step has its rule in the other steps
-rule_at-before : (conn first : ℕ) (steps : List Step) → conn < first → rule_at conn steps ≡ rule_at conn (behind first steps)
+rule_at-before : (conn first : ℕ) (steps : List Step) → conn < first → rule_at conn steps ≡ rule_at conn (without_latest first steps)
 rule_at-before conn first [] before = refl
 rule_at-before conn first (step ∷ steps) before = elim (eqb_tells step.first first) [
   | inl same ↦
@@ -45,20 +45,20 @@ rule_at-before conn first (step ∷ steps) before = elim (eqb_tells step.first f
 ]
 
 -- behind a latest step the steps descend from it
-Descends-behind : (floor first : ℕ) (steps : List Step) → Descends floor steps → IsBy first steps → Descends first (behind first steps)
-Descends-behind floor first [] down by = tt
-Descends-behind floor first (step ∷ steps) down by = elim (eqb_tells step.first first) [
+Descends-without_latest : (floor first : ℕ) (steps : List Step) → Descends floor steps → IsBy first steps → Descends first (without_latest first steps)
+Descends-without_latest floor first [] down by = tt
+Descends-without_latest floor first (step ∷ steps) down by = elim (eqb_tells step.first first) [
   | inl same ↦ let P : ℕ → Type 0 = λ n. Descends n steps in
       rw same.0 (rw same.1 at down.1)
   | inr other ↦ rw other.0 (by, down.1)
 ]
 
 -- none is added, and a latest step that begins there goes
-length-behind_most : (first : ℕ) (steps : List Step) → length (behind first steps) ≤ length steps
+length-behind_most : (first : ℕ) (steps : List Step) → length (without_latest first steps) ≤ length steps
 length-behind_most first [] = omega arith
 length-behind_most first (step ∷ steps) = elim (eqb_tells step.first first) [ inl same ↦ rw same.0 (omega arith) | inr other ↦ rw other.0 (omega arith) ]
 
-length-behind_here : (step : Step) (steps : List Step) (first : ℕ) → step.first ≡ first → length (behind first (step ∷ steps)) ≡ length steps
+length-behind_here : (step : Step) (steps : List Step) (first : ℕ) → step.first ≡ first → length (without_latest first (step ∷ steps)) ≡ length steps
 length-behind_here step steps first same = rw (eq-eqb step.first first same) refl
 
 -- the later of two connections is one of them
@@ -71,22 +71,22 @@ pub record IsJoined (above below : List Step) (step : Step) : Type 0 where
   pub below_by : IsBy step.first below
   pub rule : step.rule ≡ option_or (rule_in above) (rule_in below)
   pub floor : (n : ℕ) → Descends n above → Descends n below → step.first ≤ n
-  pub fewer : length (behind step.first above) + length (behind step.first below) < length above + length below
+  pub fewer : length (without_latest step.first above) + length (without_latest step.first below) < length above + length below
 
-pub joined_none : (above below : List Step) → joined above below ≡ None → (above ≡ []) × (below ≡ [])
+pub joined_none : (above below : List Step) → latest_step above below ≡ None → (above ≡ []) × (below ≡ [])
 joined_none [] [] none = (refl, refl)
 joined_none [] (lower ∷ below) none = absurd (cc)
 joined_none (upper ∷ above) [] none = absurd (cc)
 joined_none (upper ∷ above) (lower ∷ below) none = absurd (cc)
 
 one_fewer : (upper lower : Step) (above below : List Step) (first : ℕ) → (upper.first ≡ first) ⊎ (lower.first ≡ first)
-    → length (behind first (upper ∷ above)) + length (behind first (lower ∷ below)) < length (upper ∷ above) + length (lower ∷ below)
+    → length (without_latest first (upper ∷ above)) + length (without_latest first (lower ∷ below)) < length (upper ∷ above) + length (lower ∷ below)
 one_fewer upper lower above below first either = elim either [
   | inl here ↦ omega (arith, length-behind_here upper above first here, length-behind_most first (lower ∷ below))
   | inr here ↦ omega (arith, length-behind_here lower below first here, length-behind_most first (upper ∷ above))
 ]
 
-joined_step : (above below : List Step) (first : ℕ) (rule : Option ℕ) → joined above below ≡ Some (record { first = first; rule = rule }) → IsJoined above below (record { first = first; rule = rule })
+joined_step : (above below : List Step) (first : ℕ) (rule : Option ℕ) → latest_step above below ≡ Some (record { first = first; rule = rule }) → IsJoined above below (record { first = first; rule = rule })
 joined_step [] [] first rule some = absurd (cc)
 joined_step [] (lower ∷ below) first rule some =
     let same : lower ≡ record { first = first; rule = rule } = cc in
@@ -119,23 +119,23 @@ joined_step (upper ∷ above) (lower ∷ below) first rule some =
       fewer = one_fewer upper lower above below first (elim (max_either upper.first lower.first) [ inl is ↦ inl (is ∙ here) | inr is ↦ inr (is ∙ here) ]);
     }
 
-pub joined_some : (above below : List Step) (step : Step) → joined above below ≡ Some step → IsJoined above below step
+pub joined_some : (above below : List Step) (step : Step) → latest_step above below ≡ Some step → IsJoined above below step
 joined_some above below step some = joined_step above below step.first step.rule some
 
 -- a connection has its rule in the latest step, or else in what is left
-pub rule_at-joined : (conn : ℕ) (above below : List Step) (step : Step) → IsJoined above below step
-    → cond (leb step.first conn) step.rule (option_or (rule_at conn (behind step.first above)) (rule_at conn (behind step.first below))) ≡ option_or (rule_at conn above) (rule_at conn below)
-rule_at-joined conn above below step is = elim (leb_tells step.first conn) [
+pub rule_at-latest_step : (conn : ℕ) (above below : List Step) (step : Step) → IsJoined above below step
+    → cond (leb step.first conn) step.rule (option_or (rule_at conn (without_latest step.first above)) (rule_at conn (without_latest step.first below))) ≡ option_or (rule_at conn above) (rule_at conn below)
+rule_at-latest_step conn above below step is = elim (leb_tells step.first conn) [
   | inl from ↦
       let up = rule_at-from conn step.first above is.above_by from.1 in
       let low = rule_at-from conn step.first below is.below_by from.1 in
-      ap (λ b. cond b step.rule (option_or (rule_at conn (behind step.first above)) (rule_at conn (behind step.first below)))) from.0
+      ap (λ b. cond b step.rule (option_or (rule_at conn (without_latest step.first above)) (rule_at conn (without_latest step.first below)))) from.0
       ∙ is.rule ∙ sym (ap (λ rule. option_or rule (rule_at conn below)) up ∙ ap (option_or (rule_in above)) low)
   | inr before ↦
       let up = rule_at-before conn step.first above before.1 in
       let low = rule_at-before conn step.first below before.1 in
-      ap (λ b. cond b step.rule (option_or (rule_at conn (behind step.first above)) (rule_at conn (behind step.first below)))) before.0
-      ∙ sym (ap (λ rule. option_or rule (rule_at conn below)) up ∙ ap (option_or (rule_at conn (behind step.first above))) low)
+      ap (λ b. cond b step.rule (option_or (rule_at conn (without_latest step.first above)) (rule_at conn (without_latest step.first below)))) before.0
+      ∙ sym (ap (λ rule. option_or rule (rule_at conn below)) up ∙ ap (option_or (rule_at conn (without_latest step.first above))) low)
 ]
 
 -- the steps begin by one connection and descend to another
@@ -163,19 +163,19 @@ pub IsLaid-none : (upper lower : List Step) → Descends (2 ^ 64) upper → Desc
 IsLaid-none upper lower high low = record { found = λ conn. refl; floor = 2 ^ 64; down = omega arith; above_down = high; below_down = low }
 
 pub IsLaid-next : (upper lower steps above below : List Step) (step : Step) → IsLaid upper lower steps above below → IsJoined above below step
-    → IsLaid upper lower (steps ++ step ∷ []) (behind step.first above) (behind step.first below)
+    → IsLaid upper lower (steps ++ step ∷ []) (without_latest step.first above) (without_latest step.first below)
 IsLaid-next upper lower steps above below step laid is = record {
   found = λ conn.
-      rule_or-push conn (option_or (rule_at conn (behind step.first above)) (rule_at conn (behind step.first below))) steps step
-      ∙ ap (λ later. rule_or conn later steps) (rule_at-joined conn above below step is)
+      rule_or-push conn (option_or (rule_at conn (without_latest step.first above)) (rule_at conn (without_latest step.first below))) steps step
+      ∙ ap (λ later. rule_or conn later steps) (rule_at-latest_step conn above below step is)
       ∙ laid.found conn;
   floor = step.first;
   down = DescendsTo-push (2 ^ 64) laid.floor steps step laid.down (is.floor laid.floor laid.above_down laid.below_down);
-  above_down = Descends-behind laid.floor step.first above laid.above_down is.above_by;
-  below_down = Descends-behind laid.floor step.first below laid.below_down is.below_by;
+  above_down = Descends-without_latest laid.floor step.first above laid.above_down is.above_by;
+  below_down = Descends-without_latest laid.floor step.first below laid.below_down is.below_by;
 }
 
-pub IsLaid-last : (upper lower steps above below : List Step) → IsLaid upper lower steps above below → joined above below ≡ None
+pub IsLaid-last : (upper lower steps above below : List Step) → IsLaid upper lower steps above below → latest_step above below ≡ None
     → (conn : ℕ) → rule_at conn steps ≡ option_or (rule_at conn upper) (rule_at conn lower)
 IsLaid-last upper lower steps above below laid none conn =
     let ends = joined_none above below none in

@@ -2,7 +2,7 @@
 ghost use Rattle.std.specs.Prelude.{◌≡◌, ◌<◌, ◌+◌, ◌^◌, ℕ, IfOk, length};
 ghost use Rattle.std.specs.List.{position_from};
 ghost use Rattle.tox_script.specs.Covering.{covers};
-ghost use Rattle.tox_script.specs.index.Steps.{Descends, rule_at};
+ghost use Rattle.tox_script.specs.index.Steps.{Descends, HaveRules};
 ghost use Rattle.tox_script.specs.Views.{rule_view};
 ghost use Rattle.tox_words.specs.declared.lanes.Lanes.TheVariants.{Sixteen};
 
@@ -24,8 +24,8 @@ pub(crate) fn steps_of(
 ) -> Result<Vec<Step>, AllocError>
     requires { number + length rules.now < 2 ^ 64 }
     // `covers` reads no chains, so the lanes don't matter.
-    ensures found { IfOk result (λ steps. (conn : ℕ) → conn < 2 ^ 64 → rule_at conn steps.items
-        ≡ position_from (λ rule. covers proxy.now conn (rule_view Sixteen rule)) number rules.now) }
+    ensures found { IfOk result (λ steps. HaveRules steps.items (λ conn.
+        position_from (λ rule. covers proxy.now conn (rule_view Sixteen rule)) number rules.now)) }
     ensures descends { IfOk result (λ steps. Descends (2 ^ 64) steps.items) }
 {
     match rules {

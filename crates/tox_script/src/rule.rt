@@ -4,7 +4,7 @@ ghost use Rattle.toml.specs.View.{items_view, view};
 ghost use Rattle.tox_script.specs.chains.Chains.{no_chains};
 ghost use Rattle.tox_script.specs.Covering.{covers, is_up_to};
 ghost use Rattle.tox_script.specs.Rule.{rule_of};
-ghost use Rattle.tox_script.specs.index.Steps.{Descends, rule_at};
+ghost use Rattle.tox_script.specs.index.Steps.{Descends, HaveRules};
 ghost use Rattle.tox_script.specs.Scopes.{scope_of, scope_view};
 ghost use Rattle.tox_script.specs.chains.Toxics.{read_toxics};
 ghost use Rattle.tox_script.specs.ScriptFaults.{IsScriptFault};
@@ -83,8 +83,8 @@ impl Rule {
         proxy: &str,
         number: usize,
     ) -> Result<Vec<Step>, AllocError>
-        ensures found { IfOk result (λ steps. (conn : ℕ) → conn < 2 ^ 64 → rule_at conn steps.items
-            ≡ (if covers proxy.now conn (rule_view Sixteen self.now) then Some number else None)) }
+        ensures found { IfOk result (λ steps. HaveRules steps.items (λ conn.
+            if covers proxy.now conn (rule_view Sixteen self.now) then Some number else None)) }
         ensures descends { IfOk result (λ steps. Descends (2 ^ 64) steps.items) }
     {
         let mut steps = Vec::new(alloc);

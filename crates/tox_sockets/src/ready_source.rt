@@ -54,7 +54,8 @@ impl ReadySource {
 
     /// The system reported that a read may give something, and perhaps that the peer sends no more.
     pub fn note(&mut self, closing: bool)
-        ensures { self.new ≡ record self.old { readable = true; closing = self.old.closing || closing } }
+        ensures { self.new
+            ≡ record self.old { readable = true; closing = self.old.closing || closing } }
     {
         self.readable = true;
         self.closing = self.closing || closing;

@@ -110,9 +110,8 @@ fn start<'s, E: 's, R: Threads + Wait + Sync, G: Gate>(
 ) -> Result<Started<'s>, StageFault>
     requires placed { IsPlaced pipeline.now.lanes placed.now }
     requires fresh { received consumer ≡ [] }
-    ensures { IfOk result
-        (λ started. IsWorkerOf started.0.promise placed.now pipeline.now.lanes pipeline.now.words.now
-        consumer started.1) }
+    ensures { IfOk result (λ started. IsWorkerOf started.0.promise placed.now
+        pipeline.now.lanes pipeline.now.words.now consumer started.1) }
 {
     let Ok((producer, next)) = RingBuffer::new(pipeline.alloc, pipeline.cap) else {
         return Err(StageFault::OutOfMemory);
@@ -150,8 +149,8 @@ fn level<'s, E: 's, R: Threads + Wait + Sync, G: Gate>(
     ensures consumer { IfOk result (λ ended. SameConsumer consumer ended.0) }
     ensures sent { IfOk result
         (λ _. SendsAll (arrival_list pipeline.now.arrivals.now) (sent first.new)) }
-    ensures delivered { IfOk result
-        (λ ended. Delivers (map (placed_reaction (draw_in pipeline.now.lanes pipeline.now.words.now)) toxics.now)
+    ensures delivered { IfOk result (λ ended. Delivers
+        (map (placed_reaction (draw_in pipeline.now.lanes pipeline.now.words.now)) toxics.now)
         (received ended.0) (shown ended.1.slices (Some ended.1.ending))) }
     ensures ended { has_final (sent first.new) ≡ true }
     ensures refused { result ≡ Err SpawnRefused → toxics.now ≢ [] }

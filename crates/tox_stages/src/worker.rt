@@ -74,8 +74,8 @@ pub(crate) fn work<R: Wait, G: Gate>(
     requires fresh { (received consumer ≡ []) × (sent producer ≡ []) }
     ensures consumer { SameConsumer consumer result.consumer }
     ensures producer { SameProducer producer result.producer }
-    ensures flow { SendsFlow (placed_reaction (draw_in lanes words.now) placed) (received result.consumer)
-        (sent result.producer) }
+    ensures flow { SendsFlow (placed_reaction (draw_in lanes words.now) placed)
+        (received result.consumer) (sent result.producer) }
 {
     let mut stage = Stage::new(placed.toxic, lanes, placed.place, words);
     let mut consumer = consumer;

@@ -31,15 +31,15 @@ applied_word true = codes "applied"
 applied_word false = codes "skipped"
 
 -- the line of a named toxic at a place of its chain, under what its lanes draw
-abbrev pub toxic_line : Draws → ℕ → Entry → List ℕ → List ℕ
-toxic_line draws place entry name =
+abbrev pub picked_toxic_line : Draws → ℕ → Entry → List ℕ → List ℕ
+picked_toxic_line draws place entry name =
     decimal place ++ codes " " ++ applied_word (is_applied entry place draws) ++ codes " "
     ++ printed_short entry.toxic entry.toxicity ++ codes " " ++ name ++ codes "\n"
 
 -- the lines of named toxics, in order
 abbrev pub toxics_text : Draws → List Entry → List (List ℕ) → List ℕ
 toxics_text draws entries names =
-    flat_map (λ placed. toxic_line draws placed.0 placed.1.0 placed.1.1)
+    flat_map (λ placed. picked_toxic_line draws placed.0 placed.1.0 placed.1.1)
     (enumerate_from 0 (zip entries names))
 
 -- the line of a proxy, and then those of named toxics

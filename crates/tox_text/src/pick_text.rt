@@ -2,7 +2,7 @@
 ghost use Rattle.std.specs.Prelude.{◌≡◌, ◌≢◌, ◌≤◌, ◌++◌, false, true, codes, decimal, length, map, string_bytes, OnOk, OnErr, IfErr, Err};
 ghost use Rattle.std.specs.Io.KnownBytes.{append_known};
 ghost use Rattle.tox_words.specs.Draw.{draws_of};
-ghost use Rattle.tox_text.specs.PickText.{applied_word, enabled_word, pick_lines, pick_text, proxy_line, toxic_line, toxics_text};
+ghost use Rattle.tox_text.specs.PickText.{applied_word, enabled_word, pick_lines, pick_text, picked_toxic_line, proxy_line, toxics_text};
 ghost use Rattle.tox_text.specs.PrintingPick.{PickLeaves};
 ghost use Rattle.tox_text.specs.Writing.{Prints, Writes};
 
@@ -162,7 +162,7 @@ fn print_toxic<W: Sink>(
 ) -> Result<(), EndFault>
     requires { W.failed writer.old ≡ false }
     ensures { Prints result (W.written writer.old) buffer.old (W.written writer.new) buffer.new
-        (W.failed writer.new) (toxic_line (draws_of drawing.now) place entry.now name.now) }
+        (W.failed writer.new) (picked_toxic_line (draws_of drawing.now) place entry.now name.now) }
 {
     print_place(buffer, writer, place, entry.is_applied(place, drawing))?;
     print_short(buffer, writer, entry)?;

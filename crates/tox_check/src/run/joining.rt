@@ -41,7 +41,8 @@ impl Joining {
     /// Prepends the connections of a step from 1 to `until`.
     pub(crate) fn put_step(&mut self, step: Step, until: u64) -> Result<(), AllocError>
         requires last { until ≤ 1_000_000 }
-        requires numbered { 1 ≤ until → step.first ≤ until → ForSome step.rule (λ rule. rule + 1 < 2 ^ 64) }
+        requires numbered { 1 ≤ until → step.first ≤ until
+            → ForSome step.rule (λ rule. rule + 1 < 2 ^ 64) }
         ensures { OnOk result (self.new ≡ step_ahead step until self.old) }
     {
         let first = step.first.max(1);

@@ -1,12 +1,12 @@
 -- Rules by their numbers from 0.
-use Rattle.std.specs.Prelude.{ℕ, ◌≡◌, ◌<◌, ◌^◌, List, [], Option, option_and_then, option_map, slice_get, unwrap_or}
+use Rattle.std.specs.Prelude.{ℕ, List, [], Option, option_and_then, option_map, slice_get, unwrap_or}
 use Rattle.std.specs.List.{position_from}
 use Rattle.tox_time.specs.declared.streams.stream.Stream.{Stream}
 use Rattle.tox_script.specs.Covering.{chains_in, covers}
 use Rattle.tox_script.specs.Rule.{Rules}
 use Rattle.tox_script.specs.declared.chains.Chains.{Chains}
 use Rattle.tox_script.specs.declared.index.step.Step.{Step}
-use Rattle.tox_script.specs.index.Steps.{rule_at}
+use Rattle.tox_script.specs.index.Steps.{HaveRules}
 
 -- the number of the first rule of a script that covers a connection of a proxy
 abbrev pub covering_number : List ℕ → ℕ → Rules → Option ℕ
@@ -14,8 +14,7 @@ covering_number proxy conn script = position_from (covers proxy conn) 0 script.r
 
 -- an index tells the first covering rule of each connection of a proxy
 abbrev pub IsIndex : List ℕ → Rules → List Step → Type 0
-IsIndex proxy script index =
-    (conn : ℕ) → conn < 2 ^ 64 → rule_at conn index ≡ covering_number proxy conn script
+IsIndex proxy script index = HaveRules index (λ conn. covering_number proxy conn script)
 
 -- the chains of the rule of a number; no toxic without a rule
 abbrev pub chains_numbered : Option ℕ → Rules → Chains

@@ -9,14 +9,14 @@ rule_in [] = None
 rule_in (step ∷ steps) = step.rule
 
 -- the latest step of steps laid over others
-abbrev pub joined : List Step → List Step → Option Step
-joined [] [] = None
-joined [] (lower ∷ below) = Some lower
-joined (upper ∷ above) [] = Some (record { first = upper.first; rule = option_or upper.rule None })
-joined (upper ∷ above) (lower ∷ below) =
+abbrev pub latest_step : List Step → List Step → Option Step
+latest_step [] [] = None
+latest_step [] (lower ∷ below) = Some lower
+latest_step (upper ∷ above) [] = Some (record { first = upper.first; rule = option_or upper.rule None })
+latest_step (upper ∷ above) (lower ∷ below) =
     Some (record { first = max upper.first lower.first; rule = option_or upper.rule lower.rule })
 
 -- the steps without a latest one that begins at this connection
-abbrev pub behind : ℕ → List Step → List Step
-behind first [] = []
-behind first (step ∷ steps) = if step.first == first then steps else step ∷ steps
+abbrev pub without_latest : ℕ → List Step → List Step
+without_latest first [] = []
+without_latest first (step ∷ steps) = if step.first == first then steps else step ∷ steps

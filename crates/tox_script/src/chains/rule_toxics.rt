@@ -31,8 +31,8 @@ impl RuleToxics {
         tables: &[Value],
         rule: usize,
     ) -> Result<RuleToxics, ScriptFault>
-        ensures ok { IfOk result
-            (λ toxics. read_toxics settings rule (items_view tables.now) ≡ Ok (toxics_view toxics)) }
+        ensures ok { IfOk result (λ toxics.
+            read_toxics settings rule (items_view tables.now) ≡ Ok (toxics_view toxics)) }
         ensures err { IfErr result
             (IsScriptFault (read_toxics settings rule (items_view tables.now))) }
     {

@@ -1,7 +1,7 @@
 //! Steps laid over others.
 ghost use Rattle.std.specs.Prelude.{◌≡◌, ◌<◌, ◌^◌, ℕ, IfOk, max};
 ghost use Rattle.std.specs.Option.{option_or};
-ghost use Rattle.tox_script.specs.index.Overlay.{behind, joined, rule_in};
+ghost use Rattle.tox_script.specs.index.Overlay.{latest_step, rule_in, without_latest};
 ghost use Rattle.tox_script.specs.index.Steps.{Descends, rule_at};
 
 use crate::index::step::Step;
@@ -32,7 +32,7 @@ pub(crate) fn overlay(
 
 /// The latest step of steps laid over others.
 fn joined(above: &[Step], below: &[Step]) -> Option<Step>
-    ensures { result ≡ joined above.now below.now }
+    ensures { result ≡ latest_step above.now below.now }
 {
     let first = match (above, below) {
         ([], []) => return None,
@@ -57,7 +57,7 @@ fn rule_in(steps: &[Step]) -> Option<usize>
 
 /// The steps without the one that begins at this connection, which can only be the latest.
 fn behind(steps: &[Step], first: u64) -> &[Step]
-    ensures { result.now ≡ behind first steps.now }
+    ensures { result.now ≡ without_latest first steps.now }
 {
     match steps {
         [step, rest @ ..] if step.first == first => rest,

@@ -3,7 +3,7 @@ ghost use Rattle.std.specs.Prelude.{◌≡◌, ◌<◌, ◌^◌, ℕ, IfOk, fals
 ghost use Rattle.std.specs.List.Sorted.{IsPartitionPoint};
 ghost use Rattle.std.specs.List.{position_from};
 ghost use Rattle.tox_script.specs.Covering.{covers};
-ghost use Rattle.tox_script.specs.index.Steps.{rule_at};
+ghost use Rattle.tox_script.specs.index.Steps.{HaveRules, rule_at};
 ghost use Rattle.tox_script.specs.Views.{rule_view};
 ghost use Rattle.tox_words.specs.declared.lanes.Lanes.TheVariants.{Sixteen};
 
@@ -36,8 +36,8 @@ impl RuleIndex {
 
     /// The index of some rules.
     pub(crate) fn of(alloc: Global, rules: &[Rule], proxy: &str) -> Result<RuleIndex, AllocError>
-        ensures { IfOk result (λ index. (conn : ℕ) → conn < 2 ^ 64 → rule_at conn index
-            ≡ position_from (λ rule. covers proxy.now conn (rule_view Sixteen rule)) 0 rules.now) }
+        ensures { IfOk result (λ index. HaveRules index (λ conn.
+            position_from (λ rule. covers proxy.now conn (rule_view Sixteen rule)) 0 rules.now)) }
     {
         let steps = steps_of(alloc, rules, proxy, 0)?;
         Ok(RuleIndex { steps })

@@ -1,7 +1,7 @@
 //! One served link: both its directions, what the book keeps of it, and its line.
 ghost use Rattle.std.specs.Prelude.{◌≡◌, IfOk};
 ghost use Rattle.tox_time.specs.declared.streams.stream.Stream.TheVariants as StreamOf;
-ghost use Rattle.tox_links.specs.link.LinkEnds.{link_end};
+ghost use Rattle.tox_links.specs.link.LinkEnds.{carried_link_end};
 
 use crate::threads::connecting::connect;
 use crate::threads::direction::{Direction, carry_stream};
@@ -33,7 +33,7 @@ struct CarriedBoth {
 impl CarriedBoth {
     /// The end of the numbered link whose directions carried this.
     fn end(&self, number: u64) -> LinkEnd
-        ensures { result ≡ link_end number self.now.up self.now.down.carried }
+        ensures { result ≡ carried_link_end number self.now.up self.now.down.carried }
     {
         LinkEnd::of(number, &self.up, &self.down.carried)
     }

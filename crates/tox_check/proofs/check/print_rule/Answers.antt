@@ -1,8 +1,8 @@
 -- The warnings of the rule, as lines.
 use Rattle.std.proofs.Common.{◌+◌, ◌++◌, ap, arith, codes, decimal, flat_map, length, map, sym, ◌∙◌}
-use Rattle.tox_check.specs.Printing.{joined}
+use Rattle.tox_check.specs.Printing.{joined_lines}
 use Rattle.tox_check.specs.Sentences.{sentence}
-use Rattle.tox_check.proofs.RuleLines.{joined-lines_of, length-lines_of}
+use Rattle.tox_check.proofs.RuleLines.{joined_lines-lines_of, length-lines_of}
 use Rattle.tox_check.proofs.check.print_rule.Goals as goal
 
 pub returns-in-Ok-print_warnings : goal.returns-in-Ok-print_warnings
@@ -10,7 +10,7 @@ returns-in-Ok-print_warnings g c = λ found is.
     let number = c.args.rule + 1 in
     let warnings = c.in-Ok.warnings.items in
     let lines = ap (map (λ text. (codes "rule " ++ decimal number) ++ text)) (c.in-Ok.ensures found is) in
-    let printed = ap (flat_map (sentence number)) c.deref.ensures.value ∙ joined-lines_of number warnings ∙ ap joined lines in
+    let printed = ap (flat_map (sentence number)) c.deref.ensures.value ∙ joined_lines-lines_of number warnings ∙ ap joined_lines lines in
     let counted = ap length (sym lines) ∙ length-lines_of number warnings in
     (omega (arith, counted, c.len.ensures), (rw printed at c.in-Ok-print_warnings.ensures.0, c.in-Ok-print_warnings.ensures.1))
 
@@ -19,5 +19,5 @@ returns g c = λ found is.
     let number = c.args.rule + 1 in
     let warnings = c.in-Ok.warnings.items in
     let lines = ap (map (λ text. (codes "rule " ++ decimal number) ++ text)) (c.in-Ok.ensures found is) in
-    let printed = ap (flat_map (sentence number)) c.deref.ensures.value ∙ joined-lines_of number warnings ∙ ap joined lines in
+    let printed = ap (flat_map (sentence number)) c.deref.ensures.value ∙ joined_lines-lines_of number warnings ∙ ap joined_lines lines in
     (rw printed at c.in-Err.ensures.0, c.in-Err.ensures.1)

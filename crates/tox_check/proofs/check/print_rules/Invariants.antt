@@ -4,7 +4,7 @@ use Rattle.std.specs.List.{enumerate_from}
 use Rattle.tox_text.specs.Writing.{Passes}
 use Rattle.tox_check.specs.Checking.{held}
 use Rattle.tox_check.specs.Lines.{rule_lines}
-use Rattle.tox_check.specs.Printing.{joined}
+use Rattle.tox_check.specs.Printing.{joined_lines}
 use Rattle.tox_check.specs.Trees.{runs_named}
 use Rattle.tox_check.proofs.check.print_rules.Given as goal
 
@@ -12,7 +12,7 @@ abbrev pub invariant-loop-rule : goal.invariant-loop-rule
 invariant-loop-rule g l = record {
   working : g.W.Sink.failed l.writer ≡ false;
   passed : Passes (g.W.Sink.written l.fn.writer) l.fn.buffer (g.W.Sink.written l.writer) l.buffer
-      (flat_map (λ numbered. joined (rule_lines l.setup.proxies.items (runs_named l.setup.proxies.items l.trees) numbered.0 numbered.1)) (take l.rule (enumerate_from 1 l.setup.script.rules)));
+      (flat_map (λ numbered. joined_lines (rule_lines l.setup.proxies.items (runs_named l.setup.proxies.items l.trees) numbered.0 numbered.1)) (take l.rule (enumerate_from 1 l.setup.script.rules)));
   counted : l.warned
       ≡ held (length (flat_map (λ numbered. rule_lines l.setup.proxies.items (runs_named l.setup.proxies.items l.trees) numbered.0 numbered.1) (take l.rule (enumerate_from 1 l.setup.script.rules))));
 }

@@ -5,7 +5,7 @@ use Rattle.std.specs.List.{position}
 use Rattle.tox_config.specs.Populate.{is_named}
 use Rattle.tox_script.specs.Scopes.{scope_of, scope_view}
 use Rattle.tox_near.specs.Nearest.{nearest}
-use Rattle.tox_check.specs.Lines.{names_of}
+use Rattle.tox_check.specs.Lines.{proxy_names}
 use Rattle.tox_check.specs.Sentences.{told, unknown_text}
 use Rattle.tox_check.specs.Told.{IsTreeOf, runs_by}
 use Rattle.tox_check.proofs.NamedTrees.{AreTrees-length, StandsAt-position, position-some}
@@ -45,7 +45,7 @@ returns-in-None c = λ found is.
     let read : Some scope ≡ Some (scope_of found) = c.in-Some.ensures ∙ ap (option_map scope_of) is in
     let same : scope ≡ scope_of found = cc in
     let none = ap (λ ps. position (is_named scope.proxy) ps) (sym c.deref.ensures.value) ∙ sym c.in-None.ensures in
-    let told_so = ap (λ ps. unknown_text scope.proxy (nearest scope.proxy (names_of ps)) ∷ []) c.deref-in-None.ensures.value
+    let told_so = ap (λ ps. unknown_text scope.proxy (nearest scope.proxy (proxy_names ps)) ∷ []) c.deref-in-None.ensures.value
     ∙ rule_told-unknown setup.script setup.proxies.items c.args.trees.now c.args.rule found is scope same none in
     subst (λ lines. IfOk c.unknown.result (λ warnings. map told warnings.items ≡ lines)) told_so c.unknown.ensures
 

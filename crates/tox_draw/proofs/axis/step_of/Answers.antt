@@ -1,11 +1,11 @@
 -- The table has the steps, and each lies in the range.
 use Rattle.std.proofs.Common.{rules}
-use Rattle.tox_draw.specs.Axes.{step_of, steps}
+use Rattle.tox_draw.specs.Axes.{axis_steps, step_of}
 use Rattle.tox_draw.proofs.AxisSteps.{step_of-in_range}
 use Rattle.tox_draw.proofs.axis.step_of.Goals as goal
 
 pub returns-clause-value : goal.returns-clause-value
-unfolding step_of steps
+unfolding step_of axis_steps
 returns-clause-value c = search rules
 
 pub returns-clause-some : goal.returns-clause-some

@@ -25,9 +25,9 @@ returns g c =
     λ (items : List Item) (stream : IsStream items). new.to_come items stream ∙ c.compile.ensures.means items stream
     ∙ ap (λ chain. chain_flow chain c.in_ok-words.words items) c.chain-2.ensures ∙ ap (λ words. chain_flow log.chain words items) c.in_ok-words.ensures in
     let fresh = c.in_ok-new.ensures in
-    let strands = fresh.1 frame in
+    let strands = fresh.drawn frame in
     let begun : Hearing = record { course = c.in_ok-new.field-0; written = c.in_ok-new-2.field-0; end = Missing 0; latest = 0 } in
-    let begins = begins-hearing frame means log begun runner opens.going opens.start output new.start.0 new.start.2 new.start.3 new.start.4 strands.0 strands.1 (c.in_ok-new-2.ensures frame) fresh.0 refl refl in
+    let begins = begins-hearing frame means log begun runner opens.going opens.start output new.start.0 new.start.2 new.start.3 new.start.4 strands.0 strands.1 (c.in_ok-new-2.ensures frame) fresh.ended refl refl in
     let all = c.in_ok-hear_lines.ensures.hears means begins in
     let hearing = c.hear_lines.new.hearing in
     let after = c.hear_lines.new.runner in

@@ -6,7 +6,7 @@ use Rattle.std.proofs.lemmas.Result.{err_from_is_err_and}
 use Rattle.std.proofs.lemmas.Slice.Zip.{length-zip}
 use Rattle.tox_defs.specs.declared.toxic.Toxic.TheVariants.{Latency}
 use Rattle.tox_words.specs.Draw.{draws_of}
-use Rattle.tox_text.specs.PickText.{toxic_line}
+use Rattle.tox_text.specs.PickText.{picked_toxic_line}
 use Rattle.tox_text.proofs.Listed.{IsAt-placed, Passes-all, Passes-more, Prints-stopped}
 use Rattle.tox_text.proofs.Writes.{Passes-none}
 use Rattle.tox_text.proofs.pick_text.print_toxics.Goals as goal
@@ -18,7 +18,7 @@ pub loop-place-preserved : goal.loop-place-preserved
 loop-place-preserved g c =
     let here = IsAt-placed string_bytes c.args.entries.now c.args.names.now c.loop-place.place (record { toxic = Latency 0 0 0; toxicity = 0 }) c.index-names-place.result c.requires.one_each c.loop-place-test.true c.index-names-place.is in record {
       working = c.in_ok-print_toxic.ensures.1;
-      passed = Passes-more (λ placed. toxic_line (draws_of c.args.drawing.now) placed.0 placed.1.0 placed.1.1) (enumerate_from 0 (zip c.args.entries.now (map string_bytes c.args.names.now))) c.loop-place.place _ _ _ _ _ _ _ here
+      passed = Passes-more (λ placed. picked_toxic_line (draws_of c.args.drawing.now) placed.0 placed.1.0 placed.1.1) (enumerate_from 0 (zip c.args.entries.now (map string_bytes c.args.names.now))) c.loop-place.place _ _ _ _ _ _ _ here
           c.loop-place.invariant.passed (rw c.deref.ensures at c.in_ok-print_toxic.ensures.0);
     }
 
@@ -26,7 +26,7 @@ pub returns-in_err-print_toxic : goal.returns-in_err-print_toxic
 returns-in_err-print_toxic g c =
     let here = IsAt-placed string_bytes c.args.entries.now c.args.names.now c.loop-place.place (record { toxic = Latency 0 0 0; toxicity = 0 }) c.index-names-place.result c.requires.one_each c.loop-place-test.true c.index-names-place.is in
     let exit = err_from_is_err_and c.from_residual.result c.from_residual.ensures.1 in
-    Prints-stopped (λ placed. toxic_line (draws_of c.args.drawing.now) placed.0 placed.1.0 placed.1.1) (enumerate_from 0 (zip c.args.entries.now (map string_bytes c.args.names.now))) c.loop-place.place _ _ _ _ _ _ _ _ c.from_residual.result exit.0 here
+    Prints-stopped (λ placed. picked_toxic_line (draws_of c.args.drawing.now) placed.0 placed.1.0 placed.1.1) (enumerate_from 0 (zip c.args.entries.now (map string_bytes c.args.names.now))) c.loop-place.place _ _ _ _ _ _ _ _ c.from_residual.result exit.0 here
     exit.1 c.loop-place.invariant.passed (rw c.deref.ensures at c.in_err-print_toxic.ensures)
 
 pub returns : goal.returns
@@ -34,4 +34,4 @@ returns g c =
     let named = zip c.args.entries.now (map string_bytes c.args.names.now) in
     let past : length (enumerate_from 0 named) ≤ c.loop-place.place =
     omega (arith, length-enumerate_from 0 named, length-zip c.args.entries.now (map string_bytes c.args.names.now), c.loop-place-test.false) in
-    (Passes-all (λ placed. toxic_line (draws_of c.args.drawing.now) placed.0 placed.1.0 placed.1.1) (enumerate_from 0 named) c.loop-place.place _ _ _ _ past c.loop-place.invariant.passed, c.loop-place.invariant.working)
+    (Passes-all (λ placed. picked_toxic_line (draws_of c.args.drawing.now) placed.0 placed.1.0 placed.1.1) (enumerate_from 0 named) c.loop-place.place _ _ _ _ past c.loop-place.invariant.passed, c.loop-place.invariant.working)

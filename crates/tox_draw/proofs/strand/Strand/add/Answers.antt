@@ -4,13 +4,13 @@ use Rattle.std.proofs.lemmas.List.{length-replicate}
 use Rattle.std.proofs.lemmas.List.Sums.{count_by-le-length}
 use Rattle.tox_draw.specs.Frames.{column_of}
 use Rattle.tox_draw.specs.Lines.{in_column}
-use Rattle.tox_draw.proofs.LineCounts.{added, grown_there, in_column-more, last_of-more}
+use Rattle.tox_draw.proofs.LineCounts.{added, grown_there, in_column-more, last_byte_at-more}
 use Rattle.tox_draw.proofs.strand.Strand.add.Goals as goal
 
 pub returns : goal.returns
 returns c = λ table on some few. record {
   total = omega (arith, on.total, length-append table (replicate c.args.len c.args.instant.now), length-replicate c.args.len c.args.instant.now, c.min-self.ensures, c.saturating_add.ensures);
-  last = sym (last_of-more table c.args.len c.args.instant.now some);
+  last = sym (last_byte_at-more table c.args.len c.args.instant.now some);
   counts = λ column below.
       let before = on.counts column below in
       let more = in_column-more c.args.frame.now table c.args.len c.args.instant.now column in
