@@ -51,7 +51,14 @@ impl LogChannel {
 
     /// Adds a log. False if out of memory.
     pub(crate) fn push<R: Wait>(&self, rt: &R, log: Arc<StreamLog, Global>) -> bool {
-        let pushed = self.waiting.lock(rt).logs.push(log).is_ok();
+        let is_urgent = log.is_urgent(rt);
+        let mut waiting = self.waiting.lock(rt);
+        let pushed = waiting.logs.push(log).is_ok();
+        if is_urgent {
+            // Told before, but the writer may have taken that for the logs that it took without this one.
+            self.bytes.set_urgent();
+        }
+        drop(waiting);
         self.added.notify_one();
         pushed
     }

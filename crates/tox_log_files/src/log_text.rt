@@ -178,7 +178,7 @@ impl LogText {
     }
 
     /// Whether what waits must go to the file at once: there is much, or nothing comes behind it.
-    fn is_urgent(&self) -> bool {
+    pub(crate) fn is_urgent(&self) -> bool {
         let count = self.waiting();
         count >= MANY_PER_LOG || count > 0 && self.state != LogState::Goes
     }

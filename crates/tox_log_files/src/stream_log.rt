@@ -36,6 +36,11 @@ impl StreamLog {
         self.text.lock(rt).add(rt, all, entry)
     }
 
+    /// Whether what waits must go to the file at once.
+    pub(crate) fn is_urgent<R: Wait>(&self, rt: &R) -> bool {
+        self.text.lock(rt).is_urgent()
+    }
+
     /// The writer couldn't be called: the next entry calls it.
     pub(crate) fn call_again<R: Wait>(&self, rt: &R, all: &WaitingBytes) {
         let ahead = self.text.lock(rt).call_again();
