@@ -9,19 +9,13 @@ ghost use Rattle.tox_link.specs.Meaning.{MeansPlan};
 use crate::carrying::steps::may_take;
 use crate::link_core::direction_core::{DirectionCore, room_of};
 use crate::ring::inbox::Inbox;
-use crate::ring::message::{InOrder, Message, Sender};
-use crate::ring::parking::Parkers;
+use crate::ring::message::Sender;
 use crate::ring::vectors::{Emptied, Vectors};
 use crate::source_ending::SourceEnding;
-use rtrb::RingBuffer;
 use std::alloc::{AllocError, Global};
-use std::sync::Arc;
 use tox_compile::Plan;
 use tox_lend::Window;
 use tox_words::Words;
-
-/// The most pieces in the ring.
-const RING_SIZE: usize = 64;
 
 /// The writer's side of a link.
 #[derive(Drop)]
@@ -52,22 +46,10 @@ impl<'w> WriterSide<'w> {
             × (IsPair made.1 made.0.inbox.receiver)) }
     {
         let window = Window::new(alloc, room_of(&plan))?;
-        let core = DirectionCore::new(alloc, plan, words)?;
-        let (sender, receiver) = RingBuffer::<Message>::with_protocol::<Global, InOrder>(
-            alloc, RING_SIZE,
-        )?;
-        let Ok(parkers) = Arc::new(alloc, Parkers::new()) else {
-            return Err(AllocError);
-        };
-        let inbox = Inbox {
-            receiver,
-            parkers,
-            pops: 0,
-            yields: 0,
-        };
+        let (inbox, sender) = Inbox::new(alloc)?;
         let (emptied, vectors) = Vectors::new(alloc)?;
         let side = WriterSide {
-            core,
+            core: DirectionCore::new(alloc, plan, words)?,
             window,
             inbox,
             emptied,

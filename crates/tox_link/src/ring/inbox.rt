@@ -1,12 +1,17 @@
 //! The writer's end of the ring.
-ghost use Rattle.std.specs.Prelude.{◌≡◌, [], ◌∷◌, ◌++◌, IfSome, IfNone};
-ghost use Rattle.rtrb.specs.Ring.{received, SameConsumer};
+ghost use Rattle.std.specs.Prelude.{◌≡◌, [], ◌∷◌, ◌++◌, IfOk, IfSome, IfNone};
+ghost use Rattle.rtrb.specs.Ring.{received, sent, IsPair, SameConsumer};
 ghost use Rattle.tox_link.specs.ring.Messages.{Allows};
 
-use crate::ring::message::{Message, Receiver};
+use crate::ring::message::{InOrder, Message, Receiver, Sender};
 use crate::ring::parking::Parkers;
+use rtrb::RingBuffer;
+use std::alloc::{AllocError, Global};
 use std::sync::{Arc, Wait};
 use tox_time::{Gate, pause};
+
+/// The most messages in the ring.
+const RING_SIZE: usize = 64;
 
 /// The writer's end of the ring.
 #[derive(Drop)]
@@ -20,6 +25,27 @@ pub struct Inbox {
 }
 
 impl Inbox {
+    /// Both ends of a ring. Nothing was sent.
+    pub fn new(alloc: Global) -> Result<(Inbox, Sender), AllocError>
+        ensures empty { IfOk result
+            (λ made. (sent made.1 ≡ []) × (received made.0.receiver ≡ [])) }
+        ensures pair { IfOk result (λ made. IsPair made.1 made.0.receiver) }
+    {
+        let (sender, receiver) = RingBuffer::<Message>::with_protocol::<Global, InOrder>(
+            alloc, RING_SIZE,
+        )?;
+        let Ok(parkers) = Arc::new(alloc, Parkers::new()) else {
+            return Err(AllocError);
+        };
+        let inbox = Inbox {
+            receiver,
+            parkers,
+            pops: 0,
+            yields: 0,
+        };
+        Ok((inbox, sender))
+    }
+
     /// The next message, if one is there. Wakes the reader's thread and passes the gate.
     pub fn pop<G: Gate>(&mut self, gate: &G) -> Option<Message>
         ensures ring { SameConsumer self.old.receiver self.new.receiver }
