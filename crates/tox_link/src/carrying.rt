@@ -1,7 +1,7 @@
 //! One direction of a live link, from its reader's thread to its writer.
-ghost use Rattle.std.specs.Prelude.{◌≡◌, ℕ, List, [], false, IfOk, IfErr, MatchResult, Err};
+ghost use Rattle.std.specs.Prelude.{◌≡◌, ◌≢◌, ℕ, List, [], false, IfOk, IfErr, MatchResult, Err};
 ghost use Rattle.rtrb.specs.Ring.{sent, IsPair};
-ghost use Rattle.tox_compile.specs.Meaning.{means};
+ghost use Rattle.tox_compile.specs.Meaning.{Ops, means};
 ghost use Rattle.tox_link.specs.declared.link_fault.LinkFault.TheVariants.{SpawnRefused};
 ghost use Rattle.tox_link.specs.Meaning.{MeansPlan};
 ghost use Rattle.tox_link.specs.Reports.{is_write_fault, written_before};
@@ -24,7 +24,10 @@ use crate::hangup::{Ends, Hangup};
 use crate::link_fault::LinkFault;
 use crate::link_report::{LinkReport, TimedReport};
 use crate::notes::Notes;
+use crate::ring::inbox::Inbox;
+use crate::ring::message::Sender;
 use crate::ring::reader_thread::{ReaderThread, join_reader, start_reader};
+use crate::ring::vectors::Vectors;
 use std::alloc::Global;
 use std::sync::{Arc, Wait};
 use std::thread::Threads;
@@ -32,35 +35,28 @@ use tox_compile::Plan;
 use tox_time::{Gate, Sink, Source};
 use tox_words::Words;
 
-/// Starts the reader's thread of a link, with a share of the gate.
+/// Starts the reader's thread of an inbox, with a share of the gate.
 fn start<
-    'w,
     R: Threads + Wait + Copy + Send + 'static,
     S: Source + Send + Drop + 'static,
     G: Gate + Send + Drop + 'static,
 >(
     rt: &R,
-    alloc: Global,
+    inbox: &Inbox,
+    vectors: Vectors,
     reader: S,
-    plan: Plan,
-    words: &'w Words,
+    sender: Sender,
     reads: u64,
     gate: &Arc<G>,
-) -> Result<(WriterSide<'w>, ReaderThread<S>), LinkFault>
-    requires { S.failed reader ≡ false }
-    ensures meaning { IfOk result (λ started. MeansPlan plan words.now started.0.core) }
-    ensures fresh { IfOk result (λ started. IsFresh started.0) }
-    ensures ring { IfOk result (λ started.
-        IsPair started.1.promise.sender.value started.0.inbox.receiver) }
-    ensures reads { IfOk result (λ started. (started.1.promise.reader.value ≡ reader)
-        × (started.1.promise.reads ≡ reads)) }
+) -> Result<ReaderThread<S>, LinkFault>
+    requires working { S.failed reader ≡ false }
+    requires unsent { sent sender ≡ [] }
+    ensures promise { IfOk result (λ thread. (thread.promise.reader.value ≡ reader)
+        × (thread.promise.sender.value ≡ sender) × (thread.promise.reads ≡ reads)) }
     ensures err { IfErr result (λ fault. written_before fault ≡ 0) }
     ensures cause { IfErr result (λ fault. is_write_fault fault ≡ false) }
 {
-    let Ok((side, sender, vectors)) = WriterSide::new(alloc, plan, words) else {
-        return Err(LinkFault::OutOfMemory(0));
-    };
-    let Ok(parkers) = side.inbox.parkers.clone() else {
+    let Ok(parkers) = inbox.parkers.clone() else {
         return Err(LinkFault::OutOfMemory(0));
     };
     let Ok(gate) = gate.clone() else {
@@ -69,7 +65,7 @@ fn start<
     let Some(thread) = start_reader(rt, vectors, reader, sender, reads, parkers, gate) else {
         return Err(LinkFault::SpawnRefused(0));
     };
-    Ok((side, thread))
+    Ok(thread)
 }
 
 /// Carries one direction of a live link, until it ends.
@@ -172,11 +168,52 @@ pub fn carry_timed<
     ensures unstarted { (n : ℕ) → result ≡ Err (SpawnRefused n)
         → (ends.new ≡ ends.old) × (notes.new ≡ notes.old) }
 {
-    let (mut side, thread) = start(rt, alloc, reader, plan, words, reads, gate)?;
-    let driven = drive(rt, &mut side, clock, notes, &mut ends.writer, &**gate);
-    hang_up(&mut ends.hangup, &driven, &side);
+    let Ok((mut side, sender, vectors)) = WriterSide::new(alloc, plan, words) else {
+        return Err(LinkFault::OutOfMemory(0));
+    };
+    match start(rt, &side.inbox, vectors, reader, sender, reads, gate) {
+        Ok(thread) => carry_side(rt, &mut side, thread, ends, clock, notes, &**gate),
+        Err(fault) => Err(fault),
+    }
+}
+
+/// Carries what the reader's thread of a new side sends, until the link ends. Hangs up, and waits for the thread.
+fn carry_side<R: Threads + Wait, S: Source + Drop, W: Sink, H: Hangup, C: Clock, N: Notes, G: Gate>(
+    rt: &R,
+    side: &mut WriterSide<'_>,
+    thread: ReaderThread<S>,
+    ends: &mut Ends<W, H>,
+    clock: &C,
+    notes: &mut N,
+    gate: &G,
+) -> Result<TimedReport<S>, LinkFault>
+    requires writer { W.failed ends.old.writer ≡ false }
+    requires fresh { IsFresh side.old }
+    requires ring { IsPair thread.promise.sender.value side.old.inbox.receiver }
+    ensures carried { (plan : Ops) (words : List ℕ) → MeansPlan plan words side.old.core
+        → IfOk result (λ timed.
+        Carries (means plan words) (C.told clock.now) thread.promise.reads
+        (near_end (S.remaining thread.promise.reader.value)
+        (S.failed thread.promise.reader.value))
+        (near_end (S.remaining timed.report.reader) (S.failed timed.report.reader))
+        (far_end (W.written ends.old.writer) (N.events notes.old) (H.calls ends.old.hangup))
+        (far_end (W.written ends.new.writer) (N.events notes.new) (H.calls ends.new.hangup))
+        timed.report.taken timed.report.written timed.report.ending
+        (read_end_of timed.report.source) timed.reading) }
+    ensures broken { (plan : Ops) (words : List ℕ) → MeansPlan plan words side.old.core
+        → IfErr result (BreaksAt (means plan words) (C.told clock.now)
+        (near_end (S.remaining thread.promise.reader.value)
+        (S.failed thread.promise.reader.value))
+        (far_end (W.written ends.old.writer) (N.events notes.old) (H.calls ends.old.hangup))
+        (far_end (W.written ends.new.writer) (N.events notes.new) (H.calls ends.new.hangup))) }
+    ensures failed { MatchResult result (λ _. W.failed ends.new.writer ≡ false)
+        (λ fault. W.failed ends.new.writer ≡ is_write_fault fault) }
+    ensures started { (n : ℕ) → result ≢ Err (SpawnRefused n) }
+{
+    let driven = drive(rt, side, clock, notes, &mut ends.writer, gate);
+    hang_up(&mut ends.hangup, &driven, side);
     let ended = side.ended;
-    drain(rt, &mut side.inbox, ended, &**gate);
+    drain(rt, &mut side.inbox, ended, gate);
     let (reader, _) = join_reader(rt, thread, &mut side.inbox.receiver);
     match driven {
         Ok(ending) => Ok(TimedReport {

@@ -1,97 +1,29 @@
--- What was written is the first of what the reader had to give, and the log says so.
-use Rattle.std.proofs.Common.{inr, [], ◌++◌, length-take-le, take, refl, ap, subst, sym, ◌∙◌, arith}
-use Rattle.std.proofs.lemmas.Result.{err_from_is_err_and}
-use Rattle.rtrb.specs.Ring.{received}
+-- A link that didn't start did nothing.
+use Rattle.std.proofs.Common.{[], refl}
 use Rattle.tox_compile.specs.Meaning.{means}
-use Rattle.tox_link.specs.log.Logged.{IsCutOff}
-use Rattle.tox_link.specs.ring.Messages.{ReadsFrom}
-use Rattle.tox_link.specs.Reports.{ReportsAt, WritesFirst}
-use Rattle.tox_link.specs.carrying.Side.{came}
-use Rattle.tox_link.specs.Sources.{read_end_of}
-use Rattle.tox_link.proofs.CarryLemmas.{broke-unstarted, first-of, hung-up, link-reports, cut-nothing, writes-nothing, first-bytes, writes-first, source-told, reads-same}
+use Rattle.tox_link.specs.declared.link_fault.LinkFault.TheVariants.{OutOfMemory}
+use Rattle.tox_link.proofs.CarryLemmas.{broke-unstarted, cut-nothing, writes-nothing}
 use Rattle.tox_link.proofs.Logs.{events-none}
-use Rattle.tox_link.proofs.LoggedLemmas.{logged-fresh}
-use Rattle.tox_link.proofs.StepLemmas.{says-heard}
 use Rattle.tox_link.proofs.carrying.carry_timed.Goals as goal
-
-pub returns-in_err-side-clause-broken : goal.returns-in_err-side-clause-broken
-returns-in_err-side-clause-broken g c =
-    let p = err_from_is_err_and c.from_residual.result c.from_residual.ensures.1 in
-    rw (p.1, p.2) (record {
-      log = [];
-      noted = events-none (g.N.Notes.events c.args.notes.now);
-      cut_off = cut-nothing (means c.args.plan c.args.words.now) (g.C.Clock.told c.args.clock.now) _ c.in_err-side.ensures.err;
-      bytes = [];
-      wrote = writes-nothing (g.S.Source.remaining c.args.reader) (g.W.Sink.written c.args.ends.now.writer) _ c.in_err-side.ensures.err;
-      reset = broke-unstarted (g.C.Clock.told c.args.clock.now) (g.H.Hangup.calls c.args.ends.now.hangup) _ c.in_err-side.ensures.err c.in_err-side.ensures.cause;
-    })
-
-pub returns-in-Ok-clause-carried : goal.returns-in-Ok-clause-carried
-returns-in-Ok-clause-carried g c =
-    let told = g.C.Clock.told c.args.clock.now in
-    let plan = means c.args.plan c.args.words.now in
-    let given = g.S.Source.remaining c.args.reader in
-    let side = c.drive-driven.new.side in
-    let messages = received side.inbox.receiver in
-    let logs = rw c.in-Ok.is at c.drive-driven.ensures.log in
-    let ended = rw c.in-Ok.is at c.drive-driven.ensures.ok in
-    let sound = ended.0 in
-    let over = ended.2 in
-    let logged = logs.logs plan (logged-fresh plan told c.in_ok-side.side c.in_ok-side.ensures.fresh c.in_ok-side.ensures.meaning) in
-    let joined = c.join_reader-reader in
-    let later = received joined.new.receiver in
-    let more = c.drain.ensures.received in
-    let grown = joined.ensures.received ∙ more.1 in
-    let left = joined.ensures.sent in
-    let after = g.S.Source.remaining joined.result.0 in
-    let failed = g.S.Source.failed joined.result.0 in
-    let sent : ReadsFrom given c.args.reads (later ++ left.0) joined.result.1 after failed
-    = reads-same _ _ _ _ _ _ _ _ (ap g.S.Source.remaining c.in_ok-side.ensures.reads.0) c.in_ok-side.ensures.reads.1 left.1 in
-    let first = first-bytes messages later more.0 left.0 given after c.args.reads joined.result.1 failed grown sent in
-    record {
-      log = logs.log;
-      noted = logs.noted;
-      reports = subst (ReportsAt plan told logs.log c.stop.result side.written c.in-Ok.ending (read_end_of side.source)) (sym c.latest.ensures)
-          (link-reports plan told side.core side.ended logs.log c.in-Ok.ending (read_end_of side.source) c.stop.result side.written logged.carried logged.closed over sound.written (c.stop.ensures.value ∙ sound.stop));
-      of_heard = says-heard plan told side.core logs.log logged.carried;
-      bytes = take side.core.bytes (came side);
-      took = length-take-le side.core.bytes (came side) sound.few ∙ sym (c.stop.ensures.value ∙ sound.stop);
-      wrote = writes-first given (g.W.Sink.written c.args.ends.now.writer) (g.W.Sink.written c.drive-driven.new.writer) first.0 (came side) side.core.bytes side.written (omega (arith, sound.written, sound.within)) sound.few first.1 c.drive-driven.ensures.written;
-      source_end = source-told side messages later more.0 left.0 given after c.args.reads joined.result.1 failed sound grown sent;
-      messages = messages;
-      first = first-of messages later more.0 left.0 given after c.args.reads joined.result.1 failed grown sent;
-      hung_up = hung-up _ _ side messages c.in-Ok.ending (rw c.in-Ok.is at c.hang_up.ensures.ok) over.stays_open sound;
-    }
 
 pub returns-clause-broken : goal.returns-clause-broken
 returns-clause-broken g c =
-    let told = g.C.Clock.told c.args.clock.now in
-    let plan = means c.args.plan c.args.words.now in
-    let given = g.S.Source.remaining c.args.reader in
-    let side = c.drive-driven.new.side in
-    let messages = received side.inbox.receiver in
-    let joined = c.join_reader-reader in
-    let later = received joined.new.receiver in
-    let more = c.drain.ensures.received in
-    let left = joined.ensures.sent in
-    let after = g.S.Source.remaining joined.result.0 in
-    let failed = g.S.Source.failed joined.result.0 in
-    let sent : ReadsFrom given c.args.reads (later ++ left.0) joined.result.1 after failed
-    = reads-same _ _ _ _ _ _ _ _ (ap g.S.Source.remaining c.in_ok-side.ensures.reads.0) c.in_ok-side.ensures.reads.1 left.1 in
-    let err = rw c.in-Err.is at c.drive-driven.ensures.broken in
-    let first = first-bytes messages later more.0 left.0 given after c.args.reads joined.result.1 failed (joined.ensures.received ∙ more.1) sent in
     record {
-      log = err.log;
-      noted = err.noted;
-      cut_off = subst (λ written. IsCutOff plan told written err.log) (sym err.at.count) (err.cuts plan (logged-fresh plan told c.in_ok-side.side c.in_ok-side.ensures.fresh c.in_ok-side.ensures.meaning));
-      bytes = came side;
-      wrote = subst (WritesFirst given (g.W.Sink.written c.args.ends.now.writer) (g.W.Sink.written c.drive-driven.new.writer) (came side)) (sym err.at.count)
-          (record { left = first.0; gave = first.1; few = c.drive-driven.ensures.few; wrote = c.drive-driven.ensures.written });
-      reset = inr (side.core.latest, rw c.in-Err.is at c.hang_up.ensures.err, err.reset);
+      log = [];
+      noted = events-none (g.N.Notes.events c.args.notes.now);
+      cut_off = cut-nothing (means c.args.plan c.args.words.now) (g.C.Clock.told c.args.clock.now) _ c.in-Err.ensures.err;
+      bytes = [];
+      wrote = writes-nothing (g.S.Source.remaining c.args.reader) (g.W.Sink.written c.args.ends.now.writer) _ c.in-Err.ensures.err;
+      reset = broke-unstarted (g.C.Clock.told c.args.clock.now) (g.H.Hangup.calls c.args.ends.now.hangup) _ c.in-Err.ensures.err c.in-Err.ensures.cause;
     }
 
-pub returns-in_err-side-clause-unstarted : goal.returns-in_err-side-clause-unstarted
-returns-in_err-side-clause-unstarted g c = λ n same. (refl, refl)
-
-pub returns-clause-unstarted : goal.returns-clause-unstarted
-returns-clause-unstarted g c = λ n same. absurd ((rw c.in-Err.is at c.drive-driven.ensures.broken).at.started n (cc))
+pub returns-in_default-clause-broken : goal.returns-in_default-clause-broken
+returns-in_default-clause-broken g c =
+    record {
+      log = [];
+      noted = events-none (g.N.Notes.events c.args.notes.now);
+      cut_off = cut-nothing (means c.args.plan c.args.words.now) (g.C.Clock.told c.args.clock.now) 0 refl;
+      bytes = [];
+      wrote = writes-nothing (g.S.Source.remaining c.args.reader) (g.W.Sink.written c.args.ends.now.writer) 0 refl;
+      reset = broke-unstarted (g.C.Clock.told c.args.clock.now) (g.H.Hangup.calls c.args.ends.now.hangup) (OutOfMemory 0) refl refl;
+    }
