@@ -1,16 +1,27 @@
 //! Ends in memory.
+ghost use Rattle.std.specs.Prelude.{◌≡◌};
+
+use crate::same::same;
+use std::process::Abort;
 use std::test::Fail;
 use tox_time::{EndFault, MemorySink, MemorySource, Real, Sink, Source};
+
+/// Compares what a call of an end returns.
+fn returns(rt: &impl Abort, got: Result<usize, EndFault>, want: Result<usize, EndFault>)
+    ensures { got ≡ want }
+{
+    assert_eq!(rt; got, want);
+}
 
 #[test]
 fn a_source_gives_so_many_bytes_a_call(rt: HostRuntime) -> Result<(), Fail> {
     let mut source = MemorySource::new(b"abcde".to_vec(rt.alloc())?, 2, Some(5));
     let mut buffer = [0; 4];
     for want in [2, 2, 1, 0] {
-        assert_eq!(rt; source.read(&mut buffer), Ok(want));
+        returns(&rt, source.read(&mut buffer), Ok(want));
     }
-    assert_eq!(rt; buffer, *b"ed\0\0");
-    assert_eq!(rt; source.read(&mut buffer), Err(EndFault));
+    same(&rt, &buffer, b"ed\0\0");
+    returns(&rt, source.read(&mut buffer), Err(EndFault));
     Ok(())
 }
 
@@ -18,18 +29,18 @@ fn a_source_gives_so_many_bytes_a_call(rt: HostRuntime) -> Result<(), Fail> {
 fn a_sink_fills_up(rt: HostRuntime) -> Result<(), Fail> {
     let mut sink = MemorySink::new(rt.alloc(), 3, 2, None)?;
     for want in [2, 1, 0] {
-        assert_eq!(rt; sink.write(b"abc"), Ok(want));
+        returns(&rt, sink.write(b"abc"), Ok(want));
     }
-    assert_eq!(rt; sink.bytes(), b"aba".as_slice());
+    same(&rt, &sink.bytes(), &b"aba".as_slice());
     Ok(())
 }
 
 #[test]
 fn a_sink_fails_at_its_call(rt: HostRuntime) -> Result<(), Fail> {
     let mut sink = MemorySink::new(rt.alloc(), 9, 9, Some(2))?;
-    assert_eq!(rt; sink.write(b"abc"), Ok(3));
-    assert_eq!(rt; sink.write(b"abc"), Err(EndFault));
-    assert_eq!(rt; sink.bytes(), b"abc".as_slice());
+    returns(&rt, sink.write(b"abc"), Ok(3));
+    returns(&rt, sink.write(b"abc"), Err(EndFault));
+    same(&rt, &sink.bytes(), &b"abc".as_slice());
     Ok(())
 }
 
@@ -37,13 +48,13 @@ fn a_sink_fails_at_its_call(rt: HostRuntime) -> Result<(), Fail> {
 fn real_ends_pass_bytes_on(rt: HostRuntime) -> Result<(), Fail> {
     let mut source = Real::new(b"ab".as_slice());
     let mut buffer = [0; 4];
-    assert_eq!(rt; source.read(&mut buffer), Ok(2));
-    assert_eq!(rt; buffer, *b"ab\0\0");
-    assert_eq!(rt; source.read(&mut buffer), Ok(0));
+    returns(&rt, source.read(&mut buffer), Ok(2));
+    same(&rt, &buffer, b"ab\0\0");
+    returns(&rt, source.read(&mut buffer), Ok(0));
     let mut written = Vec::new(rt.alloc());
     let mut sink = Real::new(&mut written);
-    assert_eq!(rt; sink.write(b"ab"), Ok(2));
-    assert_eq!(rt; sink.write(b"c"), Ok(1));
-    assert_eq!(rt; written.as_slice(), b"abc".as_slice());
+    returns(&rt, sink.write(b"ab"), Ok(2));
+    returns(&rt, sink.write(b"c"), Ok(1));
+    same(&rt, &written.as_slice(), &b"abc".as_slice());
     Ok(())
 }

@@ -1,4 +1,5 @@
 //! A gate that records what passes it.
+use crate::same::same;
 use std::process::Abort;
 use std::sync::atomic::{AtomicBool, AtomicU64, Ordering};
 use std::thread;
@@ -48,7 +49,7 @@ impl Log {
     /// only after stage 1 had passed its first.
     pub fn check(&self, rt: &impl Abort) {
         assert!(rt; !self.missed.load(Ordering::SeqCst));
-        assert_eq!(rt; self.calls.load(Ordering::SeqCst), 10);
+        same(rt, &self.calls.load(Ordering::SeqCst), &10);
         for nth in 0..5usize {
             let passed = self.returned[nth].load(Ordering::SeqCst);
             let taken = self.entered[5 + nth].load(Ordering::SeqCst);

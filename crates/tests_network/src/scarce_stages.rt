@@ -1,5 +1,8 @@
 //! Running stages, with too little memory and too few threads.
+ghost use Rattle.std.specs.Prelude.{◌≡◌, false};
+
 use std::alloc::Global;
+use std::process::Abort;
 use std::sync::Wait;
 use std::test::Fail;
 use std::thread::Threads;
@@ -10,7 +13,7 @@ use tests_support::{
 use tox_defs::Chain;
 use tox_proxy::{DryFault, StagesFault, stages_run};
 use tox_stages::{StageFault, run_stages};
-use tox_time::{Arrivals, Ending, MemorySink, MemorySource};
+use tox_time::{Arrivals, Ending, MemorySink, MemorySource, Outcome, Sink, Source};
 use tox_words::Words;
 
 const TWO_LATENCIES: &str = "latency:latency=1 latency:latency=2";
@@ -27,6 +30,25 @@ const RING_PAGES: usize = 3 * 6;
 
 /// More pages than running stages need.
 const PAGES: usize = 90;
+
+/// What running stages answered to the two bytes.
+fn tried_of(alloc: Global, answer: &Result<Outcome, StageFault>) -> Result<Tried, Fail> {
+    match answer {
+        Ok(outcome) => delivered(alloc, outcome),
+        Err(StageFault::OutOfMemory) => Ok(Tried::NoMemory),
+        Err(StageFault::SpawnRefused) => Ok(Tried::NoThread),
+    }
+}
+
+/// Wrong unless both bytes were delivered late, and no end.
+fn delivered(alloc: Global, outcome: &Outcome) -> Result<Tried, Fail> {
+    let table = table_of(alloc, &outcome.slices)?;
+    if table.as_slice() == [3000, 3000].as_slice() && outcome.ending == Ending::StillOpen {
+        Ok(Tried::Answered)
+    } else {
+        Ok(Tried::Wrong)
+    }
+}
 
 /// Running stages with little memory. Nobody passes the gate once they have answered.
 fn run<R: Threads + Wait + Sync>(
@@ -46,23 +68,47 @@ fn run<R: Threads + Wait + Sync>(
     if gate.passes() != passes {
         return Ok(Tried::Wrong);
     }
+    tried_of(alloc, &answer)
+}
+
+/// What running stages answered to the text.
+fn text_tried(answer: &Result<(), StagesFault>) -> Tried {
     match answer {
-        Ok(outcome) => {
-            let table = table_of(alloc, &outcome.slices)?;
-            let is_right = table.as_slice() == [3000, 3000].as_slice()
-                && outcome.ending == Ending::StillOpen;
-            Ok(if is_right {
-                Tried::Answered
-            } else {
-                Tried::Wrong
-            })
-        }
-        Err(StageFault::OutOfMemory) => Ok(Tried::NoMemory),
-        Err(StageFault::SpawnRefused) => Ok(Tried::NoThread),
+        Ok(()) => Tried::Answered,
+        Err(
+            StagesFault::Dry(DryFault::OutOfMemory) | StagesFault::Stages(StageFault::OutOfMemory),
+        ) => Tried::NoMemory,
+        Err(StagesFault::Stages(StageFault::SpawnRefused)) => Tried::NoThread,
+        Err(StagesFault::Dry(_)) => Tried::Wrong,
     }
 }
 
-/// The same from text to text. Nothing is written after a refusal, and nobody passes the gate after an answer.
+/// Runs stages between these ends with little memory. Nobody passes the gate after an answer.
+fn run_between<T: Threads + Wait + Sync, R: Source, W: Sink>(
+    rt: &T,
+    scarcity: &mut Scarcity,
+    alloc: Global,
+    pages: usize,
+    reader: &mut R,
+    writer: &mut W,
+    chain: &Chain,
+    words: &Words,
+) -> Result<Tried, Fail>
+    requires reads { R.failed reader.old ≡ false }
+    requires works { W.failed writer.old ≡ false }
+{
+    let gate = CountingGate::new();
+    scarcity.leave_pages(alloc, pages)?;
+    let answer = stages_run(rt, alloc, reader, writer, chain, words, CAP, &gate);
+    let passes = gate.passes();
+    scarcity.end();
+    if gate.passes() != passes {
+        return Ok(Tried::Wrong);
+    }
+    Ok(text_tried(&answer))
+}
+
+/// The same from text to text. Nothing is written after a refusal.
 fn run_text<R: Threads + Wait + Sync>(
     rt: &R,
     scarcity: &mut Scarcity,
@@ -73,31 +119,16 @@ fn run_text<R: Threads + Wait + Sync>(
     let words = Words::from_list(alloc, &[0])?;
     let mut reader = MemorySource::new(TEXT.as_bytes().to_vec(alloc)?, 64, None);
     let mut writer = MemorySink::new(alloc, 100, 64, None)?;
-    let gate = CountingGate::new();
-    scarcity.leave_pages(alloc, pages)?;
-    let answer = stages_run(
+    let tried = run_between(
         rt,
+        scarcity,
         alloc,
+        pages,
         &mut reader,
         &mut writer,
         chain,
         &words,
-        CAP,
-        &gate,
-    );
-    let passes = gate.passes();
-    scarcity.end();
-    if gate.passes() != passes {
-        return Ok(Tried::Wrong);
-    }
-    let tried = match answer {
-        Ok(()) => Tried::Answered,
-        Err(
-            StagesFault::Dry(DryFault::OutOfMemory) | StagesFault::Stages(StageFault::OutOfMemory),
-        ) => Tried::NoMemory,
-        Err(StagesFault::Stages(StageFault::SpawnRefused)) => Tried::NoThread,
-        Err(StagesFault::Dry(_)) => Tried::Wrong,
-    };
+    )?;
     Ok(tried.writing(writer.bytes(), RESULT))
 }
 
@@ -128,42 +159,46 @@ fn run_text_behind<R: Threads + Wait + Sync + AllocGlobal>(
     })
 }
 
-#[test]
-fn running_stages_are_refused_each_thread(rt: HostRuntime) -> Result<(), Fail> {
-    let refusals = run_behind(&rt, 0)?;
+/// Prints what was refused: memory, and a thread in the end.
+fn are_refused_a_thread(rt: &(impl Abort + Eprint), refusals: &Refusals) -> Result<(), Fail> {
     eprintln!(rt; "{refusals:?}")?;
     assert!(rt; 0 < refusals.memory && refusals.last == Some(Tried::NoThread));
     Ok(())
+}
+
+/// Prints what was refused: memory for each page of the rings, and nothing in the end.
+fn are_refused_memory(rt: &(impl Abort + Eprint), refusals: &Refusals) -> Result<(), Fail> {
+    eprintln!(rt; "{refusals:?}")?;
+    assert!(rt; refusals.is_answered && RING_PAGES < refusals.memory);
+    Ok(())
+}
+
+#[test]
+fn running_stages_are_refused_each_thread(rt: HostRuntime) -> Result<(), Fail> {
+    let refusals = run_behind(&rt, 0)?;
+    are_refused_a_thread(&rt, &refusals)
 }
 
 #[test]
 fn running_stages_are_refused_the_second_thread(rt: HostRuntime) -> Result<(), Fail> {
     let refusals = run_behind(&rt, 1)?;
-    eprintln!(rt; "{refusals:?}")?;
-    assert!(rt; 0 < refusals.memory && refusals.last == Some(Tried::NoThread));
-    Ok(())
+    are_refused_a_thread(&rt, &refusals)
 }
 
 #[test]
 fn running_stages_are_refused_memory(rt: HostRuntime) -> Result<(), Fail> {
     let refusals = run_behind(&rt, 2)?;
-    eprintln!(rt; "{refusals:?}")?;
-    assert!(rt; refusals.is_answered && RING_PAGES < refusals.memory);
-    Ok(())
+    are_refused_memory(&rt, &refusals)
 }
 
 #[test]
 fn a_text_in_threads_is_refused_the_second_thread(rt: HostRuntime) -> Result<(), Fail> {
     let refusals = run_text_behind(&rt, 1)?;
-    eprintln!(rt; "{refusals:?}")?;
-    assert!(rt; 0 < refusals.memory && refusals.last == Some(Tried::NoThread));
-    Ok(())
+    are_refused_a_thread(&rt, &refusals)
 }
 
 #[test]
 fn a_text_in_threads_is_refused_memory(rt: HostRuntime) -> Result<(), Fail> {
     let refusals = run_text_behind(&rt, 2)?;
-    eprintln!(rt; "{refusals:?}")?;
-    assert!(rt; refusals.is_answered && RING_PAGES < refusals.memory);
-    Ok(())
+    are_refused_memory(&rt, &refusals)
 }

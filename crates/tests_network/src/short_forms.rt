@@ -1,4 +1,5 @@
 //! Short forms of toxics.
+use std::process::Abort;
 use tox_defs::{ShortFault, Toxic, ToxicFault, read_short};
 
 fn latency(latency: u32, jitter: u32) -> Toxic {
@@ -7,6 +8,11 @@ fn latency(latency: u32, jitter: u32) -> Toxic {
         jitter,
         until: 0,
     }
+}
+
+/// Compares what a text is read as.
+fn compare(rt: &impl Abort, text: &str, want: &Result<(Toxic, u16), ShortFault>) {
+    assert_eq!(rt; &read_short(text), want, "{text}");
 }
 
 #[test]
@@ -24,8 +30,8 @@ fn reads_short_forms(rt: HostRuntime) {
             Ok((Toxic::LimitData { bytes }, 0)),
         ),
     ];
-    for (text, want) in rows {
-        assert_eq!(rt; read_short(text), want, "{text}");
+    for (text, want) in &rows {
+        compare(&rt, text, want);
     }
 }
 
@@ -55,6 +61,6 @@ fn refuses_other_texts(rt: HostRuntime) {
         ),
     ];
     for (text, want) in rows {
-        assert_eq!(rt; read_short(text), Err(want), "{text}");
+        compare(&rt, text, &Err(want));
     }
 }

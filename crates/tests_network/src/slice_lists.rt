@@ -1,4 +1,5 @@
 //! Lists of slices.
+use crate::same::same;
 use std::test::Fail;
 use tests_support::slice;
 use tox_time::SliceList;
@@ -9,6 +10,6 @@ fn a_list_is_made_from_a_vector_and_gives_it_back(rt: HostRuntime) -> Result<(),
     let mut slices = SliceList::from([first].to_vec(rt.alloc())?);
     slices.push(second)?;
     let slices = slices.into_vec();
-    assert_eq!(rt; slices.as_slice(), [first, second].as_slice());
+    same(&rt, &slices.as_slice(), &[first, second].as_slice());
     Ok(())
 }

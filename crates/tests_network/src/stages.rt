@@ -16,18 +16,37 @@ fn compare(rt: &impl Abort, words: &Words, text: &str, taken: &[Item], expected:
     let (toxic, _) = read_short(text).expect(&rt, "a short form");
     assert!(rt; toxic.check().is_ok());
     let mut stage = Stage::new(toxic, Lanes::Sixteen, 0, words);
+    take_all(rt, &mut stage, text, taken, expected);
+}
+
+/// Gives a stage these items one after another, and compares all that it emits.
+fn take_all(rt: &impl Abort, stage: &mut Stage<'_>, text: &str, taken: &[Item], expected: &[Item]) {
     let mut place = 0usize;
     for item in taken {
-        assert!(rt; stage.is_idle());
-        assert!(rt; stage.may_take(item));
-        stage.take(*item);
-        while let Some(item) = stage.emit() {
-            assert_eq!(rt; Some(&item), expected.get(place), "{text}");
-            place = place.saturating_add(1);
-        }
+        place = take(rt, stage, item, text, expected, place);
     }
     assert_eq!(rt; place, expected.len(), "{text}");
     assert!(rt; !stage.may_take(&Item::Quiet));
+}
+
+/// Gives a stage an item, and compares what it emits with the expected items from a place on. Returns the place behind them.
+fn take(
+    rt: &impl Abort,
+    stage: &mut Stage<'_>,
+    item: &Item,
+    text: &str,
+    expected: &[Item],
+    start: usize,
+) -> usize {
+    assert!(rt; stage.is_idle());
+    assert!(rt; stage.may_take(item));
+    stage.take(*item);
+    let mut place = start;
+    while let Some(item) = stage.emit() {
+        assert_eq!(rt; Some(&item), expected.get(place), "{text}");
+        place = place.saturating_add(1);
+    }
+    place
 }
 
 #[test]
@@ -61,21 +80,21 @@ fn toxics_that_drop_bytes(rt: HostRuntime) -> Result<(), Fail> {
     Ok(())
 }
 
+/// Compares whether a stage may take an item.
+fn fits(rt: &impl Abort, stage: &Stage<'_>, item: Item, want: bool) {
+    assert_eq!(rt; stage.may_take(&item), want, "{item:?}");
+}
+
 #[test]
 fn a_new_stage_takes_what_begins_a_stream(rt: HostRuntime) -> Result<(), Fail> {
     let words = Words::from_list(rt.alloc(), &[0])?;
     let toxic = Toxic::SlowClose { delay: 0 };
     assert!(rt; toxic.check().is_ok());
     let stage = Stage::new(toxic, Lanes::ThirtyTwo, 31, &words);
-    let cases = [
-        (chunk(1, 2, 0), false),
-        (chunk(0, 0, 0), false),
-        (chunk(0, 1 << 40, 5), true),
-        (chunk(0, (1 << 40) + 1, 5), false),
-        (Item::Quiet, true),
-    ];
-    for (item, fits) in cases {
-        assert_eq!(rt; stage.may_take(&item), fits, "{item:?}");
-    }
+    fits(&rt, &stage, chunk(1, 2, 0), false);
+    fits(&rt, &stage, chunk(0, 0, 0), false);
+    fits(&rt, &stage, chunk(0, 1 << 40, 5), true);
+    fits(&rt, &stage, chunk(0, (1 << 40) + 1, 5), false);
+    fits(&rt, &stage, Item::Quiet, true);
     Ok(())
 }

@@ -2,15 +2,18 @@
 ghost use Rattle.std.specs.Prelude.{◌≤◌};
 
 use crate::gates::Log;
+use crate::same::same;
+use std::fmt::Debug;
 use std::process::Abort;
 use std::sync::Wait;
 use std::test::Fail;
 use std::thread::Threads;
 use tests_support::{Meeting, arrivals_of, chain_of, table_of};
+use tox_defs::Chain;
 use tox_plan::deliver;
 use tox_proxy::{DryFault, StagesFault, stages_run};
 use tox_stages::{StageFault, run_stages};
-use tox_time::{Gate, MemorySink, MemorySource, OpenGate};
+use tox_time::{Gate, MemorySink, MemorySource, OpenGate, Outcome};
 use tox_words::Words;
 
 const TWO_LATENCIES: &str = "latency:latency=1 latency:latency=2";
@@ -46,10 +49,32 @@ fn compare<R: Threads + Wait + Sync + AllocGlobal + Abort>(
     let arrivals = arrivals_of(rt.alloc(), arrived).expect(rt, "arrivals");
     let planned = deliver(rt.alloc(), &chain, &words, &arrivals)?;
     let running = run_stages(rt, rt.alloc(), &chain, &words, &arrivals, cap, &OpenGate)?;
+    compare_outcomes(rt, &running, &planned, toxics, cap)
+}
+
+/// Compares two values of these toxics over rings of `cap` items.
+fn same_at<T: PartialEq + Debug>(
+    rt: &impl Abort,
+    value: &T,
+    expected: &T,
+    toxics: &str,
+    cap: usize,
+) {
+    assert_eq!(rt; value, expected, "{toxics} at {cap}");
+}
+
+/// Compares when each byte was delivered, and the endings.
+fn compare_outcomes(
+    rt: &(impl Abort + AllocGlobal),
+    running: &Outcome,
+    planned: &Outcome,
+    toxics: &str,
+    cap: usize,
+) -> Result<(), Fail> {
     let expected = table_of(rt.alloc(), &planned.slices)?;
     let table = table_of(rt.alloc(), &running.slices)?;
-    assert_eq!(rt; table.as_slice(), expected.as_slice(), "{toxics} at {cap}");
-    assert_eq!(rt; running.ending, planned.ending, "{toxics} at {cap}");
+    same_at(rt, &table.as_slice(), &expected.as_slice(), toxics, cap);
+    same_at(rt, &running.ending, &planned.ending, toxics, cap);
     Ok(())
 }
 
@@ -75,6 +100,20 @@ fn run_at<R: Threads + Wait + Sync + AllocGlobal + Abort>(
 {
     let words = Words::from_list(rt.alloc(), &[0])?;
     let chain = chain_of(toxics).expect(rt, "short forms");
+    run_chain(rt, &chain, &words, read, cap, gate)
+}
+
+/// What `stages_run` answers and writes for this chain under these words.
+fn run_chain<R: Threads + Wait + Sync + AllocGlobal>(
+    rt: &R,
+    chain: &Chain,
+    words: &Words,
+    read: &str,
+    cap: usize,
+    gate: &impl Gate,
+) -> Result<(Result<(), StagesFault>, String), Fail>
+    requires { (1 ≤ cap) × (cap ≤ 1024) }
+{
     let mut reader = MemorySource::new(read.as_bytes().to_vec(rt.alloc())?, 7, None);
     let mut writer = MemorySink::new(rt.alloc(), 100, 7, None)?;
     let ran = stages_run(
@@ -82,27 +121,34 @@ fn run_at<R: Threads + Wait + Sync + AllocGlobal + Abort>(
         rt.alloc(),
         &mut reader,
         &mut writer,
-        &chain,
-        &words,
+        chain,
+        words,
         cap,
         gate,
     );
     Ok((ran, String::from_utf8_lossy(rt.alloc(), writer.bytes())?))
 }
 
+/// Compares what a text over rings of one item is answered and writes.
+fn compare_text<R: Threads + Wait + Sync + AllocGlobal + Abort>(
+    rt: &R,
+    read: &str,
+    answer: Result<(), StagesFault>,
+    want: &str,
+) -> Result<(), Fail> {
+    let toxics = "limit_data:bytes=4 latency:latency=1";
+    let (ran, written) = run_at(rt, toxics, read, 1, &OpenGate)?;
+    same(rt, &ran, &answer);
+    same(rt, &written.as_str(), &want);
+    Ok(())
+}
+
 #[test]
 fn a_text_runs_in_threads(rt: HostRuntime) -> Result<(), Fail> {
-    let toxics = "limit_data:bytes=4 latency:latency=1";
-    let (ran, written) = run_at(&rt, toxics, "0 data 616263\n10 data 646566\n", 1, &OpenGate)?;
-    assert_eq!(rt; ran, Ok(()));
-    assert_eq!(rt;
-        written.as_str(),
-        "1000 0..3 616263\n1010 3..4 64\nclosed 1010\n"
-    );
-    let (ran, written) = run_at(&rt, toxics, "0 data 61\n\n5 eof 6\n", 1, &OpenGate)?;
-    assert_eq!(rt; ran, Err(StagesFault::Dry(DryFault::BadLine(3))));
-    assert!(rt; written.is_empty());
-    Ok(())
+    let want = "1000 0..3 616263\n1010 3..4 64\nclosed 1010\n";
+    compare_text(&rt, "0 data 616263\n10 data 646566\n", Ok(()), want)?;
+    let fault = StagesFault::Dry(DryFault::BadLine(3));
+    compare_text(&rt, "0 data 61\n\n5 eof 6\n", Err(fault), "")
 }
 
 #[test]
@@ -110,7 +156,11 @@ fn workers_of_a_text_meet(rt: HostRuntime) -> Result<(), Fail> {
     let gate = Meeting::new(1);
     let (_, written) = run_at(&rt, TWO_LATENCIES, "0 data 61\n0 data 62\n", 1, &gate)?;
     assert!(rt; gate.met());
-    assert_eq!(rt; written.as_str(), "3000 0..1 61\n3000 1..2 62\nopen\n");
+    same(
+        &rt,
+        &written.as_str(),
+        &"3000 0..1 61\n3000 1..2 62\nopen\n",
+    );
     Ok(())
 }
 
@@ -126,7 +176,7 @@ fn workers_of_a_text_have_rings_of_their_own(rt: HostRuntime) -> Result<(), Fail
     )?;
     gate.check(&rt);
     let want = "3000 0..1 61\n3000 1..2 62\n3000 2..3 63\n3000 3..4 64\nopen\n";
-    assert_eq!(rt; written.as_str(), want);
+    same(&rt, &written.as_str(), &want);
     Ok(())
 }
 
@@ -149,7 +199,7 @@ fn faults_of_the_stages_have_names(rt: HostRuntime) -> Result<(), Fail> {
     ];
     for (fault, name) in faults {
         let text = format!(in rt.alloc(); "{}", StagesFault::Stages(fault))?;
-        assert_eq!(rt; text.as_str(), name);
+        same(&rt, &text.as_str(), &name);
     }
     Ok(())
 }

@@ -2,6 +2,7 @@
 ghost use Rattle.std.specs.Prelude.{◌≤◌};
 
 use crate::gates::Log;
+use crate::same::same;
 use std::process::Abort;
 use std::sync::Wait;
 use std::test::Fail;
@@ -10,7 +11,7 @@ use tests_support::{Meeting, bytes_at_zero, chain_of, slice};
 use tox_defs::Lanes;
 use tox_proxy::read_chain;
 use tox_stages::run_stages;
-use tox_time::{Ending, Gate, OpenGate, Outcome};
+use tox_time::{Ending, Gate, OpenGate, Outcome, Slice};
 use tox_words::Words;
 
 const TWO_LATENCIES: &str = "latency:latency=1 latency:latency=2";
@@ -31,14 +32,19 @@ fn delivered<R: Threads + Wait + Sync + AllocGlobal + Abort>(
     Ok(run_stages(rt, rt.alloc(), &chain, &words, &arrivals, cap, gate)?)
 }
 
+/// Compares what was delivered with these slices and no end.
+fn compare(rt: &impl Abort, outcome: &Outcome, expected: &[Slice]) {
+    same(rt, &outcome.slices.as_slice(), &expected);
+    same(rt, &outcome.ending, &Ending::StillOpen);
+}
+
 #[test]
 fn a_chain_may_have_thirty_two_workers(rt: HostRuntime) -> Result<(), Fail> {
     let words = Words::from_list(rt.alloc(), &[0])?;
     let arrivals = bytes_at_zero(rt.alloc(), 1)?;
     let chain = read_chain(Lanes::ThirtyTwo, &["latency:latency=1"; 32]).expect(&rt, "room");
     let outcome = run_stages(&rt, rt.alloc(), &chain, &words, &arrivals, 1, &OpenGate)?;
-    assert_eq!(rt; outcome.slices.as_slice(), [slice(0, 1, 32_000)].as_slice());
-    assert_eq!(rt; outcome.ending, Ending::StillOpen);
+    compare(&rt, &outcome, &[slice(0, 1, 32_000)]);
     Ok(())
 }
 
@@ -47,9 +53,7 @@ fn two_workers_meet(rt: HostRuntime) -> Result<(), Fail> {
     let gate = Meeting::new(1);
     let outcome = delivered(&rt, TWO_LATENCIES, 2, 1, &gate)?;
     assert!(rt; gate.met());
-    let expected = [slice(0, 1, 3000), slice(1, 2, 3000)];
-    assert_eq!(rt; outcome.slices.as_slice(), expected.as_slice());
-    assert_eq!(rt; outcome.ending, Ending::StillOpen);
+    compare(&rt, &outcome, &[slice(0, 1, 3000), slice(1, 2, 3000)]);
     Ok(())
 }
 
@@ -62,7 +66,11 @@ fn rings_have_their_room(rt: HostRuntime) -> Result<(), Fail> {
         let gate = Meeting::new(nth);
         let outcome = delivered(&rt, toxics, 5, cap, &gate)?;
         assert!(rt; gate.met(), "rings of {cap}");
-        assert_eq!(rt; outcome.slices.as_slice().last(), Some(&slice(4, 5, 3000)));
+        same(
+            &rt,
+            &outcome.slices.as_slice().last(),
+            &Some(&slice(4, 5, 3000)),
+        );
     }
     Ok(())
 }
@@ -78,7 +86,6 @@ fn each_worker_takes_from_its_own_ring(rt: HostRuntime) -> Result<(), Fail> {
         slice(2, 3, 3000),
         slice(3, 4, 3000),
     ];
-    assert_eq!(rt; outcome.slices.as_slice(), expected.as_slice());
-    assert_eq!(rt; outcome.ending, Ending::StillOpen);
+    compare(&rt, &outcome, &expected);
     Ok(())
 }
