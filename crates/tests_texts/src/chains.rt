@@ -1,4 +1,7 @@
 //! Chains made from short forms.
+ghost use Rattle.std.specs.Prelude.{◌≤◌};
+
+use crate::same::same;
 use std::process::Abort;
 use tox_defs::{Chain, Lanes, TooManyToxics, Toxic};
 use tox_proxy::{ToxicsFault, read_chain};
@@ -10,33 +13,56 @@ fn push(rt: &impl Abort, chain: &mut Chain, toxic: Toxic, toxicity: u16) {
     assert!(rt; chain.push(toxic, toxicity).is_ok());
 }
 
+/// What the chains here are filled with.
+const TOXIC: Toxic = Toxic::LimitData { bytes: 5 };
+
+/// Fills an empty chain that has room for so many toxics.
+fn fill(rt: &impl Abort, chain: &mut Chain, most: u16)
+    requires { most ≤ 32 }
+{
+    assert!(rt; chain.is_empty());
+    for toxicity in 0..most {
+        assert!(rt; !chain.is_full());
+        push(rt, chain, TOXIC, toxicity);
+    }
+    assert!(rt; chain.is_full());
+}
+
+/// Compares a chain that was filled with so many toxics. It takes no other.
+fn compare(rt: &impl Abort, chain: &mut Chain, most: u16)
+    requires { (16 ≤ most) × (most ≤ 32) }
+{
+    assert!(rt; TOXIC.check().is_ok());
+    same(rt, &chain.push(TOXIC, most), &Err(TooManyToxics));
+    assert_eq!(rt; chain.len(), usize::from(most));
+    same(rt, &chain.toxicity(15), &15);
+    same(rt, &chain.toxic(15), &TOXIC);
+}
+
+/// Fills a new chain, and compares it.
+fn has_room_for(rt: &impl Abort, chain: &mut Chain, most: u16)
+    requires { (16 ≤ most) × (most ≤ 32) }
+{
+    fill(rt, chain, most);
+    compare(rt, chain, most);
+}
+
 #[test]
 fn a_chain_has_a_toxic_for_each_lane(rt: HostRuntime) {
-    let toxic = Toxic::LimitData { bytes: 5 };
-    for (mut chain, most) in [
-        (Chain::new(), 16),
-        (Chain::with_lanes(Lanes::ThirtyTwo), 32),
-    ] {
-        assert!(rt; chain.is_empty());
-        for toxicity in 0..most {
-            assert!(rt; !chain.is_full());
-            push(&rt, &mut chain, toxic, toxicity);
-        }
-        assert!(rt; chain.is_full());
-        assert!(rt; toxic.check().is_ok());
-        assert_eq!(rt; chain.push(toxic, most), Err(TooManyToxics));
-        assert_eq!(rt; chain.len(), usize::from(most));
-        assert_eq!(rt; chain.toxicity(15), 15);
-        assert_eq!(rt; chain.toxic(15), toxic);
-    }
+    has_room_for(&rt, &mut Chain::new(), 16);
+    has_room_for(&rt, &mut Chain::with_lanes(Lanes::ThirtyTwo), 32);
+}
+
+/// Compares the number of the short form that is one too many.
+fn refuse(rt: &impl Abort, lanes: Lanes, number: usize) {
+    let fault = read_chain(lanes, &["latency"; 33])
+        .err()
+        .expect(rt, "a fault");
+    same(rt, &fault, &ToxicsFault::TooMany(number));
 }
 
 #[test]
 fn short_forms_are_one_for_each_lane(rt: HostRuntime) {
-    for (lanes, number) in [(Lanes::Sixteen, 17), (Lanes::ThirtyTwo, 33)] {
-        let fault = read_chain(lanes, &["latency"; 33])
-            .err()
-            .expect(&rt, "a fault");
-        assert_eq!(rt; fault, ToxicsFault::TooMany(number));
-    }
+    refuse(&rt, Lanes::Sixteen, 17);
+    refuse(&rt, Lanes::ThirtyTwo, 33);
 }

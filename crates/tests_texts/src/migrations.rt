@@ -1,21 +1,33 @@
 //! Migrated scripts, and what connections meet by them.
-use crate::picks::{CONFIG, MET, ROOM, SCRIPT};
+use crate::picks::{CONFIG, MET, ROOM, SCRIPT, print_third};
+use crate::same::{begins_at, same, same_at};
 use std::alloc::Global;
 use std::process::Abort;
 use std::test::Fail;
-use tox_config::read_populate;
-use tox_proxy::{PrintMigratedFault, find_proxy, print_migrated, print_pick};
-use tox_script::{ScriptFault, read_script};
-use tox_time::{MemorySink, Stream};
+use tox_config::{ProxyDef, read_populate};
+use tox_proxy::{PrintMigratedFault, print_migrated};
+use tox_script::{Script, ScriptFault, read_script};
+use tox_time::MemorySink;
 
 /// The pick text of connection 3 downstream.
 fn pick_of(alloc: Global, script: &[u8]) -> Result<String, Fail> {
     let proxies = read_populate(alloc, CONFIG.as_bytes())?;
     let script = read_script(alloc, script)?;
-    let proxy = find_proxy(&proxies, "a").ok_or("no proxy a")?;
+    picked(alloc, &proxies, &script)
+}
+
+/// The pick text of connection 3 downstream, by a script that was read.
+fn picked(alloc: Global, proxies: &[ProxyDef], script: &Script) -> Result<String, Fail> {
     let mut writer = MemorySink::new(alloc, ROOM, ROOM, None)?;
-    print_pick(alloc, &mut writer, proxy, &script, 3, Stream::Downstream, 1)?;
+    print_third(alloc, &mut writer, proxies, script)??;
     Ok(String::from_utf8_lossy(alloc, writer.bytes())?)
+}
+
+/// Compares the pick text of a script.
+fn compare_pick(rt: &(impl Abort + AllocGlobal), script: &[u8]) -> Result<(), Fail> {
+    let text = pick_of(rt.alloc(), script)?;
+    same(rt, &text.as_str(), &MET);
+    Ok(())
 }
 
 #[test]
@@ -23,9 +35,8 @@ fn a_migrated_script_has_the_same_pick(rt: HostRuntime) -> Result<(), Fail> {
     let alloc = rt.alloc();
     let mut writer = MemorySink::new(alloc, ROOM, ROOM, None)?;
     print_migrated(alloc, &mut writer, SCRIPT.as_bytes())?;
-    assert_eq!(rt; pick_of(alloc, SCRIPT.as_bytes())?.as_str(), MET);
-    assert_eq!(rt; pick_of(alloc, writer.bytes())?.as_str(), MET);
-    Ok(())
+    compare_pick(&rt, SCRIPT.as_bytes())?;
+    compare_pick(&rt, writer.bytes())
 }
 
 #[test]
@@ -35,9 +46,10 @@ fn a_migrated_script_is_not_migrated_again(rt: HostRuntime) -> Result<(), Fail> 
     print_migrated(alloc, &mut writer, SCRIPT.as_bytes())?;
     let mut other = MemorySink::new(alloc, ROOM, ROOM, None)?;
     let refusal = PrintMigratedFault::Script(ScriptFault::AlreadyVersion2);
-    assert_eq!(rt;
-        print_migrated(alloc, &mut other, writer.bytes()),
-        Err(refusal)
+    same(
+        &rt,
+        &print_migrated(alloc, &mut other, writer.bytes()),
+        &Err(refusal),
     );
     assert!(rt; other.bytes().is_empty());
     Ok(())
@@ -46,12 +58,14 @@ fn a_migrated_script_is_not_migrated_again(rt: HostRuntime) -> Result<(), Fail> 
 fn fails_at(rt: &(impl Abort + AllocGlobal), whole: &[u8], call: u64) -> Result<(), Fail> {
     let mut writer = MemorySink::new(rt.alloc(), ROOM, 40, Some(call))?;
     let answer = print_migrated(rt.alloc(), &mut writer, SCRIPT.as_bytes());
-    assert_eq!(rt;
-        answer,
-        Err(PrintMigratedFault::WriteFault),
-        "at write {call}"
+    same_at(
+        rt,
+        &answer,
+        &Err(PrintMigratedFault::WriteFault),
+        "write",
+        call,
     );
-    assert!(rt; whole.starts_with(writer.bytes()), "at write {call}");
+    begins_at(rt, whole, writer.bytes(), call);
     Ok(())
 }
 

@@ -1,17 +1,20 @@
 //! Picks whose writer fails, whose files are in memory, and files of the longest length.
+ghost use Rattle.std.specs.Prelude.{◌≡◌, false};
+
+use crate::same::{begins_at, same, same_at};
 use std::alloc::Global;
 use std::fs::File;
 use std::process::Abort;
 use std::rt::{Env, Files};
 use std::test::Fail;
 use std::{env, fs, process};
-use tox_config::read_populate;
+use tox_config::{ProxyDef, read_populate};
 use tox_proxy::{
     FileFault, MAX_INPUT, MemoryFiles, NamedFiles, PickRequest, PrintPickFault, RealFiles,
     find_proxy, print_pick, read_file,
 };
-use tox_script::read_script;
-use tox_time::{MemorySink, Stream};
+use tox_script::{Script, read_script};
+use tox_time::{MemorySink, Sink, Stream};
 
 /// Room for what any pick here writes.
 pub const ROOM: usize = 1000;
@@ -41,23 +44,32 @@ proxy a listen localhost:0 upstream localhost:1 enabled
 1 skipped limit_data:bytes=7,toxicity=0 limit_data_downstream
 ";
 
+/// What the printing of connection 3 downstream answers.
+pub fn print_third<W: Sink>(
+    alloc: Global,
+    writer: &mut W,
+    proxies: &[ProxyDef],
+    script: &Script,
+) -> Result<Result<(), PrintPickFault>, Fail>
+    requires { W.failed writer.old ≡ false }
+{
+    let proxy = find_proxy(proxies, "a").ok_or("no proxy a")?;
+    Ok(print_pick(alloc, writer, proxy, script, 3, Stream::Downstream, 1))
+}
+
 /// What is printed of connection 3 downstream to a writer that takes ten bytes a call, and fails at the call of this number.
 fn print_to(alloc: Global, call: u64) -> Result<(Result<(), PrintPickFault>, MemorySink), Fail> {
     let proxies = read_populate(alloc, CONFIG.as_bytes())?;
     let script = read_script(alloc, SCRIPT.as_bytes())?;
-    let proxy = find_proxy(&proxies, "a").ok_or("no proxy a")?;
     let mut writer = MemorySink::new(alloc, ROOM, 10, Some(call))?;
-    let answer = print_pick(alloc, &mut writer, proxy, &script, 3, Stream::Downstream, 1);
+    let answer = print_third(alloc, &mut writer, &proxies, &script)?;
     Ok((answer, writer))
 }
 
 fn fails_at(rt: &(impl Abort + AllocGlobal), call: u64) -> Result<(), Fail> {
     let (answer, writer) = print_to(rt.alloc(), call)?;
-    assert_eq!(rt; answer, Err(PrintPickFault::WriteFault), "at write {call}");
-    assert!(rt;
-        MET.as_bytes().starts_with(writer.bytes()),
-        "at write {call}"
-    );
+    same_at(rt, &answer, &Err(PrintPickFault::WriteFault), "write", call);
+    begins_at(rt, MET.as_bytes(), writer.bytes(), call);
     Ok(())
 }
 
@@ -67,8 +79,8 @@ fn each_write_of_a_pick_may_fail(rt: HostRuntime) -> Result<(), Fail> {
         fails_at(&rt, call)?;
     }
     let (answer, writer) = print_to(rt.alloc(), 20)?;
-    assert_eq!(rt; answer, Ok(()));
-    assert_eq!(rt; writer.bytes(), MET.as_bytes());
+    same(&rt, &answer, &Ok(()));
+    same(&rt, &writer.bytes(), &MET.as_bytes());
     Ok(())
 }
 
@@ -101,6 +113,19 @@ fn answer_of(
     }
 }
 
+/// Compares what two of these files answer.
+fn answers(
+    rt: &(impl Abort + AllocGlobal),
+    files: &impl NamedFiles,
+    config: &str,
+    script: &str,
+    want: &str,
+) -> Result<(), Fail> {
+    let answer = answer_of(rt.alloc(), files, config, script)?;
+    assert_eq!(rt; answer.as_str(), want, "{config} {script}");
+    Ok(())
+}
+
 /// Two of the files aren't UTF-8.
 #[test]
 fn files_in_memory_answer_too(rt: HostRuntime) -> Result<(), Fail> {
@@ -112,19 +137,26 @@ fn files_in_memory_answer_too(rt: HostRuntime) -> Result<(), Fail> {
         ("toml", b"#\xff".as_slice()),
     ];
     let memory = MemoryFiles { files: &files };
-    let cases = [
-        ("proxies", "script", MET),
-        ("proxies", "none", "P1 FileFault none"),
-        ("none", "none", "P1 FileFault none"),
-        ("script", "none", "C1 NotJson"),
-        ("json", "none", "C1 NotJson"),
-        ("proxies", "toml", "S1 NotToml"),
-    ];
-    for (config, script, want) in cases {
-        let answer = answer_of(rt.alloc(), &memory, config, script)?;
-        assert_eq!(rt; answer.as_str(), want, "{config} {script}");
+    answers(&rt, &memory, "proxies", "script", MET)?;
+    answers(&rt, &memory, "proxies", "none", "P1 FileFault none")?;
+    answers(&rt, &memory, "none", "none", "P1 FileFault none")?;
+    answers(&rt, &memory, "script", "none", "C1 NotJson")?;
+    answers(&rt, &memory, "json", "none", "C1 NotJson")?;
+    answers(&rt, &memory, "proxies", "toml", "S1 NotToml")
+}
+
+/// The length of a file that is not too long, or else 0.
+fn read_len(rt: &(impl Files + AllocGlobal), name: &str) -> usize {
+    match read_file(rt, rt.alloc(), name) {
+        Ok(bytes) => bytes.len(),
+        Err(_) => 0,
     }
-    Ok(())
+}
+
+/// Compares why a file that is too long is refused.
+fn refuse(rt: &(impl Abort + Files + AllocGlobal), name: &str) {
+    let fault = read_file(rt, rt.alloc(), name).err();
+    same(rt, &fault, &Some(FileFault::TooLong(name)));
 }
 
 #[test]
@@ -133,11 +165,9 @@ fn a_file_has_a_longest_length(rt: HostRuntime) -> Result<(), Fail> {
     let name = path_of(&rt, id, "long")?;
     let file = File::create(&rt, name.as_str())?;
     file.set_len(MAX_INPUT as u64)?;
-    let bytes = read_file(&rt, rt.alloc(), name.as_str()).ok();
-    assert_eq!(rt; bytes.map_or(0, |bytes| bytes.len()), MAX_INPUT);
+    same(&rt, &read_len(&rt, name.as_str()), &MAX_INPUT);
     file.set_len(MAX_INPUT as u64 + 1)?;
-    let fault = read_file(&rt, rt.alloc(), name.as_str()).err();
-    assert_eq!(rt; fault, Some(FileFault::TooLong(name.as_str())));
+    refuse(&rt, name.as_str());
     fs::remove_file(&rt, name.as_str())?;
     Ok(())
 }

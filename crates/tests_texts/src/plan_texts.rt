@@ -1,4 +1,5 @@
 //! Plans whose writer fails.
+use crate::same::{begins_at, same_at};
 use std::process::Abort;
 use std::test::Fail;
 use tests_support::chain_of;
@@ -12,15 +13,9 @@ const ROOM: usize = 200;
 
 fn fails_at(rt: &(impl Abort + AllocGlobal), plan: &Plan, call: u64) -> Result<(), Fail> {
     let mut writer = MemorySink::new(rt.alloc(), ROOM, 3, Some(call))?;
-    assert_eq!(rt;
-        print_plan(&mut writer, plan),
-        Err(WriteFault),
-        "at write {call}"
-    );
-    assert!(rt;
-        b"limit 3\ndelay 1\n".starts_with(writer.bytes()),
-        "at write {call}"
-    );
+    let answer = print_plan(&mut writer, plan);
+    same_at(rt, &answer, &Err(WriteFault), "write", call);
+    begins_at(rt, b"limit 3\ndelay 1\n", writer.bytes(), call);
     Ok(())
 }
 

@@ -1,14 +1,14 @@
 //! Scripts: their versions, chains and lanes, and what migration keeps. Their faults are in `tests/rows`.
 use crate::picks::SCRIPT;
+use crate::same::same;
 use std::process::Abort;
 use std::test::Fail;
 use tox_defs::{Entry, Lanes, Toxic};
-use tox_script::{ScriptFault, Version, migrate, read_script};
+use tox_script::{Script, ScriptFault, Version, migrate, read_script};
 use tox_time::Stream;
 
-#[test]
-fn a_chain_has_its_toxics_in_order(rt: HostRuntime) -> Result<(), Fail> {
-    let script = read_script(rt.alloc(), SCRIPT.as_bytes())?;
+/// Compares the toxics that connections 1 and 3 meet downstream.
+fn compare_toxics(rt: &impl Abort, script: &Script) {
     let expected = [
         Entry {
             toxic: Toxic::Latency {
@@ -24,9 +24,29 @@ fn a_chain_has_its_toxics_in_order(rt: HostRuntime) -> Result<(), Fail> {
         },
     ];
     let chain = script.chain("a", 3, Stream::Downstream);
-    assert_eq!(rt; chain.entries(), expected.as_slice());
+    same(rt, &chain.entries(), &expected.as_slice());
     assert!(rt; script.chain("a", 1, Stream::Downstream).is_empty());
+}
+
+#[test]
+fn a_chain_has_its_toxics_in_order(rt: HostRuntime) -> Result<(), Fail> {
+    let script = read_script(rt.alloc(), SCRIPT.as_bytes())?;
+    compare_toxics(&rt, &script);
     Ok(())
+}
+
+/// Compares the lanes of a proxy's chain.
+fn has_lanes(rt: &impl Abort, script: &Script, head: &str, proxy: &str, lanes: Lanes) {
+    let chain = script.chain(proxy, 3, Stream::Downstream);
+    assert_eq!(rt; chain.lanes(), lanes, "of {proxy} after {head}");
+}
+
+/// Compares version and lanes of a script, which begins so.
+fn compare_lanes(rt: &impl Abort, script: &Script, head: &str, version: Version, lanes: Lanes) {
+    assert_eq!(rt; script.version(), version, "of {head}");
+    has_lanes(rt, script, head, "a", lanes);
+    has_lanes(rt, script, head, "b", lanes);
+    has_lanes(rt, script, head, "c", lanes);
 }
 
 /// Compares version and lanes of a script that begins so. Chains have the lanes of their script, also those that no rule covers
@@ -39,11 +59,7 @@ fn compare(
 ) -> Result<(), Fail> {
     let text = format!(in rt.alloc(); "{head}{SCRIPT}[[rule]]\nproxy = 'b'\nfirst = 1\n")?;
     let script = read_script(rt.alloc(), text.as_bytes())?;
-    assert_eq!(rt; script.version(), version, "of {head}");
-    for proxy in ["a", "b", "c"] {
-        let chain = script.chain(proxy, 3, Stream::Downstream);
-        assert_eq!(rt; chain.lanes(), lanes, "of {proxy} after {head}");
-    }
+    compare_lanes(rt, &script, head, version, lanes);
     Ok(())
 }
 
@@ -61,26 +77,34 @@ fn a_script_tells_its_version_and_lanes(rt: HostRuntime) -> Result<(), Fail> {
     Ok(())
 }
 
+/// Compares what connection 3 of a meets downstream before a migration and after it.
+fn compare_migrated(rt: &impl Abort, before: &Script, after: &Script) {
+    same(rt, &after.version(), &Version::Two);
+    let chain = after.chain("a", 3, Stream::Downstream);
+    same(rt, &chain.lanes(), &Lanes::Sixteen);
+    same(
+        rt,
+        &chain.entries(),
+        &before.chain("a", 3, Stream::Downstream).entries(),
+    );
+    same(
+        rt,
+        &after.names("a", 3, Stream::Downstream),
+        &before.names("a", 3, Stream::Downstream),
+    );
+}
+
 #[test]
 fn a_migrated_script_gives_the_same_chains(rt: HostRuntime) -> Result<(), Fail> {
     let alloc = rt.alloc();
     let text = migrate(alloc, SCRIPT.as_bytes())?;
     let before = read_script(alloc, SCRIPT.as_bytes())?;
     let after = read_script(alloc, text.as_bytes())?;
-    assert_eq!(rt; after.version(), Version::Two);
-    let chain = after.chain("a", 3, Stream::Downstream);
-    assert_eq!(rt; chain.lanes(), Lanes::Sixteen);
-    assert_eq!(rt;
-        chain.entries(),
-        before.chain("a", 3, Stream::Downstream).entries()
-    );
-    assert_eq!(rt;
-        after.names("a", 3, Stream::Downstream),
-        before.names("a", 3, Stream::Downstream)
-    );
-    assert_eq!(rt;
-        migrate(alloc, text.as_bytes()).err(),
-        Some(ScriptFault::AlreadyVersion2)
+    compare_migrated(&rt, &before, &after);
+    same(
+        &rt,
+        &migrate(alloc, text.as_bytes()).err(),
+        &Some(ScriptFault::AlreadyVersion2),
     );
     Ok(())
 }
@@ -89,8 +113,8 @@ fn a_migrated_script_gives_the_same_chains(rt: HostRuntime) -> Result<(), Fail> 
 fn a_script_without_rules_is_migrated(rt: HostRuntime) -> Result<(), Fail> {
     let text = migrate(rt.alloc(), b"")?;
     let script = read_script(rt.alloc(), text.as_bytes())?;
-    assert_eq!(rt; script.version(), Version::Two);
+    same(&rt, &script.version(), &Version::Two);
     let lanes = script.chain("a", 1, Stream::Upstream).lanes();
-    assert_eq!(rt; lanes, Lanes::Sixteen);
+    same(&rt, &lanes, &Lanes::Sixteen);
     Ok(())
 }
