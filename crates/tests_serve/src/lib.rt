@@ -4,6 +4,8 @@
 #[cfg(test)]
 mod peers;
 #[cfg(test)]
+mod same;
+#[cfg(test)]
 mod scarce_serving;
 #[cfg(test)]
 mod scarce_starts;

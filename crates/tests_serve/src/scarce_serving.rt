@@ -2,6 +2,7 @@
 use crate::peers::{ask, echo_all};
 use std::alloc::{AllocError, Global};
 use std::net::{Net, TcpListener, TcpStream};
+use std::process::Abort;
 use std::sync::{Arc, Mutex, Wait};
 use std::test::Fail;
 use std::thread;
@@ -118,10 +119,67 @@ fn try_links<R: Net<Stream = TcpStream> + Wait + Clock>(
     Ok(Served { links, unlisted })
 }
 
+/// Connects with ever more pages, where there are stacks for so many threads.
+fn try_behind<R: Net<Stream = TcpStream> + Threads + Wait + Clock>(
+    rt: &R,
+    alloc: Global,
+    scarcity: &mut Scarcity,
+    address: &str,
+    out: &Mutex<Vec<u8>>,
+    threads: usize,
+) -> Result<Served, Fail> {
+    keep_stacks(rt, threads);
+    scarcity.leave(alloc, CLIENT_SIXTEENS)?;
+    try_links(rt, alloc, scarcity, address, out)
+}
+
+/// Where the lines are printed to.
+fn shared_lines(alloc: Global) -> Result<Arc<Mutex<Vec<u8>>>, Fail> {
+    let out: Vec<u8> = Vec::with_capacity(alloc, OUT_SIZE)?;
+    Ok(Arc::new(alloc, Mutex::new(out))?)
+}
+
+/// Takes all memory but for threads, and starts a thread that serves a and b. It is not waited for at the end.
+fn start_serving<
+    R: Net<Listener = TcpListener, Stream = TcpStream>
+        + Threads
+        + Wait
+        + Clock
+        + Copy
+        + Send
+        + Sync
+        + 'static,
+>(
+    rt: &R,
+    alloc: Global,
+    upstream: &TcpListener,
+    out: &Arc<Mutex<Vec<u8>>>,
+) -> Result<Scarcity, Fail> {
+    let proxies = proxies(alloc, upstream)?;
+    let script = read_script(alloc, b"")?;
+    let (there, lines) = (*rt, out.clone()?);
+    let scarcity = Scarcity::with_threads(alloc)?;
+    thread::spawn(rt, move || {
+        serve(&there, alloc, &proxies, &script, 1, None, &*lines).is_ok()
+    })?;
+    Ok(scarcity)
+}
+
+/// The address of a, once a link of b shows that the threads of both proxies have started.
+fn address_of_a<R: Net<Stream = TcpStream> + Wait + Clock>(
+    rt: &R,
+    alloc: Global,
+    out: &Mutex<Vec<u8>>,
+) -> Result<String, Fail> {
+    let listening = printed(rt, alloc, out, 0)?;
+    let address = address_of(alloc, &listening, "a")?;
+    ask(rt, &address_of(alloc, &listening, "b")?, b"ab")?;
+    printed(rt, alloc, out, listening.len())?;
+    Ok(address)
+}
+
 /// Serves links with ever more pages, where there are stacks for so many threads. A link has four threads.
 /// Under a `ulimit -s` of 10 MB or more the C library keeps fewer stacks, and no link is carried.
-///
-/// A link of b shows that the threads of both proxies have started. They are not waited for at the end.
 fn serve_behind<
     R: Net<Listener = TcpListener, Stream = TcpStream>
         + Threads
@@ -135,47 +193,36 @@ fn serve_behind<
 >(rt: &R, threads: usize) -> Result<Served, Fail> {
     let alloc = rt.alloc();
     let upstream = TcpListener::bind(rt, "127.0.0.1:0")?;
-    let proxies = proxies(alloc, &upstream)?;
-    let script = read_script(alloc, b"")?;
-    let out: Vec<u8> = Vec::with_capacity(alloc, OUT_SIZE)?;
-    let out = Arc::new(alloc, Mutex::new(out))?;
-    let (there, lines) = (*rt, out.clone()?);
-    let mut scarcity = Scarcity::with_threads(alloc)?;
-    thread::spawn(rt, move || {
-        serve(&there, alloc, &proxies, &script, 1, None, &*lines).is_ok()
-    })?;
-    let listening = printed(rt, alloc, &out, 0)?;
-    let address = address_of(alloc, &listening, "a")?;
-    ask(rt, &address_of(alloc, &listening, "b")?, b"ab")?;
-    printed(rt, alloc, &out, listening.len())?;
+    let out = shared_lines(alloc)?;
+    let mut scarcity = start_serving(rt, alloc, &upstream, &out)?;
+    let address = address_of_a(rt, alloc, &out)?;
     thread::spawn(rt, move || echo_all(&upstream))?;
-    keep_stacks(rt, threads);
-    scarcity.leave(alloc, CLIENT_SIXTEENS)?;
-    try_links(rt, alloc, &mut scarcity, &address, &out)
+    try_behind(rt, alloc, &mut scarcity, &address, &out, threads)
+}
+
+/// Prints what was refused: each connection.
+fn is_never_answered(rt: &(impl Abort + Eprint), served: &Served) -> Result<(), Fail> {
+    eprintln!(rt; "{served:?}")?;
+    assert!(rt; !served.links.is_answered && served.is_refused());
+    Ok(())
 }
 
 #[test]
 fn a_served_link_is_refused_its_thread(rt: HostRuntime) -> Result<(), Fail> {
     let served = serve_behind(&rt, 0)?;
-    eprintln!(rt; "{served:?}")?;
-    assert!(rt; !served.links.is_answered && served.is_refused());
-    Ok(())
+    is_never_answered(&rt, &served)
 }
 
 #[test]
 fn a_served_link_is_refused_the_other_stream(rt: HostRuntime) -> Result<(), Fail> {
     let served = serve_behind(&rt, 1)?;
-    eprintln!(rt; "{served:?}")?;
-    assert!(rt; !served.links.is_answered && served.is_refused());
-    Ok(())
+    is_never_answered(&rt, &served)
 }
 
 #[test]
 fn a_served_link_is_refused_a_reader(rt: HostRuntime) -> Result<(), Fail> {
     let served = serve_behind(&rt, 2)?;
-    eprintln!(rt; "{served:?}")?;
-    assert!(rt; !served.links.is_answered && served.is_refused());
-    Ok(())
+    is_never_answered(&rt, &served)
 }
 
 #[test]

@@ -2,6 +2,7 @@
 //! thread of a proxy.
 use std::alloc::Global;
 use std::net::{Net, TcpListener, TcpStream};
+use std::process::Abort;
 use std::sync::{Mutex, Wait};
 use std::test::Fail;
 use std::thread::Threads;
@@ -34,6 +35,16 @@ fn are_lines(lines: &[u8]) -> bool {
     }
 }
 
+/// What a run answered that has printed these lines.
+fn tried_of(answer: &Result<(), ServeFault<'_>>, lines: &[u8]) -> Tried {
+    match answer {
+        Ok(()) if are_lines(lines) => Tried::Answered,
+        Err(ServeFault::OutOfMemory) if lines.is_empty() => Tried::NoMemory,
+        Err(ServeFault::SpawnRefused) => Tried::NoThread,
+        _ => Tried::Wrong,
+    }
+}
+
 /// A run that was told to stop before it starts, with so many pages. Nothing is printed if it is refused.
 fn serve_with_pages<
     R: Net<Listener = TcpListener, Stream = TcpStream>
@@ -62,13 +73,7 @@ fn serve_with_pages<
         rt, alloc, proxies, script, 1, &out, &NoGaps, &stop, &NoLogs, &options,
     );
     scarcity.end();
-    let lines = out.into_inner();
-    Ok(match answer {
-        Ok(()) if are_lines(&lines) => Tried::Answered,
-        Err(ServeFault::OutOfMemory) if lines.is_empty() => Tried::NoMemory,
-        Err(ServeFault::SpawnRefused) => Tried::NoThread,
-        _ => Tried::Wrong,
-    })
+    Ok(tried_of(&answer, &out.into_inner()))
 }
 
 /// Starts with ever more pages, where there are stacks for so many threads.
@@ -101,18 +106,21 @@ fn the_queues_of_lines_are_refused_memory(rt: HostRuntime) -> Result<(), Fail> {
     Ok(())
 }
 
-#[test]
-fn the_writer_of_lines_is_refused(rt: HostRuntime) -> Result<(), Fail> {
-    let refusals = start_behind(&rt, 0)?;
+/// Prints what was refused: a thread in the end.
+fn is_refused_a_thread(rt: &(impl Abort + Eprint), refusals: &Refusals) -> Result<(), Fail> {
     eprintln!(rt; "{refusals:?}")?;
     assert!(rt; !refusals.is_answered && refusals.last == Some(Tried::NoThread));
     Ok(())
 }
 
 #[test]
+fn the_writer_of_lines_is_refused(rt: HostRuntime) -> Result<(), Fail> {
+    let refusals = start_behind(&rt, 0)?;
+    is_refused_a_thread(&rt, &refusals)
+}
+
+#[test]
 fn a_proxy_is_refused_its_thread(rt: HostRuntime) -> Result<(), Fail> {
     let refusals = start_behind(&rt, 1)?;
-    eprintln!(rt; "{refusals:?}")?;
-    assert!(rt; !refusals.is_answered && refusals.last == Some(Tried::NoThread));
-    Ok(())
+    is_refused_a_thread(&rt, &refusals)
 }

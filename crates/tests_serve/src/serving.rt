@@ -1,5 +1,6 @@
 //! Served links, over sockets of this machine.
 use crate::peers::{ask, echo_once};
+use crate::same::same;
 use std::alloc::Global;
 use std::io::{Read, Write};
 use std::net::{Net, TcpListener, TcpStream};
@@ -29,6 +30,12 @@ fn proxy(alloc: Global, listen: &str, upstream: &str) -> Result<Vec<ProxyDef>, F
         "[{{\"name\":\"a\",\"listen\":\"{listen}\",\"upstream\":\"{upstream}\"}}]"
     )?;
     Ok(read_populate(alloc, text.as_bytes())?)
+}
+
+/// The address at which a listener is found.
+fn address_of(alloc: Global, listener: &TcpListener) -> Result<String, Fail> {
+    let address = listener.local_addr()?;
+    Ok(format!(in alloc; "{address}")?)
 }
 
 /// The address of the first line, if it is there.
@@ -65,8 +72,17 @@ fn answer(alloc: Global, upstream: Option<&TcpListener>) -> bool {
     }
 }
 
-/// What is printed behind the first line for one link, on which a client sends five bytes.
-fn served<
+/// What stands behind the first line.
+fn behind_first_line(alloc: Global, bytes: &[u8]) -> Result<String, Fail> {
+    let text = str::from_utf8(bytes)?;
+    let Some((_, rest)) = text.split_once('\n') else {
+        return Ok(String::new(alloc));
+    };
+    Ok(rest.to_string(alloc)?)
+}
+
+/// Serves one link, on which a client sends five bytes.
+fn serve_one_link<
     R: Net<Listener = TcpListener, Stream = TcpStream>
         + Threads
         + Wait
@@ -74,15 +90,15 @@ fn served<
         + Copy
         + Send
         + Sync
-        + 'static
-        + AllocGlobal,
->(rt: &R, address: &str, script: &str, upstream: Option<&TcpListener>) -> Result<String, Fail> {
-    let alloc = rt.alloc();
-    let proxies = proxy(alloc, "127.0.0.1:0", address)?;
-    let script = read_script(alloc, script.as_bytes())?;
-    let (proxies, script) = (proxies.as_slice(), &script);
-    let out = Mutex::new(Vec::new(alloc));
-    let lines = &out;
+        + 'static,
+>(
+    rt: &R,
+    alloc: Global,
+    proxies: &[ProxyDef],
+    script: &Script,
+    upstream: Option<&TcpListener>,
+    lines: &Mutex<Vec<u8>>,
+) -> io::Result<()> {
     thread::scope(thread::scope_env(), rt, |scope| -> io::Result<()> {
         let server = scope.spawn(move || serve(
             rt,
@@ -104,23 +120,38 @@ fn served<
             answers.join(rt);
         }
         Ok(())
-    })?;
-    let bytes = out.into_inner();
-    let text = str::from_utf8(&bytes)?;
-    let Some((_, rest)) = text.split_once('\n') else {
-        return Ok(String::new(alloc));
-    };
-    Ok(rest.to_string(alloc)?)
+    })
+}
+
+/// What is printed behind the first line for one link, on which a client sends five bytes.
+fn served<
+    R: Net<Listener = TcpListener, Stream = TcpStream>
+        + Threads
+        + Wait
+        + Clock
+        + Copy
+        + Send
+        + Sync
+        + 'static
+        + AllocGlobal,
+>(rt: &R, address: &str, script: &str, upstream: Option<&TcpListener>) -> Result<String, Fail> {
+    let alloc = rt.alloc();
+    let proxies = proxy(alloc, "127.0.0.1:0", address)?;
+    let script = read_script(alloc, script.as_bytes())?;
+    let out = Mutex::new(Vec::new(alloc));
+    serve_one_link(rt, alloc, &proxies, &script, upstream, &out)?;
+    behind_first_line(alloc, &out.into_inner())
 }
 
 #[test]
 fn a_link_is_carried_and_told(rt: HostRuntime) -> Result<(), Fail> {
     let upstream = TcpListener::bind(&rt, "127.0.0.1:0")?;
-    let address = format!(in rt.alloc(); "{}", upstream.local_addr()?)?;
+    let address = address_of(rt.alloc(), &upstream)?;
     let printed = served(&rt, &address, THREE_BYTES, Some(&upstream))?;
-    assert_eq!(rt;
-        printed.as_str(),
-        "link a 1 up 5 closed down 3 closed\ntotal a 1 up 5 down 3\n"
+    same(
+        &rt,
+        &printed.as_str(),
+        &"link a 1 up 5 closed down 3 closed\ntotal a 1 up 5 down 3\n",
     );
     Ok(())
 }
@@ -128,9 +159,10 @@ fn a_link_is_carried_and_told(rt: HostRuntime) -> Result<(), Fail> {
 #[test]
 fn an_upstream_where_nobody_listens_breaks_the_link(rt: HostRuntime) -> Result<(), Fail> {
     let printed = served(&rt, "127.0.0.1:1", "", None)?;
-    assert_eq!(rt;
-        printed.as_str(),
-        "link a 1 up 0 broken down 0 broken\ntotal a 1 up 0 down 0\n"
+    same(
+        &rt,
+        &printed.as_str(),
+        &"link a 1 up 0 broken down 0 broken\ntotal a 1 up 0 down 0\n",
     );
     Ok(())
 }
@@ -139,13 +171,13 @@ fn an_upstream_where_nobody_listens_breaks_the_link(rt: HostRuntime) -> Result<(
 fn a_taken_port_is_refused(rt: HostRuntime) -> Result<(), Fail> {
     let alloc = rt.alloc();
     let taken = TcpListener::bind(&rt, "127.0.0.1:0")?;
-    let address = format!(in alloc; "{}", taken.local_addr()?)?;
+    let address = address_of(alloc, &taken)?;
     let proxies = proxy(alloc, &address, "127.0.0.1:1")?;
     let script = read_script(alloc, b"")?;
     let out = Mutex::new(Vec::new(alloc));
     let answer = serve(&rt, alloc, &proxies, &script, 1, Some(1), &out);
-    assert_eq!(rt; answer, Err(ServeFault::ListenRefused("a")));
-    assert_eq!(rt; out.into_inner().len(), 0);
+    same(&rt, &answer, &Err(ServeFault::ListenRefused("a")));
+    same(&rt, &out.into_inner().len(), &0);
     Ok(())
 }
 
@@ -167,8 +199,8 @@ fn tell_a_living_link<R: Net<Stream = TcpStream> + Wait>(
     Ok((client, server))
 }
 
-/// What is printed behind the first line of a run that is told to stop while a link lives, on which a client has sent five bytes.
-fn stopped<
+/// Serves until it is told to stop while a link lives, on which a client has sent five bytes.
+fn serve_until_told<
     R: Net<Listener = TcpListener, Stream = TcpStream>
         + Threads
         + Wait
@@ -176,16 +208,15 @@ fn stopped<
         + Copy
         + Send
         + Sync
-        + 'static
-        + AllocGlobal,
->(rt: &R, upstream: &TcpListener) -> Result<String, Fail> {
-    let alloc = rt.alloc();
-    let address = format!(in alloc; "{}", upstream.local_addr()?)?;
-    let proxies = proxy(alloc, "127.0.0.1:0", &address)?;
-    let script = read_script(alloc, b"")?;
-    let (proxies, script) = (proxies.as_slice(), &script);
-    let out = Mutex::new(Vec::new(alloc));
-    let lines = &out;
+        + 'static,
+>(
+    rt: &R,
+    alloc: Global,
+    proxies: &[ProxyDef],
+    script: &Script,
+    upstream: &TcpListener,
+    lines: &Mutex<Vec<u8>>,
+) -> io::Result<()> {
     let stop = Stop::new();
     let told = &stop;
     let options = ServeOptions::default();
@@ -203,22 +234,38 @@ fn stopped<
         }
         drop(peers);
         Ok(())
-    })?;
-    let bytes = out.into_inner();
-    let text = str::from_utf8(&bytes)?;
-    let Some((_, rest)) = text.split_once('\n') else {
-        return Ok(String::new(alloc));
-    };
-    Ok(rest.to_string(alloc)?)
+    })
+}
+
+/// What is printed behind the first line of a run that is told to stop while a link lives, on which a client has sent five bytes.
+fn stopped<
+    R: Net<Listener = TcpListener, Stream = TcpStream>
+        + Threads
+        + Wait
+        + Clock
+        + Copy
+        + Send
+        + Sync
+        + 'static
+        + AllocGlobal,
+>(rt: &R, upstream: &TcpListener) -> Result<String, Fail> {
+    let alloc = rt.alloc();
+    let address = address_of(alloc, upstream)?;
+    let proxies = proxy(alloc, "127.0.0.1:0", &address)?;
+    let script = read_script(alloc, b"")?;
+    let out = Mutex::new(Vec::new(alloc));
+    serve_until_told(rt, alloc, &proxies, &script, upstream, &out)?;
+    behind_first_line(alloc, &out.into_inner())
 }
 
 #[test]
 fn a_told_run_ends_with_its_totals(rt: HostRuntime) -> Result<(), Fail> {
     let upstream = TcpListener::bind(&rt, "127.0.0.1:0")?;
     let printed = stopped(&rt, &upstream)?;
-    assert_eq!(rt;
-        printed.as_str(),
-        "link a 1 up 5 broken down 0 broken\ntotal a 1 up 5 down 0\n"
+    same(
+        &rt,
+        &printed.as_str(),
+        &"link a 1 up 5 broken down 0 broken\ntotal a 1 up 5 down 0\n",
     );
     Ok(())
 }
