@@ -61,7 +61,7 @@ impl Connecting {
 }
 
 /// How a connect that has begun stands.
-#[derive(Clone, Copy, Debug, PartialEq, Eq)]
+#[derive(Clone, Copy, PartialEq, Eq)]
 pub(crate) enum Connection {
     Coming,
     There,

@@ -25,7 +25,7 @@ pub(crate) enum DirectionState<'r, R> {
 }
 
 /// What a direction that was driven does next.
-#[derive(Clone, Copy, Debug, PartialEq, Eq)]
+#[derive(Clone, Copy)]
 pub(crate) enum DirectionProgress {
     /// It waits for an event, or for a timer that is set.
     Waits,

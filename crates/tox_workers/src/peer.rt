@@ -5,7 +5,7 @@ ghost use Rattle.tox_workers.specs.Peers.{stream_from};
 use tox_time::Stream;
 
 /// A socket of a link.
-#[derive(Clone, Copy, Debug, PartialEq, Eq)]
+#[derive(Clone, Copy, PartialEq, Eq)]
 pub(crate) enum Peer {
     Client,
     Server,

@@ -5,7 +5,7 @@ ghost use Rattle.mio.specs.Event.{is_error, is_read_closed, is_readable, is_writ
 use mio::event::Event;
 
 /// What the system reports of a socket.
-#[derive(Clone, Copy, Debug, PartialEq, Eq)]
+#[derive(Clone, Copy)]
 pub(crate) struct SocketEvent {
     pub(crate) readable: bool,
     pub(crate) writable: bool,

@@ -12,7 +12,7 @@ pub(crate) const MAX_SLOTS: usize = 1_073_741_824;
 const GENERATIONS: usize = 4_294_967_296;
 
 /// What an event is about.
-#[derive(Clone, Copy, Debug, PartialEq, Eq)]
+#[derive(Clone, Copy)]
 pub(crate) enum Subject {
     Client(LinkKey),
     Server(LinkKey),

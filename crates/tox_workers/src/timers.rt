@@ -21,14 +21,14 @@ use tox_time::Stream;
 const MIN_LIMIT: usize = 1_024;
 
 /// A direction of a link.
-#[derive(Clone, Copy, Debug, PartialEq, Eq)]
+#[derive(Clone, Copy)]
 pub(crate) struct Turn {
     pub(crate) key: LinkKey,
     pub(crate) stream: Stream,
 }
 
 /// A direction's turn at an instant of the worker's clock. Timers are compared by when they are due.
-#[derive(Clone, Copy, Debug)]
+#[derive(Clone, Copy)]
 struct Timer {
     due: u64,
     key: LinkKey,

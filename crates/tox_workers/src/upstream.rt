@@ -58,7 +58,7 @@ pub(crate) struct Upstream {
 }
 
 /// What the thread of a proxy is to do.
-#[derive(Clone, Copy, Debug, PartialEq, Eq)]
+#[derive(Clone, Copy)]
 pub(crate) enum Job {
     /// Resolve the name.
     Resolve,

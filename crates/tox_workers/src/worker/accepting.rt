@@ -8,7 +8,7 @@ use tox_links::{ACCEPT_REST, ServeRuntime};
 const ACCEPTS: usize = 16;
 
 /// Whether a proxy may have more connections.
-#[derive(Clone, Copy, Debug, PartialEq, Eq)]
+#[derive(Clone, Copy, PartialEq, Eq)]
 pub(crate) enum Accepting {
     /// After an event.
     Waits,
