@@ -1,7 +1,8 @@
 //! A link whose upstream isn't connected yet.
-ghost use Rattle.std.specs.Prelude.{◌≡◌};
+ghost use Rattle.std.specs.Prelude.{◌≡◌, ◌||◌};
 
 use crate::link_name::LinkName;
+use crate::socket_event::SocketEvent;
 use crate::taken_at::TakenAt;
 use std::alloc::Global;
 use std::io::ErrorKind;
@@ -41,6 +42,13 @@ impl Client {
             place: self.proxy,
             number: self.taken.number,
         }
+    }
+
+    /// The system reported something of its socket. That it sends no more isn't reported again.
+    pub(crate) fn note(&mut self, event: &SocketEvent)
+        ensures { self.new ≡ record self.old { closing = self.old.closing || event.now.closing } }
+    {
+        self.closing = self.closing || event.closing;
     }
 }
 

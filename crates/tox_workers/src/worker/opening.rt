@@ -169,7 +169,7 @@ impl<'s, R: ServeRuntime> Worker<'s, R> {
             self.refuse(key, client);
             return None;
         }
-        client.closing = client.closing || event.closing;
+        client.note(event);
         Some(client)
     }
 
@@ -209,26 +209,16 @@ impl<'s, R: ServeRuntime> Worker<'s, R> {
     ) -> Option<Box<OpenLink<'s, R>>>
         ensures { IfSome result (λ link. IsLinkOf connecting.client link.value) }
     {
-        if event.gone && connection_of(&connecting.server) == Connection::There {
+        if !event.gone {
+            let mut connecting = connecting;
+            connecting.client.note(event);
+            self.links.put(key, LinkState::Connecting(connecting));
+            return None;
+        }
+        if connection_of(&connecting.server) == Connection::There {
             return self.open(key, connecting, Peer::Client, event);
         }
-        let Connecting {
-            client,
-            server,
-            addresses,
-            next,
-            deadline,
-        } = connecting;
-        if let Some(client) = self.note_client(key, client, event) {
-            let connecting = Connecting {
-                client,
-                server,
-                addresses,
-                next,
-                deadline,
-            };
-            self.links.put(key, LinkState::Connecting(connecting));
-        }
+        self.refuse(key, connecting.into_client());
         None
     }
 
