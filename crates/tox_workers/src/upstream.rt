@@ -151,12 +151,9 @@ impl Upstream {
         rt: &R,
         address: &str,
     ) -> Option<Arc<Vec<SocketAddr>, Global>> {
-        let mut addresses = Vec::new(self.alloc);
         let address = connect_address(self.alloc, address).ok()?;
-        for found in address.as_str().to_socket_addrs(rt).ok()? {
-            addresses.push(found).ok()?;
-        }
-        Arc::new(self.alloc, addresses).ok()
+        let found = address.as_str().to_socket_addrs(rt).ok()?;
+        Arc::new(self.alloc, found.collect(self.alloc).ok()?).ok()
     }
 }
 
