@@ -4,7 +4,7 @@ ghost use Rattle.std.specs.Prelude.{◌≤◌};
 use tox_words::Lanes;
 
 /// What `dry`, `plan` and `stages` are given.
-#[derive(Debug, Drop)]
+#[derive(Drop)]
 pub struct LinkArguments<'a> {
     pub lanes: Lanes,
     pub words: Option<&'a str>,
@@ -12,7 +12,7 @@ pub struct LinkArguments<'a> {
 }
 
 /// What `draw` is given.
-#[derive(Debug, Drop)]
+#[derive(Drop)]
 pub enum DrawArguments<'a> {
     /// A link whose arrivals are on standard input.
     Link(LinkArguments<'a>),
@@ -21,7 +21,7 @@ pub enum DrawArguments<'a> {
 }
 
 /// What `pick` is given.
-#[derive(Clone, Copy, Debug)]
+#[derive(Clone, Copy)]
 pub struct PickArguments<'a> {
     /// The name of the populate file.
     pub config: &'a str,

@@ -6,7 +6,7 @@ use clap::{ArgMatches, Command};
 use std::alloc::{AllocError, Global};
 
 /// What `check` is given.
-#[derive(Clone, Copy, Debug)]
+#[derive(Clone, Copy)]
 pub struct CheckArguments<'a> {
     /// The name of the populate file.
     pub config: &'a str,

@@ -18,7 +18,7 @@ use tox_words::{Lanes, MAX_CONNECTIONS};
 const DEFAULT_CAP: usize = 4;
 
 /// What the command line asks for.
-#[derive(Debug, Drop)]
+#[derive(Drop)]
 pub enum Task<'a> {
     Dry(LinkArguments<'a>),
     Draw(DrawArguments<'a>),

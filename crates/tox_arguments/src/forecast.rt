@@ -9,7 +9,7 @@ use std::alloc::{AllocError, Global};
 use tox_words::MAX_CONNECTIONS;
 
 /// What `forecast` is given.
-#[derive(Clone, Copy, Debug)]
+#[derive(Clone, Copy)]
 pub struct ForecastArguments<'a> {
     /// The name of the populate file.
     pub config: &'a str,

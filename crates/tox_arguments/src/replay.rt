@@ -6,7 +6,7 @@ use clap::{ArgMatches, Command};
 use std::alloc::{AllocError, Global};
 
 /// What `replay` prints.
-#[derive(Debug, Drop)]
+#[derive(Drop)]
 pub enum ReplayMode<'a> {
     /// A line for each log: its verdict.
     Verdicts,
@@ -19,7 +19,7 @@ pub enum ReplayMode<'a> {
 }
 
 /// What `replay` is given.
-#[derive(Debug, Drop)]
+#[derive(Drop)]
 pub struct ReplayArguments<'a> {
     pub mode: ReplayMode<'a>,
     /// The names of the logs, or `-` for names on standard input.

@@ -13,7 +13,7 @@ const DEFAULT_PICTURES: usize = 100;
 const MAX_PICTURES: u64 = 1_000_000;
 
 /// What `report` is given.
-#[derive(Debug, Drop)]
+#[derive(Drop)]
 pub struct ReportArguments<'a> {
     /// How many of the first rows have pictures.
     pub pictures: usize,

@@ -22,7 +22,7 @@ const DEFAULT_LOG_LINKS: u64 = 10_000;
 const DEFAULT_LOG_BYTES: u64 = 67_108_864;
 
 /// What `serve` is given.
-#[derive(Debug, Drop)]
+#[derive(Drop)]
 pub struct ServeArguments<'a> {
     pub source: ServeSource<'a>,
     pub seed: u64,
@@ -41,7 +41,7 @@ pub struct ServeArguments<'a> {
 }
 
 /// What is served.
-#[derive(Debug, Drop)]
+#[derive(Drop)]
 pub enum ServeSource<'a> {
     /// The names of a populate file and of a script file.
     Files { config: &'a str, script: &'a str },
@@ -50,7 +50,7 @@ pub enum ServeSource<'a> {
 }
 
 /// One proxy and its toxics, on the command line.
-#[derive(Debug, Drop)]
+#[derive(Drop)]
 pub struct InlineArguments<'a> {
     /// Where the proxy listens.
     pub listen: &'a str,
@@ -61,7 +61,7 @@ pub struct InlineArguments<'a> {
 }
 
 /// A toxic on the command line.
-#[derive(Clone, Copy, Debug)]
+#[derive(Clone, Copy)]
 pub struct ToxicArgument<'a> {
     /// The number of its word on the command line.
     place: usize,
@@ -71,7 +71,7 @@ pub struct ToxicArgument<'a> {
 }
 
 /// What `serve` logs.
-#[derive(Clone, Copy, Debug)]
+#[derive(Clone, Copy)]
 pub struct LogArguments<'a> {
     /// The folder of the logs.
     pub folder: &'a str,

@@ -7,7 +7,7 @@ use clap::Command;
 use std::alloc::{AllocError, Global};
 
 /// A text of help.
-#[derive(Clone, Copy, Debug, PartialEq, Eq)]
+#[derive(Clone, Copy)]
 pub enum HelpText {
     /// This text.
     One(&'static str),
