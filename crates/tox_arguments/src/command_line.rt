@@ -146,16 +146,16 @@ fn serve_task<'a>(alloc: Global, given: &ArgMatches<'a>) -> Result<Option<Task<'
 }
 
 fn serving_task<'a>(given: &ArgMatches<'a>, source: ServeSource<'a>) -> Option<Task<'a>> {
-    Some(Task::Serve(serve_of(given, source)?))
+    serve_of(given, source).map(Task::Serve)
 }
 
 /// The task of a command that is given files.
 fn files_task<'a>(name: &str, given: &ArgMatches<'a>) -> Option<Task<'a>> {
     match name {
-        "check" => Some(Task::Check(check_of(given)?)),
-        "pick" => Some(Task::Pick(pick_of(given)?)),
-        "forecast" => Some(Task::Forecast(forecast_of(given)?)),
-        "migrate" => Some(Task::Migrate(given.get_str("script")?)),
+        "check" => check_of(given).map(Task::Check),
+        "pick" => pick_of(given).map(Task::Pick),
+        "forecast" => forecast_of(given).map(Task::Forecast),
+        "migrate" => given.get_str("script").map(Task::Migrate),
         _ => None,
     }
 }
