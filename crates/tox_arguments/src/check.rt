@@ -1,6 +1,6 @@
 //! The command `check` and its options.
 use crate::argument::Argument;
-use crate::commands::{command_with, config, script};
+use crate::commands::{command_with, config, files_of, script};
 use crate::help;
 use clap::{ArgMatches, Command};
 use std::alloc::{AllocError, Global};
@@ -38,9 +38,10 @@ pub(crate) fn check<'a>(alloc: Global) -> Result<Command<'a>, AllocError> {
 
 /// What the command is asked, where each option that it needs is there.
 pub(crate) fn check_of<'a>(given: &ArgMatches<'a>) -> Option<CheckArguments<'a>> {
+    let (config, script) = files_of(given)?;
     Some(CheckArguments {
-        config: given.get_str("config")?,
-        script: given.get_str("script")?,
+        config,
+        script,
         strict: given.get_flag("strict"),
         verbose: given.get_flag("verbose"),
     })

@@ -1,7 +1,7 @@
 //! The command line, as `clap` reads it.
 use crate::arguments::{DrawArguments, LinkArguments, PickArguments};
 use crate::check::{CheckArguments, check_of};
-use crate::commands::toxi;
+use crate::commands::{connections_of, files_of, toxi};
 use crate::forecast::{ForecastArguments, forecast_of};
 use crate::replay::{ONE_FILE, ReplayArguments, replay_of};
 use crate::report::{ReportArguments, report_of};
@@ -12,7 +12,7 @@ use clap::{ArgMatches, Error};
 use std::alloc::{AllocError, Global};
 use std::convert::AsStr;
 use tox_time::Cap;
-use tox_words::{Lanes, MAX_CONNECTIONS};
+use tox_words::Lanes;
 
 /// The room of each ring without `--cap`, in items.
 const DEFAULT_CAP: usize = 4;
@@ -191,16 +191,15 @@ fn lanes_of(given: &ArgMatches<'_>) -> Lanes {
 
 /// What `pick` is asked, where each of its options is there.
 fn pick_of<'a>(given: &ArgMatches<'a>) -> Option<PickArguments<'a>> {
-    let conn = given.get_one::<u64>("conn")?;
-    if conn < 1 || MAX_CONNECTIONS < conn {
-        return None;
-    }
+    let conn = connections_of(given, "conn")?;
+    let (config, script) = files_of(given)?;
+    let (proxy, stream) = given.get_str("proxy").zip(given.get_str("stream"))?;
     Some(PickArguments {
-        config: given.get_str("config")?,
-        script: given.get_str("script")?,
-        proxy: given.get_str("proxy")?,
+        config,
+        script,
+        proxy,
         conn,
-        stream: given.get_str("stream")?,
+        stream,
         seed: given.get_one::<u64>("seed")?,
     })
 }

@@ -1,4 +1,6 @@
 //! The commands and their arguments, as `clap` is told of them.
+ghost use Rattle.std.specs.Prelude.{◌≤◌, IfSome};
+
 use crate::argument::Argument;
 use crate::check::check;
 use crate::forecast::forecast;
@@ -7,7 +9,7 @@ use crate::replay::replay;
 use crate::report::report;
 use crate::serve::serve;
 use crate::topics::help_command;
-use clap::Command;
+use clap::{ArgMatches, Command};
 use std::alloc::{AllocError, Global};
 use tox_time::MAX_CAP;
 use tox_words::MAX_CONNECTIONS;
@@ -213,6 +215,22 @@ pub(crate) fn seed() -> Argument {
 
 pub(crate) fn json() -> Argument {
     Argument::flag("json", "Prints each line as one JSON object")
+}
+
+/// The names of the populate file and of the script file, where both are given.
+pub(crate) fn files_of<'a>(given: &ArgMatches<'a>) -> Option<(&'a str, &'a str)> {
+    given.get_str("config").zip(given.get_str("script"))
+}
+
+/// The number of connections that an option gives, 1 to 1,000,000. `clap` has rejected other values.
+pub(crate) fn connections_of(given: &ArgMatches<'_>, name: &str) -> Option<u64>
+    ensures { IfSome result (λ number. (1 ≤ number) × (number ≤ 1_000_000)) }
+{
+    let number = given.get_one::<u64>(name)?;
+    if number < 1 || MAX_CONNECTIONS < number {
+        return None;
+    }
+    Some(number)
 }
 
 /// An option with a number of connections.

@@ -2,11 +2,12 @@
 ghost use Rattle.std.specs.Prelude.{◌≤◌};
 
 use crate::argument::Argument;
-use crate::commands::{command_with, config, connections, json, proxy, script, seed};
+use crate::commands::{
+    command_with, config, connections, connections_of, files_of, json, proxy, script, seed,
+};
 use crate::help;
 use clap::{ArgMatches, Command};
 use std::alloc::{AllocError, Global};
-use tox_words::MAX_CONNECTIONS;
 
 /// What `forecast` is given.
 #[derive(Clone, Copy)]
@@ -61,13 +62,11 @@ pub(crate) fn forecast<'a>(alloc: Global) -> Result<Command<'a>, AllocError> {
 
 /// What the command is asked, where each option that it needs is there.
 pub(crate) fn forecast_of<'a>(given: &ArgMatches<'a>) -> Option<ForecastArguments<'a>> {
-    let links = given.get_one::<u64>("links")?;
-    if links < 1 || MAX_CONNECTIONS < links {
-        return None;
-    }
+    let links = connections_of(given, "links")?;
+    let (config, script) = files_of(given)?;
     Some(ForecastArguments {
-        config: given.get_str("config")?,
-        script: given.get_str("script")?,
+        config,
+        script,
         proxy: given.get_str("proxy")?,
         links,
         stream: given.get_str("stream"),

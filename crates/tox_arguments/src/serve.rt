@@ -1,6 +1,8 @@
 //! The command `serve` and its options.
 use crate::argument::Argument;
-use crate::commands::{command_with, config, connections, json, script, seed, with_arguments};
+use crate::commands::{
+    command_with, config, connections, files_of, json, script, seed, with_arguments,
+};
 use crate::help;
 use clap::{ArgMatches, Command};
 use std::alloc::{AllocError, Global};
@@ -207,10 +209,10 @@ pub(crate) fn source_of<'a>(
     alloc: Global,
     given: &ArgMatches<'a>,
 ) -> Result<Option<ServeSource<'a>>, AllocError> {
-    if let (Some(config), Some(script)) = (given.get_str("config"), given.get_str("script")) {
+    if let Some((config, script)) = files_of(given) {
         return Ok(Some(ServeSource::Files { config, script }));
     }
-    let (Some(listen), Some(upstream)) = (given.get_str("listen"), given.get_str("upstream")) else {
+    let Some((listen, upstream)) = given.get_str("listen").zip(given.get_str("upstream")) else {
         return Ok(None);
     };
     Ok(Some(ServeSource::Inline(InlineArguments {
