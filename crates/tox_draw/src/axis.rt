@@ -58,7 +58,7 @@ const STEPS: [u64; 45] = [
 ];
 
 /// An axis from 0 on: `count` steps, up to `end`.
-#[derive(Clone, Copy, Debug)]
+#[derive(Clone, Copy)]
 pub(crate) struct Axis {
     pub(crate) step: u64,
     pub(crate) count: u64,

@@ -13,7 +13,7 @@ pub(crate) const LAST_COLUMN: usize = 750;
 const HEIGHT: u64 = 320;
 
 /// Where the plot is, and its axes.
-#[derive(Clone, Copy, Debug)]
+#[derive(Clone, Copy)]
 pub(crate) struct Frame {
     pub(crate) top: u64,
     pub(crate) base: u64,

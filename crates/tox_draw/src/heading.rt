@@ -10,7 +10,7 @@ use std::alloc::AllocError;
 const LAST_LINE: u64 = 2;
 
 /// Where the next form would stand: on a line that has so many characters.
-#[derive(Clone, Copy, Debug)]
+#[derive(Clone, Copy)]
 struct HeadingPlace {
     line: u64,
     used: usize,

@@ -5,7 +5,7 @@ ghost use Rattle.tox_draw.specs.LinkEnds.{end_instant, end_of, link_end_word};
 use tox_time::{Ending, Micros};
 
 /// How a link ended, as a picture tells it.
-#[derive(Clone, Copy, Debug)]
+#[derive(Clone, Copy)]
 pub(crate) enum LinkEnd {
     Open,
     Closed(Micros),

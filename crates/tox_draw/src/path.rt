@@ -9,7 +9,7 @@ use std::alloc::AllocError;
 pub(crate) const LEFT: u64 = 64;
 
 /// Where a path is.
-#[derive(Clone, Copy, Debug)]
+#[derive(Clone, Copy)]
 struct Pen {
     x: u64,
     y: u64,

@@ -7,7 +7,7 @@ use crate::path::LEFT;
 use std::alloc::{AllocError, Global};
 
 /// A point of the picture.
-#[derive(Clone, Copy, Debug)]
+#[derive(Clone, Copy)]
 pub(crate) struct Point {
     pub(crate) x: u64,
     pub(crate) y: u64,

@@ -9,7 +9,7 @@ use crate::style::STYLE;
 use std::alloc::AllocError;
 
 /// Where a picture stands.
-#[derive(Clone, Copy, Debug, PartialEq, Eq)]
+#[derive(Clone, Copy)]
 pub(crate) enum Setting {
     /// In a text of its own.
     Alone,

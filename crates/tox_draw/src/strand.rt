@@ -4,7 +4,7 @@ ghost use Rattle.std.specs.Prelude.{◌≤◌, ◌≡◌, length};
 use tox_time::Micros;
 
 /// What passed a point of a link: how many bytes, the last instant, and how many bytes at the instants of each column.
-#[derive(Debug, Drop)]
+#[derive(Drop)]
 pub(crate) struct Strand {
     pub(crate) total: u64,
     pub(crate) last: Micros,

@@ -6,7 +6,7 @@ ghost use Rattle.tox_draw.specs.Units.{byte_unit, figure_in_unit, fraction_text,
 use std::alloc::AllocError;
 
 /// A unit of time or of bytes.
-#[derive(Clone, Copy, Debug, PartialEq, Eq)]
+#[derive(Clone, Copy)]
 pub(crate) enum Unit {
     Micros,
     Millis,
