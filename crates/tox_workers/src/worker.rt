@@ -11,7 +11,7 @@ use crate::socket_event::SocketEvent;
 use crate::subject::{Subject, subject_of};
 use crate::timers::{Timers, Turn};
 use crate::waits::{earlier, nap, whole_millis};
-use crate::worker::accepting::Accepting;
+use crate::worker::accepting::{Accepting, may_accept, next_accept};
 use crate::workers::{WorkerPoll, Workers};
 use mio::Registry;
 use mio::event::Event;
@@ -111,7 +111,7 @@ impl<'s, R: ServeRuntime> Worker<'s, R> {
         if !self.turns.is_empty() || self.accepting.iter().any(|state| *state == Accepting::Goes) {
             return Some(0);
         }
-        let due = earlier(self.timers.next_due(), self.next_accept())?;
+        let due = earlier(self.timers.next_due(), next_accept(&self.accepting))?;
         Some(due.saturating_sub(self.now()))
     }
 
@@ -129,7 +129,7 @@ impl<'s, R: ServeRuntime> Worker<'s, R> {
                 &SocketEvent::of(event),
                 scratch,
             ),
-            Subject::Listener(place) => self.may_accept(place as usize),
+            Subject::Listener(place) => may_accept(&mut self.accepting, place as usize),
             Subject::Waker => self.on_wake(),
         }
     }

@@ -19,27 +19,27 @@ pub(crate) enum Accepting {
     Closed,
 }
 
+/// The proxy at a place may have connections, unless it has stopped listening.
+pub(super) fn may_accept(proxies: &mut [Accepting], place: usize) {
+    if let Some(state) = proxies.get_mut(place) {
+        if *state != Accepting::Closed {
+            *state = Accepting::Goes;
+        }
+    }
+}
+
+/// When a proxy is next asked for connections that had none for lack of descriptors.
+pub(super) fn next_accept(proxies: &[Accepting]) -> Option<u64> {
+    let mut next = None;
+    for state in proxies {
+        if let Accepting::RestsUntil(instant) = state {
+            next = earlier(next, Some(*instant));
+        }
+    }
+    next
+}
+
 impl<'s, R: ServeRuntime> Worker<'s, R> {
-    /// A proxy may have connections, unless it has stopped listening.
-    pub(super) fn may_accept(&mut self, place: usize) {
-        if let Some(state) = self.accepting.get_mut(place) {
-            if *state != Accepting::Closed {
-                *state = Accepting::Goes;
-            }
-        }
-    }
-
-    /// When a proxy is next asked for connections that had none for lack of descriptors.
-    pub(super) fn next_accept(&self) -> Option<u64> {
-        let mut next = None;
-        for state in &self.accepting {
-            if let Accepting::RestsUntil(instant) = state {
-                next = earlier(next, Some(*instant));
-            }
-        }
-        next
-    }
-
     /// Whether connections of a proxy are to be taken now.
     pub(super) fn accepts_now(&self, place: usize) -> bool {
         match self.accepting.get(place) {

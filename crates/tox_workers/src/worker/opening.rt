@@ -15,10 +15,11 @@ use crate::timers::Turn;
 use crate::upstream::Addresses;
 use crate::waits::MILLI;
 use crate::worker::Worker;
+use crate::worker::accepting::may_accept;
 use crate::worker::making::make_link;
-use mio::Interest;
 use mio::net::TcpStream as BegunStream;
 use mio::unix::SourceFd;
+use mio::{Interest, Registry};
 use std::alloc::Global;
 use std::boxed::Box;
 use std::mem;
@@ -30,17 +31,16 @@ use tox_log::BreakCause;
 use tox_sockets::LinkStart;
 use tox_time::Stream;
 
-impl<'s, R: ServeRuntime> Worker<'s, R> {
-    /// Has the poll report all that happens to a link's socket. False if it can't.
-    fn register(&self, socket: &TcpStream, subject: Subject) -> bool {
-        let fd = socket.as_raw_fd();
-        let both = Interest::READABLE | Interest::WRITABLE;
-        let source = &mut SourceFd(&fd);
-        self.registry
-            .register(source, token_of(subject), both)
-            .is_ok()
-    }
+/// Has the poll of a registry report all that happens to a link's socket. False if it can't.
+fn register(registry: &Registry, socket: &TcpStream, subject: Subject) -> bool {
+    let fd = socket.as_raw_fd();
+    let both = Interest::READABLE | Interest::WRITABLE;
+    registry
+        .register(&mut SourceFd(&fd), token_of(subject), both)
+        .is_ok()
+}
 
+impl<'s, R: ServeRuntime> Worker<'s, R> {
     /// Begins the link of a connection to the proxy at a place.
     pub(super) fn begin(&mut self, place: usize, taken: Taken) {
         let since = TakenAt {
@@ -58,7 +58,9 @@ impl<'s, R: ServeRuntime> Worker<'s, R> {
             return;
         };
         let socket = &client.taken.client;
-        if socket.set_nonblocking(true).is_ok() && self.register(socket, Subject::Client(key)) {
+        if socket.set_nonblocking(true).is_ok()
+            && register(&self.registry, socket, Subject::Client(key))
+        {
             self.name(key, client);
         } else {
             self.refuse(key, client);
@@ -126,7 +128,7 @@ impl<'s, R: ServeRuntime> Worker<'s, R> {
             }
             if let Ok(server) = BegunStream::connect(self.rt, addresses[place]) {
                 let server = TcpStream::from(server);
-                if self.register(&server, Subject::Server(key)) {
+                if register(&self.registry, &server, Subject::Server(key)) {
                     return Some((server, place + 1));
                 }
             }
@@ -315,7 +317,7 @@ impl<'s, R: ServeRuntime> Worker<'s, R> {
     /// Another thread has woken this one: a name was resolved, a proxy has stopped listening, or the run is stopping.
     pub(super) fn on_wake(&mut self) {
         for place in 0..self.accepting.len() {
-            self.may_accept(place);
+            may_accept(&mut self.accepting, place);
         }
         if self.run.live.is_stopping(self.rt) {
             self.stop_links();
