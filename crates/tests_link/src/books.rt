@@ -1,4 +1,5 @@
 //! The book of a proxy's links, call by call.
+use crate::comparing::assert_equal;
 use std::process::Abort;
 use std::test::Fail;
 use tox_link::{Book, BookFault};
@@ -6,7 +7,7 @@ use tox_time::{Ending, Micros, Stream};
 
 /// Opens a link, which gets this number.
 fn open(rt: &impl Abort, book: &mut Book, number: u64) {
-    assert_eq!(rt; book.opened(), Ok(number));
+    assert_equal(rt, &book.opened(), &Ok(number));
 }
 
 /// Counts bytes of a side, and compares the answer.
@@ -18,7 +19,7 @@ fn add(
     count: u64,
     answer: Result<(), BookFault>,
 ) {
-    assert_eq!(rt; book.add_bytes(number, stream, count), answer);
+    assert_equal(rt, &book.add_bytes(number, stream, count), &answer);
 }
 
 /// Ends a side, and compares the answer.
@@ -30,13 +31,13 @@ fn end(
     ending: Option<Ending>,
     answer: Result<(), BookFault>,
 ) {
-    assert_eq!(rt; book.ended(number, stream, ending), answer);
+    assert_equal(rt, &book.ended(number, stream, ending), &answer);
 }
 
 /// Compares how many bytes all links had of each stream.
 fn compare_totals(rt: &impl Abort, book: &Book, upstream: u64, downstream: u64) {
-    assert_eq!(rt; book.total(Stream::Upstream), upstream);
-    assert_eq!(rt; book.total(Stream::Downstream), downstream);
+    assert_equal(rt, &book.total(Stream::Upstream), &upstream);
+    assert_equal(rt, &book.total(Stream::Downstream), &downstream);
 }
 
 #[test]
@@ -51,7 +52,7 @@ fn a_side_counts_until_it_ends(rt: HostRuntime) -> Result<(), Fail> {
     let unknown = Err(BookFault::UnknownLink);
     add(&rt, &mut book, 3, Stream::Upstream, 1, unknown);
     compare_totals(&rt, &book, 5, 0);
-    assert_eq!(rt; book.links(), 2);
+    assert_equal(&rt, &book.links(), &2);
     Ok(())
 }
 

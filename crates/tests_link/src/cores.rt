@@ -1,6 +1,8 @@
 //! A link core, call by call.
-ghost use Rattle.std.specs.Prelude.{◌≡◌, false};
+ghost use Rattle.std.specs.Prelude.{◌≡◌, false, IfOk};
 
+use crate::comparing::assert_equal;
+use std::alloc::AllocError;
 use std::process::Abort;
 use std::test::Fail;
 use tests_support::{at, chain_of, slice};
@@ -35,7 +37,7 @@ pub fn give(
 fn answers(rt: &impl Abort, core: &mut LinkCore<'_>, now: Micros, act: Act)
     ensures { core.new.ended ≡ core.old.ended }
 {
-    assert_eq!(rt; ask(rt, core, now), act);
+    assert_equal(rt, &ask(rt, core, now), &act);
 }
 
 /// Compares whether the core takes a piece.
@@ -48,15 +50,15 @@ fn takes(
 )
     ensures { core.new.ended ≡ core.old.ended }
 {
-    assert_eq!(rt; give(rt, core, len, now), answer);
+    assert_equal(rt, &give(rt, core, len, now), &answer);
 }
 
 fn compare_ending(rt: &impl Abort, core: &LinkCore<'_>, ending: Option<Ending>) {
-    assert_eq!(rt; core.ending(), ending);
+    assert_equal(rt, &core.ending(), &ending);
 }
 
 fn compare_latest(rt: &impl Abort, core: &LinkCore<'_>, latest: Micros) {
-    assert_eq!(rt; core.latest(), latest);
+    assert_equal(rt, &core.latest(), &latest);
 }
 
 fn end(rt: &impl Abort, core: &mut LinkCore<'_>, now: Micros)
@@ -70,16 +72,24 @@ fn closed(micros: u64) -> Ending {
     Ending::Closed(at(micros))
 }
 
+/// A core under these toxics.
+fn core_of<'w>(
+    rt: &(impl Abort + AllocGlobal),
+    toxics: &str,
+    words: &'w Words,
+) -> Result<LinkCore<'w>, AllocError>
+    ensures { IfOk result (λ core. core.ended ≡ false) }
+{
+    let chain = chain_of(toxics).expect(rt, "short forms");
+    LinkCore::new(rt.alloc(), compile(&chain, words), words)
+}
+
 #[test]
 fn latency_waits_writes_and_closes(rt: HostRuntime) -> Result<(), Fail> {
     let words = Words::from_list(rt.alloc(), &[0])?;
-    let chain = chain_of("latency:latency=1").expect(&rt, "a short form");
-    let mut core = LinkCore::new(rt.alloc(), compile(&chain, &words), &words)?;
+    let mut core = core_of(&rt, "latency:latency=1", &words)?;
     compare_latest(&rt, &core, at(0));
-    takes(&rt, &mut core, 2, at(0), Ok(()));
-    answers(&rt, &mut core, at(0), Act::WaitUntil(at(1000)));
-    answers(&rt, &mut core, at(1000), Act::Write(slice(0, 2, 1000)));
-    answers(&rt, &mut core, at(1000), Act::WaitForInput);
+    compare_delayed_piece(&rt, &mut core);
     compare_ending(&rt, &core, None);
     end(&rt, &mut core, at(1500));
     compare_latest(&rt, &core, at(1500));
@@ -88,21 +98,36 @@ fn latency_waits_writes_and_closes(rt: HostRuntime) -> Result<(), Fail> {
     Ok(())
 }
 
+/// Compares what a core does with a piece that comes at 0 and leaves after a millisecond.
+fn compare_delayed_piece(rt: &impl Abort, core: &mut LinkCore<'_>)
+    ensures { core.new.ended ≡ core.old.ended }
+{
+    takes(rt, core, 2, at(0), Ok(()));
+    answers(rt, core, at(0), Act::WaitUntil(at(1000)));
+    answers(rt, core, at(1000), Act::Write(slice(0, 2, 1000)));
+    answers(rt, core, at(1000), Act::WaitForInput);
+}
+
 #[test]
 fn a_reset_comes_at_its_deadline(rt: HostRuntime) -> Result<(), Fail> {
     let words = Words::from_list(rt.alloc(), &[0])?;
-    let chain = chain_of("reset_peer:timeout=20").expect(&rt, "a short form");
-    let mut core = LinkCore::new(rt.alloc(), compile(&chain, &words), &words)?;
-    answers(&rt, &mut core, at(5), Act::WaitUntil(at(20000)));
-    takes(&rt, &mut core, 0, at(19999), Err(ArrivalFault::EmptyPiece));
-    takes(&rt, &mut core, 1, at(19999), Ok(()));
-    answers(&rt, &mut core, at(20000), Act::Write(slice(0, 1, 19999)));
-    answers(
-        &rt,
-        &mut core,
-        at(20000),
-        Act::End(Ending::Reset(at(20000))),
-    );
-    takes(&rt, &mut core, 1, at(20001), Err(ArrivalFault::AfterEnd));
+    let mut core = core_of(&rt, "reset_peer:timeout=20", &words)?;
+    compare_last_piece(&rt, &mut core);
+    compare_reset(&rt, &mut core);
     Ok(())
+}
+
+/// Compares what a core does with a piece that comes right before its deadline.
+fn compare_last_piece(rt: &impl Abort, core: &mut LinkCore<'_>) {
+    answers(rt, core, at(5), Act::WaitUntil(at(20000)));
+    takes(rt, core, 0, at(19999), Err(ArrivalFault::EmptyPiece));
+    takes(rt, core, 1, at(19999), Ok(()));
+    answers(rt, core, at(20000), Act::Write(slice(0, 1, 19999)));
+}
+
+/// Compares what a core does from its deadline on.
+fn compare_reset(rt: &impl Abort, core: &mut LinkCore<'_>) {
+    let reset = Ending::Reset(at(20000));
+    answers(rt, core, at(20000), Act::End(reset));
+    takes(rt, core, 1, at(20001), Err(ArrivalFault::AfterEnd));
 }

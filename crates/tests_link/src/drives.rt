@@ -5,6 +5,7 @@ ghost use Rattle.tox_link.specs.direction.Driven.{IsAtEnd, IsReady};
 ghost use Rattle.tox_link.specs.direction.Follows.{IsHeld, IsNew};
 ghost use Rattle.tox_link.specs.Reports.{written_before};
 
+use crate::comparing::assert_equal_at;
 use crate::link_ends::{Noted, RestingClock};
 use crate::polled_ends::BusyEnd;
 use crate::schedules::drawn_chain;
@@ -17,11 +18,11 @@ use std::test::Fail;
 use tests_support::{below, drawn_words, table_of};
 use tox_compile::compile;
 use tox_defs::Chain;
-use tox_link::{
-    LinkEvent, LinkFault, LinkReport, PolledLink, Progress, TimedReport, drive, finish,
-};
+use tox_link::{LinkEvent, LinkFault, PolledLink, Progress, drive, finish};
 use tox_plan::deliver;
-use tox_time::{Arrivals, Ending, MemorySink, MemorySource, Micros, SliceList};
+use tox_time::{
+    ArrivalFault, Arrivals, Ending, MemorySink, MemorySource, Micros, Outcome, SliceList,
+};
 use tox_words::{Words, WordsFault};
 
 /// More drives than a drawn direction takes.
@@ -103,24 +104,41 @@ fn drawn_fault(generator: &mut Lcg64Xsh32) -> Option<u64> {
     }
 }
 
-/// What a log heard, and what it said.
-fn read_log(alloc: Global, notes: &Noted) -> Result<(Arrivals, SliceList), Fail> {
+/// What a log heard.
+fn heard(alloc: Global, notes: &Noted) -> Result<Arrivals, ArrivalFault> {
     let mut arrivals = Arrivals::new(alloc);
-    let mut slices = SliceList::new(alloc);
     for event in notes.events.as_slice() {
         match event {
             LinkEvent::Piece(len, instant) => arrivals.push(*len, *instant)?,
             LinkEvent::SourceEnd(instant) => arrivals.eof(*instant)?,
-            LinkEvent::Wrote(slice, _) => slices.push(*slice)?,
+            LinkEvent::Wrote(_, _) => {}
         }
     }
-    Ok((arrivals, slices))
+    Ok(arrivals)
+}
+
+/// What a log said.
+fn said(alloc: Global, notes: &Noted) -> Result<SliceList, AllocError> {
+    let mut slices = SliceList::new(alloc);
+    for event in notes.events.as_slice() {
+        if let LinkEvent::Wrote(slice, _) = event {
+            slices.push(*slice)?;
+        }
+    }
+    Ok(slices)
+}
+
+/// How a direction reports that it ended, and how many bytes it says that it wrote.
+#[derive(Drop)]
+pub struct DrivenEnding {
+    ending: Ending,
+    written: u64,
 }
 
 /// What a drawn direction reported, noted and wrote.
 #[derive(Drop)]
 pub struct DrivenDirection {
-    pub answer: Result<TimedReport<BusyEnd<MemorySource>>, LinkFault>,
+    pub answer: Result<DrivenEnding, LinkFault>,
     pub notes: Noted,
     pub written: Vec<u8>,
 }
@@ -155,29 +173,46 @@ pub fn driven_under(
     bytes: Vec<u8>,
     seed: u64,
 ) -> Result<DrivenDirection, Fail> {
-    let alloc = rt.alloc();
-    let mut link = link_of(alloc, chain, seed)?;
-    let micros = Arc::new(alloc, AtomicU64::new(0))?;
-    let clock = RestingClock { micros };
     let mut notes = Noted {
-        events: Vec::new(alloc),
+        events: Vec::new(rt.alloc()),
     };
-    let mut source = drawn_source(generator, bytes, seed);
-    let mut sink = drawn_sink(alloc, generator, seed)?;
-    let driven = drive_on(
-        rt,
-        generator,
-        &mut link,
-        &clock,
-        &mut notes,
-        &mut source,
-        &mut sink,
-    );
+    let source = drawn_source(generator, bytes, seed);
+    let mut sink = drawn_sink(rt.alloc(), generator, seed)?;
+    let micros = Arc::new(rt.alloc(), AtomicU64::new(0))?;
+    let clock = RestingClock { micros };
+    let link = link_of(rt.alloc(), chain, seed)?;
+    let answer = driven_to_end(rt, generator, link, &clock, &mut notes, source, &mut sink);
     Ok(DrivenDirection {
-        answer: finish(link, &clock, driven, source),
+        answer,
         notes,
-        written: sink.end.bytes().to_vec(alloc)?,
+        written: sink.end.bytes().to_vec(rt.alloc())?,
     })
+}
+
+/// Drives a direction from its start to its end.
+fn driven_to_end(
+    rt: &(impl Abort + AllocGlobal),
+    generator: &mut Lcg64Xsh32,
+    mut link: PolledLink,
+    clock: &RestingClock,
+    notes: &mut Noted,
+    mut source: BusyEnd<MemorySource>,
+    sink: &mut BusyEnd<MemorySink>,
+) -> Result<DrivenEnding, LinkFault>
+    requires fresh { IsNew link }
+    requires held { IsHeld link }
+    requires gives { source.end.failed ≡ false }
+    requires working { sink.old.end.failed ≡ false }
+{
+    let driven = drive_on(rt, generator, &mut link, clock, notes, &mut source, sink);
+    let answer = finish(link, clock, driven, source);
+    match &answer {
+        Ok(timed) => Ok(DrivenEnding {
+            ending: timed.report.ending,
+            written: timed.report.written,
+        }),
+        Err(fault) => Err(*fault),
+    }
 }
 
 /// The instants of the bytes that a direction said, those that are due, and the ending that is due.
@@ -195,35 +230,41 @@ fn comparison_of(
     chain: &Chain,
     seed: u64,
 ) -> Result<Comparison, Fail> {
-    let (arrivals, slices) = read_log(alloc, notes)?;
-    let outcome = deliver(alloc, chain, &words_of(alloc, seed)?, &arrivals)?;
+    let arrivals = heard(alloc, notes)?;
+    let outcome = due(alloc, chain, seed, &arrivals)?;
     Ok(Comparison {
-        said: table_of(alloc, &slices)?,
+        said: table_of(alloc, &said(alloc, notes)?)?,
         due: table_of(alloc, &outcome.slices)?,
         ending: outcome.ending,
     })
 }
 
+/// What is delivered of these arrivals, under the words of a seed.
+fn due(alloc: Global, chain: &Chain, seed: u64, arrivals: &Arrivals) -> Result<Outcome, Fail> {
+    let words = words_of(alloc, seed)?;
+    Ok(deliver(alloc, chain, &words, arrivals)?)
+}
+
 impl Comparison {
     /// A direction that ended said and wrote all that is due.
-    fn compare_all<S>(&self, rt: &impl Abort, report: &LinkReport<S>, written: usize, seed: u64) {
-        assert_eq!(rt; self.said, self.due, "seed {seed}");
-        assert_eq!(rt; report.ending, self.ending, "seed {seed}");
-        assert_eq!(rt; report.written, written as u64, "seed {seed}");
+    fn compare_all(&self, rt: &impl Abort, driven: &DrivenEnding, written: usize, seed: u64) {
+        assert_equal_at(rt, &self.said, &self.due, seed);
+        assert_equal_at(rt, &driven.ending, &self.ending, seed);
+        assert_equal_at(rt, &driven.written, &(written as u64), seed);
     }
 
     /// A direction that broke off said and wrote the first of what is due.
     fn compare_part(&self, rt: &impl Abort, fault: &LinkFault, written: usize, seed: u64) {
         let due = self.due.get(..self.said.len());
-        assert_eq!(rt; fault.written(), written as u64, "seed {seed}");
-        assert_eq!(rt; Some(self.said.as_slice()), due, "seed {seed}");
+        assert_equal_at(rt, &fault.written(), &(written as u64), seed);
+        assert_equal_at(rt, &Some(self.said.as_slice()), &due, seed);
         assert!(rt; written <= self.due.len(), "seed {seed}");
     }
 }
 
 fn compare_bytes(rt: &impl Abort, written: &[u8], bytes: &[u8], seed: u64) {
     let front = bytes.get(..written.len());
-    assert_eq!(rt; Some(written), front, "seed {seed}");
+    assert_equal_at(rt, &Some(written), &front, seed);
 }
 
 /// Compares a direction that a seed draws with what is delivered. Returns whether it broke off.
@@ -233,13 +274,24 @@ fn compare(rt: &(impl Abort + AllocGlobal), seed: u64) -> Result<bool, Fail> {
     let bytes = drawn_bytes(rt.alloc(), generator)?;
     let driven = driven_under(rt, generator, &chain, bytes.clone()?, seed)?;
     compare_bytes(rt, &driven.written, &bytes, seed);
-    let comparison = comparison_of(rt.alloc(), &driven.notes, &chain, seed)?;
+    compare_log(rt, &driven, &chain, seed)?;
+    Ok(driven.answer.is_err())
+}
+
+/// Compares what a direction said, and how it ended, with what is due.
+fn compare_log(
+    rt: &(impl Abort + AllocGlobal),
+    driven: &DrivenDirection,
+    chain: &Chain,
+    seed: u64,
+) -> Result<(), Fail> {
+    let comparison = comparison_of(rt.alloc(), &driven.notes, chain, seed)?;
     let written = driven.written.len();
     match &driven.answer {
-        Ok(timed) => comparison.compare_all(rt, &timed.report, written, seed),
+        Ok(end) => comparison.compare_all(rt, end, written, seed),
         Err(fault) => comparison.compare_part(rt, fault, written, seed),
     }
-    Ok(driven.answer.is_err())
+    Ok(())
 }
 
 #[test]

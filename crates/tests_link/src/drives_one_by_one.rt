@@ -3,6 +3,7 @@ ghost use Rattle.std.specs.Prelude.{◌≡◌, true, false, Some, None, IfOk};
 ghost use Rattle.tox_time.specs.Time.{IsInstant};
 ghost use Rattle.tox_link.specs.direction.Driven.{IsReady};
 
+use crate::comparing::assert_equal;
 use crate::link_ends::{Noted, RestingClock};
 use std::alloc::{AllocError, Global};
 use std::process::Abort;
@@ -16,6 +17,9 @@ use tox_link::{
 };
 use tox_time::{EndFault, Micros};
 use tox_words::Words;
+
+/// What a drive returns.
+pub type Driven = Result<Progress, LinkFault>;
 
 /// A source that gives one byte a call, so often, and then would wait. The clock moves on by 10 at each call.
 #[derive(Drop)]
@@ -95,6 +99,16 @@ impl PollSink for OpenSink {
     }
 }
 
+/// A direction under these toxics, at which nothing has arrived.
+fn planned_link(rt: &(impl Abort + AllocGlobal), toxics: &str) -> PolledLink
+    ensures { IsReady IsInstant result None false }
+{
+    let words = Words::from_list(rt.alloc(), &[0]).expect(rt, "memory");
+    let chain = chain_of(toxics).expect(rt, "short forms");
+    let plan = compile(&chain, &words);
+    PolledLink::new(rt.alloc(), plan, words).expect(rt, "memory")
+}
+
 /// A direction that is driven drive by drive.
 #[derive(Drop)]
 pub struct DriveCase {
@@ -105,24 +119,20 @@ pub struct DriveCase {
 
 impl DriveCase {
     /// A direction under these toxics, at a clock at 0, whose source gives so many bytes.
-    pub fn new(rt: &(impl Abort + AllocGlobal), toxics: &str, left: u64) -> Result<DriveCase, Fail>
-        ensures { IfOk result (λ made. IsReady IsInstant made.link None false) }
+    pub fn new(rt: &(impl Abort + AllocGlobal), toxics: &str, left: u64) -> DriveCase
+        ensures { IsReady IsInstant result.link None false }
     {
-        let alloc = rt.alloc();
-        let micros = Arc::new(alloc, AtomicU64::new(0))?;
-        let words = Words::from_list(alloc, &[0])?;
-        let chain = chain_of(toxics).expect(rt, "short forms");
-        Ok(DriveCase {
-            link: PolledLink::new(alloc, compile(&chain, &words), words)?,
-            clock: RestingClock {
-                micros: micros.clone()?,
-            },
+        let micros = Arc::new(rt.alloc(), AtomicU64::new(0)).expect(rt, "memory");
+        let shared = micros.clone().expect(rt, "two owners");
+        DriveCase {
+            link: planned_link(rt, toxics),
+            clock: RestingClock { micros: shared },
             source: TickingSource {
                 micros,
                 left,
                 waits: false,
             },
-        })
+        }
     }
 
     /// A sink that is stuck until this instant.
@@ -142,7 +152,7 @@ impl DriveCase {
         alloc: Global,
         notes: &mut N,
         sink: &mut W,
-    ) -> Result<Progress, LinkFault>
+    ) -> Driven
         requires ready { IsReady IsInstant self.old.link None false }
         requires working { W.failed sink.old ≡ false }
         ensures { IsReady IsInstant self.new.link None false }
@@ -162,49 +172,54 @@ impl DriveCase {
 
 #[test]
 fn a_piece_is_stamped_after_its_read(rt: HostRuntime) -> Result<(), Fail> {
-    let alloc = rt.alloc();
-    let mut case = DriveCase::new(&rt, "latency:latency=1", 1)?;
+    let mut case = DriveCase::new(&rt, "latency:latency=1", 1);
     let mut notes = Noted {
-        events: Vec::new(alloc),
+        events: Vec::new(rt.alloc()),
     };
-    let progress = case.drive(alloc, &mut notes, &mut OpenSink);
-    assert_eq!(rt; progress, Ok(Progress::Waits(Some(at(1010)))));
+    let progress = case.drive(rt.alloc(), &mut notes, &mut OpenSink);
+    assert_equal(&rt, &progress, &Ok(Progress::Waits(Some(at(1010)))));
     let heard = [LinkEvent::Piece(1, at(10))];
-    assert_eq!(rt; notes.events.as_slice(), heard.as_slice());
+    assert_equal(&rt, &notes.events.as_slice(), &heard.as_slice());
     case.clock.micros.store(1010, Ordering::SeqCst);
-    let progress = case.drive(alloc, &mut notes, &mut OpenSink);
-    assert_eq!(rt; progress, Ok(Progress::Waits(None)));
+    let progress = case.drive(rt.alloc(), &mut notes, &mut OpenSink);
+    assert_equal(&rt, &progress, &Ok(Progress::Waits(None)));
     let wrote = LinkEvent::Wrote(slice(0, 1, 1010), at(1010));
-    assert_eq!(rt; notes.events.get(1), Some(&wrote));
+    assert_equal(&rt, &notes.events.get(1), &Some(&wrote));
     Ok(())
 }
 
 #[test]
 fn a_slice_that_waits_hides_no_reset(rt: HostRuntime) -> Result<(), Fail> {
-    let alloc = rt.alloc();
-    let mut case = DriveCase::new(&rt, "reset_peer:timeout=20", 1)?;
+    let mut case = DriveCase::new(&rt, "reset_peer:timeout=20", 1);
     let mut sink = case.stuck_sink(at(20_000))?;
-    let progress = case.drive(alloc, &mut NoNotes, &mut sink);
-    assert_eq!(rt; progress, Ok(Progress::Waits(Some(at(20_000)))));
+    let progress = case.drive(rt.alloc(), &mut NoNotes, &mut sink);
+    assert_equal(&rt, &progress, &Ok(Progress::Waits(Some(at(20_000)))));
     case.clock.micros.store(20_000, Ordering::SeqCst);
     assert!(rt; !sink.failed);
-    let progress = case.drive(alloc, &mut NoNotes, &mut sink);
-    assert_eq!(rt; progress, Err(LinkFault::WriteFault(0)));
+    let progress = case.drive(rt.alloc(), &mut NoNotes, &mut sink);
+    assert_equal(&rt, &progress, &Err(LinkFault::WriteFault(0)));
     Ok(())
 }
 
 /// Where no piece moves a drive takes no memory, and a read without memory breaks off.
 #[test]
 fn a_drive_that_moves_nothing_takes_no_memory(rt: HostRuntime) -> Result<(), Fail> {
-    let alloc = rt.alloc();
-    let mut case = DriveCase::new(&rt, "latency:latency=1", 0)?;
-    let mut scarcity = Scarcity::new(alloc)?;
-    scarcity.leave(alloc, 0)?;
+    let mut case = DriveCase::new(&rt, "latency:latency=1", 0);
+    let mut scarcity = Scarcity::new(rt.alloc())?;
+    scarcity.leave(rt.alloc(), 0)?;
+    let (waits, reads) = drive_twice(&mut case, rt.alloc());
+    scarcity.end();
+    assert_equal(&rt, &waits, &Ok(Progress::Waits(None)));
+    assert_equal(&rt, &reads, &Err(LinkFault::OutOfMemory(0)));
+    Ok(())
+}
+
+/// Drives a direction that has nothing to read, and then once more with a byte to read.
+fn drive_twice(case: &mut DriveCase, alloc: Global) -> (Driven, Driven)
+    requires { IsReady IsInstant case.old.link None false }
+{
     let waits = case.drive(alloc, &mut NoNotes, &mut OpenSink);
     case.source.left = 1;
     let reads = case.drive(alloc, &mut NoNotes, &mut OpenSink);
-    scarcity.end();
-    assert_eq!(rt; waits, Ok(Progress::Waits(None)));
-    assert_eq!(rt; reads, Err(LinkFault::OutOfMemory(0)));
-    Ok(())
+    (waits, reads)
 }

@@ -1,7 +1,13 @@
 //! Directions whose plan has no operation.
+ghost use Rattle.std.specs.Prelude.{◌≡◌, false, None};
+ghost use Rattle.tox_time.specs.Time.{IsInstant};
+ghost use Rattle.tox_link.specs.direction.Driven.{IsReady};
+
+use crate::comparing::{assert_equal, assert_equal_at};
 use crate::drives::{drawn_bytes, driven_under};
-use crate::drives_one_by_one::DriveCase;
+use crate::drives_one_by_one::{DriveCase, Driven, StuckSink};
 use rand_pcg::Lcg64Xsh32;
+use std::alloc::Global;
 use std::mem::size_of;
 use std::process::Abort;
 use std::test::Fail;
@@ -33,8 +39,8 @@ fn a_plain_direction_has_the_log_of_a_planned_one(rt: HostRuntime) -> Result<(),
     for seed in 0..200 {
         let plain = drawn_under(&rt, &Chain::new(), seed)?;
         let planned = drawn_under(&rt, &slow, seed)?;
-        assert_eq!(rt; plain.0, planned.0, "seed {seed}");
-        assert_eq!(rt; plain.1, planned.1, "seed {seed}");
+        assert_equal_at(&rt, &plain.0, &planned.0, seed);
+        assert_equal_at(&rt, &plain.1, &planned.1, seed);
     }
     Ok(())
 }
@@ -42,18 +48,30 @@ fn a_plain_direction_has_the_log_of_a_planned_one(rt: HostRuntime) -> Result<(),
 /// While the sink waits nothing more is read, and a drive that moves no piece takes no memory.
 #[test]
 fn a_plain_direction_holds_one_read(rt: HostRuntime) -> Result<(), Fail> {
-    let alloc = rt.alloc();
-    let mut case = DriveCase::new(&rt, "", 5)?;
+    let mut case = DriveCase::new(&rt, "", 5);
     let mut sink = case.stuck_sink(at(20_000))?;
-    let waits = Ok(Progress::Waits(Some(at(20_000))));
-    let reads = case.drive(alloc, &mut NoNotes, &mut sink);
+    let reads = case.drive(rt.alloc(), &mut NoNotes, &mut sink);
     assert!(rt; !sink.failed);
+    let stands = driven_without_memory(rt.alloc(), &mut case, &mut sink)?;
+    let waits = Ok(Progress::Waits(Some(at(20_000))));
+    assert_equal(&rt, &reads, &waits);
+    assert_equal(&rt, &stands, &waits);
+    assert_equal(&rt, &case.source.left, &4);
+    Ok(())
+}
+
+/// What a drive returns for which there is no memory.
+fn driven_without_memory(
+    alloc: Global,
+    case: &mut DriveCase,
+    sink: &mut StuckSink,
+) -> Result<Driven, Fail>
+    requires ready { IsReady IsInstant case.old.link None false }
+    requires working { sink.old.failed ≡ false }
+{
     let mut scarcity = Scarcity::new(alloc)?;
     scarcity.leave(alloc, 0)?;
-    let stands = case.drive(alloc, &mut NoNotes, &mut sink);
+    let driven = case.drive(alloc, &mut NoNotes, sink);
     scarcity.end();
-    assert_eq!(rt; reads, waits);
-    assert_eq!(rt; stands, waits);
-    assert_eq!(rt; case.source.left, 4);
-    Ok(())
+    Ok(driven)
 }

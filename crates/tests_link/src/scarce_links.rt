@@ -1,5 +1,5 @@
 //! Links in memory, with too little memory and too few threads.
-ghost use Rattle.std.specs.Prelude.{None};
+ghost use Rattle.std.specs.Prelude.{◌≡◌, false, None};
 ghost use Rattle.tox_time.specs.Time.{IsInstant};
 
 use std::alloc::Global;
@@ -10,7 +10,7 @@ use std::thread::Threads;
 use tests_support::{CountingGate, Refusals, Scarcity, Tried, try_each, with_stacks};
 use tox_compile::compile;
 use tox_defs::Chain;
-use tox_link::{Clock, Ends, Hangup, LinkFault, LinkReport, NoNotes, carry};
+use tox_link::{Clock, Ends, Hangup, LinkFault, NoNotes, carry};
 use tox_time::{Ending, MemorySink, MemorySource, Micros};
 use tox_words::Words;
 
@@ -43,15 +43,46 @@ impl Hangup for NoHangup {
     fn hang_up(&mut self, _ending: Ending, _source_ended: bool) {}
 }
 
+/// How many bytes a link took and wrote.
+type Counts = (u64, u64);
+
 /// What a link of two bytes answered, of which these were written. A fault tells how many.
-fn tried_of<S: Drop>(answer: &Result<LinkReport<S>, LinkFault>, written: &[u8]) -> Tried {
+fn tried_of(answer: &Result<Counts, LinkFault>, written: &[u8]) -> Tried {
     match answer {
-        Ok(report) if (report.taken, report.written) == (2, 2) && written == b"ab".as_slice() => {
-            Tried::Answered
-        }
+        Ok(counts) if *counts == (2, 2) && written == b"ab".as_slice() => Tried::Answered,
         Err(LinkFault::OutOfMemory(count)) if *count == written.len() as u64 => Tried::NoMemory,
         Err(LinkFault::SpawnRefused(0)) if written.is_empty() => Tried::NoThread,
         Ok(_) | Err(_) => Tried::Wrong,
+    }
+}
+
+/// Carries what a reader gives through no toxics.
+fn carried<R: Threads + Wait + Copy + Send + 'static>(
+    rt: &R,
+    alloc: Global,
+    reader: MemorySource,
+    ends: &mut Ends<MemorySink, NoHangup>,
+    words: &Words,
+    gate: &Arc<CountingGate>,
+) -> Result<Counts, LinkFault>
+    requires reader { reader.failed ≡ false }
+    requires writer { ends.old.writer.failed ≡ false }
+{
+    let plan = compile(&Chain::new(), words);
+    match carry(
+        rt,
+        alloc,
+        reader,
+        ends,
+        &StandingClock,
+        plan,
+        words,
+        10,
+        &mut NoNotes,
+        gate,
+    ) {
+        Ok(report) => Ok((report.taken, report.written)),
+        Err(fault) => Err(fault),
     }
 }
 
@@ -65,7 +96,6 @@ fn link<R: Threads + Wait + Copy + Send + 'static>(
     reads_refused: &AtomicU64,
 ) -> Result<Tried, Fail> {
     let words = Words::from_list(alloc, &[0])?;
-    let plan = compile(&Chain::new(), &words);
     let gate = Arc::new(alloc, CountingGate::new())?;
     let mut ends = Ends {
         writer: MemorySink::new(alloc, 16, 16, None)?,
@@ -73,18 +103,7 @@ fn link<R: Threads + Wait + Copy + Send + 'static>(
     };
     let reader = MemorySource::new(vec![in alloc; 0x61, 0x62]?, 1, None);
     scarcity.leave_pages(alloc, pages)?;
-    let answer = carry(
-        rt,
-        alloc,
-        reader,
-        &mut ends,
-        &StandingClock,
-        plan,
-        &words,
-        10,
-        &mut NoNotes,
-        &gate,
-    );
+    let answer = carried(rt, alloc, reader, &mut ends, &words, &gate);
     scarcity.end();
     let tried = tried_of(&answer, ends.writer.bytes());
     if tried == Tried::NoMemory && 0 < gate.passes() {

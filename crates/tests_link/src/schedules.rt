@@ -1,9 +1,10 @@
 //! A link core beside `deliver`, on schedules drawn at random.
-ghost use Rattle.std.specs.Prelude.{◌≡◌};
+ghost use Rattle.std.specs.Prelude.{◌≡◌, false};
 
+use crate::comparing::assert_equal_at;
 use crate::cores::{ask, give};
 use rand_pcg::Lcg64Xsh32;
-use std::alloc::AllocError;
+use std::alloc::{AllocError, Global};
 use std::process::Abort;
 use std::test::Fail;
 use tests_support::{below, drawn_words, table_of};
@@ -11,7 +12,8 @@ use tox_compile::compile;
 use tox_defs::{Chain, read_short};
 use tox_link::{Act, LinkCore};
 use tox_plan::deliver;
-use tox_time::{Arrivals, Ending, Micros, SliceList};
+use tox_time::{ArrivalFault, Arrivals, Ending, Micros, SliceList};
+use tox_words::Words;
 
 /// The toxics of drawn chains.
 const TOXICS: [&str; 10] = [
@@ -49,30 +51,51 @@ struct Run<'w> {
 }
 
 impl<'w> Run<'w> {
+    /// A core at which nothing has arrived.
+    fn new(alloc: Global, chain: &Chain, words: &'w Words) -> Result<Run<'w>, AllocError> {
+        Ok(Run {
+            core: LinkCore::new(alloc, compile(chain, words), words)?,
+            arrivals: Arrivals::new(alloc),
+            slices: SliceList::new(alloc),
+            ended: false,
+        })
+    }
+
     /// One drawn event at `now`: a piece, the source's end, or nothing.
     fn hear(
         &mut self,
         rt: &impl Abort,
         generator: &mut Lcg64Xsh32,
         now: Micros,
-    ) -> Result<(), Fail> {
+    ) -> Result<(), ArrivalFault> {
         match below(generator, 12) {
             0..8 if self.core.has_room() => {
                 let len = u64::from(1 + below(generator, 60));
-                if give(rt, &mut self.core, len, now).is_ok() {
-                    self.arrivals.push(len, now)?;
-                }
+                self.hear_piece(rt, len, now)
             }
-            8 if !self.ended => {
-                if self.core.ending().is_none() {
-                    self.arrivals.eof(now)?;
-                }
-                assert!(rt; self.core.latest() <= now);
-                self.core.on_end(now);
-                self.ended = true;
-            }
-            _ => {}
+            8 if !self.ended => self.hear_end(rt, now),
+            _ => Ok(()),
         }
+    }
+
+    /// A piece. It is an arrival if the core takes it.
+    fn hear_piece(&mut self, rt: &impl Abort, len: u64, now: Micros) -> Result<(), ArrivalFault> {
+        if give(rt, &mut self.core, len, now).is_err() {
+            return Ok(());
+        }
+        self.arrivals.push(len, now)
+    }
+
+    /// The source's end.
+    fn hear_end(&mut self, rt: &impl Abort, now: Micros) -> Result<(), ArrivalFault>
+        requires { self.old.ended ≡ false }
+    {
+        if self.core.ending().is_none() {
+            self.arrivals.eof(now)?;
+        }
+        assert!(rt; self.core.latest() <= now);
+        self.core.on_end(now);
+        self.ended = true;
         Ok(())
     }
 
@@ -122,18 +145,25 @@ fn compare(rt: &(impl Abort + AllocGlobal), seed: u64) -> Result<(), Fail> {
     let generator = &mut Lcg64Xsh32::new(seed, 1);
     let chain = drawn_chain(rt, generator);
     let words = drawn_words(alloc, generator)?;
-    let mut run = Run {
-        core: LinkCore::new(alloc, compile(&chain, &words), &words)?,
-        arrivals: Arrivals::new(alloc),
-        slices: SliceList::new(alloc),
-        ended: false,
-    };
+    let mut run = Run::new(alloc, &chain, &words)?;
     let now = run.drive(rt, generator)?;
     let ending = run.settle(rt, now)?;
     let outcome = deliver(alloc, &chain, &words, &run.arrivals)?;
-    let table = table_of(alloc, &run.slices)?;
-    assert_eq!(rt; table, table_of(alloc, &outcome.slices)?, "seed {seed}");
-    assert_eq!(rt; ending, outcome.ending, "seed {seed}");
+    compare_slices(rt, &run.slices, &outcome.slices, seed)?;
+    assert_equal_at(rt, &ending, &outcome.ending, seed);
+    Ok(())
+}
+
+/// Compares when each byte leaves.
+fn compare_slices(
+    rt: &(impl Abort + AllocGlobal),
+    slices: &SliceList,
+    expected: &SliceList,
+    seed: u64,
+) -> Result<(), AllocError> {
+    let table = table_of(rt.alloc(), slices)?;
+    let due = table_of(rt.alloc(), expected)?;
+    assert_equal_at(rt, &table, &due, seed);
     Ok(())
 }
 

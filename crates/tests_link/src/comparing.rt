@@ -1,0 +1,13 @@
+//! Comparisons as functions: their proofs are made once, not at each use.
+use std::fmt::Debug;
+use std::process::Abort;
+
+/// Asserts that two values are equal.
+pub fn assert_equal<T: PartialEq + Debug>(rt: &impl Abort, value: &T, expected: &T) {
+    assert_eq!(rt; value, expected);
+}
+
+/// Asserts that two values are equal, in what this seed draws.
+pub fn assert_equal_at<T: PartialEq + Debug>(rt: &impl Abort, value: &T, expected: &T, seed: u64) {
+    assert_eq!(rt; value, expected, "seed {seed}");
+}
