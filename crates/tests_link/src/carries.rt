@@ -9,7 +9,7 @@ use std::sync::{Arc, Wait};
 use std::test::Fail;
 use std::thread::Threads;
 use tests_support::{Meeting, at, chain_of, slice};
-use tox_compile::compile;
+use tox_compile::{Plan, compile};
 use tox_link::{Ends, LinkEvent, LinkFault, SourceEnding, carry};
 use tox_time::{Ending, Gate, MemorySink, MemorySource, OpenGate, Source};
 use tox_words::Words;
@@ -76,6 +76,12 @@ struct Reported {
     source: SourceEnding,
 }
 
+/// The plan of these toxics.
+fn plan_of(rt: &impl Abort, toxics: &str, words: &Words) -> Plan {
+    let chain = chain_of(toxics).expect(rt, "short forms");
+    compile(&chain, words)
+}
+
 /// Carries what a reader gives in at most `reads` reads through these toxics.
 fn carried<R, S, G>(
     rt: &R,
@@ -93,8 +99,7 @@ where
     requires writer { set.old.ends.writer.sink.failed ≡ false }
 {
     let words = Words::from_list(rt.alloc(), &[0]).expect(rt, "memory");
-    let chain = chain_of(toxics).expect(rt, "short forms");
-    let plan = compile(&chain, &words);
+    let plan = plan_of(rt, toxics, &words);
     match carry(
         rt,
         rt.alloc(),
@@ -117,6 +122,19 @@ where
     }
 }
 
+/// A reader of these bytes that gives at most `most` of them a call and fails at the call of this number.
+fn source_of(
+    rt: &(impl Abort + AllocGlobal),
+    bytes: &[u8],
+    most: usize,
+    failing_call: Option<u64>,
+) -> MemorySource
+    ensures { result.failed ≡ false }
+{
+    let bytes = bytes.to_vec(rt.alloc()).expect(rt, "memory");
+    MemorySource::new(bytes, most.max(1), failing_call)
+}
+
 /// The same through an open gate, of a reader in memory that gives at most `most` bytes a call and fails at the call of this
 /// number.
 fn passed<R: Threads + Wait + Copy + Send + AllocGlobal + Abort + 'static>(
@@ -131,8 +149,7 @@ fn passed<R: Threads + Wait + Copy + Send + AllocGlobal + Abort + 'static>(
     requires { set.old.ends.writer.sink.failed ≡ false }
 {
     let gate = Arc::new(rt.alloc(), OpenGate).expect(rt, "memory");
-    let bytes = bytes.to_vec(rt.alloc()).expect(rt, "memory");
-    let reader = MemorySource::new(bytes, most.max(1), failing_call);
+    let reader = source_of(rt, bytes, most, failing_call);
     carried(rt, toxics, reader, reads, set, &gate)
 }
 
@@ -219,7 +236,7 @@ fn compare_delayed_notes(rt: &impl Abort, notes: &Noted) {
 #[test]
 fn reader_and_writer_meet(rt: HostRuntime) -> Result<(), Fail> {
     let gate = Arc::new(rt.alloc(), Meeting::new(1))?;
-    let reader = MemorySource::new(b"ab".to_vec(rt.alloc())?, 16, None);
+    let reader = source_of(&rt, b"ab", 16, None);
     let mut set = CarryCase::new(&rt, 16, None);
     let answer = carried(&rt, "", reader, 10, &mut set, &gate);
     assert!(rt; gate.met());
@@ -257,9 +274,8 @@ fn waiting_source(
 ) -> WaitingSource<MemorySource>
     ensures { result.source.failed ≡ false }
 {
-    let both = b"ab".to_vec(rt.alloc()).expect(rt, "memory");
     WaitingSource {
-        source: MemorySource::new(both, 1, None),
+        source: source_of(rt, b"ab", 1, None),
         bytes: shared(rt, bytes),
         reads: 0,
         missed: missed.clone().expect(rt, "few owners"),
@@ -279,15 +295,19 @@ fn compare_two_pieces(rt: &impl Abort, notes: &Noted) {
 
 /// The clock is read anew for each message, once it is taken.
 #[test]
-fn each_piece_has_an_instant_of_its_own(rt: HostRuntime) -> Result<(), Fail> {
-    let reader = MemorySource::new(b"abc".to_vec(rt.alloc())?, 1, None);
+fn each_piece_has_an_instant_of_its_own(rt: HostRuntime) {
     let mut set = CarryCase::new(&rt, 16, None);
-    let micros = shared(&rt, &set.clock.micros);
-    let gate = Arc::new(rt.alloc(), TickingGate { micros })?;
+    let gate = ticking_gate(&rt, &set.clock);
+    let reader = source_of(&rt, b"abc", 1, None);
     let answer = carried(&rt, "", reader, 10, &mut set, &gate);
     compare(&rt, answer, 3, closed(40), SourceEnding::Eof);
     compare_ticks(&rt, &set.notes);
-    Ok(())
+}
+
+/// A gate that moves this clock on.
+fn ticking_gate(rt: &(impl Abort + AllocGlobal), clock: &RestingClock) -> Arc<TickingGate> {
+    let micros = shared(rt, &clock.micros);
+    Arc::new(rt.alloc(), TickingGate { micros }).expect(rt, "memory")
 }
 
 /// Compares the instants of three pieces, each of which is taken 10 after the one before it.

@@ -1,8 +1,7 @@
 //! A link core, call by call.
-ghost use Rattle.std.specs.Prelude.{◌≡◌, false, IfOk};
+ghost use Rattle.std.specs.Prelude.{◌≡◌, false};
 
 use crate::comparing::assert_equal;
-use std::alloc::AllocError;
 use std::process::Abort;
 use std::test::Fail;
 use tests_support::{at, chain_of, slice};
@@ -73,28 +72,19 @@ fn closed(micros: u64) -> Ending {
 }
 
 /// A core under these toxics.
-fn core_of<'w>(
-    rt: &(impl Abort + AllocGlobal),
-    toxics: &str,
-    words: &'w Words,
-) -> Result<LinkCore<'w>, AllocError>
-    ensures { IfOk result (λ core. core.ended ≡ false) }
+fn core_of<'w>(rt: &(impl Abort + AllocGlobal), toxics: &str, words: &'w Words) -> LinkCore<'w>
+    ensures { result.ended ≡ false }
 {
     let chain = chain_of(toxics).expect(rt, "short forms");
-    LinkCore::new(rt.alloc(), compile(&chain, words), words)
+    LinkCore::new(rt.alloc(), compile(&chain, words), words).expect(rt, "memory")
 }
 
 #[test]
 fn latency_waits_writes_and_closes(rt: HostRuntime) -> Result<(), Fail> {
     let words = Words::from_list(rt.alloc(), &[0])?;
-    let mut core = core_of(&rt, "latency:latency=1", &words)?;
-    compare_latest(&rt, &core, at(0));
+    let mut core = core_of(&rt, "latency:latency=1", &words);
     compare_delayed_piece(&rt, &mut core);
-    compare_ending(&rt, &core, None);
-    end(&rt, &mut core, at(1500));
-    compare_latest(&rt, &core, at(1500));
-    answers(&rt, &mut core, at(1500), Act::End(closed(1500)));
-    compare_ending(&rt, &core, Some(closed(1500)));
+    compare_close(&rt, &mut core);
     Ok(())
 }
 
@@ -102,16 +92,28 @@ fn latency_waits_writes_and_closes(rt: HostRuntime) -> Result<(), Fail> {
 fn compare_delayed_piece(rt: &impl Abort, core: &mut LinkCore<'_>)
     ensures { core.new.ended ≡ core.old.ended }
 {
+    compare_latest(rt, core, at(0));
     takes(rt, core, 2, at(0), Ok(()));
     answers(rt, core, at(0), Act::WaitUntil(at(1000)));
     answers(rt, core, at(1000), Act::Write(slice(0, 2, 1000)));
     answers(rt, core, at(1000), Act::WaitForInput);
 }
 
+/// Compares what a core that has written all does with the source's end.
+fn compare_close(rt: &impl Abort, core: &mut LinkCore<'_>)
+    requires { core.old.ended ≡ false }
+{
+    compare_ending(rt, core, None);
+    end(rt, core, at(1500));
+    compare_latest(rt, core, at(1500));
+    answers(rt, core, at(1500), Act::End(closed(1500)));
+    compare_ending(rt, core, Some(closed(1500)));
+}
+
 #[test]
 fn a_reset_comes_at_its_deadline(rt: HostRuntime) -> Result<(), Fail> {
     let words = Words::from_list(rt.alloc(), &[0])?;
-    let mut core = core_of(&rt, "reset_peer:timeout=20", &words)?;
+    let mut core = core_of(&rt, "reset_peer:timeout=20", &words);
     compare_last_piece(&rt, &mut core);
     compare_reset(&rt, &mut core);
     Ok(())

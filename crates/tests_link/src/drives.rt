@@ -1,5 +1,5 @@
 //! Driven directions beside `deliver`, under schedules drawn at random.
-ghost use Rattle.std.specs.Prelude.{◌≡◌, ◌<◌, false, Some, IfOk, MatchResult};
+ghost use Rattle.std.specs.Prelude.{◌≡◌, ◌<◌, false, Some, MatchResult};
 ghost use Rattle.tox_time.specs.Time.{IsInstant};
 ghost use Rattle.tox_link.specs.direction.Driven.{IsAtEnd, IsReady};
 ghost use Rattle.tox_link.specs.direction.Follows.{IsHeld, IsNew};
@@ -74,16 +74,18 @@ fn words_of(alloc: Global, seed: u64) -> Result<Words, WordsFault> {
 }
 
 /// A direction under the chain and the words of a seed. It keeps the words only if it draws any.
-fn link_of(alloc: Global, chain: &Chain, seed: u64) -> Result<PolledLink, Fail>
-    ensures fresh { IfOk result IsNew }
-    ensures held { IfOk result IsHeld }
+fn link_of(rt: &(impl Abort + AllocGlobal), chain: &Chain, seed: u64) -> PolledLink
+    ensures fresh { IsNew result }
+    ensures held { IsHeld result }
 {
-    let words = words_of(alloc, seed)?;
+    let words = words_of(rt.alloc(), seed).expect(rt, "words");
     let plan = compile(chain, &words);
-    if plan.draws() {
-        return Ok(PolledLink::new(alloc, plan, words)?);
-    }
-    Ok(PolledLink::without_words(alloc, plan)?)
+    let link = if plan.draws() {
+        PolledLink::new(rt.alloc(), plan, words)
+    } else {
+        PolledLink::without_words(rt.alloc(), plan)
+    };
+    link.expect(rt, "memory")
 }
 
 /// Bytes that tell their position, up to 600 of them.
@@ -117,15 +119,15 @@ fn heard(alloc: Global, notes: &Noted) -> Result<Arrivals, ArrivalFault> {
     Ok(arrivals)
 }
 
-/// What a log said.
-fn said(alloc: Global, notes: &Noted) -> Result<SliceList, AllocError> {
+/// The instants of the bytes that a log said.
+fn said(alloc: Global, notes: &Noted) -> Result<Vec<u64>, AllocError> {
     let mut slices = SliceList::new(alloc);
     for event in notes.events.as_slice() {
         if let LinkEvent::Wrote(slice, _) = event {
             slices.push(*slice)?;
         }
     }
-    Ok(slices)
+    table_of(alloc, &slices)
 }
 
 /// How a direction reports that it ended, and how many bytes it says that it wrote.
@@ -154,15 +156,15 @@ fn drawn_source(generator: &mut Lcg64Xsh32, bytes: Vec<u8>, seed: u64) -> BusyEn
 
 /// A sink with room for 600 bytes, which takes as many a call as the generator draws.
 fn drawn_sink(
-    alloc: Global,
+    rt: &(impl Abort + AllocGlobal),
     generator: &mut Lcg64Xsh32,
     seed: u64,
-) -> Result<BusyEnd<MemorySink>, AllocError>
-    ensures { IfOk result (λ sink. sink.end.failed ≡ false) }
+) -> BusyEnd<MemorySink>
+    ensures { result.end.failed ≡ false }
 {
     let most = 1 + below(generator, 60) as usize;
-    let writer = MemorySink::new(alloc, 600, most, drawn_fault(generator))?;
-    Ok(BusyEnd::new(writer, seed))
+    let writer = MemorySink::new(rt.alloc(), 600, most, drawn_fault(generator));
+    BusyEnd::new(writer.expect(rt, "memory"), seed)
 }
 
 /// Drives a direction under a chain to its end. Its ends give and take as the generator draws.
@@ -172,21 +174,20 @@ pub fn driven_under(
     chain: &Chain,
     bytes: Vec<u8>,
     seed: u64,
-) -> Result<DrivenDirection, Fail> {
+) -> DrivenDirection {
     let mut notes = Noted {
         events: Vec::new(rt.alloc()),
     };
     let source = drawn_source(generator, bytes, seed);
-    let mut sink = drawn_sink(rt.alloc(), generator, seed)?;
-    let micros = Arc::new(rt.alloc(), AtomicU64::new(0))?;
-    let clock = RestingClock { micros };
-    let link = link_of(rt.alloc(), chain, seed)?;
-    let answer = driven_to_end(rt, generator, link, &clock, &mut notes, source, &mut sink);
-    Ok(DrivenDirection {
+    let mut sink = drawn_sink(rt, generator, seed);
+    let link = link_of(rt, chain, seed);
+    let answer = driven_to_end(rt, generator, link, &mut notes, source, &mut sink);
+    let written = sink.end.bytes().to_vec(rt.alloc()).expect(rt, "memory");
+    DrivenDirection {
         answer,
         notes,
-        written: sink.end.bytes().to_vec(rt.alloc())?,
-    })
+        written,
+    }
 }
 
 /// Drives a direction from its start to its end.
@@ -194,7 +195,6 @@ fn driven_to_end(
     rt: &(impl Abort + AllocGlobal),
     generator: &mut Lcg64Xsh32,
     mut link: PolledLink,
-    clock: &RestingClock,
     notes: &mut Noted,
     mut source: BusyEnd<MemorySource>,
     sink: &mut BusyEnd<MemorySink>,
@@ -204,8 +204,10 @@ fn driven_to_end(
     requires gives { source.end.failed ≡ false }
     requires working { sink.old.end.failed ≡ false }
 {
-    let driven = drive_on(rt, generator, &mut link, clock, notes, &mut source, sink);
-    let answer = finish(link, clock, driven, source);
+    let micros = Arc::new(rt.alloc(), AtomicU64::new(0)).expect(rt, "memory");
+    let clock = RestingClock { micros };
+    let driven = drive_on(rt, generator, &mut link, &clock, notes, &mut source, sink);
+    let answer = finish(link, &clock, driven, source);
     match &answer {
         Ok(timed) => Ok(DrivenEnding {
             ending: timed.report.ending,
@@ -230,10 +232,11 @@ fn comparison_of(
     chain: &Chain,
     seed: u64,
 ) -> Result<Comparison, Fail> {
+    let said = said(alloc, notes)?;
     let arrivals = heard(alloc, notes)?;
     let outcome = due(alloc, chain, seed, &arrivals)?;
     Ok(Comparison {
-        said: table_of(alloc, &said(alloc, notes)?)?,
+        said,
         due: table_of(alloc, &outcome.slices)?,
         ending: outcome.ending,
     })
@@ -272,7 +275,7 @@ fn compare(rt: &(impl Abort + AllocGlobal), seed: u64) -> Result<bool, Fail> {
     let generator = &mut Lcg64Xsh32::new(seed, 3);
     let chain = drawn_chain(rt, generator);
     let bytes = drawn_bytes(rt.alloc(), generator)?;
-    let driven = driven_under(rt, generator, &chain, bytes.clone()?, seed)?;
+    let driven = driven_under(rt, generator, &chain, bytes.clone()?, seed);
     compare_bytes(rt, &driven.written, &bytes, seed);
     compare_log(rt, &driven, &chain, seed)?;
     Ok(driven.answer.is_err())

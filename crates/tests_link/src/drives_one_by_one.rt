@@ -1,11 +1,11 @@
 //! A driven direction, drive by drive.
-ghost use Rattle.std.specs.Prelude.{◌≡◌, true, false, Some, None, IfOk};
+ghost use Rattle.std.specs.Prelude.{◌≡◌, true, false, Some, None};
 ghost use Rattle.tox_time.specs.Time.{IsInstant};
 ghost use Rattle.tox_link.specs.direction.Driven.{IsReady};
 
 use crate::comparing::assert_equal;
 use crate::link_ends::{Noted, RestingClock};
-use std::alloc::{AllocError, Global};
+use std::alloc::Global;
 use std::process::Abort;
 use std::sync::Arc;
 use std::sync::atomic::{AtomicU64, Ordering};
@@ -136,14 +136,14 @@ impl DriveCase {
     }
 
     /// A sink that is stuck until this instant.
-    pub fn stuck_sink(&self, due: Micros) -> Result<StuckSink, AllocError>
-        ensures { IfOk result (λ sink. sink.failed ≡ false) }
+    pub fn stuck_sink(&self, rt: &impl Abort, due: Micros) -> StuckSink
+        ensures { result.failed ≡ false }
     {
-        Ok(StuckSink {
-            micros: self.clock.micros.clone()?,
+        StuckSink {
+            micros: self.clock.micros.clone().expect(rt, "few owners"),
             due,
             failed: false,
-        })
+        }
     }
 
     /// Drives it once.
@@ -170,56 +170,78 @@ impl DriveCase {
     }
 }
 
+/// What a drive returns that waits.
+pub fn waits(until: Option<Micros>) -> Driven {
+    Ok(Progress::Waits(until))
+}
+
+/// Drives a direction once, and compares what the drive returns.
+pub fn compare_drive<N: Notes, W: PollSink>(
+    rt: &(impl Abort + AllocGlobal),
+    case: &mut DriveCase,
+    notes: &mut N,
+    sink: &mut W,
+    expected: Driven,
+)
+    requires ready { IsReady IsInstant case.old.link None false }
+    requires working { W.failed sink.old ≡ false }
+    ensures { IsReady IsInstant case.new.link None false }
+{
+    let driven = case.drive(rt.alloc(), notes, sink);
+    assert_equal(rt, &driven, &expected);
+}
+
+/// Compares the event at a place of the notes.
+fn compare_event(rt: &impl Abort, notes: &Noted, place: usize, event: LinkEvent) {
+    assert_equal(rt, &notes.events.get(place), &Some(&event));
+}
+
 #[test]
-fn a_piece_is_stamped_after_its_read(rt: HostRuntime) -> Result<(), Fail> {
+fn a_piece_is_stamped_after_its_read(rt: HostRuntime) {
     let mut case = DriveCase::new(&rt, "latency:latency=1", 1);
     let mut notes = Noted {
         events: Vec::new(rt.alloc()),
     };
-    let progress = case.drive(rt.alloc(), &mut notes, &mut OpenSink);
-    assert_equal(&rt, &progress, &Ok(Progress::Waits(Some(at(1010)))));
-    let heard = [LinkEvent::Piece(1, at(10))];
-    assert_equal(&rt, &notes.events.as_slice(), &heard.as_slice());
+    let until = waits(Some(at(1010)));
+    compare_drive(&rt, &mut case, &mut notes, &mut OpenSink, until);
+    assert_equal(&rt, &notes.events.len(), &1);
+    compare_event(&rt, &notes, 0, LinkEvent::Piece(1, at(10)));
     case.clock.micros.store(1010, Ordering::SeqCst);
-    let progress = case.drive(rt.alloc(), &mut notes, &mut OpenSink);
-    assert_equal(&rt, &progress, &Ok(Progress::Waits(None)));
+    compare_drive(&rt, &mut case, &mut notes, &mut OpenSink, waits(None));
     let wrote = LinkEvent::Wrote(slice(0, 1, 1010), at(1010));
-    assert_equal(&rt, &notes.events.get(1), &Some(&wrote));
-    Ok(())
+    compare_event(&rt, &notes, 1, wrote);
 }
 
 #[test]
-fn a_slice_that_waits_hides_no_reset(rt: HostRuntime) -> Result<(), Fail> {
+fn a_slice_that_waits_hides_no_reset(rt: HostRuntime) {
     let mut case = DriveCase::new(&rt, "reset_peer:timeout=20", 1);
-    let mut sink = case.stuck_sink(at(20_000))?;
-    let progress = case.drive(rt.alloc(), &mut NoNotes, &mut sink);
-    assert_equal(&rt, &progress, &Ok(Progress::Waits(Some(at(20_000)))));
+    let mut sink = case.stuck_sink(&rt, at(20_000));
+    let until = waits(Some(at(20_000)));
+    compare_drive(&rt, &mut case, &mut NoNotes, &mut sink, until);
     case.clock.micros.store(20_000, Ordering::SeqCst);
     assert!(rt; !sink.failed);
-    let progress = case.drive(rt.alloc(), &mut NoNotes, &mut sink);
-    assert_equal(&rt, &progress, &Err(LinkFault::WriteFault(0)));
-    Ok(())
+    let fails = Err(LinkFault::WriteFault(0));
+    compare_drive(&rt, &mut case, &mut NoNotes, &mut sink, fails);
 }
 
 /// Where no piece moves a drive takes no memory, and a read without memory breaks off.
 #[test]
 fn a_drive_that_moves_nothing_takes_no_memory(rt: HostRuntime) -> Result<(), Fail> {
     let mut case = DriveCase::new(&rt, "latency:latency=1", 0);
-    let mut scarcity = Scarcity::new(rt.alloc())?;
-    scarcity.leave(rt.alloc(), 0)?;
-    let (waits, reads) = drive_twice(&mut case, rt.alloc());
-    scarcity.end();
-    assert_equal(&rt, &waits, &Ok(Progress::Waits(None)));
-    assert_equal(&rt, &reads, &Err(LinkFault::OutOfMemory(0)));
-    Ok(())
+    compare_scarce_drives(&rt, &mut case)
 }
 
-/// Drives a direction that has nothing to read, and then once more with a byte to read.
-fn drive_twice(case: &mut DriveCase, alloc: Global) -> (Driven, Driven)
+/// Compares what two drives return for which there is no memory: one that has nothing to read, and one that has a byte.
+fn compare_scarce_drives(rt: &(impl Abort + AllocGlobal), case: &mut DriveCase) -> Result<(), Fail>
     requires { IsReady IsInstant case.old.link None false }
 {
-    let waits = case.drive(alloc, &mut NoNotes, &mut OpenSink);
+    let mut scarcity = Scarcity::new(rt.alloc())?;
+    scarcity.leave(rt.alloc(), 0)?;
+    let waiting = case.drive(rt.alloc(), &mut NoNotes, &mut OpenSink);
     case.source.left = 1;
-    let reads = case.drive(alloc, &mut NoNotes, &mut OpenSink);
-    (waits, reads)
+    let reading = case.drive(rt.alloc(), &mut NoNotes, &mut OpenSink);
+    scarcity.end();
+    assert_equal(rt, &waiting, &waits(None));
+    assert_equal(rt, &reading, &Err(LinkFault::OutOfMemory(0)));
+    Ok(())
 }

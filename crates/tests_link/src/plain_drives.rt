@@ -5,15 +5,14 @@ ghost use Rattle.tox_link.specs.direction.Driven.{IsReady};
 
 use crate::comparing::{assert_equal, assert_equal_at};
 use crate::drives::{drawn_bytes, driven_under};
-use crate::drives_one_by_one::{DriveCase, Driven, StuckSink};
+use crate::drives_one_by_one::{DriveCase, Driven, StuckSink, compare_drive, waits};
 use rand_pcg::Lcg64Xsh32;
-use std::alloc::Global;
 use std::mem::size_of;
 use std::process::Abort;
 use std::test::Fail;
 use tests_support::{Scarcity, at, chain_of};
 use tox_defs::Chain;
-use tox_link::{LinkEvent, NoNotes, PolledLink, Progress};
+use tox_link::{LinkEvent, NoNotes, PolledLink};
 
 #[test]
 fn a_direction_stands_under_512_bytes(rt: HostRuntime) {
@@ -28,7 +27,7 @@ fn drawn_under(
 ) -> Result<(Vec<LinkEvent>, Vec<u8>), Fail> {
     let generator = &mut Lcg64Xsh32::new(seed, 5);
     let bytes = drawn_bytes(rt.alloc(), generator)?;
-    let direction = driven_under(rt, generator, chain, bytes, seed)?;
+    let direction = driven_under(rt, generator, chain, bytes, seed);
     Ok((direction.notes.events, direction.written))
 }
 
@@ -49,29 +48,30 @@ fn a_plain_direction_has_the_log_of_a_planned_one(rt: HostRuntime) -> Result<(),
 #[test]
 fn a_plain_direction_holds_one_read(rt: HostRuntime) -> Result<(), Fail> {
     let mut case = DriveCase::new(&rt, "", 5);
-    let mut sink = case.stuck_sink(at(20_000))?;
-    let reads = case.drive(rt.alloc(), &mut NoNotes, &mut sink);
+    let mut sink = case.stuck_sink(&rt, at(20_000));
+    let until = waits(Some(at(20_000)));
+    compare_drive(&rt, &mut case, &mut NoNotes, &mut sink, until);
     assert!(rt; !sink.failed);
-    let stands = driven_without_memory(rt.alloc(), &mut case, &mut sink)?;
-    let waits = Ok(Progress::Waits(Some(at(20_000))));
-    assert_equal(&rt, &reads, &waits);
-    assert_equal(&rt, &stands, &waits);
+    let until = waits(Some(at(20_000)));
+    compare_scarce_drive(&rt, &mut case, &mut sink, until)?;
     assert_equal(&rt, &case.source.left, &4);
     Ok(())
 }
 
-/// What a drive returns for which there is no memory.
-fn driven_without_memory(
-    alloc: Global,
+/// Compares what a drive returns for which there is no memory.
+fn compare_scarce_drive(
+    rt: &(impl Abort + AllocGlobal),
     case: &mut DriveCase,
     sink: &mut StuckSink,
-) -> Result<Driven, Fail>
+    expected: Driven,
+) -> Result<(), Fail>
     requires ready { IsReady IsInstant case.old.link None false }
     requires working { sink.old.failed ≡ false }
 {
-    let mut scarcity = Scarcity::new(alloc)?;
-    scarcity.leave(alloc, 0)?;
-    let driven = case.drive(alloc, &mut NoNotes, sink);
+    let mut scarcity = Scarcity::new(rt.alloc())?;
+    scarcity.leave(rt.alloc(), 0)?;
+    let driven = case.drive(rt.alloc(), &mut NoNotes, sink);
     scarcity.end();
-    Ok(driven)
+    assert_equal(rt, &driven, &expected);
+    Ok(())
 }

@@ -86,8 +86,27 @@ fn carried<R: Threads + Wait + Copy + Send + 'static>(
     }
 }
 
-/// Carries two bytes, read one by one, with little memory. Counts in `reads_refused` a refusal after the reader's thread has
-/// read.
+/// Carries two bytes, read one by one, with so many pages.
+fn tried_link<R: Threads + Wait + Copy + Send + 'static>(
+    rt: &R,
+    scarcity: &mut Scarcity,
+    alloc: Global,
+    pages: usize,
+    words: &Words,
+    gate: &Arc<CountingGate>,
+) -> Result<Tried, Fail> {
+    let reader = MemorySource::new(vec![in alloc; 0x61, 0x62]?, 1, None);
+    let mut ends = Ends {
+        writer: MemorySink::new(alloc, 16, 16, None)?,
+        hangup: NoHangup,
+    };
+    scarcity.leave_pages(alloc, pages)?;
+    let answer = carried(rt, alloc, reader, &mut ends, words, gate);
+    scarcity.end();
+    Ok(tried_of(&answer, ends.writer.bytes()))
+}
+
+/// Carries a link with little memory. Counts in `reads_refused` a refusal after the reader's thread has read.
 fn link<R: Threads + Wait + Copy + Send + 'static>(
     rt: &R,
     scarcity: &mut Scarcity,
@@ -97,15 +116,7 @@ fn link<R: Threads + Wait + Copy + Send + 'static>(
 ) -> Result<Tried, Fail> {
     let words = Words::from_list(alloc, &[0])?;
     let gate = Arc::new(alloc, CountingGate::new())?;
-    let mut ends = Ends {
-        writer: MemorySink::new(alloc, 16, 16, None)?,
-        hangup: NoHangup,
-    };
-    let reader = MemorySource::new(vec![in alloc; 0x61, 0x62]?, 1, None);
-    scarcity.leave_pages(alloc, pages)?;
-    let answer = carried(rt, alloc, reader, &mut ends, &words, &gate);
-    scarcity.end();
-    let tried = tried_of(&answer, ends.writer.bytes());
+    let tried = tried_link(rt, scarcity, alloc, pages, &words, &gate)?;
     if tried == Tried::NoMemory && 0 < gate.passes() {
         reads_refused.fetch_add(1, Ordering::SeqCst);
     }

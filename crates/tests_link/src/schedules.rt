@@ -4,7 +4,7 @@ ghost use Rattle.std.specs.Prelude.{◌≡◌, false};
 use crate::comparing::assert_equal_at;
 use crate::cores::{ask, give};
 use rand_pcg::Lcg64Xsh32;
-use std::alloc::{AllocError, Global};
+use std::alloc::AllocError;
 use std::process::Abort;
 use std::test::Fail;
 use tests_support::{below, drawn_words, table_of};
@@ -52,13 +52,14 @@ struct Run<'w> {
 
 impl<'w> Run<'w> {
     /// A core at which nothing has arrived.
-    fn new(alloc: Global, chain: &Chain, words: &'w Words) -> Result<Run<'w>, AllocError> {
-        Ok(Run {
-            core: LinkCore::new(alloc, compile(chain, words), words)?,
-            arrivals: Arrivals::new(alloc),
-            slices: SliceList::new(alloc),
+    fn new(rt: &(impl Abort + AllocGlobal), chain: &Chain, words: &'w Words) -> Run<'w> {
+        let core = LinkCore::new(rt.alloc(), compile(chain, words), words);
+        Run {
+            core: core.expect(rt, "memory"),
+            arrivals: Arrivals::new(rt.alloc()),
+            slices: SliceList::new(rt.alloc()),
             ended: false,
-        })
+        }
     }
 
     /// One drawn event at `now`: a piece, the source's end, or nothing.
@@ -126,6 +127,12 @@ impl<'w> Run<'w> {
         Ok(now)
     }
 
+    /// Hears and writes what the generator draws. Returns the ending.
+    fn finish(&mut self, rt: &impl Abort, generator: &mut Lcg64Xsh32) -> Result<Ending, Fail> {
+        let now = self.drive(rt, generator)?;
+        Ok(self.settle(rt, now)?)
+    }
+
     /// Goes on from `now` until nothing is left to do. Returns the ending.
     fn settle(&mut self, rt: &impl Abort, mut now: Micros) -> Result<Ending, AllocError> {
         for _ in 0..1000 {
@@ -141,17 +148,14 @@ impl<'w> Run<'w> {
 
 /// Compares a core on what a seed draws with what is delivered.
 fn compare(rt: &(impl Abort + AllocGlobal), seed: u64) -> Result<(), Fail> {
-    let alloc = rt.alloc();
     let generator = &mut Lcg64Xsh32::new(seed, 1);
     let chain = drawn_chain(rt, generator);
-    let words = drawn_words(alloc, generator)?;
-    let mut run = Run::new(alloc, &chain, &words)?;
-    let now = run.drive(rt, generator)?;
-    let ending = run.settle(rt, now)?;
-    let outcome = deliver(alloc, &chain, &words, &run.arrivals)?;
-    compare_slices(rt, &run.slices, &outcome.slices, seed)?;
+    let words = drawn_words(rt.alloc(), generator)?;
+    let mut run = Run::new(rt, &chain, &words);
+    let ending = run.finish(rt, generator)?;
+    let outcome = deliver(rt.alloc(), &chain, &words, &run.arrivals)?;
     assert_equal_at(rt, &ending, &outcome.ending, seed);
-    Ok(())
+    compare_slices(rt, &run.slices, &outcome.slices, seed)
 }
 
 /// Compares when each byte leaves.
@@ -160,7 +164,7 @@ fn compare_slices(
     slices: &SliceList,
     expected: &SliceList,
     seed: u64,
-) -> Result<(), AllocError> {
+) -> Result<(), Fail> {
     let table = table_of(rt.alloc(), slices)?;
     let due = table_of(rt.alloc(), expected)?;
     assert_equal_at(rt, &table, &due, seed);
