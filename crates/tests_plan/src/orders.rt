@@ -1,6 +1,7 @@
 //! The stage network, settled in drawn orders, beside the compiled plan.
 ghost use Rattle.std.specs.Prelude.{◌≤◌};
 
+use crate::comparing::assert_equal_in;
 use rand_pcg::Lcg64Xsh32;
 use std::alloc::{AllocError, Global};
 use std::process::Abort;
@@ -86,8 +87,9 @@ pub fn compare_outcomes(
     number: u64,
 ) -> Result<(), AllocError> {
     let table = table_of(alloc, &outcome.slices)?;
-    assert_eq!(rt; table, table_of(alloc, &expected.slices)?, "case {number}");
-    assert_eq!(rt; outcome.ending, expected.ending, "case {number}");
+    let due = table_of(alloc, &expected.slices)?;
+    assert_equal_in(rt, &table, &due, number);
+    assert_equal_in(rt, &outcome.ending, &expected.ending, number);
     Ok(())
 }
 

@@ -1,4 +1,5 @@
 //! What chains are compiled into. What `plan` prints of them is in `tests/rows`.
+use crate::comparing::assert_equal;
 use std::test::Fail;
 use tests_support::{at, chain_of};
 use tox_compile::{Op, compile};
@@ -52,8 +53,8 @@ fn each_toxic_has_its_operation(rt: HostRuntime) -> Result<(), Fail> {
     )
     .expect(&rt, "short forms");
     let plan = compile(&chain, &words);
-    assert_eq!(rt; plan.ops(), operations().as_slice());
-    assert_eq!(rt; plan.deadline(), Some(Micros::from_millis(8)));
+    assert_equal(&rt, &plan.ops(), &operations().as_slice());
+    assert_equal(&rt, &plan.deadline(), &Some(Micros::from_millis(8)));
     Ok(())
 }
 
@@ -63,7 +64,7 @@ fn a_timeout_stands_alone(rt: HostRuntime) -> Result<(), Fail> {
     let chain = chain_of("timeout:timeout=50 bandwidth:rate=7").expect(&rt, "short forms");
     let plan = compile(&chain, &words);
     let ending = Ending::Closed(at(50_000));
-    assert_eq!(rt; plan.ops(), [Op::Mute { ending }].as_slice());
-    assert_eq!(rt; plan.deadline(), Some(Micros::ZERO));
+    assert_equal(&rt, &plan.ops(), &[Op::Mute { ending }].as_slice());
+    assert_equal(&rt, &plan.deadline(), &Some(Micros::ZERO));
     Ok(())
 }

@@ -1,32 +1,56 @@
 //! A runner, call by call.
+ghost use Rattle.std.specs.Prelude.{◌≡◌};
+
+use crate::comparing::assert_equal;
 use std::process::Abort;
 use std::test::Fail;
 use tests_support::{at, chain_of, slice};
 use tox_compile::compile;
 use tox_plan::Runner;
-use tox_time::{ArrivalFault, Ending, Micros};
+use tox_time::{ArrivalFault, Ending, Micros, Slice};
 use tox_words::Words;
 
 /// A runner of these toxics that was offered nothing yet.
-fn runner_of<'w>(rt: &impl Abort, toxics: &str, words: &'w Words) -> Runner<'w> {
+pub fn runner_of<'w>(rt: &impl Abort, toxics: &str, words: &'w Words) -> Runner<'w>
+    ensures { result.piece.span.stop ≡ 0 }
+{
     let chain = chain_of(toxics).expect(rt, "short forms");
     Runner::new(compile(&chain, words), words)
+}
+
+/// Compares how an idle runner answers an offer.
+fn answers(
+    rt: &impl Abort,
+    runner: &mut Runner<'_>,
+    len: u64,
+    instant: Micros,
+    answer: Result<(), ArrivalFault>,
+) {
+    assert!(rt; runner.is_idle());
+    assert_equal(rt, &runner.offer(len, instant), &answer);
+}
+
+/// Compares the next slice.
+pub fn gives(rt: &impl Abort, runner: &mut Runner<'_>, slice: Option<Slice>) {
+    assert_equal(rt, &runner.next_cut(), &slice);
+}
+
+fn compare_ending(rt: &impl Abort, runner: &Runner<'_>, ending: Option<Ending>) {
+    assert_equal(rt, &runner.ending(), &ending);
 }
 
 #[test]
 fn a_limit_ends_the_link(rt: HostRuntime) -> Result<(), Fail> {
     let words = Words::from_list(rt.alloc(), &[0])?;
     let mut runner = runner_of(&rt, "limit_data:bytes=1", &words);
-    assert!(rt; runner.is_idle());
-    assert_eq!(rt; runner.offer(1, at(5)), Ok(()));
-    assert_eq!(rt; runner.next_cut(), Some(slice(0, 1, 5)));
-    assert_eq!(rt; runner.ending(), None);
-    assert_eq!(rt; runner.next_cut(), None);
-    assert_eq!(rt; runner.ending(), Some(Ending::Closed(at(5))));
-    assert!(rt; runner.is_idle());
-    assert_eq!(rt; runner.offer(1, at(5)), Err(ArrivalFault::AfterEnd));
-    assert_eq!(rt; (runner.cuts(), runner.pieces()), (1, 1));
-    assert_eq!(rt; runner.latest(), at(5));
+    answers(&rt, &mut runner, 1, at(5), Ok(()));
+    gives(&rt, &mut runner, Some(slice(0, 1, 5)));
+    compare_ending(&rt, &runner, None);
+    gives(&rt, &mut runner, None);
+    compare_ending(&rt, &runner, Some(Ending::Closed(at(5))));
+    answers(&rt, &mut runner, 1, at(5), Err(ArrivalFault::AfterEnd));
+    assert_equal(&rt, &(runner.cuts(), runner.pieces()), &(1, 1));
+    assert_equal(&rt, &runner.latest(), &at(5));
     Ok(())
 }
 
@@ -34,21 +58,22 @@ fn a_limit_ends_the_link(rt: HostRuntime) -> Result<(), Fail> {
 fn a_runner_goes_on_until_its_source_ends(rt: HostRuntime) -> Result<(), Fail> {
     let words = Words::from_list(rt.alloc(), &[0])?;
     let mut runner = runner_of(&rt, "latency:latency=1", &words);
-    assert!(rt; runner.is_idle());
-    assert_eq!(rt; runner.offer(2, at(5)), Ok(()));
-    assert_eq!(rt; runner.next_cut(), Some(slice(0, 2, 1005)));
-    assert_eq!(rt; runner.next_cut(), None);
-    assert!(rt; runner.is_idle());
-    assert_eq!(rt; runner.offer(2, at(4)), Err(ArrivalFault::TimeBack));
-    assert!(rt; runner.is_idle());
-    let end = at(9);
-    assert!(rt; runner.latest() <= end);
-    assert_eq!(rt; runner.finish(end), Ending::Closed(at(1005)));
-    assert_eq!(rt; runner.ending(), Some(Ending::Closed(at(1005))));
-    assert!(rt; runner.is_idle());
-    assert_eq!(rt; runner.offer(1, at(8)), Err(ArrivalFault::TimeBack));
-    assert_eq!(rt; runner.turns(), 1);
+    answers(&rt, &mut runner, 2, at(5), Ok(()));
+    gives(&rt, &mut runner, Some(slice(0, 2, 1005)));
+    gives(&rt, &mut runner, None);
+    answers(&rt, &mut runner, 2, at(4), Err(ArrivalFault::TimeBack));
+    compare_finish(&rt, &mut runner, at(9), Ending::Closed(at(1005)));
+    answers(&rt, &mut runner, 1, at(8), Err(ArrivalFault::TimeBack));
+    assert_equal(&rt, &runner.turns(), &1);
     Ok(())
+}
+
+/// Compares the ending of an idle runner whose source ends.
+fn compare_finish(rt: &impl Abort, runner: &mut Runner<'_>, end: Micros, ending: Ending) {
+    assert!(rt; runner.is_idle());
+    assert!(rt; runner.latest() <= end);
+    assert_equal(rt, &runner.finish(end), &ending);
+    compare_ending(rt, runner, Some(ending));
 }
 
 #[test]
@@ -56,11 +81,10 @@ fn neighbours_of_one_instant_are_one_slice(rt: HostRuntime) -> Result<(), Fail> 
     let words = Words::from_list(rt.alloc(), &[0, 1, 2])?;
     let slicer = "slicer:average_size=2,size_variation=1";
     let mut runner = runner_of(&rt, slicer, &words);
-    assert!(rt; runner.is_idle());
-    assert_eq!(rt; runner.offer(5, Micros::ZERO), Ok(()));
-    assert_eq!(rt; runner.next_cut(), Some(slice(0, 5, 0)));
-    assert_eq!(rt; runner.cuts(), 2);
-    assert_eq!(rt; runner.next_cut(), None);
+    answers(&rt, &mut runner, 5, Micros::ZERO, Ok(()));
+    gives(&rt, &mut runner, Some(slice(0, 5, 0)));
+    assert_equal(&rt, &runner.cuts(), &2);
+    gives(&rt, &mut runner, None);
     Ok(())
 }
 
@@ -68,12 +92,10 @@ fn neighbours_of_one_instant_are_one_slice(rt: HostRuntime) -> Result<(), Fail> 
 fn a_cutoff_is_remembered_once_its_piece_is_read(rt: HostRuntime) -> Result<(), Fail> {
     let words = Words::from_list(rt.alloc(), &[0])?;
     let mut runner = runner_of(&rt, "reset_peer:timeout=20", &words);
-    assert!(rt; runner.is_idle());
-    assert_eq!(rt; runner.offer(1, at(20000)), Ok(()));
-    assert_eq!(rt; runner.next_cut(), None);
-    assert_eq!(rt; runner.ending(), Some(Ending::Reset(at(20000))));
-    assert!(rt; runner.is_idle());
-    assert_eq!(rt; runner.offer(1, at(20001)), Err(ArrivalFault::AfterEnd));
+    answers(&rt, &mut runner, 1, at(20000), Ok(()));
+    gives(&rt, &mut runner, None);
+    compare_ending(&rt, &runner, Some(Ending::Reset(at(20000))));
+    answers(&rt, &mut runner, 1, at(20001), Err(ArrivalFault::AfterEnd));
     Ok(())
 }
 
@@ -81,10 +103,9 @@ fn a_cutoff_is_remembered_once_its_piece_is_read(rt: HostRuntime) -> Result<(), 
 fn a_cutoff_at_the_start_waits_for_a_piece(rt: HostRuntime) -> Result<(), Fail> {
     let words = Words::from_list(rt.alloc(), &[0])?;
     let mut runner = runner_of(&rt, "reset_peer:timeout=0", &words);
-    assert_eq!(rt; runner.ending(), None);
-    assert!(rt; runner.is_idle());
-    assert_eq!(rt; runner.offer(1, at(0)), Ok(()));
-    assert_eq!(rt; runner.next_cut(), None);
-    assert_eq!(rt; runner.ending(), Some(Ending::Reset(at(0))));
+    compare_ending(&rt, &runner, None);
+    answers(&rt, &mut runner, 1, at(0), Ok(()));
+    gives(&rt, &mut runner, None);
+    compare_ending(&rt, &runner, Some(Ending::Reset(at(0))));
     Ok(())
 }

@@ -1,7 +1,9 @@
 //! A window from outside: what it holds after each call.
 ghost use Rattle.std.specs.Prelude.{◌≡◌, IfOk};
 
+use crate::comparing::assert_equal;
 use std::alloc::{AllocError, Global};
+use std::process::Abort;
 use std::test::Fail;
 use tox_lend::{Piece, Window};
 use tox_time::Micros;
@@ -16,12 +18,13 @@ fn piece(alloc: Global, start: u64, bytes: &[u8]) -> Result<Piece, AllocError>
     })
 }
 
-/// The bytes of the piece that has a position.
-fn bytes_at(window: &Window, position: u64) -> Option<&[u8]> {
-    match window.piece(position) {
-        Some(piece) => Some(&piece.bytes),
+/// Compares the bytes of the piece that has a position.
+fn compare_piece(rt: &impl Abort, window: &Window, position: u64, expected: Option<&[u8]>) {
+    let bytes = match window.piece(position) {
+        Some(piece) => Some(piece.bytes.as_slice()),
         None => None,
-    }
+    };
+    assert_equal(rt, &bytes, &expected);
 }
 
 #[test]
@@ -30,18 +33,24 @@ fn pieces_are_given_up_from_the_front(rt: HostRuntime) -> Result<(), Fail> {
     window.add(piece(rt.alloc(), 0, b"abc")?);
     window.add(piece(rt.alloc(), 3, b"de")?);
     assert!(rt; !window.has_room());
-    assert_eq!(rt; bytes_at(&window, 3), Some(b"de".as_slice()));
-    assert_eq!(rt; bytes_at(&window, 5), None);
+    compare_piece(&rt, &window, 3, Some(b"de"));
+    compare_piece(&rt, &window, 5, None);
     window.drop_before(4);
-    assert_eq!(rt; bytes_at(&window, 2), None);
-    assert_eq!(rt; bytes_at(&window, 4), Some(b"de".as_slice()));
+    compare_piece(&rt, &window, 2, None);
+    compare_piece(&rt, &window, 4, Some(b"de"));
     assert!(rt; window.has_room());
     window.drop_before(5);
-    assert_eq!(rt; window.stop(), 5);
+    assert_equal(&rt, &window.stop(), &5);
     window.add(piece(rt.alloc(), 5, b"f")?);
-    let first = window.take_first().expect(&rt, "a piece");
-    assert_eq!(rt; (first.start, first.bytes.as_slice()), (5, b"f".as_slice()));
-    assert!(rt; window.take_first().is_none());
-    assert_eq!(rt; window.stop(), 6);
+    compare_last(&rt, &mut window);
+    assert_equal(&rt, &window.stop(), &6);
     Ok(())
+}
+
+/// Takes the only piece, which holds one byte at 5.
+fn compare_last(rt: &impl Abort, window: &mut Window) {
+    let last = window.take_first().expect(rt, "a piece");
+    let shown = (last.start, last.bytes.as_slice());
+    assert_equal(rt, &shown, &(5, b"f".as_slice()));
+    assert!(rt; window.take_first().is_none());
 }

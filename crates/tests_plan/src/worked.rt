@@ -154,19 +154,16 @@ fn compare(
     let chain = chain_of(toxics).expect(rt, "short forms");
     let arrivals = arrivals_of(alloc, arrived).expect(rt, "arrivals");
     let delivered = deliver(alloc, &chain, &words, &arrivals)?;
-    assert_eq!(rt;
-        written(alloc, &delivered)?.as_str(),
-        expected,
-        "{toxics} on {arrived}"
-    );
+    let delivered = written(alloc, &delivered)?;
+    compare_texts(rt, &delivered, expected, toxics, arrived);
     let items = staged_items(rt, alloc, &chain, &words, &arrivals)?;
-    let staged = outcome_of(alloc, &items)?;
-    assert_eq!(rt;
-        written(alloc, &staged)?.as_str(),
-        expected,
-        "{toxics} on {arrived}"
-    );
+    let staged = written(alloc, &outcome_of(alloc, &items)?)?;
+    compare_texts(rt, &staged, expected, toxics, arrived);
     Ok(())
+}
+
+fn compare_texts(rt: &impl Abort, text: &str, expected: &str, toxics: &str, arrived: &str) {
+    assert_eq!(rt; text, expected, "{toxics} on {arrived}");
 }
 
 #[test]
