@@ -254,16 +254,26 @@ fn a_muted_link_stays_open(rt: HostRuntime) {
 }
 
 #[test]
-fn a_later_piece_has_a_later_instant(rt: HostRuntime) -> Result<(), Fail> {
-    let gate = Arc::new(rt.alloc(), OpenGate)?;
-    let missed = Arc::new(rt.alloc(), AtomicBool::new(false))?;
+fn a_later_piece_has_a_later_instant(rt: HostRuntime) {
     let mut set = CarryCase::new(&rt, 16, None);
-    let reader = waiting_source(&rt, &set.ends.writer.bytes, &missed);
-    let answer = carried(&rt, "latency:latency=1", reader, 10, &mut set, &gate);
-    assert!(rt; !missed.load(Ordering::SeqCst));
+    let answer = carried_one_by_one(&rt, &mut set);
     compare(&rt, answer, 2, closed(2000), SourceEnding::Eof);
     compare_two_pieces(&rt, &set.notes);
-    Ok(())
+}
+
+/// Carries two bytes, the second of which is read once the first is written.
+fn carried_one_by_one<R: Threads + Wait + Copy + Send + AllocGlobal + Abort + 'static>(
+    rt: &R,
+    set: &mut CarryCase,
+) -> Result<Reported, LinkFault>
+    requires { set.old.ends.writer.sink.failed ≡ false }
+{
+    let gate = Arc::new(rt.alloc(), OpenGate).expect(rt, "memory");
+    let missed = Arc::new(rt.alloc(), AtomicBool::new(false)).expect(rt, "memory");
+    let reader = waiting_source(rt, &set.ends.writer.bytes, &missed);
+    let answer = carried(rt, "latency:latency=1", reader, 10, set, &gate);
+    assert!(rt; !missed.load(Ordering::SeqCst));
+    answer
 }
 
 /// Two bytes, one a read, each read waiting for the last one's byte to be written.

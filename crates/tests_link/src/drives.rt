@@ -275,9 +275,20 @@ fn compare(rt: &(impl Abort + AllocGlobal), seed: u64) -> Result<bool, Fail> {
     let generator = &mut Lcg64Xsh32::new(seed, 3);
     let chain = drawn_chain(rt, generator);
     let bytes = drawn_bytes(rt.alloc(), generator)?;
-    let driven = driven_under(rt, generator, &chain, bytes.clone()?, seed);
-    compare_bytes(rt, &driven.written, &bytes, seed);
-    compare_log(rt, &driven, &chain, seed)?;
+    compare_driven(rt, generator, &chain, &bytes, seed)
+}
+
+/// Compares a direction of these bytes under this chain with what is delivered. Returns whether it broke off.
+fn compare_driven(
+    rt: &(impl Abort + AllocGlobal),
+    generator: &mut Lcg64Xsh32,
+    chain: &Chain,
+    bytes: &Vec<u8>,
+    seed: u64,
+) -> Result<bool, Fail> {
+    let driven = driven_under(rt, generator, chain, bytes.clone()?, seed);
+    compare_bytes(rt, &driven.written, bytes, seed);
+    compare_log(rt, &driven, chain, seed)?;
     Ok(driven.answer.is_err())
 }
 

@@ -18,9 +18,6 @@ use tox_link::{
 use tox_time::{EndFault, Micros};
 use tox_words::Words;
 
-/// What a drive returns.
-pub type Driven = Result<Progress, LinkFault>;
-
 /// A source that gives one byte a call, so often, and then would wait. The clock moves on by 10 at each call.
 #[derive(Drop)]
 pub struct TickingSource {
@@ -152,7 +149,7 @@ impl DriveCase {
         alloc: Global,
         notes: &mut N,
         sink: &mut W,
-    ) -> Driven
+    ) -> Result<Progress, LinkFault>
         requires ready { IsReady IsInstant self.old.link None false }
         requires working { W.failed sink.old ≡ false }
         ensures { IsReady IsInstant self.new.link None false }
@@ -170,25 +167,20 @@ impl DriveCase {
     }
 }
 
-/// What a drive returns that waits.
-pub fn waits(until: Option<Micros>) -> Driven {
-    Ok(Progress::Waits(until))
-}
-
-/// Drives a direction once, and compares what the drive returns.
-pub fn compare_drive<N: Notes, W: PollSink>(
+/// Drives a direction once, which then waits.
+pub fn compare_wait<N: Notes, W: PollSink>(
     rt: &(impl Abort + AllocGlobal),
     case: &mut DriveCase,
     notes: &mut N,
     sink: &mut W,
-    expected: Driven,
+    until: Option<Micros>,
 )
     requires ready { IsReady IsInstant case.old.link None false }
     requires working { W.failed sink.old ≡ false }
     ensures { IsReady IsInstant case.new.link None false }
 {
     let driven = case.drive(rt.alloc(), notes, sink);
-    assert_equal(rt, &driven, &expected);
+    assert_equal(rt, &driven, &Ok(Progress::Waits(until)));
 }
 
 /// Compares the event at a place of the notes.
@@ -202,12 +194,12 @@ fn a_piece_is_stamped_after_its_read(rt: HostRuntime) {
     let mut notes = Noted {
         events: Vec::new(rt.alloc()),
     };
-    let until = waits(Some(at(1010)));
-    compare_drive(&rt, &mut case, &mut notes, &mut OpenSink, until);
+    let until = Some(at(1010));
+    compare_wait(&rt, &mut case, &mut notes, &mut OpenSink, until);
     assert_equal(&rt, &notes.events.len(), &1);
     compare_event(&rt, &notes, 0, LinkEvent::Piece(1, at(10)));
     case.clock.micros.store(1010, Ordering::SeqCst);
-    compare_drive(&rt, &mut case, &mut notes, &mut OpenSink, waits(None));
+    compare_wait(&rt, &mut case, &mut notes, &mut OpenSink, None);
     let wrote = LinkEvent::Wrote(slice(0, 1, 1010), at(1010));
     compare_event(&rt, &notes, 1, wrote);
 }
@@ -216,12 +208,12 @@ fn a_piece_is_stamped_after_its_read(rt: HostRuntime) {
 fn a_slice_that_waits_hides_no_reset(rt: HostRuntime) {
     let mut case = DriveCase::new(&rt, "reset_peer:timeout=20", 1);
     let mut sink = case.stuck_sink(&rt, at(20_000));
-    let until = waits(Some(at(20_000)));
-    compare_drive(&rt, &mut case, &mut NoNotes, &mut sink, until);
+    let until = Some(at(20_000));
+    compare_wait(&rt, &mut case, &mut NoNotes, &mut sink, until);
     case.clock.micros.store(20_000, Ordering::SeqCst);
     assert!(rt; !sink.failed);
-    let fails = Err(LinkFault::WriteFault(0));
-    compare_drive(&rt, &mut case, &mut NoNotes, &mut sink, fails);
+    let driven = case.drive(rt.alloc(), &mut NoNotes, &mut sink);
+    assert_equal(&rt, &driven, &Err(LinkFault::WriteFault(0)));
 }
 
 /// Where no piece moves a drive takes no memory, and a read without memory breaks off.
@@ -241,7 +233,7 @@ fn compare_scarce_drives(rt: &(impl Abort + AllocGlobal), case: &mut DriveCase) 
     case.source.left = 1;
     let reading = case.drive(rt.alloc(), &mut NoNotes, &mut OpenSink);
     scarcity.end();
-    assert_equal(rt, &waiting, &waits(None));
+    assert_equal(rt, &waiting, &Ok(Progress::Waits(None)));
     assert_equal(rt, &reading, &Err(LinkFault::OutOfMemory(0)));
     Ok(())
 }

@@ -5,14 +5,15 @@ ghost use Rattle.tox_link.specs.direction.Driven.{IsReady};
 
 use crate::comparing::{assert_equal, assert_equal_at};
 use crate::drives::{drawn_bytes, driven_under};
-use crate::drives_one_by_one::{DriveCase, Driven, StuckSink, compare_drive, waits};
+use crate::drives_one_by_one::{DriveCase, StuckSink, compare_wait};
 use rand_pcg::Lcg64Xsh32;
 use std::mem::size_of;
 use std::process::Abort;
 use std::test::Fail;
 use tests_support::{Scarcity, at, chain_of};
 use tox_defs::Chain;
-use tox_link::{LinkEvent, NoNotes, PolledLink};
+use tox_link::{LinkEvent, NoNotes, PolledLink, Progress};
+use tox_time::Micros;
 
 #[test]
 fn a_direction_stands_under_512_bytes(rt: HostRuntime) {
@@ -49,21 +50,19 @@ fn a_plain_direction_has_the_log_of_a_planned_one(rt: HostRuntime) -> Result<(),
 fn a_plain_direction_holds_one_read(rt: HostRuntime) -> Result<(), Fail> {
     let mut case = DriveCase::new(&rt, "", 5);
     let mut sink = case.stuck_sink(&rt, at(20_000));
-    let until = waits(Some(at(20_000)));
-    compare_drive(&rt, &mut case, &mut NoNotes, &mut sink, until);
+    compare_wait(&rt, &mut case, &mut NoNotes, &mut sink, Some(at(20_000)));
     assert!(rt; !sink.failed);
-    let until = waits(Some(at(20_000)));
-    compare_scarce_drive(&rt, &mut case, &mut sink, until)?;
+    compare_scarce_wait(&rt, &mut case, &mut sink, at(20_000))?;
     assert_equal(&rt, &case.source.left, &4);
     Ok(())
 }
 
-/// Compares what a drive returns for which there is no memory.
-fn compare_scarce_drive(
+/// Drives a direction without memory, which then waits.
+fn compare_scarce_wait(
     rt: &(impl Abort + AllocGlobal),
     case: &mut DriveCase,
     sink: &mut StuckSink,
-    expected: Driven,
+    until: Micros,
 ) -> Result<(), Fail>
     requires ready { IsReady IsInstant case.old.link None false }
     requires working { sink.old.failed ≡ false }
@@ -72,6 +71,6 @@ fn compare_scarce_drive(
     scarcity.leave(rt.alloc(), 0)?;
     let driven = case.drive(rt.alloc(), &mut NoNotes, sink);
     scarcity.end();
-    assert_equal(rt, &driven, &expected);
+    assert_equal(rt, &driven, &Ok(Progress::Waits(Some(until))));
     Ok(())
 }

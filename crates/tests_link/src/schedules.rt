@@ -151,9 +151,20 @@ fn compare(rt: &(impl Abort + AllocGlobal), seed: u64) -> Result<(), Fail> {
     let generator = &mut Lcg64Xsh32::new(seed, 1);
     let chain = drawn_chain(rt, generator);
     let words = drawn_words(rt.alloc(), generator)?;
-    let mut run = Run::new(rt, &chain, &words);
+    compare_run(rt, generator, &chain, &words, seed)
+}
+
+/// Compares a run of a core under this chain with what is delivered.
+fn compare_run(
+    rt: &(impl Abort + AllocGlobal),
+    generator: &mut Lcg64Xsh32,
+    chain: &Chain,
+    words: &Words,
+    seed: u64,
+) -> Result<(), Fail> {
+    let mut run = Run::new(rt, chain, words);
     let ending = run.finish(rt, generator)?;
-    let outcome = deliver(rt.alloc(), &chain, &words, &run.arrivals)?;
+    let outcome = deliver(rt.alloc(), chain, words, &run.arrivals)?;
     assert_equal_at(rt, &ending, &outcome.ending, seed);
     compare_slices(rt, &run.slices, &outcome.slices, seed)
 }
