@@ -1,8 +1,8 @@
 //! What chains are compiled into. What `plan` prints of them is in `tests/rows`.
 use crate::comparing::assert_equal;
-use std::test::Fail;
+use std::process::Abort;
 use tests_support::{at, chain_of};
-use tox_compile::{Op, compile};
+use tox_compile::{Op, Plan, compile};
 use tox_time::{Ending, Micros};
 use tox_words::Words;
 
@@ -39,10 +39,17 @@ fn operations() -> [Op; 7] {
     ]
 }
 
+/// The plan of these toxics.
+fn plan_of(rt: &(impl Abort + AllocGlobal), toxics: &str) -> Plan {
+    let words = Words::from_list(rt.alloc(), &[0]).expect(rt, "memory");
+    let chain = chain_of(toxics).expect(rt, "short forms");
+    compile(&chain, &words)
+}
+
 #[test]
-fn each_toxic_has_its_operation(rt: HostRuntime) -> Result<(), Fail> {
-    let words = Words::from_list(rt.alloc(), &[0])?;
-    let chain = chain_of(
+fn each_toxic_has_its_operation(rt: HostRuntime) {
+    let plan = plan_of(
+        &rt,
         "latency:latency=3 \
          bandwidth:rate=7 \
          latency:latency=5,jitter=2 \
@@ -50,21 +57,15 @@ fn each_toxic_has_its_operation(rt: HostRuntime) -> Result<(), Fail> {
          limit_data:bytes=9 \
          slicer:average_size=4,size_variation=1,delay=6 \
          reset_peer:timeout=8",
-    )
-    .expect(&rt, "short forms");
-    let plan = compile(&chain, &words);
+    );
     assert_equal(&rt, &plan.ops(), &operations().as_slice());
     assert_equal(&rt, &plan.deadline(), &Some(Micros::from_millis(8)));
-    Ok(())
 }
 
 #[test]
-fn a_timeout_stands_alone(rt: HostRuntime) -> Result<(), Fail> {
-    let words = Words::from_list(rt.alloc(), &[0])?;
-    let chain = chain_of("timeout:timeout=50 bandwidth:rate=7").expect(&rt, "short forms");
-    let plan = compile(&chain, &words);
+fn a_timeout_stands_alone(rt: HostRuntime) {
+    let plan = plan_of(&rt, "timeout:timeout=50 bandwidth:rate=7");
     let ending = Ending::Closed(at(50_000));
     assert_equal(&rt, &plan.ops(), &[Op::Mute { ending }].as_slice());
     assert_equal(&rt, &plan.deadline(), &Some(Micros::ZERO));
-    Ok(())
 }

@@ -1,6 +1,6 @@
 //! The compiled runner beside the stages one after another, on chains, words and arrivals drawn at random.
 use crate::orders::compare_outcomes;
-use crate::staged::{outcome_of, staged_items};
+use crate::staged::staged_outcome;
 use rand_pcg::Lcg64Xsh32;
 use std::alloc::Global;
 use std::process::Abort;
@@ -9,7 +9,7 @@ use tests_support::{below, drawn_words};
 use tox_defs::{Chain, Toxic};
 use tox_plan::deliver;
 use tox_time::{Arrivals, Micros};
-use tox_words::Lanes;
+use tox_words::{Lanes, Words};
 
 fn toxic(generator: &mut Lcg64Xsh32) -> Toxic {
     match below(generator, 7) {
@@ -56,14 +56,20 @@ fn chain(rt: &impl Abort, generator: &mut Lcg64Xsh32) -> Chain {
     };
     let mut chain = Chain::with_lanes(lanes);
     for _ in 0..below(generator, 6) {
-        let toxic = toxic(generator);
-        if !matches!(toxic, Toxic::Timeout { .. }) || below(generator, 6) == 0 {
-            let toxicity = if below(generator, 4) == 0 { 500 } else { 1000 };
-            assert!(rt; toxic.check().is_ok());
-            assert!(rt; chain.push(toxic, toxicity).is_ok());
-        }
+        push_toxic(rt, generator, &mut chain);
     }
     chain
+}
+
+/// Adds a toxic to a chain, but of six timeouts about one.
+fn push_toxic(rt: &impl Abort, generator: &mut Lcg64Xsh32, chain: &mut Chain) {
+    let toxic = toxic(generator);
+    if matches!(toxic, Toxic::Timeout { .. }) && below(generator, 6) != 0 {
+        return;
+    }
+    let toxicity = if below(generator, 4) == 0 { 500 } else { 1000 };
+    assert!(rt; toxic.check().is_ok());
+    assert!(rt; chain.push(toxic, toxicity).is_ok());
 }
 
 fn arrivals(alloc: Global, generator: &mut Lcg64Xsh32) -> Result<Arrivals, Fail> {
@@ -86,9 +92,21 @@ fn compare(rt: &(impl Abort + AllocGlobal), seed: u64) -> Result<(), Fail> {
     let chain = chain(rt, generator);
     let words = drawn_words(alloc, generator)?;
     let arrivals = arrivals(alloc, generator)?;
-    let delivered = deliver(alloc, &chain, &words, &arrivals)?;
-    let items = staged_items(rt, alloc, &chain, &words, &arrivals)?;
-    compare_outcomes(rt, alloc, &outcome_of(alloc, &items)?, &delivered, seed)?;
+    compare_ways(rt, &chain, &words, &arrivals, seed)
+}
+
+/// Compares what stages and runner deliver of these arrivals.
+fn compare_ways(
+    rt: &(impl Abort + AllocGlobal),
+    chain: &Chain,
+    words: &Words,
+    arrivals: &Arrivals,
+    seed: u64,
+) -> Result<(), Fail> {
+    let alloc = rt.alloc();
+    let delivered = deliver(alloc, chain, words, arrivals)?;
+    let staged = staged_outcome(rt, alloc, chain, words, arrivals)?;
+    compare_outcomes(rt, alloc, &staged, &delivered, seed)?;
     Ok(())
 }
 

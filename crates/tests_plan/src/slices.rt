@@ -4,17 +4,15 @@ ghost use Rattle.tox_lend.specs.Run.{stop_of};
 ghost use Rattle.tox_plan.specs.Slices.{CanLend, IsOffered};
 
 use crate::comparing::assert_equal;
-use crate::runners::{gives, runner_of};
+use crate::runners::{gives, runner_of, words_of};
 use std::process::Abort;
-use std::test::Fail;
 use tests_support::{at, slice};
 use tox_lend::{Lent, Piece};
 use tox_plan::{Runner, Slices};
 use tox_time::{Ending, Micros, Slice, Span};
-use tox_words::Words;
 
 /// A piece of these bytes.
-fn piece_of(rt: &(impl Abort + AllocGlobal), start: u64, bytes: &[u8], instant: Micros) -> Piece
+pub fn piece_of(rt: &(impl Abort + AllocGlobal), start: u64, bytes: &[u8], instant: Micros) -> Piece
     ensures { (result.start ≡ start) × (result.bytes ≡ bytes.now) }
 {
     Piece {
@@ -109,8 +107,8 @@ fn lend_first<'w>(
 }
 
 #[test]
-fn a_slicer_lends_slices_of_each_piece(rt: HostRuntime) -> Result<(), Fail> {
-    let words = Words::from_list(rt.alloc(), &[0, 1, 2])?;
+fn a_slicer_lends_slices_of_each_piece(rt: HostRuntime) {
+    let words = words_of(&rt, &[0, 1, 2]);
     let first = piece_of(&rt, 0, b"abcde", Micros::ZERO);
     let second = piece_of(&rt, 5, b"fg", at(100));
     let slicer = "slicer:average_size=2,size_variation=1,delay=10";
@@ -120,7 +118,6 @@ fn a_slicer_lends_slices_of_each_piece(rt: HostRuntime) -> Result<(), Fail> {
     let lent = [(5, 110, b"f".as_slice()), (6, 120, b"g".as_slice())];
     let mut runner = lend_all(&rt, runner, &second, &lent);
     compare_quiet(&rt, &mut runner);
-    Ok(())
 }
 
 /// Compares how the link of an idle runner ends whose source stays quiet.
@@ -131,13 +128,12 @@ fn compare_quiet(rt: &impl Abort, runner: &mut Runner<'_>) {
 
 /// A runner that is taken back before its slices are all given goes on with the rest of the piece.
 #[test]
-fn a_runner_taken_back_early_keeps_the_piece(rt: HostRuntime) -> Result<(), Fail> {
-    let words = Words::from_list(rt.alloc(), &[0])?;
+fn a_runner_taken_back_early_keeps_the_piece(rt: HostRuntime) {
+    let words = words_of(&rt, &[0]);
     let piece = piece_of(&rt, 0, b"abc", Micros::ZERO);
     let runner = runner_of(&rt, "slicer:average_size=2,delay=10", &words);
     let mut runner = lend_first(&rt, runner, &piece, (0, 10, b"ab".as_slice()));
     compare_rest(&rt, &mut runner, slice(2, 3, 20));
-    Ok(())
 }
 
 /// Compares the only slice that is left of a piece.

@@ -1,22 +1,10 @@
 //! A window from outside: what it holds after each call.
-ghost use Rattle.std.specs.Prelude.{◌≡◌, IfOk};
-
 use crate::comparing::assert_equal;
-use std::alloc::{AllocError, Global};
+use crate::slices::piece_of;
 use std::process::Abort;
 use std::test::Fail;
-use tox_lend::{Piece, Window};
+use tox_lend::Window;
 use tox_time::Micros;
-
-fn piece(alloc: Global, start: u64, bytes: &[u8]) -> Result<Piece, AllocError>
-    ensures { IfOk result (λ piece. (piece.start ≡ start) × (piece.bytes ≡ bytes.now)) }
-{
-    Ok(Piece {
-        start,
-        bytes: Vec::from_slice(alloc, bytes)?,
-        instant: Micros::ZERO,
-    })
-}
 
 /// Compares the bytes of the piece that has a position.
 fn compare_piece(rt: &impl Abort, window: &Window, position: u64, expected: Option<&[u8]>) {
@@ -30,8 +18,8 @@ fn compare_piece(rt: &impl Abort, window: &Window, position: u64, expected: Opti
 #[test]
 fn pieces_are_given_up_from_the_front(rt: HostRuntime) -> Result<(), Fail> {
     let mut window = Window::new(rt.alloc(), 2)?;
-    window.add(piece(rt.alloc(), 0, b"abc")?);
-    window.add(piece(rt.alloc(), 3, b"de")?);
+    window.add(piece_of(&rt, 0, b"abc", Micros::ZERO));
+    window.add(piece_of(&rt, 3, b"de", Micros::ZERO));
     assert!(rt; !window.has_room());
     compare_piece(&rt, &window, 3, Some(b"de"));
     compare_piece(&rt, &window, 5, None);
@@ -41,7 +29,7 @@ fn pieces_are_given_up_from_the_front(rt: HostRuntime) -> Result<(), Fail> {
     assert!(rt; window.has_room());
     window.drop_before(5);
     assert_equal(&rt, &window.stop(), &5);
-    window.add(piece(rt.alloc(), 5, b"f")?);
+    window.add(piece_of(&rt, 5, b"f", Micros::ZERO));
     compare_last(&rt, &mut window);
     assert_equal(&rt, &window.stop(), &6);
     Ok(())
