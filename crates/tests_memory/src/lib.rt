@@ -2,7 +2,11 @@
 #![tactic(auto)]
 
 #[cfg(test)]
+mod comparing;
+#[cfg(test)]
 mod networks;
+#[cfg(test)]
+mod refusing;
 #[cfg(test)]
 mod runs;
 #[cfg(test)]

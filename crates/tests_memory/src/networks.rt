@@ -1,9 +1,10 @@
 //! The stage network, windows, cores and plans, with too little memory.
+use crate::comparing::assert_equal;
+use crate::refusing::{assert_refused, without_memory};
 use std::alloc::{AllocError, Global};
+use std::process::Abort;
 use std::test::Fail;
-use tests_support::{
-    MAX_TRIES, Scarcity, Tried, answer_of, chain_of, table_of, times_refused, try_each,
-};
+use tests_support::{Scarcity, Tried, answer_of, chain_of, table_of, times_refused};
 use tox_compile::compile;
 use tox_defs::Chain;
 use tox_lend::Window;
@@ -30,42 +31,74 @@ fn a_delivery_is_refused_memory(rt: HostRuntime) -> Result<(), Fail> {
     let chain = chain_of("latency:latency=1 slicer:average_size=1").expect(&rt, "short forms");
     let arrivals = three(alloc)?;
     let mut scarcity = Scarcity::new(alloc)?;
-    let delivered = times_refused(&mut scarcity, alloc, || {
-        answer_of(&deliver(alloc, &chain, &words, &arrivals), &AllocError)
-    })?;
-    let network = times_refused(&mut scarcity, alloc, || {
-        answer_of(
-            &Network::new(alloc, &chain, &words, &arrivals, 2),
-            &AllocError,
-        )
-    })?;
-    let window = times_refused(
-        &mut scarcity,
-        alloc,
-        || answer_of(&Window::new(alloc, 4), &AllocError),
-    )?;
-    let core = times_refused(&mut scarcity, alloc, || {
-        answer_of(
-            &LinkCore::new(alloc, compile(&chain, &words), &words),
-            &AllocError,
-        )
-    })?;
+    let delivered = deliveries_refused(&mut scarcity, alloc, &chain, &words, &arrivals)?;
+    let network = networks_refused(&mut scarcity, alloc, &chain, &words, &arrivals)?;
+    let window = windows_refused(&mut scarcity, alloc)?;
+    let core = cores_refused(&mut scarcity, alloc, &chain, &words)?;
     eprintln!(rt; "refused {delivered}, {network}, {window} and {core} times")?;
     assert!(rt; 0 < delivered && 0 < network && 0 < window && 0 < core);
     Ok(())
 }
 
+/// How often a delivery is refused.
+fn deliveries_refused(
+    scarcity: &mut Scarcity,
+    alloc: Global,
+    chain: &Chain,
+    words: &Words,
+    arrivals: &Arrivals,
+) -> Result<usize, Fail> {
+    times_refused(scarcity, alloc, || {
+        answer_of(&deliver(alloc, chain, words, arrivals), &AllocError)
+    })
+}
+
+/// How often a network is refused.
+fn networks_refused(
+    scarcity: &mut Scarcity,
+    alloc: Global,
+    chain: &Chain,
+    words: &Words,
+    arrivals: &Arrivals,
+) -> Result<usize, Fail> {
+    times_refused(scarcity, alloc, || {
+        answer_of(&Network::new(alloc, chain, words, arrivals, 2), &AllocError)
+    })
+}
+
+/// How often a window is refused.
+fn windows_refused(scarcity: &mut Scarcity, alloc: Global) -> Result<usize, Fail> {
+    times_refused(
+        scarcity,
+        alloc,
+        || answer_of(&Window::new(alloc, 4), &AllocError),
+    )
+}
+
+/// How often a core is refused.
+fn cores_refused(
+    scarcity: &mut Scarcity,
+    alloc: Global,
+    chain: &Chain,
+    words: &Words,
+) -> Result<usize, Fail> {
+    times_refused(scarcity, alloc, || {
+        answer_of(
+            &LinkCore::new(alloc, compile(chain, words), words),
+            &AllocError,
+        )
+    })
+}
+
 #[test]
 fn a_book_is_refused_memory(rt: HostRuntime) -> Result<(), Fail> {
-    let alloc = rt.alloc();
-    let mut book = Book::new(alloc);
-    let mut scarcity = Scarcity::new(alloc)?;
-    scarcity.leave(alloc, 0)?;
+    let mut book = Book::new(rt.alloc());
+    let mut scarcity = without_memory(&rt);
     let answer = book.opened();
     scarcity.end();
-    assert_eq!(rt; answer, Err(OpenFault::OutOfMemory));
-    assert_eq!(rt; book.links(), 0);
-    assert_eq!(rt; book.opened(), Ok(1));
+    assert_equal(&rt, &answer, &Err(OpenFault::OutOfMemory));
+    assert_equal(&rt, &book.links(), &0);
+    assert_equal(&rt, &book.opened(), &Ok(1));
     eprintln!(rt; "refused once")?;
     Ok(())
 }
@@ -97,8 +130,7 @@ fn a_settled_network_is_refused_memory(rt: HostRuntime) -> Result<(), Fail> {
     let words = Words::from_list(alloc, &[0])?;
     let chain = chain_of("latency:latency=1 slicer:average_size=1").expect(&rt, "short forms");
     let arrivals = three(alloc)?;
-    let mut scarcity = Scarcity::new(alloc)?;
-    let refusals = try_each(&mut scarcity, MAX_TRIES, |scarcity, nth| {
+    assert_refused(&rt, |scarcity, nth| {
         let network = Network::new(alloc, &chain, &words, &arrivals, 2)?;
         settle(
             scarcity,
@@ -107,10 +139,7 @@ fn a_settled_network_is_refused_memory(rt: HostRuntime) -> Result<(), Fail> {
             network,
             &[1000, 1000, 2000, 2000, 3000, 3000],
         )
-    })?;
-    eprintln!(rt; "{refusals:?}")?;
-    assert!(rt; refusals.is_answered && 0 < refusals.memory);
-    Ok(())
+    })
 }
 
 #[test]
@@ -121,13 +150,17 @@ fn a_step_is_refused_memory(rt: HostRuntime) -> Result<(), Fail> {
     let chain = Chain::new();
     let mut network = Network::new(alloc, &chain, &words, &arrivals, 2)?;
     network.step(Move::Arrive)?;
-    let mut scarcity = Scarcity::new(alloc)?;
-    scarcity.leave(alloc, 0)?;
-    let answer = network.step(Move::Deliver);
-    scarcity.end();
-    assert_eq!(rt; answer, Err(StepFault::OutOfMemory));
-    assert_eq!(rt; network.steps(), 1);
-    assert_eq!(rt; network.step(Move::Deliver), Ok(()));
+    compare_refused_step(&rt, &mut network);
     eprintln!(rt; "refused once")?;
     Ok(())
+}
+
+/// Compares what a network answers to its second step without memory, and then with ample memory.
+fn compare_refused_step(rt: &(impl Abort + AllocGlobal), network: &mut Network<'_>) {
+    let mut scarcity = without_memory(rt);
+    let answer = network.step(Move::Deliver);
+    scarcity.end();
+    assert_equal(rt, &answer, &Err(StepFault::OutOfMemory));
+    assert_equal(rt, &network.steps(), &1);
+    assert_equal(rt, &network.step(Move::Deliver), &Ok(()));
 }

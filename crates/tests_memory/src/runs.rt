@@ -1,7 +1,8 @@
 //! Runs, picks, forecasts and checks, from text to text, with too little memory.
+use crate::refusing::assert_refused;
 use std::alloc::Global;
 use std::test::Fail;
-use tests_support::{MAX_TRIES, Scarcity, Tried, answer_of, chain_of, try_each};
+use tests_support::{Scarcity, Tried, answer_of, chain_of};
 use tox_config::{ProxyDef, read_populate};
 use tox_defs::Chain;
 use tox_proxy::{
@@ -100,13 +101,10 @@ fn a_dry_run_is_refused_memory(rt: HostRuntime) -> Result<(), Fail> {
     let alloc = rt.alloc();
     let words = Words::from_list(alloc, &[0])?;
     let chain = chain_of("latency:latency=1").expect(&rt, "a short form");
-    let mut scarcity = Scarcity::new(alloc)?;
-    let refusals = try_each(&mut scarcity, MAX_TRIES, |scarcity, nth| {
-        run(scarcity, alloc, nth, &chain, &words)
-    })?;
-    eprintln!(rt; "{refusals:?}")?;
-    assert!(rt; refusals.is_answered && 0 < refusals.memory);
-    Ok(())
+    assert_refused(
+        &rt,
+        |scarcity, nth| run(scarcity, alloc, nth, &chain, &words),
+    )
 }
 
 /// A pick with little memory.
@@ -131,13 +129,10 @@ fn a_pick_is_refused_memory(rt: HostRuntime) -> Result<(), Fail> {
     let proxies = read_populate(alloc, CONFIG.as_bytes())?;
     let proxy = find_proxy(&proxies, "a").ok_or("no proxy a")?;
     let script = read_script(alloc, SCRIPT.as_bytes())?;
-    let mut scarcity = Scarcity::new(alloc)?;
-    let refusals = try_each(&mut scarcity, MAX_TRIES, |scarcity, nth| {
-        pick(scarcity, alloc, nth, proxy, &script)
-    })?;
-    eprintln!(rt; "{refusals:?}")?;
-    assert!(rt; refusals.is_answered && 0 < refusals.memory);
-    Ok(())
+    assert_refused(
+        &rt,
+        |scarcity, nth| pick(scarcity, alloc, nth, proxy, &script),
+    )
 }
 
 /// A forecast with little memory.
@@ -166,13 +161,7 @@ fn forecast(
 fn a_forecast_is_refused_memory(rt: HostRuntime) -> Result<(), Fail> {
     let alloc = rt.alloc();
     let script = read_script(alloc, SCRIPT.as_bytes())?;
-    let mut scarcity = Scarcity::new(alloc)?;
-    let refusals = try_each(&mut scarcity, MAX_TRIES, |scarcity, nth| {
-        forecast(scarcity, alloc, nth, &script)
-    })?;
-    eprintln!(rt; "{refusals:?}")?;
-    assert!(rt; refusals.is_answered && 0 < refusals.memory);
-    Ok(())
+    assert_refused(&rt, |scarcity, nth| forecast(scarcity, alloc, nth, &script))
 }
 
 /// A check with little memory.
@@ -197,13 +186,7 @@ fn a_check_is_refused_memory(rt: HostRuntime) -> Result<(), Fail> {
         proxies: read_populate(alloc, MISTYPED_CONFIG.as_bytes())?,
         script: read_script(alloc, MISTYPED_SCRIPT.as_bytes())?,
     };
-    let mut scarcity = Scarcity::new(alloc)?;
-    let refusals = try_each(&mut scarcity, MAX_TRIES, |scarcity, nth| {
-        check(scarcity, alloc, nth, &setup)
-    })?;
-    eprintln!(rt; "{refusals:?}")?;
-    assert!(rt; refusals.is_answered && 0 < refusals.memory);
-    Ok(())
+    assert_refused(&rt, |scarcity, nth| check(scarcity, alloc, nth, &setup))
 }
 
 /// A migration with little memory.
@@ -219,11 +202,5 @@ fn migration(scarcity: &mut Scarcity, alloc: Global, sixteens: usize) -> Result<
 #[test]
 fn a_printed_migration_is_refused_memory(rt: HostRuntime) -> Result<(), Fail> {
     let alloc = rt.alloc();
-    let mut scarcity = Scarcity::new(alloc)?;
-    let refusals = try_each(&mut scarcity, MAX_TRIES, |scarcity, nth| {
-        migration(scarcity, alloc, nth)
-    })?;
-    eprintln!(rt; "{refusals:?}")?;
-    assert!(rt; refusals.is_answered && 0 < refusals.memory);
-    Ok(())
+    assert_refused(&rt, |scarcity, nth| migration(scarcity, alloc, nth))
 }

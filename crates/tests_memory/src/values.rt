@@ -1,4 +1,7 @@
 //! Lists and files, read with too little memory.
+use crate::comparing::assert_equal;
+use crate::refusing::without_memory;
+use std::alloc::Global;
 use std::rt::{Env, Files};
 use std::test::Fail;
 use std::{env, fs, process};
@@ -22,22 +25,40 @@ type = \"latency\"
 attributes = { latency = 100 }
 ";
 
+/// How often words of a list are refused.
+fn lists_refused(scarcity: &mut Scarcity, alloc: Global) -> Result<usize, Fail> {
+    times_refused(scarcity, alloc, || {
+        answer_of(
+            &Words::from_list(alloc, &[1, 2, 3]),
+            &WordsFault::OutOfMemory,
+        )
+    })
+}
+
+/// How often words of a text are refused.
+fn texts_refused(scarcity: &mut Scarcity, alloc: Global) -> Result<usize, Fail> {
+    times_refused(scarcity, alloc, || {
+        answer_of(&Words::from_text(alloc, "1,2,3"), &WordsFault::OutOfMemory)
+    })
+}
+
+/// How often words of a seed are refused.
+fn seeds_refused(scarcity: &mut Scarcity, alloc: Global) -> Result<usize, Fail> {
+    times_refused(scarcity, alloc, || {
+        answer_of(
+            &Words::from_seed(alloc, 1, 1, Stream::Upstream),
+            &WordsFault::OutOfMemory,
+        )
+    })
+}
+
 #[test]
 fn words_are_refused_memory(rt: HostRuntime) -> Result<(), Fail> {
     let alloc = rt.alloc();
-    let memory = WordsFault::OutOfMemory;
     let mut scarcity = Scarcity::new(alloc)?;
-    let listed = times_refused(&mut scarcity, alloc, || {
-        answer_of(&Words::from_list(alloc, &[1, 2, 3]), &memory)
-    })?;
-    let written = times_refused(
-        &mut scarcity,
-        alloc,
-        || answer_of(&Words::from_text(alloc, "1,2,3"), &memory),
-    )?;
-    let seeded = times_refused(&mut scarcity, alloc, || {
-        answer_of(&Words::from_seed(alloc, 1, 1, Stream::Upstream), &memory)
-    })?;
+    let listed = lists_refused(&mut scarcity, alloc)?;
+    let written = texts_refused(&mut scarcity, alloc)?;
+    let seeded = seeds_refused(&mut scarcity, alloc)?;
     eprintln!(rt; "refused {listed}, {written} and {seeded} times")?;
     assert!(rt; 0 < listed && 0 < written && 0 < seeded);
     Ok(())
@@ -45,39 +66,47 @@ fn words_are_refused_memory(rt: HostRuntime) -> Result<(), Fail> {
 
 #[test]
 fn arrivals_are_refused_memory(rt: HostRuntime) -> Result<(), Fail> {
-    let alloc = rt.alloc();
-    let mut arrivals = Arrivals::new(alloc);
-    let mut scarcity = Scarcity::new(alloc)?;
-    scarcity.leave(alloc, 0)?;
+    let mut arrivals = Arrivals::new(rt.alloc());
+    let mut scarcity = without_memory(&rt);
     let piece = arrivals.push(3, Micros::from_millis(1));
     let end = arrivals.eof(Micros::from_millis(1));
     scarcity.end();
-    assert_eq!(rt; piece, Err(ArrivalFault::OutOfMemory));
-    assert_eq!(rt; end, Err(ArrivalFault::OutOfMemory));
-    assert_eq!(rt; arrivals.items().len(), 0);
-    assert_eq!(rt; arrivals.push(3, Micros::from_millis(1)), Ok(()));
-    assert_eq!(rt; arrivals.eof(Micros::from_millis(1)), Ok(()));
-    assert_eq!(rt; arrivals.items().len(), 2);
+    assert_equal(&rt, &piece, &Err(ArrivalFault::OutOfMemory));
+    assert_equal(&rt, &end, &Err(ArrivalFault::OutOfMemory));
+    assert_equal(&rt, &arrivals.items().len(), &0);
+    assert_equal(&rt, &arrivals.push(3, Micros::from_millis(1)), &Ok(()));
+    assert_equal(&rt, &arrivals.eof(Micros::from_millis(1)), &Ok(()));
+    assert_equal(&rt, &arrivals.items().len(), &2);
     eprintln!(rt; "refused once each")?;
     Ok(())
+}
+
+/// How often a config is refused.
+fn configs_refused(scarcity: &mut Scarcity, alloc: Global) -> Result<usize, Fail> {
+    times_refused(scarcity, alloc, || {
+        answer_of(
+            &read_populate(alloc, CONFIG.as_bytes()),
+            &ConfigFault::OutOfMemory,
+        )
+    })
+}
+
+/// How often a script is refused.
+fn scripts_refused(scarcity: &mut Scarcity, alloc: Global) -> Result<usize, Fail> {
+    times_refused(scarcity, alloc, || {
+        answer_of(
+            &read_script(alloc, SCRIPT.as_bytes()),
+            &ScriptFault::OutOfMemory,
+        )
+    })
 }
 
 #[test]
 fn files_are_refused_memory(rt: HostRuntime) -> Result<(), Fail> {
     let alloc = rt.alloc();
     let mut scarcity = Scarcity::new(alloc)?;
-    let config = times_refused(&mut scarcity, alloc, || {
-        answer_of(
-            &read_populate(alloc, CONFIG.as_bytes()),
-            &ConfigFault::OutOfMemory,
-        )
-    })?;
-    let script = times_refused(&mut scarcity, alloc, || {
-        answer_of(
-            &read_script(alloc, SCRIPT.as_bytes()),
-            &ScriptFault::OutOfMemory,
-        )
-    })?;
+    let config = configs_refused(&mut scarcity, alloc)?;
+    let script = scripts_refused(&mut scarcity, alloc)?;
     let folder = env::temp_dir(&rt)?;
     let id = process::id(rt.process());
     let name = format!(in alloc; "{}/toxi-{id}-memory", folder.as_str())?;
@@ -91,16 +120,20 @@ fn files_are_refused_memory(rt: HostRuntime) -> Result<(), Fail> {
     Ok(())
 }
 
-#[test]
-fn a_migration_is_refused_memory(rt: HostRuntime) -> Result<(), Fail> {
-    let alloc = rt.alloc();
+/// How often a migration is refused.
+fn migrations_refused(alloc: Global) -> Result<usize, Fail> {
     let mut scarcity = Scarcity::new(alloc)?;
-    let refused = times_refused(&mut scarcity, alloc, || {
+    times_refused(&mut scarcity, alloc, || {
         answer_of(
             &migrate(alloc, SCRIPT.as_bytes()),
             &ScriptFault::OutOfMemory,
         )
-    })?;
+    })
+}
+
+#[test]
+fn a_migration_is_refused_memory(rt: HostRuntime) -> Result<(), Fail> {
+    let refused = migrations_refused(rt.alloc())?;
     eprintln!(rt; "refused {refused} times")?;
     assert!(rt; 0 < refused);
     Ok(())
