@@ -1,5 +1,5 @@
 //! A link core, call by call.
-ghost use Rattle.std.specs.Prelude.{◌≡◌, false};
+ghost use Rattle.std.specs.Prelude.{◌≡◌, ◌≤◌, false};
 
 use crate::comparing::assert_equal;
 use std::process::Abort;
@@ -10,11 +10,18 @@ use tox_link::{Act, LinkCore};
 use tox_time::{ArrivalFault, Ending, Micros};
 use tox_words::Words;
 
+/// Asserts that the core's last instant isn't after `now`.
+pub fn assert_reached(rt: &impl Abort, core: &LinkCore<'_>, now: Micros)
+    ensures { core.now.latest ≤ now }
+{
+    assert!(rt; core.latest() <= now);
+}
+
 /// What the core answers at an instant.
 pub fn ask(rt: &impl Abort, core: &mut LinkCore<'_>, now: Micros) -> Act
     ensures { core.new.ended ≡ core.old.ended }
 {
-    assert!(rt; core.latest() <= now);
+    assert_reached(rt, core, now);
     core.on_clock(now)
 }
 
@@ -28,7 +35,7 @@ pub fn give(
     ensures { core.new.ended ≡ core.old.ended }
 {
     assert!(rt; core.has_room());
-    assert!(rt; core.latest() <= now);
+    assert_reached(rt, core, now);
     core.on_piece(len, now)
 }
 
@@ -63,7 +70,7 @@ fn compare_latest(rt: &impl Abort, core: &LinkCore<'_>, latest: Micros) {
 fn end(rt: &impl Abort, core: &mut LinkCore<'_>, now: Micros)
     requires { core.old.ended ≡ false }
 {
-    assert!(rt; core.latest() <= now);
+    assert_reached(rt, core, now);
     core.on_end(now);
 }
 

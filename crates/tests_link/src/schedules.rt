@@ -2,7 +2,7 @@
 ghost use Rattle.std.specs.Prelude.{◌≡◌, false};
 
 use crate::comparing::assert_equal_at;
-use crate::cores::{ask, give};
+use crate::cores::{ask, assert_reached, give};
 use rand_pcg::Lcg64Xsh32;
 use std::alloc::AllocError;
 use std::process::Abort;
@@ -94,7 +94,7 @@ impl<'w> Run<'w> {
         if self.core.ending().is_none() {
             self.arrivals.eof(now)?;
         }
-        assert!(rt; self.core.latest() <= now);
+        assert_reached(rt, &self.core, now);
         self.core.on_end(now);
         self.ended = true;
         Ok(())
