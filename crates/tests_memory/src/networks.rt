@@ -30,11 +30,22 @@ fn a_delivery_is_refused_memory(rt: HostRuntime) -> Result<(), Fail> {
     let words = Words::from_list(alloc, &[0])?;
     let chain = chain_of("latency:latency=1 slicer:average_size=1").expect(&rt, "short forms");
     let arrivals = three(alloc)?;
-    let mut scarcity = Scarcity::new(alloc)?;
-    let delivered = deliveries_refused(&mut scarcity, alloc, &chain, &words, &arrivals)?;
-    let network = networks_refused(&mut scarcity, alloc, &chain, &words, &arrivals)?;
+    print_refusals(&rt, &chain, &words, &arrivals)
+}
+
+/// Prints how often what delivers these arrivals is refused, and asserts that each is.
+fn print_refusals(
+    rt: &(impl Abort + AllocGlobal + Eprint),
+    chain: &Chain,
+    words: &Words,
+    arrivals: &Arrivals,
+) -> Result<(), Fail> {
+    let alloc = rt.alloc();
+    let mut scarcity = Scarcity::new(alloc).expect(rt, "memory");
+    let delivered = deliveries_refused(&mut scarcity, alloc, chain, words, arrivals)?;
+    let network = networks_refused(&mut scarcity, alloc, chain, words, arrivals)?;
     let window = windows_refused(&mut scarcity, alloc)?;
-    let core = cores_refused(&mut scarcity, alloc, &chain, &words)?;
+    let core = cores_refused(&mut scarcity, alloc, chain, words)?;
     eprintln!(rt; "refused {delivered}, {network}, {window} and {core} times")?;
     assert!(rt; 0 < delivered && 0 < network && 0 < window && 0 < core);
     Ok(())
@@ -148,19 +159,24 @@ fn a_step_is_refused_memory(rt: HostRuntime) -> Result<(), Fail> {
     let words = Words::from_list(alloc, &[0])?;
     let arrivals = three(alloc)?;
     let chain = Chain::new();
-    let mut network = Network::new(alloc, &chain, &words, &arrivals, 2)?;
-    network.step(Move::Arrive)?;
-    compare_refused_step(&rt, &mut network);
+    let network = Network::new(alloc, &chain, &words, &arrivals, 2);
+    let mut network = network.expect(&rt, "memory");
+    compare_refused_step(&rt, &mut network)?;
     eprintln!(rt; "refused once")?;
     Ok(())
 }
 
 /// Compares what a network answers to its second step without memory, and then with ample memory.
-fn compare_refused_step(rt: &(impl Abort + AllocGlobal), network: &mut Network<'_>) {
+fn compare_refused_step(
+    rt: &(impl Abort + AllocGlobal),
+    network: &mut Network<'_>,
+) -> Result<(), StepFault> {
+    network.step(Move::Arrive)?;
     let mut scarcity = without_memory(rt);
     let answer = network.step(Move::Deliver);
     scarcity.end();
     assert_equal(rt, &answer, &Err(StepFault::OutOfMemory));
     assert_equal(rt, &network.steps(), &1);
     assert_equal(rt, &network.step(Move::Deliver), &Ok(()));
+    Ok(())
 }

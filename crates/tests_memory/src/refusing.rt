@@ -17,7 +17,7 @@ pub fn assert_refused<Try: FnMut(&mut Scarcity, usize) -> Result<Tried, Fail>>(
 ) -> Result<(), Fail>
     requires { Try.IsAlwaysCallable attempt }
 {
-    let mut scarcity = Scarcity::new(rt.alloc())?;
+    let mut scarcity = Scarcity::new(rt.alloc()).expect(rt, "memory");
     let refusals = try_each(&mut scarcity, MAX_TRIES, attempt)?;
     eprintln!(rt; "{refusals:?}")?;
     assert!(rt; refusals.is_answered && 0 < refusals.memory);

@@ -2,6 +2,7 @@
 use crate::comparing::assert_equal;
 use crate::refusing::without_memory;
 use std::alloc::Global;
+use std::process::Abort;
 use std::rt::{Env, Files};
 use std::test::Fail;
 use std::{env, fs, process};
@@ -55,12 +56,22 @@ fn seeds_refused(scarcity: &mut Scarcity, alloc: Global) -> Result<usize, Fail> 
 #[test]
 fn words_are_refused_memory(rt: HostRuntime) -> Result<(), Fail> {
     let alloc = rt.alloc();
-    let mut scarcity = Scarcity::new(alloc)?;
+    let mut scarcity = Scarcity::new(alloc).expect(&rt, "memory");
     let listed = lists_refused(&mut scarcity, alloc)?;
     let written = texts_refused(&mut scarcity, alloc)?;
     let seeded = seeds_refused(&mut scarcity, alloc)?;
-    eprintln!(rt; "refused {listed}, {written} and {seeded} times")?;
-    assert!(rt; 0 < listed && 0 < written && 0 < seeded);
+    print_three(&rt, listed, written, seeded)
+}
+
+/// Prints how often each of three calls was refused, and asserts that it was.
+fn print_three(
+    rt: &(impl Abort + Eprint),
+    first: usize,
+    second: usize,
+    third: usize,
+) -> Result<(), Fail> {
+    eprintln!(rt; "refused {first}, {second} and {third} times")?;
+    assert!(rt; 0 < first && 0 < second && 0 < third);
     Ok(())
 }
 
@@ -104,20 +115,29 @@ fn scripts_refused(scarcity: &mut Scarcity, alloc: Global) -> Result<usize, Fail
 #[test]
 fn files_are_refused_memory(rt: HostRuntime) -> Result<(), Fail> {
     let alloc = rt.alloc();
-    let mut scarcity = Scarcity::new(alloc)?;
-    let config = configs_refused(&mut scarcity, alloc)?;
-    let script = scripts_refused(&mut scarcity, alloc)?;
     let folder = env::temp_dir(&rt)?;
     let id = process::id(rt.process());
     let name = format!(in alloc; "{}/toxi-{id}-memory", folder.as_str())?;
-    fs::write(&rt, name.as_str(), CONFIG)?;
-    let file = times_refused(&mut scarcity, alloc, || {
-        answer_of(&read_file(&rt, alloc, &name), &FileFault::OutOfMemory)
+    let mut scarcity = Scarcity::new(alloc).expect(&rt, "memory");
+    let config = configs_refused(&mut scarcity, alloc)?;
+    let script = scripts_refused(&mut scarcity, alloc)?;
+    let file = files_refused(&rt, &mut scarcity, alloc, &name)?;
+    print_three(&rt, config, script, file)
+}
+
+/// How often reading a file is refused, which is written before and removed after.
+fn files_refused<F: Files>(
+    rt: &F,
+    scarcity: &mut Scarcity,
+    alloc: Global,
+    name: &str,
+) -> Result<usize, Fail> {
+    fs::write(rt, name, CONFIG)?;
+    let refused = times_refused(scarcity, alloc, || {
+        answer_of(&read_file(rt, alloc, name), &FileFault::OutOfMemory)
     })?;
-    fs::remove_file(&rt, name.as_str())?;
-    eprintln!(rt; "refused {config}, {script} and {file} times")?;
-    assert!(rt; 0 < config && 0 < script && 0 < file);
-    Ok(())
+    fs::remove_file(rt, name)?;
+    Ok(refused)
 }
 
 /// How often a migration is refused.
