@@ -2,7 +2,6 @@
 use crate::comparing::assert_equal;
 use crate::slices::piece_of;
 use std::process::Abort;
-use std::test::Fail;
 use tox_lend::Window;
 use tox_time::Micros;
 
@@ -16,8 +15,8 @@ fn compare_piece(rt: &impl Abort, window: &Window, position: u64, expected: Opti
 }
 
 #[test]
-fn pieces_are_given_up_from_the_front(rt: HostRuntime) -> Result<(), Fail> {
-    let mut window = Window::new(rt.alloc(), 2)?;
+fn pieces_are_given_up_from_the_front(rt: HostRuntime) {
+    let mut window = Window::new(rt.alloc(), 2).expect(&rt, "memory");
     window.add(piece_of(&rt, 0, b"abc", Micros::ZERO));
     window.add(piece_of(&rt, 3, b"de", Micros::ZERO));
     assert!(rt; !window.has_room());
@@ -32,7 +31,6 @@ fn pieces_are_given_up_from_the_front(rt: HostRuntime) -> Result<(), Fail> {
     window.add(piece_of(&rt, 5, b"f", Micros::ZERO));
     compare_last(&rt, &mut window);
     assert_equal(&rt, &window.stop(), &6);
-    Ok(())
 }
 
 /// Takes the only piece, which holds one byte at 5.
