@@ -1,6 +1,6 @@
 //! The stage network, windows, cores and plans, with too little memory.
 use crate::comparing::assert_equal;
-use crate::refusing::{assert_refused, without_memory};
+use crate::refusing::{assert_refused, print, without_memory};
 use std::alloc::{AllocError, Global};
 use std::process::Abort;
 use std::test::Fail;
@@ -46,8 +46,19 @@ fn print_refusals(
     let network = networks_refused(&mut scarcity, alloc, chain, words, arrivals)?;
     let window = windows_refused(&mut scarcity, alloc)?;
     let core = cores_refused(&mut scarcity, alloc, chain, words)?;
-    eprintln!(rt; "refused {delivered}, {network}, {window} and {core} times")?;
-    assert!(rt; 0 < delivered && 0 < network && 0 < window && 0 < core);
+    print_four(rt, delivered, network, window, core)
+}
+
+/// Prints how often each of four calls was refused, and asserts that it was.
+fn print_four(
+    rt: &(impl Abort + Eprint),
+    first: usize,
+    second: usize,
+    third: usize,
+    fourth: usize,
+) -> Result<(), Fail> {
+    eprintln!(rt; "refused {first}, {second}, {third} and {fourth} times")?;
+    assert!(rt; 0 < first && 0 < second && 0 < third && 0 < fourth);
     Ok(())
 }
 
@@ -110,8 +121,7 @@ fn a_book_is_refused_memory(rt: HostRuntime) -> Result<(), Fail> {
     assert_equal(&rt, &answer, &Err(OpenFault::OutOfMemory));
     assert_equal(&rt, &book.links(), &0);
     assert_equal(&rt, &book.opened(), &Ok(1));
-    eprintln!(rt; "refused once")?;
-    Ok(())
+    print(&rt, "refused once")
 }
 
 /// Settles a network with little memory, and again with ample memory, after which it has delivered what is expected.
@@ -162,8 +172,7 @@ fn a_step_is_refused_memory(rt: HostRuntime) -> Result<(), Fail> {
     let network = Network::new(alloc, &chain, &words, &arrivals, 2);
     let mut network = network.expect(&rt, "memory");
     compare_refused_step(&rt, &mut network)?;
-    eprintln!(rt; "refused once")?;
-    Ok(())
+    print(&rt, "refused once")
 }
 
 /// Compares what a network answers to its second step without memory, and then with ample memory.

@@ -10,6 +10,12 @@ pub fn without_memory(rt: &(impl Abort + AllocGlobal)) -> Scarcity {
     scarcity
 }
 
+/// Prints a line on standard error.
+pub fn print(rt: &impl Eprint, line: &str) -> Result<(), Fail> {
+    eprintln!(rt; "{line}")?;
+    Ok(())
+}
+
 /// Tries a call with ever more memory. Prints how often it was refused, and asserts that it was, and was answered in the end.
 pub fn assert_refused<Try: FnMut(&mut Scarcity, usize) -> Result<Tried, Fail>>(
     rt: &(impl Abort + AllocGlobal + Eprint),

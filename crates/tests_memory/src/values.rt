@@ -1,6 +1,6 @@
 //! Lists and files, read with too little memory.
 use crate::comparing::assert_equal;
-use crate::refusing::without_memory;
+use crate::refusing::{print, without_memory};
 use std::alloc::Global;
 use std::process::Abort;
 use std::rt::{Env, Files};
@@ -88,8 +88,7 @@ fn arrivals_are_refused_memory(rt: HostRuntime) -> Result<(), Fail> {
     assert_equal(&rt, &arrivals.push(3, Micros::from_millis(1)), &Ok(()));
     assert_equal(&rt, &arrivals.eof(Micros::from_millis(1)), &Ok(()));
     assert_equal(&rt, &arrivals.items().len(), &2);
-    eprintln!(rt; "refused once each")?;
-    Ok(())
+    print(&rt, "refused once each")
 }
 
 /// How often a config is refused.
