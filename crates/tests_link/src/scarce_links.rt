@@ -3,6 +3,7 @@ ghost use Rattle.std.specs.Prelude.{◌≡◌, false, None};
 ghost use Rattle.tox_time.specs.Time.{IsInstant};
 
 use std::alloc::Global;
+use std::process::Abort;
 use std::sync::atomic::{AtomicU64, Ordering};
 use std::sync::{Arc, Wait};
 use std::test::Fail;
@@ -87,7 +88,7 @@ fn carried<R: Threads + Wait + Copy + Send + 'static>(
 }
 
 /// Carries two bytes, read one by one, with so many pages.
-fn tried_link<R: Threads + Wait + Copy + Send + 'static>(
+fn tried_link<R: Threads + Wait + Copy + Send + Abort + 'static>(
     rt: &R,
     scarcity: &mut Scarcity,
     alloc: Global,
@@ -97,7 +98,7 @@ fn tried_link<R: Threads + Wait + Copy + Send + 'static>(
 ) -> Result<Tried, Fail> {
     let reader = MemorySource::new(vec![in alloc; 0x61, 0x62]?, 1, None);
     let mut ends = Ends {
-        writer: MemorySink::new(alloc, 16, 16, None)?,
+        writer: MemorySink::new(alloc, 16, 16, None).expect(rt, "memory"),
         hangup: NoHangup,
     };
     scarcity.leave_pages(alloc, pages)?;
@@ -107,15 +108,15 @@ fn tried_link<R: Threads + Wait + Copy + Send + 'static>(
 }
 
 /// Carries a link with little memory. Counts in `reads_refused` a refusal after the reader's thread has read.
-fn link<R: Threads + Wait + Copy + Send + 'static>(
+fn link<R: Threads + Wait + Copy + Send + Abort + 'static>(
     rt: &R,
     scarcity: &mut Scarcity,
     alloc: Global,
     pages: usize,
     reads_refused: &AtomicU64,
 ) -> Result<Tried, Fail> {
-    let words = Words::from_list(alloc, &[0])?;
-    let gate = Arc::new(alloc, CountingGate::new())?;
+    let words = Words::from_list(alloc, &[0]).expect(rt, "memory");
+    let gate = Arc::new(alloc, CountingGate::new()).expect(rt, "memory");
     let tried = tried_link(rt, scarcity, alloc, pages, &words, &gate)?;
     if tried == Tried::NoMemory && 0 < gate.passes() {
         reads_refused.fetch_add(1, Ordering::SeqCst);
@@ -125,10 +126,10 @@ fn link<R: Threads + Wait + Copy + Send + 'static>(
 
 /// Carries links with ever more pages, where there are stacks for so many threads. Returns the refusals, and how many of them came
 /// after a reader's thread had read.
-fn carry_behind<R: Threads + Wait + Copy + Send + Sync + AllocGlobal + 'static>(
-    rt: &R,
-    threads: usize,
-) -> Result<(Refusals, u64), Fail> {
+fn carry_behind<R>(rt: &R, threads: usize) -> Result<(Refusals, u64), Fail>
+where
+    R: Threads + Wait + Copy + Send + Sync + AllocGlobal + Abort + 'static,
+{
     let alloc = rt.alloc();
     let mut scarcity = with_stacks(rt, alloc, threads)?;
     let reads_refused = AtomicU64::new(0);
@@ -138,10 +139,16 @@ fn carry_behind<R: Threads + Wait + Copy + Send + Sync + AllocGlobal + 'static>(
     Ok((refusals, reads_refused.load(Ordering::SeqCst)))
 }
 
+/// Prints how often links were refused, and how many of the refusals came after a reader's thread had read.
+fn print_refusals(rt: &impl Eprint, refusals: &Refusals, reads_refused: u64) -> Result<(), Fail> {
+    eprintln!(rt; "{refusals:?}, {reads_refused} of reads")?;
+    Ok(())
+}
+
 #[test]
 fn a_link_is_refused_its_thread(rt: HostRuntime) -> Result<(), Fail> {
     let (refusals, reads_refused) = carry_behind(&rt, 0)?;
-    eprintln!(rt; "{refusals:?}, {reads_refused} of reads")?;
+    print_refusals(&rt, &refusals, reads_refused)?;
     assert!(rt; !refusals.is_answered && 0 < refusals.memory && 0 < refusals.threads);
     Ok(())
 }
@@ -149,7 +156,7 @@ fn a_link_is_refused_its_thread(rt: HostRuntime) -> Result<(), Fail> {
 #[test]
 fn a_link_is_refused_memory(rt: HostRuntime) -> Result<(), Fail> {
     let (refusals, reads_refused) = carry_behind(&rt, 1)?;
-    eprintln!(rt; "{refusals:?}, {reads_refused} of reads")?;
+    print_refusals(&rt, &refusals, reads_refused)?;
     assert!(rt; refusals.is_answered && 0 < refusals.memory && 0 < reads_refused);
     Ok(())
 }

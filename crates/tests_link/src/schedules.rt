@@ -151,21 +151,22 @@ fn compare(rt: &(impl Abort + AllocGlobal), seed: u64) -> Result<(), Fail> {
     let generator = &mut Lcg64Xsh32::new(seed, 1);
     let chain = drawn_chain(rt, generator);
     let words = drawn_words(rt.alloc(), generator)?;
-    compare_run(rt, generator, &chain, &words, seed)
+    let mut run = Run::new(rt, &chain, &words);
+    let ending = run.finish(rt, generator)?;
+    compare_run(rt, &chain, &words, &run, &ending, seed)
 }
 
-/// Compares a run of a core under this chain with what is delivered.
+/// Compares a run that ended so with what is delivered of its arrivals.
 fn compare_run(
     rt: &(impl Abort + AllocGlobal),
-    generator: &mut Lcg64Xsh32,
     chain: &Chain,
     words: &Words,
+    run: &Run<'_>,
+    ending: &Ending,
     seed: u64,
 ) -> Result<(), Fail> {
-    let mut run = Run::new(rt, chain, words);
-    let ending = run.finish(rt, generator)?;
     let outcome = deliver(rt.alloc(), chain, words, &run.arrivals)?;
-    assert_equal_at(rt, &ending, &outcome.ending, seed);
+    assert_equal_at(rt, ending, &outcome.ending, seed);
     compare_slices(rt, &run.slices, &outcome.slices, seed)
 }
 
