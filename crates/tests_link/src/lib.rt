@@ -6,8 +6,6 @@ mod books;
 #[cfg(test)]
 mod carries;
 #[cfg(test)]
-mod comparing;
-#[cfg(test)]
 mod cores;
 #[cfg(test)]
 mod drives;

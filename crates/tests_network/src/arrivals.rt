@@ -1,8 +1,7 @@
 //! What arrivals accept and refuse.
-use crate::same::same;
 use std::process::Abort;
 use std::test::Fail;
-use tests_support::at;
+use tests_support::{assert_equal, at};
 use tox_time::{ArrivalFault, Arrivals, Item, MAX_BYTES, Micros, Span};
 
 #[test]
@@ -22,7 +21,7 @@ fn arrivals_are_listed(rt: HostRuntime) -> Result<(), Fail> {
         ),
         Item::Closed(at(7)),
     ];
-    same(&rt, &arrivals.items(), &listed.as_slice());
+    assert_equal(&rt, &arrivals.items(), &listed.as_slice());
     Ok(())
 }
 
@@ -44,8 +43,8 @@ fn arrivals_are_refused_in_order(rt: HostRuntime) -> Result<(), Fail> {
     refuse(&rt, &mut ended, 1, 4, ArrivalFault::TimeBack);
     refuse(&rt, &mut ended, 0, 5, ArrivalFault::EmptyPiece);
     refuse(&rt, &mut ended, 1, 5, ArrivalFault::TooManyBytes);
-    same(&rt, &ended.eof(at(4)), &Err(ArrivalFault::TimeBack));
-    same(&rt, &ended.eof(at(5)), &Err(ArrivalFault::AfterEnd));
+    assert_equal(&rt, &ended.eof(at(4)), &Err(ArrivalFault::TimeBack));
+    assert_equal(&rt, &ended.eof(at(5)), &Err(ArrivalFault::AfterEnd));
     let mut closed = Arrivals::new(rt.alloc());
     closed.eof(at(5))?;
     refuse(&rt, &mut closed, 0, 4, ArrivalFault::TimeBack);
@@ -57,11 +56,11 @@ fn arrivals_are_refused_in_order(rt: HostRuntime) -> Result<(), Fail> {
 #[test]
 fn time_stops_at_the_horizon(rt: HostRuntime) {
     let horizon = at(u64::MAX);
-    same(&rt, &horizon.get(), &1_000_000_000_000_000);
-    same(&rt, &Micros::new(1_000_000_000_000_000), &Some(horizon));
-    same(&rt, &Micros::new(1_000_000_000_000_001), &None);
-    same(&rt, &Micros::from_millis(3_600_000).get(), &3_600_000_000);
-    same(&rt, &Micros::from_millis(u64::MAX), &horizon);
-    same(&rt, &horizon.plus(at(1)), &horizon);
-    same(&rt, &at(3).later(at(2)), &at(3));
+    assert_equal(&rt, &horizon.get(), &1_000_000_000_000_000);
+    assert_equal(&rt, &Micros::new(1_000_000_000_000_000), &Some(horizon));
+    assert_equal(&rt, &Micros::new(1_000_000_000_000_001), &None);
+    assert_equal(&rt, &Micros::from_millis(3_600_000).get(), &3_600_000_000);
+    assert_equal(&rt, &Micros::from_millis(u64::MAX), &horizon);
+    assert_equal(&rt, &horizon.plus(at(1)), &horizon);
+    assert_equal(&rt, &at(3).later(at(2)), &at(3));
 }

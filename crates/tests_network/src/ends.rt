@@ -1,9 +1,9 @@
 //! Ends in memory.
 ghost use Rattle.std.specs.Prelude.{◌≡◌};
 
-use crate::same::same;
 use std::process::Abort;
 use std::test::Fail;
+use tests_support::assert_equal;
 use tox_time::{EndFault, MemorySink, MemorySource, Real, Sink, Source};
 
 /// Compares what a call of an end returns.
@@ -20,7 +20,7 @@ fn a_source_gives_so_many_bytes_a_call(rt: HostRuntime) -> Result<(), Fail> {
     for want in [2, 2, 1, 0] {
         returns(&rt, source.read(&mut buffer), Ok(want));
     }
-    same(&rt, &buffer, b"ed\0\0");
+    assert_equal(&rt, &buffer, b"ed\0\0");
     returns(&rt, source.read(&mut buffer), Err(EndFault));
     Ok(())
 }
@@ -31,7 +31,7 @@ fn a_sink_fills_up(rt: HostRuntime) -> Result<(), Fail> {
     for want in [2, 1, 0] {
         returns(&rt, sink.write(b"abc"), Ok(want));
     }
-    same(&rt, &sink.bytes(), &b"aba".as_slice());
+    assert_equal(&rt, &sink.bytes(), &b"aba".as_slice());
     Ok(())
 }
 
@@ -40,7 +40,7 @@ fn a_sink_fails_at_its_call(rt: HostRuntime) -> Result<(), Fail> {
     let mut sink = MemorySink::new(rt.alloc(), 9, 9, Some(2))?;
     returns(&rt, sink.write(b"abc"), Ok(3));
     returns(&rt, sink.write(b"abc"), Err(EndFault));
-    same(&rt, &sink.bytes(), &b"abc".as_slice());
+    assert_equal(&rt, &sink.bytes(), &b"abc".as_slice());
     Ok(())
 }
 
@@ -49,12 +49,12 @@ fn real_ends_pass_bytes_on(rt: HostRuntime) -> Result<(), Fail> {
     let mut source = Real::new(b"ab".as_slice());
     let mut buffer = [0; 4];
     returns(&rt, source.read(&mut buffer), Ok(2));
-    same(&rt, &buffer, b"ab\0\0");
+    assert_equal(&rt, &buffer, b"ab\0\0");
     returns(&rt, source.read(&mut buffer), Ok(0));
     let mut written = Vec::new(rt.alloc());
     let mut sink = Real::new(&mut written);
     returns(&rt, sink.write(b"ab"), Ok(2));
     returns(&rt, sink.write(b"c"), Ok(1));
-    same(&rt, &written.as_slice(), &b"abc".as_slice());
+    assert_equal(&rt, &written.as_slice(), &b"abc".as_slice());
     Ok(())
 }

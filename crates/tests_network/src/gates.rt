@@ -1,9 +1,8 @@
 //! A gate that records what passes it.
-use crate::same::same;
 use std::process::Abort;
 use std::sync::atomic::{AtomicBool, AtomicU64, Ordering};
 use std::thread;
-use tests_support::comes_true;
+use tests_support::{assert_equal, comes_true};
 use tox_time::Gate;
 
 /// A gate that records when each of five items of two stages entered and returned, by a clock that counts these events
@@ -49,7 +48,7 @@ impl Log {
     /// only after stage 1 had passed its first.
     pub fn check(&self, rt: &impl Abort) {
         assert!(rt; !self.missed.load(Ordering::SeqCst));
-        same(rt, &self.calls.load(Ordering::SeqCst), &10);
+        assert_equal(rt, &self.calls.load(Ordering::SeqCst), &10);
         for nth in 0..5usize {
             let passed = self.returned[nth].load(Ordering::SeqCst);
             let taken = self.entered[5 + nth].load(Ordering::SeqCst);

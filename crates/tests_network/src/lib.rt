@@ -10,8 +10,6 @@ mod gates;
 #[cfg(test)]
 mod network;
 #[cfg(test)]
-mod same;
-#[cfg(test)]
 mod scarce_stages;
 #[cfg(test)]
 mod short_forms;

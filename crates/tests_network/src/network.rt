@@ -1,10 +1,9 @@
 //! The stage network, move by move and settled in several orders.
 ghost use Rattle.std.specs.Prelude.{◌≤◌};
 
-use crate::same::same;
 use std::process::Abort;
 use std::test::Fail;
-use tests_support::{at, bytes_at_zero, chain_of, slice};
+use tests_support::{assert_equal, at, bytes_at_zero, chain_of, slice};
 use tox_defs::Chain;
 use tox_network::{Move, Network, StepFault};
 use tox_time::{Arrivals, Ending, Outcome};
@@ -17,18 +16,18 @@ fn step(rt: &impl Abort, network: &mut Network<'_>, next: Move, answer: Result<(
 
 /// Compares with the one slice that the chains here deliver: the first byte, a millisecond late.
 fn compare(rt: &impl Abort, outcome: &Outcome, ending: Ending) {
-    same(
+    assert_equal(
         rt,
         &outcome.slices.as_slice(),
         &[slice(0, 1, 1000)].as_slice(),
     );
-    same(rt, &outcome.ending, &ending);
+    assert_equal(rt, &outcome.ending, &ending);
 }
 
 /// Compares the number of moves of a network at rest, which was settled by these moves.
 fn rests(rt: &impl Abort, network: &Network<'_>, steps: u64, moves: &[Move], cap: usize) {
     assert_eq!(rt; network.steps(), steps, "{moves:?} at {cap}");
-    same(rt, &network.possible(), &None);
+    assert_equal(rt, &network.possible(), &None);
 }
 
 /// Makes the first moves of a byte through one stage, and others that are not possible.
@@ -49,7 +48,7 @@ fn make_moves(rt: &impl Abort, network: &mut Network<'_>) {
     for (next, answer) in turns {
         step(rt, network, next, answer);
     }
-    same(rt, &network.possible(), &Some(Move::Deliver));
+    assert_equal(rt, &network.possible(), &Some(Move::Deliver));
 }
 
 /// Moves one byte through a network of one stage.

@@ -1,7 +1,6 @@
 //! Lists of slices.
-use crate::same::same;
 use std::test::Fail;
-use tests_support::slice;
+use tests_support::{assert_equal, slice};
 use tox_time::SliceList;
 
 #[test]
@@ -10,6 +9,6 @@ fn a_list_is_made_from_a_vector_and_gives_it_back(rt: HostRuntime) -> Result<(),
     let mut slices = SliceList::from([first].to_vec(rt.alloc())?);
     slices.push(second)?;
     let slices = slices.into_vec();
-    same(&rt, &slices.as_slice(), &[first, second].as_slice());
+    assert_equal(&rt, &slices.as_slice(), &[first, second].as_slice());
     Ok(())
 }

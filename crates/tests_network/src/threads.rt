@@ -2,13 +2,12 @@
 ghost use Rattle.std.specs.Prelude.{◌≤◌};
 
 use crate::gates::Log;
-use crate::same::same;
 use std::fmt::Debug;
 use std::process::Abort;
 use std::sync::Wait;
 use std::test::Fail;
 use std::thread::Threads;
-use tests_support::{Meeting, arrivals_of, chain_of, table_of};
+use tests_support::{Meeting, arrivals_of, assert_equal, chain_of, table_of};
 use tox_defs::Chain;
 use tox_plan::deliver;
 use tox_proxy::{DryFault, StagesFault, stages_run};
@@ -53,7 +52,7 @@ fn compare<R: Threads + Wait + Sync + AllocGlobal + Abort>(
 }
 
 /// Compares two values of these toxics over rings of `cap` items.
-fn same_at<T: PartialEq + Debug>(
+fn assert_equal_with<T: PartialEq + Debug>(
     rt: &impl Abort,
     value: &T,
     expected: &T,
@@ -73,8 +72,8 @@ fn compare_outcomes(
 ) -> Result<(), Fail> {
     let expected = table_of(rt.alloc(), &planned.slices)?;
     let table = table_of(rt.alloc(), &running.slices)?;
-    same_at(rt, &table.as_slice(), &expected.as_slice(), toxics, cap);
-    same_at(rt, &running.ending, &planned.ending, toxics, cap);
+    assert_equal_with(rt, &table.as_slice(), &expected.as_slice(), toxics, cap);
+    assert_equal_with(rt, &running.ending, &planned.ending, toxics, cap);
     Ok(())
 }
 
@@ -138,8 +137,8 @@ fn compare_text<R: Threads + Wait + Sync + AllocGlobal + Abort>(
 ) -> Result<(), Fail> {
     let toxics = "limit_data:bytes=4 latency:latency=1";
     let (ran, written) = run_at(rt, toxics, read, 1, &OpenGate)?;
-    same(rt, &ran, &answer);
-    same(rt, &written.as_str(), &want);
+    assert_equal(rt, &ran, &answer);
+    assert_equal(rt, &written.as_str(), &want);
     Ok(())
 }
 
@@ -156,7 +155,7 @@ fn workers_of_a_text_meet(rt: HostRuntime) -> Result<(), Fail> {
     let gate = Meeting::new(1);
     let (_, written) = run_at(&rt, TWO_LATENCIES, "0 data 61\n0 data 62\n", 1, &gate)?;
     assert!(rt; gate.met());
-    same(
+    assert_equal(
         &rt,
         &written.as_str(),
         &"3000 0..1 61\n3000 1..2 62\nopen\n",
@@ -176,7 +175,7 @@ fn workers_of_a_text_have_rings_of_their_own(rt: HostRuntime) -> Result<(), Fail
     )?;
     gate.check(&rt);
     let want = "3000 0..1 61\n3000 1..2 62\n3000 2..3 63\n3000 3..4 64\nopen\n";
-    same(&rt, &written.as_str(), &want);
+    assert_equal(&rt, &written.as_str(), &want);
     Ok(())
 }
 
@@ -199,7 +198,7 @@ fn faults_of_the_stages_have_names(rt: HostRuntime) -> Result<(), Fail> {
     ];
     for (fault, name) in faults {
         let text = format!(in rt.alloc(); "{}", StagesFault::Stages(fault))?;
-        same(&rt, &text.as_str(), &name);
+        assert_equal(&rt, &text.as_str(), &name);
     }
     Ok(())
 }

@@ -2,12 +2,11 @@
 ghost use Rattle.std.specs.Prelude.{◌≤◌};
 
 use crate::gates::Log;
-use crate::same::same;
 use std::process::Abort;
 use std::sync::Wait;
 use std::test::Fail;
 use std::thread::Threads;
-use tests_support::{Meeting, bytes_at_zero, chain_of, slice};
+use tests_support::{Meeting, assert_equal, bytes_at_zero, chain_of, slice};
 use tox_defs::Lanes;
 use tox_proxy::read_chain;
 use tox_stages::run_stages;
@@ -34,8 +33,8 @@ fn delivered<R: Threads + Wait + Sync + AllocGlobal + Abort>(
 
 /// Compares what was delivered with these slices and no end.
 fn compare(rt: &impl Abort, outcome: &Outcome, expected: &[Slice]) {
-    same(rt, &outcome.slices.as_slice(), &expected);
-    same(rt, &outcome.ending, &Ending::StillOpen);
+    assert_equal(rt, &outcome.slices.as_slice(), &expected);
+    assert_equal(rt, &outcome.ending, &Ending::StillOpen);
 }
 
 #[test]
@@ -66,7 +65,7 @@ fn rings_have_their_room(rt: HostRuntime) -> Result<(), Fail> {
         let gate = Meeting::new(nth);
         let outcome = delivered(&rt, toxics, 5, cap, &gate)?;
         assert!(rt; gate.met(), "rings of {cap}");
-        same(
+        assert_equal(
             &rt,
             &outcome.slices.as_slice().last(),
             &Some(&slice(4, 5, 3000)),

@@ -1,12 +1,11 @@
 //! The stage network, settled in drawn orders, beside the compiled plan.
 ghost use Rattle.std.specs.Prelude.{◌≤◌};
 
-use crate::comparing::assert_equal_in;
 use rand_pcg::Lcg64Xsh32;
 use std::alloc::{AllocError, Global};
 use std::process::Abort;
 use std::test::Fail;
-use tests_support::{arrivals_of, below, chain_of, table_of};
+use tests_support::{arrivals_of, assert_equal_at, below, chain_of, table_of};
 use tox_defs::Chain;
 use tox_network::{Move, Network};
 use tox_plan::deliver;
@@ -122,8 +121,8 @@ pub fn compare_outcomes(
 ) -> Result<(), AllocError> {
     let table = table_of(alloc, &outcome.slices)?;
     let due = table_of(alloc, &expected.slices)?;
-    assert_equal_in(rt, &table, &due, number);
-    assert_equal_in(rt, &outcome.ending, &expected.ending, number);
+    assert_equal_at(rt, &table, &due, number);
+    assert_equal_at(rt, &outcome.ending, &expected.ending, number);
     Ok(())
 }
 

@@ -4,8 +4,6 @@
 #[cfg(test)]
 mod peers;
 #[cfg(test)]
-mod same;
-#[cfg(test)]
 mod scarce_serving;
 #[cfg(test)]
 mod scarce_starts;

@@ -200,8 +200,8 @@ fn serve_behind<
     try_behind(rt, alloc, &mut scarcity, &address, &out, threads)
 }
 
-/// Prints what was refused: each connection.
-fn is_never_answered(rt: &(impl Abort + Eprint), served: &Served) -> Result<(), Fail> {
+/// Prints what was refused, and stops the test unless each connection was.
+fn assert_never_answered(rt: &(impl Abort + Eprint), served: &Served) -> Result<(), Fail> {
     eprintln!(rt; "{served:?}")?;
     assert!(rt; !served.links.is_answered && served.is_refused());
     Ok(())
@@ -210,19 +210,19 @@ fn is_never_answered(rt: &(impl Abort + Eprint), served: &Served) -> Result<(), 
 #[test]
 fn a_served_link_is_refused_its_thread(rt: HostRuntime) -> Result<(), Fail> {
     let served = serve_behind(&rt, 0)?;
-    is_never_answered(&rt, &served)
+    assert_never_answered(&rt, &served)
 }
 
 #[test]
 fn a_served_link_is_refused_the_other_stream(rt: HostRuntime) -> Result<(), Fail> {
     let served = serve_behind(&rt, 1)?;
-    is_never_answered(&rt, &served)
+    assert_never_answered(&rt, &served)
 }
 
 #[test]
 fn a_served_link_is_refused_a_reader(rt: HostRuntime) -> Result<(), Fail> {
     let served = serve_behind(&rt, 2)?;
-    is_never_answered(&rt, &served)
+    assert_never_answered(&rt, &served)
 }
 
 #[test]

@@ -106,8 +106,8 @@ fn the_queues_of_lines_are_refused_memory(rt: HostRuntime) -> Result<(), Fail> {
     Ok(())
 }
 
-/// Prints what was refused: a thread in the end.
-fn is_refused_a_thread(rt: &(impl Abort + Eprint), refusals: &Refusals) -> Result<(), Fail> {
+/// Prints what was refused, and stops the test unless a thread was in the end.
+fn assert_refused_a_thread(rt: &(impl Abort + Eprint), refusals: &Refusals) -> Result<(), Fail> {
     eprintln!(rt; "{refusals:?}")?;
     assert!(rt; !refusals.is_answered && refusals.last == Some(Tried::NoThread));
     Ok(())
@@ -116,11 +116,11 @@ fn is_refused_a_thread(rt: &(impl Abort + Eprint), refusals: &Refusals) -> Resul
 #[test]
 fn the_writer_of_lines_is_refused(rt: HostRuntime) -> Result<(), Fail> {
     let refusals = start_behind(&rt, 0)?;
-    is_refused_a_thread(&rt, &refusals)
+    assert_refused_a_thread(&rt, &refusals)
 }
 
 #[test]
 fn a_proxy_is_refused_its_thread(rt: HostRuntime) -> Result<(), Fail> {
     let refusals = start_behind(&rt, 1)?;
-    is_refused_a_thread(&rt, &refusals)
+    assert_refused_a_thread(&rt, &refusals)
 }

@@ -1,6 +1,5 @@
 //! Served links, over sockets of this machine.
 use crate::peers::{ask, echo_once};
-use crate::same::same;
 use std::alloc::Global;
 use std::io::{Read, Write};
 use std::net::{Net, TcpListener, TcpStream};
@@ -9,6 +8,7 @@ use std::test::Fail;
 use std::thread::Threads;
 use std::time::{Clock, Duration};
 use std::{io, thread};
+use tests_support::assert_equal;
 use tox_config::{ProxyDef, read_populate};
 use tox_proxy::{NoGaps, NoLogs, ServeFault, ServeOptions, Stop, serve, serve_with};
 use tox_script::{Script, read_script};
@@ -148,7 +148,7 @@ fn a_link_is_carried_and_told(rt: HostRuntime) -> Result<(), Fail> {
     let upstream = TcpListener::bind(&rt, "127.0.0.1:0")?;
     let address = address_of(rt.alloc(), &upstream)?;
     let printed = served(&rt, &address, THREE_BYTES, Some(&upstream))?;
-    same(
+    assert_equal(
         &rt,
         &printed.as_str(),
         &"link a 1 up 5 closed down 3 closed\ntotal a 1 up 5 down 3\n",
@@ -159,7 +159,7 @@ fn a_link_is_carried_and_told(rt: HostRuntime) -> Result<(), Fail> {
 #[test]
 fn an_upstream_where_nobody_listens_breaks_the_link(rt: HostRuntime) -> Result<(), Fail> {
     let printed = served(&rt, "127.0.0.1:1", "", None)?;
-    same(
+    assert_equal(
         &rt,
         &printed.as_str(),
         &"link a 1 up 0 broken down 0 broken\ntotal a 1 up 0 down 0\n",
@@ -176,8 +176,8 @@ fn a_taken_port_is_refused(rt: HostRuntime) -> Result<(), Fail> {
     let script = read_script(alloc, b"")?;
     let out = Mutex::new(Vec::new(alloc));
     let answer = serve(&rt, alloc, &proxies, &script, 1, Some(1), &out);
-    same(&rt, &answer, &Err(ServeFault::ListenRefused("a")));
-    same(&rt, &out.into_inner().len(), &0);
+    assert_equal(&rt, &answer, &Err(ServeFault::ListenRefused("a")));
+    assert_equal(&rt, &out.into_inner().len(), &0);
     Ok(())
 }
 
@@ -262,7 +262,7 @@ fn stopped<
 fn a_told_run_ends_with_its_totals(rt: HostRuntime) -> Result<(), Fail> {
     let upstream = TcpListener::bind(&rt, "127.0.0.1:0")?;
     let printed = stopped(&rt, &upstream)?;
-    same(
+    assert_equal(
         &rt,
         &printed.as_str(),
         &"link a 1 up 5 broken down 0 broken\ntotal a 1 up 5 down 0\n",

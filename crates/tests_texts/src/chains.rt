@@ -1,8 +1,8 @@
 //! Chains made from short forms.
 ghost use Rattle.std.specs.Prelude.{◌≤◌};
 
-use crate::same::same;
 use std::process::Abort;
+use tests_support::assert_equal;
 use tox_defs::{Chain, Lanes, TooManyToxics, Toxic};
 use tox_proxy::{ToxicsFault, read_chain};
 
@@ -33,10 +33,10 @@ fn compare(rt: &impl Abort, chain: &mut Chain, most: u16)
     requires { (16 ≤ most) × (most ≤ 32) }
 {
     assert!(rt; TOXIC.check().is_ok());
-    same(rt, &chain.push(TOXIC, most), &Err(TooManyToxics));
+    assert_equal(rt, &chain.push(TOXIC, most), &Err(TooManyToxics));
     assert_eq!(rt; chain.len(), usize::from(most));
-    same(rt, &chain.toxicity(15), &15);
-    same(rt, &chain.toxic(15), &TOXIC);
+    assert_equal(rt, &chain.toxicity(15), &15);
+    assert_equal(rt, &chain.toxic(15), &TOXIC);
 }
 
 /// Fills a new chain, and compares it.
@@ -58,7 +58,7 @@ fn refuse(rt: &impl Abort, lanes: Lanes, number: usize) {
     let fault = read_chain(lanes, &["latency"; 33])
         .err()
         .expect(rt, "a fault");
-    same(rt, &fault, &ToxicsFault::TooMany(number));
+    assert_equal(rt, &fault, &ToxicsFault::TooMany(number));
 }
 
 #[test]

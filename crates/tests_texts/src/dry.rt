@@ -1,11 +1,11 @@
 //! Dry runs whose ends are short, full, endless or fail. What is printed else is in `tests/rows`.
 ghost use Rattle.std.specs.Prelude.{◌≡◌, ◌<◌, false};
 
-use crate::same::{begins_at, same, same_at};
+use crate::written::assert_begins_at;
 use std::alloc::Global;
 use std::process::Abort;
 use std::test::Fail;
-use tests_support::chain_of;
+use tests_support::{assert_equal, assert_equal_at, chain_of};
 use tox_defs::Chain;
 use tox_proxy::{DryFault, MAX_INPUT, dry_run};
 use tox_time::{EndFault, MemorySink, MemorySource, Sink, Source};
@@ -59,8 +59,8 @@ fn run(
 #[test]
 fn ends_may_move_single_bytes(rt: HostRuntime) -> Result<(), Fail> {
     let (answer, writer) = run(&rt, 1, None, ROOM, 1, None)?;
-    same(&rt, &answer, &Ok(()));
-    same(&rt, &writer.bytes(), &WRITTEN.as_bytes());
+    assert_equal(&rt, &answer, &Ok(()));
+    assert_equal(&rt, &writer.bytes(), &WRITTEN.as_bytes());
     Ok(())
 }
 
@@ -72,15 +72,15 @@ fn five_thousand_lines_are_run(rt: HostRuntime) -> Result<(), Fail> {
     let mut reader = MemorySource::new(read.into_bytes(), 4096, None);
     let mut writer = MemorySink::new(rt.alloc(), 200_000, 4096, None)?;
     let answer = run_between(rt.alloc(), &mut reader, &mut writer, &chain)?;
-    same(&rt, &answer, &Ok(()));
-    same(&rt, &writer.bytes().len(), &92_788);
+    assert_equal(&rt, &answer, &Ok(()));
+    assert_equal(&rt, &writer.bytes().len(), &92_788);
     assert!(rt; writer.bytes().ends_with(b"1000 4999..5000 61\nopen\n"));
     Ok(())
 }
 
 fn fails_at_read(rt: &(impl Abort + AllocGlobal), call: u64) -> Result<(), Fail> {
     let (answer, writer) = run(rt, 5, Some(call), ROOM, ROOM, None)?;
-    same_at(rt, &answer, &Err(DryFault::ReadFault), "read", call);
+    assert_equal_at(rt, &answer, &Err(DryFault::ReadFault), call);
     assert!(rt; writer.bytes().is_empty(), "at read {call}");
     Ok(())
 }
@@ -95,8 +95,8 @@ fn each_read_may_fail(rt: HostRuntime) -> Result<(), Fail> {
 
 fn fails_at_write(rt: &(impl Abort + AllocGlobal), call: u64) -> Result<(), Fail> {
     let (answer, writer) = run(rt, 5, None, ROOM, 3, Some(call))?;
-    same_at(rt, &answer, &Err(DryFault::WriteFault), "write", call);
-    begins_at(rt, WRITTEN.as_bytes(), writer.bytes(), call);
+    assert_equal_at(rt, &answer, &Err(DryFault::WriteFault), call);
+    assert_begins_at(rt, WRITTEN.as_bytes(), writer.bytes(), call);
     Ok(())
 }
 
@@ -111,8 +111,8 @@ fn each_write_may_fail(rt: HostRuntime) -> Result<(), Fail> {
 #[test]
 fn a_full_writer_is_a_write_fault(rt: HostRuntime) -> Result<(), Fail> {
     let (answer, writer) = run(&rt, 5, None, 10, 3, None)?;
-    same(&rt, &answer, &Err(DryFault::WriteFault));
-    same(&rt, &writer.bytes(), &&WRITTEN.as_bytes()[..10]);
+    assert_equal(&rt, &answer, &Err(DryFault::WriteFault));
+    assert_equal(&rt, &writer.bytes(), &&WRITTEN.as_bytes()[..10]);
     Ok(())
 }
 
@@ -140,7 +140,7 @@ fn an_endless_input_is_too_long(rt: HostRuntime) -> Result<(), Fail> {
     let mut reader = Endless { given: 0 };
     let mut writer = MemorySink::new(rt.alloc(), ROOM, ROOM, None)?;
     let answer = run_between(rt.alloc(), &mut reader, &mut writer, &Chain::new())?;
-    same(&rt, &answer, &Err(DryFault::TooLong));
-    same(&rt, &reader.given, &(MAX_INPUT as u64 + 1));
+    assert_equal(&rt, &answer, &Err(DryFault::TooLong));
+    assert_equal(&rt, &reader.given, &(MAX_INPUT as u64 + 1));
     Ok(())
 }

@@ -1,8 +1,8 @@
 //! What is printed of the faults that no other test shows.
-use crate::same::same;
 use std::fmt::Display;
 use std::process::Abort;
 use std::test::Fail;
+use tests_support::assert_equal;
 use tox_config::ConfigFault;
 use tox_defs::{ShortFault, TooManyToxics};
 use tox_network::StepFault;
@@ -17,7 +17,7 @@ use tox_words::WordsFault;
 /// Compares what is printed of a fault.
 fn told<F: Display>(rt: &(impl Abort + AllocGlobal), fault: &F, name: &str) -> Result<(), Fail> {
     let printed = format!(in rt.alloc(); "{fault}")?;
-    same(rt, &printed.as_str(), &name);
+    assert_equal(rt, &printed.as_str(), &name);
     Ok(())
 }
 

@@ -14,8 +14,8 @@ mod picks;
 #[cfg(test)]
 mod plan_texts;
 #[cfg(test)]
-mod same;
-#[cfg(test)]
 mod scripts;
 #[cfg(test)]
 mod words;
+#[cfg(test)]
+mod written;

@@ -1,9 +1,10 @@
 //! Migrated scripts, and what connections meet by them.
 use crate::picks::{CONFIG, MET, ROOM, SCRIPT, print_third};
-use crate::same::{begins_at, same, same_at};
+use crate::written::assert_begins_at;
 use std::alloc::Global;
 use std::process::Abort;
 use std::test::Fail;
+use tests_support::{assert_equal, assert_equal_at};
 use tox_config::{ProxyDef, read_populate};
 use tox_proxy::{PrintMigratedFault, print_migrated};
 use tox_script::{Script, ScriptFault, read_script};
@@ -26,7 +27,7 @@ fn picked(alloc: Global, proxies: &[ProxyDef], script: &Script) -> Result<String
 /// Compares the pick text of a script.
 fn compare_pick(rt: &(impl Abort + AllocGlobal), script: &[u8]) -> Result<(), Fail> {
     let text = pick_of(rt.alloc(), script)?;
-    same(rt, &text.as_str(), &MET);
+    assert_equal(rt, &text.as_str(), &MET);
     Ok(())
 }
 
@@ -46,7 +47,7 @@ fn a_migrated_script_is_not_migrated_again(rt: HostRuntime) -> Result<(), Fail> 
     print_migrated(alloc, &mut writer, SCRIPT.as_bytes())?;
     let mut other = MemorySink::new(alloc, ROOM, ROOM, None)?;
     let refusal = PrintMigratedFault::Script(ScriptFault::AlreadyVersion2);
-    same(
+    assert_equal(
         &rt,
         &print_migrated(alloc, &mut other, writer.bytes()),
         &Err(refusal),
@@ -58,14 +59,8 @@ fn a_migrated_script_is_not_migrated_again(rt: HostRuntime) -> Result<(), Fail> 
 fn fails_at(rt: &(impl Abort + AllocGlobal), whole: &[u8], call: u64) -> Result<(), Fail> {
     let mut writer = MemorySink::new(rt.alloc(), ROOM, 40, Some(call))?;
     let answer = print_migrated(rt.alloc(), &mut writer, SCRIPT.as_bytes());
-    same_at(
-        rt,
-        &answer,
-        &Err(PrintMigratedFault::WriteFault),
-        "write",
-        call,
-    );
-    begins_at(rt, whole, writer.bytes(), call);
+    assert_equal_at(rt, &answer, &Err(PrintMigratedFault::WriteFault), call);
+    assert_begins_at(rt, whole, writer.bytes(), call);
     Ok(())
 }
 

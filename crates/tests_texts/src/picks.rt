@@ -1,13 +1,14 @@
 //! Picks whose writer fails, whose files are in memory, and files of the longest length.
 ghost use Rattle.std.specs.Prelude.{◌≡◌, false};
 
-use crate::same::{begins_at, same, same_at};
+use crate::written::assert_begins_at;
 use std::alloc::Global;
 use std::fs::File;
 use std::process::Abort;
 use std::rt::{Env, Files};
 use std::test::Fail;
 use std::{env, fs, process};
+use tests_support::{assert_equal, assert_equal_at};
 use tox_config::{ProxyDef, read_populate};
 use tox_proxy::{
     FileFault, MAX_INPUT, MemoryFiles, NamedFiles, PickRequest, PrintPickFault, RealFiles,
@@ -68,8 +69,8 @@ fn print_to(alloc: Global, call: u64) -> Result<(Result<(), PrintPickFault>, Mem
 
 fn fails_at(rt: &(impl Abort + AllocGlobal), call: u64) -> Result<(), Fail> {
     let (answer, writer) = print_to(rt.alloc(), call)?;
-    same_at(rt, &answer, &Err(PrintPickFault::WriteFault), "write", call);
-    begins_at(rt, MET.as_bytes(), writer.bytes(), call);
+    assert_equal_at(rt, &answer, &Err(PrintPickFault::WriteFault), call);
+    assert_begins_at(rt, MET.as_bytes(), writer.bytes(), call);
     Ok(())
 }
 
@@ -79,8 +80,8 @@ fn each_write_of_a_pick_may_fail(rt: HostRuntime) -> Result<(), Fail> {
         fails_at(&rt, call)?;
     }
     let (answer, writer) = print_to(rt.alloc(), 20)?;
-    same(&rt, &answer, &Ok(()));
-    same(&rt, &writer.bytes(), &MET.as_bytes());
+    assert_equal(&rt, &answer, &Ok(()));
+    assert_equal(&rt, &writer.bytes(), &MET.as_bytes());
     Ok(())
 }
 
@@ -156,7 +157,7 @@ fn read_len(rt: &(impl Files + AllocGlobal), name: &str) -> usize {
 /// Compares why a file that is too long is refused.
 fn refuse(rt: &(impl Abort + Files + AllocGlobal), name: &str) {
     let fault = read_file(rt, rt.alloc(), name).err();
-    same(rt, &fault, &Some(FileFault::TooLong(name)));
+    assert_equal(rt, &fault, &Some(FileFault::TooLong(name)));
 }
 
 #[test]
@@ -165,7 +166,7 @@ fn a_file_has_a_longest_length(rt: HostRuntime) -> Result<(), Fail> {
     let name = path_of(&rt, id, "long")?;
     let file = File::create(&rt, name.as_str())?;
     file.set_len(MAX_INPUT as u64)?;
-    same(&rt, &read_len(&rt, name.as_str()), &MAX_INPUT);
+    assert_equal(&rt, &read_len(&rt, name.as_str()), &MAX_INPUT);
     file.set_len(MAX_INPUT as u64 + 1)?;
     refuse(&rt, name.as_str());
     fs::remove_file(&rt, name.as_str())?;

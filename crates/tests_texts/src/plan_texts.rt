@@ -1,8 +1,8 @@
 //! Plans whose writer fails.
-use crate::same::{begins_at, same_at};
+use crate::written::assert_begins_at;
 use std::process::Abort;
 use std::test::Fail;
-use tests_support::chain_of;
+use tests_support::{assert_equal_at, chain_of};
 use tox_compile::{Plan, compile};
 use tox_proxy::{WriteFault, print_plan};
 use tox_time::MemorySink;
@@ -14,8 +14,8 @@ const ROOM: usize = 200;
 fn fails_at(rt: &(impl Abort + AllocGlobal), plan: &Plan, call: u64) -> Result<(), Fail> {
     let mut writer = MemorySink::new(rt.alloc(), ROOM, 3, Some(call))?;
     let answer = print_plan(&mut writer, plan);
-    same_at(rt, &answer, &Err(WriteFault), "write", call);
-    begins_at(rt, b"limit 3\ndelay 1\n", writer.bytes(), call);
+    assert_equal_at(rt, &answer, &Err(WriteFault), call);
+    assert_begins_at(rt, b"limit 3\ndelay 1\n", writer.bytes(), call);
     Ok(())
 }
 

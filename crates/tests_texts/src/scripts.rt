@@ -1,8 +1,8 @@
 //! Scripts: their versions, chains and lanes, and what migration keeps. Their faults are in `tests/rows`.
 use crate::picks::SCRIPT;
-use crate::same::same;
 use std::process::Abort;
 use std::test::Fail;
+use tests_support::assert_equal;
 use tox_defs::{Entry, Lanes, Toxic};
 use tox_script::{Script, ScriptFault, Version, migrate, read_script};
 use tox_time::Stream;
@@ -24,7 +24,7 @@ fn compare_toxics(rt: &impl Abort, script: &Script) {
         },
     ];
     let chain = script.chain("a", 3, Stream::Downstream);
-    same(rt, &chain.entries(), &expected.as_slice());
+    assert_equal(rt, &chain.entries(), &expected.as_slice());
     assert!(rt; script.chain("a", 1, Stream::Downstream).is_empty());
 }
 
@@ -79,15 +79,15 @@ fn a_script_tells_its_version_and_lanes(rt: HostRuntime) -> Result<(), Fail> {
 
 /// Compares what connection 3 of a meets downstream before a migration and after it.
 fn compare_migrated(rt: &impl Abort, before: &Script, after: &Script) {
-    same(rt, &after.version(), &Version::Two);
+    assert_equal(rt, &after.version(), &Version::Two);
     let chain = after.chain("a", 3, Stream::Downstream);
-    same(rt, &chain.lanes(), &Lanes::Sixteen);
-    same(
+    assert_equal(rt, &chain.lanes(), &Lanes::Sixteen);
+    assert_equal(
         rt,
         &chain.entries(),
         &before.chain("a", 3, Stream::Downstream).entries(),
     );
-    same(
+    assert_equal(
         rt,
         &after.names("a", 3, Stream::Downstream),
         &before.names("a", 3, Stream::Downstream),
@@ -101,7 +101,7 @@ fn a_migrated_script_gives_the_same_chains(rt: HostRuntime) -> Result<(), Fail> 
     let before = read_script(alloc, SCRIPT.as_bytes())?;
     let after = read_script(alloc, text.as_bytes())?;
     compare_migrated(&rt, &before, &after);
-    same(
+    assert_equal(
         &rt,
         &migrate(alloc, text.as_bytes()).err(),
         &Some(ScriptFault::AlreadyVersion2),
@@ -113,8 +113,8 @@ fn a_migrated_script_gives_the_same_chains(rt: HostRuntime) -> Result<(), Fail> 
 fn a_script_without_rules_is_migrated(rt: HostRuntime) -> Result<(), Fail> {
     let text = migrate(rt.alloc(), b"")?;
     let script = read_script(rt.alloc(), text.as_bytes())?;
-    same(&rt, &script.version(), &Version::Two);
+    assert_equal(&rt, &script.version(), &Version::Two);
     let lanes = script.chain("a", 1, Stream::Upstream).lanes();
-    same(&rt, &lanes, &Lanes::Sixteen);
+    assert_equal(&rt, &lanes, &Lanes::Sixteen);
     Ok(())
 }

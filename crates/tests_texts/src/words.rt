@@ -1,7 +1,7 @@
 //! Worked word tables and draws.
-use crate::same::same;
 use std::process::Abort;
 use std::test::Fail;
+use tests_support::assert_equal;
 use tox_time::Stream;
 use tox_words::{Drawing, Lanes, MAX_WORDS, Words, WordsFault};
 
@@ -57,7 +57,7 @@ fn seeds_begin_as_published(rt: HostRuntime) -> Result<(), Fail> {
         0xa15c02b7, 0x7b47f409, 0xba1d3330, 0x83d2f293, 0xbfa4784b, 0xcbed606e,
     ];
     compare_first(&rt, &words, &published);
-    same(&rt, &words.len(), &1024);
+    assert_equal(&rt, &words.len(), &1024);
     Ok(())
 }
 
@@ -74,7 +74,7 @@ fn lanes_take_turns(rt: HostRuntime) -> Result<(), Fail> {
     draws(&rt, &words, 0, 1, 20);
     draws(&rt, &words, 2, 1, 10);
     draws(&rt, &words, usize::MAX, u64::MAX, 10);
-    same(&rt, &words.draw_in(Lanes::ThirtyTwo, 0, 1), &30);
-    same(&rt, &Drawing::new(Lanes::ThirtyTwo, &words).draw(1, 1), &10);
+    assert_equal(&rt, &words.draw_in(Lanes::ThirtyTwo, 0, 1), &30);
+    assert_equal(&rt, &Drawing::new(Lanes::ThirtyTwo, &words).draw(1, 1), &10);
     Ok(())
 }
