@@ -45,6 +45,11 @@ fn arrivals_are_refused_in_order(rt: HostRuntime) -> Result<(), Fail> {
     refuse(&rt, &mut ended, 1, 5, ArrivalFault::TooManyBytes);
     assert_equal(&rt, &ended.eof(at(4)), &Err(ArrivalFault::TimeBack));
     assert_equal(&rt, &ended.eof(at(5)), &Err(ArrivalFault::AfterEnd));
+    Ok(())
+}
+
+#[test]
+fn arrivals_are_refused_behind_an_end(rt: HostRuntime) -> Result<(), Fail> {
     let mut closed = Arrivals::new(rt.alloc());
     closed.eof(at(5))?;
     refuse(&rt, &mut closed, 0, 4, ArrivalFault::TimeBack);

@@ -12,7 +12,7 @@ use tox_defs::Chain;
 use tox_plan::deliver;
 use tox_proxy::{DryFault, StagesFault, stages_run};
 use tox_stages::{StageFault, run_stages};
-use tox_time::{Gate, MemorySink, MemorySource, OpenGate, Outcome};
+use tox_time::{Arrivals, Gate, MemorySink, MemorySource, OpenGate, Outcome};
 use tox_words::Words;
 
 const TWO_LATENCIES: &str = "latency:latency=1 latency:latency=2";
@@ -46,8 +46,22 @@ fn compare<R: Threads + Wait + Sync + AllocGlobal + Abort>(
     let words = Words::from_list(rt.alloc(), &[0, 1, 2])?;
     let chain = chain_of(toxics).expect(rt, "short forms");
     let arrivals = arrivals_of(rt.alloc(), arrived).expect(rt, "arrivals");
-    let planned = deliver(rt.alloc(), &chain, &words, &arrivals)?;
-    let running = run_stages(rt, rt.alloc(), &chain, &words, &arrivals, cap, &OpenGate)?;
+    compare_chain(rt, &chain, &words, &arrivals, toxics, cap)
+}
+
+/// Compares what running stages of this chain deliver with what its plan does.
+fn compare_chain<R: Threads + Wait + Sync + AllocGlobal + Abort>(
+    rt: &R,
+    chain: &Chain,
+    words: &Words,
+    arrivals: &Arrivals,
+    toxics: &str,
+    cap: usize,
+) -> Result<(), Fail>
+    requires { (1 ≤ cap) × (cap ≤ 1024) }
+{
+    let planned = deliver(rt.alloc(), chain, words, arrivals)?;
+    let running = run_stages(rt, rt.alloc(), chain, words, arrivals, cap, &OpenGate)?;
     compare_outcomes(rt, &running, &planned, toxics, cap)
 }
 
@@ -77,12 +91,21 @@ fn compare_outcomes(
     Ok(())
 }
 
+/// Compares over rings of one item, of two, and of the most.
+fn compare_each<R: Threads + Wait + Sync + AllocGlobal + Abort>(
+    rt: &R,
+    toxics: &str,
+    arrived: &str,
+) -> Result<(), Fail> {
+    compare(rt, toxics, arrived, 1)?;
+    compare(rt, toxics, arrived, 2)?;
+    compare(rt, toxics, arrived, 1024)
+}
+
 #[test]
 fn threads_deliver_what_the_plan_does(rt: HostRuntime) -> Result<(), Fail> {
     for (toxics, arrived) in CASES {
-        compare(&rt, toxics, arrived, 1)?;
-        compare(&rt, toxics, arrived, 2)?;
-        compare(&rt, toxics, arrived, 1024)?;
+        compare_each(&rt, toxics, arrived)?;
     }
     Ok(())
 }
