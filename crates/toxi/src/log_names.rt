@@ -11,7 +11,7 @@ pub trait LogTask<R> {
 }
 
 /// How the names were taken.
-#[derive(Clone, Copy, Debug, PartialEq, Eq)]
+#[derive(Clone, Copy)]
 pub enum NamesTaken {
     All,
     /// Standard input couldn't be read to its end. The fault was told.
