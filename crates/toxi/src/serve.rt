@@ -10,7 +10,7 @@ use std::fmt::Display;
 use std::fs;
 use std::rt::Files;
 use std::sync::{Mutex, Wait};
-use tox_arguments::{ServeArguments, ServeSource};
+use tox_arguments::{LogArguments, ServeArguments, ServeSource};
 use tox_proxy::{
     Gaps, InlineFault, LineForm, LogLimits, RealFiles, Room, ServeFault, ServeOptions,
     ServeRuntime, Setup, SetupFault, Stop, read_setup, serve_with,
@@ -55,7 +55,7 @@ impl ServeJob {
             links: arguments.links,
             connect_timeout: arguments.connect_timeout,
             workers: arguments.workers,
-            logs: limits_of(arguments),
+            logs: limits_of(&arguments.logs),
             verbose: arguments.verbose,
             form: form_of(arguments.json),
         };
@@ -108,8 +108,8 @@ fn form_of(json: bool) -> LineForm {
 }
 
 /// How much is logged.
-fn limits_of(arguments: &ServeArguments<'_>) -> Option<LogLimits> {
-    match &arguments.logs {
+fn limits_of(logs: &Option<LogArguments<'_>>) -> Option<LogLimits> {
+    match logs {
         Some(logs) => Some(LogLimits {
             links: logs.links,
             bytes: logs.bytes,
@@ -137,7 +137,7 @@ where
             script.as_str(),
         ) {
             Ok(setup) => serve_setup(rt, job, &setup, stop),
-            Err(fault) => refused(rt, job, script.as_str(), &fault),
+            Err(fault) => refused(rt, script.as_str(), &fault, job.options.verbose),
         },
     }
 }
@@ -145,12 +145,12 @@ where
 /// Tells why the files are refused, and what was meant where it is asked for. Returns the status of the program.
 fn refused<R: Eprint + Files + AllocGlobal>(
     rt: &R,
-    job: &ServeJob,
     script: &str,
     fault: &SetupFault<'_>,
+    verbose: bool,
 ) -> u8 {
     fail(rt, fault);
-    if job.options.verbose {
+    if verbose {
         tell_near_scripted(rt, script, fault);
     }
     1
