@@ -4,6 +4,7 @@ use crate::fail;
 use crate::near::tell_near_short;
 use crate::serve::{ServeJob, hold_descriptor, serve_job};
 use crate::signals::Signals;
+use std::alloc::Global;
 use std::io::{Read, Seek};
 use std::process::ExitCode;
 use std::rt::Files;
@@ -68,26 +69,50 @@ where
     let _output = hold_descriptor(rt);
     let _errors = hold_descriptor(rt);
     let mut signals = Signals::of_process(rt);
-    let alloc = rt.alloc();
-    let job = match ServeJob::of(alloc, arguments) {
-        Ok(job) => job,
-        Err(fault) => return refused(rt, arguments, &fault),
-    };
-    let Ok(serving) = Arc::new(alloc, Serving::new()) else {
+    match ServeJob::of(rt.alloc(), arguments) {
+        Ok(job) => serve_watched(rt, job, &mut signals),
+        Err(fault) => refused(rt, arguments, &fault),
+    }
+}
+
+/// Serves in a thread of its own, and waits for its end or a signal.
+fn serve_watched<R: Print + Eprint + Files + AllocGlobal + ServeRuntime>(
+    rt: &R,
+    job: ServeJob,
+    signals: &mut Signals<R::File>,
+) -> ExitCode
+where
+    R::File: Send + 'static,
+    R::Dir: Send + 'static,
+{
+    let Ok(serving) = Arc::new(rt.alloc(), Serving::new()) else {
         return fail(rt, &ServeFault::OutOfMemory);
     };
     let Ok(shared) = serving.clone() else {
         return fail(rt, &ServeFault::OutOfMemory);
     };
-    let there = *rt;
-    let started = thread::spawn(rt, move || {
-        let status = serve_job(&there, &job, &shared.stop);
-        shared.end(&there, status);
-    });
-    if started.is_err() {
+    if !start(rt, job, shared) {
         return fail(rt, &ServeFault::SpawnRefused);
     }
-    ExitCode::from(watch(rt, &serving, &mut signals))
+    ExitCode::from(watch(rt, &serving, signals))
+}
+
+/// Starts the thread that serves. False if it can't be had.
+fn start<R: Print + Eprint + Files + AllocGlobal + ServeRuntime>(
+    rt: &R,
+    job: ServeJob,
+    serving: Arc<Serving, Global>,
+) -> bool
+where
+    R::File: Send + 'static,
+    R::Dir: Send + 'static,
+{
+    let there = *rt;
+    let started = thread::spawn(rt, move || {
+        let status = serve_job(&there, &job, &serving.stop);
+        serving.end(&there, status);
+    });
+    started.is_ok()
 }
 
 /// Tells why nothing is served, and what was meant where it is asked for.
