@@ -85,16 +85,20 @@ where
     R::File: Send + 'static,
     R::Dir: Send + 'static,
 {
-    let Ok(serving) = Arc::new(rt.alloc(), Serving::new()) else {
-        return fail(rt, &ServeFault::OutOfMemory);
-    };
-    let Ok(shared) = serving.clone() else {
+    let Some((serving, shared)) = share(rt.alloc()) else {
         return fail(rt, &ServeFault::OutOfMemory);
     };
     if !start(rt, job, shared) {
         return fail(rt, &ServeFault::SpawnRefused);
     }
     ExitCode::from(watch(rt, &serving, signals))
+}
+
+/// What the two threads share, for each of them. None if out of memory.
+fn share(alloc: Global) -> Option<(Arc<Serving, Global>, Arc<Serving, Global>)> {
+    let serving = Arc::new(alloc, Serving::new()).ok()?;
+    let shared = serving.clone().ok()?;
+    Some((serving, shared))
 }
 
 /// Starts the thread that serves. False if it can't be had.
