@@ -1,7 +1,7 @@
 //! The book of a proxy's links, call by call.
+use crate::comparing::assert_equal;
 use std::process::Abort;
 use std::test::Fail;
-use tests_support::assert_equal;
 use tox_link::{Book, BookFault};
 use tox_time::{Ending, Micros, Stream};
 

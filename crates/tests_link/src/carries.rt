@@ -1,13 +1,14 @@
 //! One direction of a link, carried between ends in memory.
 ghost use Rattle.std.specs.Prelude.{◌≡◌, false};
 
+use crate::comparing::assert_equal;
 use crate::link_ends::{HungUp, Noted, RestingClock, TickingGate, WaitingSource, WatchingSink};
 use std::process::Abort;
 use std::sync::atomic::{AtomicBool, AtomicU64, Ordering};
 use std::sync::{Arc, Wait};
 use std::test::Fail;
 use std::thread::Threads;
-use tests_support::{Meeting, assert_equal, at, chain_of, slice};
+use tests_support::{Meeting, at, chain_of, slice};
 use tox_compile::{Plan, compile};
 use tox_link::{Ends, LinkEvent, LinkFault, SourceEnding, carry};
 use tox_time::{Ending, Gate, MemorySink, MemorySource, OpenGate, Source};

@@ -1,9 +1,10 @@
 //! A link core, call by call.
 ghost use Rattle.std.specs.Prelude.{◌≡◌, ◌≤◌, false};
 
+use crate::comparing::assert_equal;
 use std::process::Abort;
 use std::test::Fail;
-use tests_support::{assert_equal, at, chain_of, slice};
+use tests_support::{at, chain_of, slice};
 use tox_compile::compile;
 use tox_link::{Act, LinkCore};
 use tox_time::{ArrivalFault, Ending, Micros};

@@ -5,6 +5,7 @@ ghost use Rattle.tox_link.specs.direction.Driven.{IsAtEnd, IsReady};
 ghost use Rattle.tox_link.specs.direction.Follows.{IsHeld, IsNew};
 ghost use Rattle.tox_link.specs.Reports.{written_before};
 
+use crate::comparing::assert_equal_at;
 use crate::link_ends::{Noted, RestingClock};
 use crate::polled_ends::BusyEnd;
 use crate::schedules::drawn_chain;
@@ -14,7 +15,7 @@ use std::process::Abort;
 use std::sync::Arc;
 use std::sync::atomic::{AtomicU64, Ordering};
 use std::test::Fail;
-use tests_support::{assert_equal_at, below, drawn_words, table_of};
+use tests_support::{below, drawn_words, table_of};
 use tox_compile::compile;
 use tox_defs::Chain;
 use tox_link::{LinkEvent, LinkFault, PolledLink, Progress, drive, finish};

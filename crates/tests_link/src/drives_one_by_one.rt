@@ -3,13 +3,14 @@ ghost use Rattle.std.specs.Prelude.{◌≡◌, true, false, Some, None};
 ghost use Rattle.tox_time.specs.Time.{IsInstant};
 ghost use Rattle.tox_link.specs.direction.Driven.{IsReady};
 
+use crate::comparing::assert_equal;
 use crate::link_ends::{Noted, RestingClock};
 use std::alloc::Global;
 use std::process::Abort;
 use std::sync::Arc;
 use std::sync::atomic::{AtomicU64, Ordering};
 use std::test::Fail;
-use tests_support::{Scarcity, assert_equal, at, chain_of, slice};
+use tests_support::{Scarcity, at, chain_of, slice};
 use tox_compile::compile;
 use tox_link::{
     LinkEvent, LinkFault, NoNotes, Notes, PollSink, PollSource, PolledLink, Progress, drive,

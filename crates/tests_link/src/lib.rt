@@ -6,6 +6,8 @@ mod books;
 #[cfg(test)]
 mod carries;
 #[cfg(test)]
+mod comparing;
+#[cfg(test)]
 mod cores;
 #[cfg(test)]
 mod drives;

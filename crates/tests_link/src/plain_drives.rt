@@ -3,13 +3,14 @@ ghost use Rattle.std.specs.Prelude.{◌≡◌, false, None};
 ghost use Rattle.tox_time.specs.Time.{IsInstant};
 ghost use Rattle.tox_link.specs.direction.Driven.{IsReady};
 
+use crate::comparing::{assert_equal, assert_equal_at};
 use crate::drives::{drawn_bytes, driven_under};
 use crate::drives_one_by_one::{DriveCase, StuckSink, compare_wait};
 use rand_pcg::Lcg64Xsh32;
 use std::mem::size_of;
 use std::process::Abort;
 use std::test::Fail;
-use tests_support::{Scarcity, assert_equal, assert_equal_at, at, chain_of};
+use tests_support::{Scarcity, at, chain_of};
 use tox_defs::Chain;
 use tox_link::{LinkEvent, NoNotes, PolledLink, Progress};
 use tox_time::Micros;

@@ -1,12 +1,13 @@
 //! A link core beside `deliver`, on schedules drawn at random.
 ghost use Rattle.std.specs.Prelude.{◌≡◌, false};
 
+use crate::comparing::assert_equal_at;
 use crate::cores::{ask, assert_reached, give};
 use rand_pcg::Lcg64Xsh32;
 use std::alloc::AllocError;
 use std::process::Abort;
 use std::test::Fail;
-use tests_support::{assert_equal_at, below, drawn_words, table_of};
+use tests_support::{below, drawn_words, table_of};
 use tox_compile::compile;
 use tox_defs::{Chain, read_short};
 use tox_link::{Act, LinkCore};

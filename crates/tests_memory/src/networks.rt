@@ -1,9 +1,10 @@
 //! The stage network, windows, cores and plans, with too little memory.
+use crate::comparing::assert_equal;
 use crate::refusing::{assert_refused, print, without_memory};
 use std::alloc::{AllocError, Global};
 use std::process::Abort;
 use std::test::Fail;
-use tests_support::{Scarcity, Tried, answer_of, assert_equal, chain_of, table_of, times_refused};
+use tests_support::{Scarcity, Tried, answer_of, chain_of, table_of, times_refused};
 use tox_compile::compile;
 use tox_defs::Chain;
 use tox_lend::Window;

@@ -1,11 +1,12 @@
 //! Lists and files, read with too little memory.
+use crate::comparing::assert_equal;
 use crate::refusing::{print, without_memory};
 use std::alloc::Global;
 use std::process::Abort;
 use std::rt::{Env, Files};
 use std::test::Fail;
 use std::{env, fs, process};
-use tests_support::{Scarcity, answer_of, assert_equal, times_refused};
+use tests_support::{Scarcity, answer_of, times_refused};
 use tox_config::{ConfigFault, read_populate};
 use tox_proxy::{FileFault, read_file};
 use tox_script::{ScriptFault, migrate, read_script};

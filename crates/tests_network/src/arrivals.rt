@@ -1,7 +1,8 @@
 //! What arrivals accept and refuse.
+use crate::comparing::assert_equal;
 use std::process::Abort;
 use std::test::Fail;
-use tests_support::{assert_equal, at};
+use tests_support::at;
 use tox_time::{ArrivalFault, Arrivals, Item, MAX_BYTES, Micros, Span};
 
 #[test]

@@ -1,9 +1,9 @@
 //! Ends in memory.
 ghost use Rattle.std.specs.Prelude.{◌≡◌};
 
+use crate::comparing::assert_equal;
 use std::process::Abort;
 use std::test::Fail;
-use tests_support::assert_equal;
 use tox_time::{EndFault, MemorySink, MemorySource, Real, Sink, Source};
 
 /// Compares what a call of an end returns.

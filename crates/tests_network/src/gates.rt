@@ -1,8 +1,9 @@
 //! A gate that records what passes it.
+use crate::comparing::assert_equal;
 use std::process::Abort;
 use std::sync::atomic::{AtomicBool, AtomicU64, Ordering};
 use std::thread;
-use tests_support::{assert_equal, comes_true};
+use tests_support::comes_true;
 use tox_time::Gate;
 
 /// A gate that records when each of five items of two stages entered and returned, by a clock that counts these events

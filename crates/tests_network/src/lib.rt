@@ -4,6 +4,8 @@
 #[cfg(test)]
 mod arrivals;
 #[cfg(test)]
+mod comparing;
+#[cfg(test)]
 mod ends;
 #[cfg(test)]
 mod gates;

@@ -1,9 +1,10 @@
 //! The stage network, move by move and settled in several orders.
 ghost use Rattle.std.specs.Prelude.{◌≤◌};
 
+use crate::comparing::assert_equal;
 use std::process::Abort;
 use std::test::Fail;
-use tests_support::{assert_equal, at, bytes_at_zero, chain_of, slice};
+use tests_support::{at, bytes_at_zero, chain_of, slice};
 use tox_defs::Chain;
 use tox_network::{Move, Network, StepFault};
 use tox_time::{Arrivals, Ending, Outcome};

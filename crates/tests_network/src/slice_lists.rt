@@ -1,6 +1,7 @@
 //! Lists of slices.
+use crate::comparing::assert_equal;
 use std::test::Fail;
-use tests_support::{assert_equal, slice};
+use tests_support::slice;
 use tox_time::SliceList;
 
 #[test]

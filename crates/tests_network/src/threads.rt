@@ -1,13 +1,14 @@
 //! Running stages beside the compiled plan.
 ghost use Rattle.std.specs.Prelude.{◌≤◌};
 
+use crate::comparing::assert_equal;
 use crate::gates::Log;
 use std::fmt::Debug;
 use std::process::Abort;
 use std::sync::Wait;
 use std::test::Fail;
 use std::thread::Threads;
-use tests_support::{Meeting, arrivals_of, assert_equal, chain_of, table_of};
+use tests_support::{Meeting, arrivals_of, chain_of, table_of};
 use tox_defs::Chain;
 use tox_plan::deliver;
 use tox_proxy::{DryFault, StagesFault, stages_run};

@@ -1,12 +1,13 @@
 //! Workers of `run_stages`: their items, their rings, and that they run side by side.
 ghost use Rattle.std.specs.Prelude.{◌≤◌};
 
+use crate::comparing::assert_equal;
 use crate::gates::Log;
 use std::process::Abort;
 use std::sync::Wait;
 use std::test::Fail;
 use std::thread::Threads;
-use tests_support::{Meeting, assert_equal, bytes_at_zero, chain_of, slice};
+use tests_support::{Meeting, bytes_at_zero, chain_of, slice};
 use tox_defs::Lanes;
 use tox_proxy::read_chain;
 use tox_stages::run_stages;

@@ -1,11 +1,12 @@
 //! The stage network, settled in drawn orders, beside the compiled plan.
 ghost use Rattle.std.specs.Prelude.{◌≤◌};
 
+use crate::comparing::assert_equal_at;
 use rand_pcg::Lcg64Xsh32;
 use std::alloc::{AllocError, Global};
 use std::process::Abort;
 use std::test::Fail;
-use tests_support::{arrivals_of, assert_equal_at, below, chain_of, table_of};
+use tests_support::{arrivals_of, below, chain_of, table_of};
 use tox_defs::Chain;
 use tox_network::{Move, Network};
 use tox_plan::deliver;

@@ -1,6 +1,7 @@
 //! What chains are compiled into. What `plan` prints of them is in `tests/rows`.
+use crate::comparing::assert_equal;
 use std::process::Abort;
-use tests_support::{assert_equal, at, chain_of};
+use tests_support::{at, chain_of};
 use tox_compile::{Op, Plan, compile};
 use tox_time::{Ending, Micros};
 use tox_words::Words;

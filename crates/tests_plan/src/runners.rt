@@ -1,8 +1,9 @@
 //! A runner, call by call.
 ghost use Rattle.std.specs.Prelude.{◌≡◌};
 
+use crate::comparing::assert_equal;
 use std::process::Abort;
-use tests_support::{assert_equal, at, chain_of, slice};
+use tests_support::{at, chain_of, slice};
 use tox_compile::compile;
 use tox_plan::Runner;
 use tox_time::{ArrivalFault, Ending, Micros, Slice};

@@ -3,9 +3,10 @@ ghost use Rattle.std.specs.Prelude.{◌≡◌, false};
 ghost use Rattle.tox_lend.specs.Run.{stop_of};
 ghost use Rattle.tox_plan.specs.Slices.{CanLend, IsOffered};
 
+use crate::comparing::assert_equal;
 use crate::runners::{gives, runner_of, words_of};
 use std::process::Abort;
-use tests_support::{assert_equal, at, slice};
+use tests_support::{at, slice};
 use tox_lend::{Lent, Piece};
 use tox_plan::{Runner, Slices};
 use tox_time::{Ending, Micros, Slice, Span};

@@ -1,7 +1,7 @@
 //! A window from outside: what it holds after each call.
+use crate::comparing::assert_equal;
 use crate::slices::piece_of;
 use std::process::Abort;
-use tests_support::assert_equal;
 use tox_lend::Window;
 use tox_time::Micros;
 

@@ -1,4 +1,5 @@
 //! Served links, over sockets of this machine.
+use crate::comparing::assert_equal;
 use crate::peers::{ask, echo_once};
 use std::alloc::Global;
 use std::io::{Read, Write};
@@ -8,7 +9,6 @@ use std::test::Fail;
 use std::thread::Threads;
 use std::time::{Clock, Duration};
 use std::{io, thread};
-use tests_support::assert_equal;
 use tox_config::{ProxyDef, read_populate};
 use tox_proxy::{NoGaps, NoLogs, ServeFault, ServeOptions, Stop, serve, serve_with};
 use tox_script::{Script, read_script};

@@ -1,7 +1,6 @@
 //! What the tests that cross crates share.
 #![tactic(auto)]
 
-mod comparing;
 mod counting_gate;
 mod drawing;
 mod meeting;
@@ -11,7 +10,6 @@ mod tables;
 mod tries;
 mod values;
 
-pub use comparing::{assert_equal, assert_equal_at};
 pub use counting_gate::CountingGate;
 pub use drawing::{below, drawn_words};
 pub use meeting::{Meeting, comes_true};

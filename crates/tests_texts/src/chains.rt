@@ -1,8 +1,8 @@
 //! Chains made from short forms.
 ghost use Rattle.std.specs.Prelude.{◌≤◌};
 
+use crate::comparing::assert_equal;
 use std::process::Abort;
-use tests_support::assert_equal;
 use tox_defs::{Chain, Lanes, TooManyToxics, Toxic};
 use tox_proxy::{ToxicsFault, read_chain};
 

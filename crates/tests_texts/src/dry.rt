@@ -1,11 +1,12 @@
 //! Dry runs whose ends are short, full, endless or fail. What is printed else is in `tests/rows`.
 ghost use Rattle.std.specs.Prelude.{◌≡◌, ◌<◌, false};
 
+use crate::comparing::{assert_equal, assert_equal_at};
 use crate::written::assert_begins_at;
 use std::alloc::Global;
 use std::process::Abort;
 use std::test::Fail;
-use tests_support::{assert_equal, assert_equal_at, chain_of};
+use tests_support::chain_of;
 use tox_defs::Chain;
 use tox_proxy::{DryFault, MAX_INPUT, dry_run};
 use tox_time::{EndFault, MemorySink, MemorySource, Sink, Source};

@@ -1,8 +1,8 @@
 //! What is printed of the faults that no other test shows.
+use crate::comparing::assert_equal;
 use std::fmt::Display;
 use std::process::Abort;
 use std::test::Fail;
-use tests_support::assert_equal;
 use tox_config::ConfigFault;
 use tox_defs::{ShortFault, TooManyToxics};
 use tox_network::StepFault;

@@ -4,6 +4,8 @@
 #[cfg(test)]
 mod chains;
 #[cfg(test)]
+mod comparing;
+#[cfg(test)]
 mod dry;
 #[cfg(test)]
 mod fault_names;

@@ -1,10 +1,10 @@
 //! Migrated scripts, and what connections meet by them.
+use crate::comparing::{assert_equal, assert_equal_at};
 use crate::picks::{CONFIG, MET, ROOM, SCRIPT, print_third};
 use crate::written::assert_begins_at;
 use std::alloc::Global;
 use std::process::Abort;
 use std::test::Fail;
-use tests_support::{assert_equal, assert_equal_at};
 use tox_config::{ProxyDef, read_populate};
 use tox_proxy::{PrintMigratedFault, print_migrated};
 use tox_script::{Script, ScriptFault, read_script};

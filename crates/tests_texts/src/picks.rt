@@ -1,6 +1,7 @@
 //! Picks whose writer fails, whose files are in memory, and files of the longest length.
 ghost use Rattle.std.specs.Prelude.{◌≡◌, false};
 
+use crate::comparing::{assert_equal, assert_equal_at};
 use crate::written::assert_begins_at;
 use std::alloc::Global;
 use std::fs::File;
@@ -8,7 +9,6 @@ use std::process::Abort;
 use std::rt::{Env, Files};
 use std::test::Fail;
 use std::{env, fs, process};
-use tests_support::{assert_equal, assert_equal_at};
 use tox_config::{ProxyDef, read_populate};
 use tox_proxy::{
     FileFault, MAX_INPUT, MemoryFiles, NamedFiles, PickRequest, PrintPickFault, RealFiles,

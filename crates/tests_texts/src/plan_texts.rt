@@ -1,8 +1,9 @@
 //! Plans whose writer fails.
+use crate::comparing::assert_equal_at;
 use crate::written::assert_begins_at;
 use std::process::Abort;
 use std::test::Fail;
-use tests_support::{assert_equal_at, chain_of};
+use tests_support::chain_of;
 use tox_compile::{Plan, compile};
 use tox_proxy::{WriteFault, print_plan};
 use tox_time::MemorySink;

@@ -1,8 +1,8 @@
 //! Scripts: their versions, chains and lanes, and what migration keeps. Their faults are in `tests/rows`.
+use crate::comparing::assert_equal;
 use crate::picks::SCRIPT;
 use std::process::Abort;
 use std::test::Fail;
-use tests_support::assert_equal;
 use tox_defs::{Entry, Lanes, Toxic};
 use tox_script::{Script, ScriptFault, Version, migrate, read_script};
 use tox_time::Stream;

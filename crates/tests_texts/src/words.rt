@@ -1,7 +1,7 @@
 //! Worked word tables and draws.
+use crate::comparing::assert_equal;
 use std::process::Abort;
 use std::test::Fail;
-use tests_support::assert_equal;
 use tox_time::Stream;
 use tox_words::{Drawing, Lanes, MAX_WORDS, Words, WordsFault};
 
