@@ -55,7 +55,7 @@ impl LogChannel {
         let mut waiting = self.waiting.lock(rt);
         let pushed = waiting.logs.push(log).is_ok();
         if is_urgent {
-            // Told before, but the writer may have taken that for the logs that it took without this one.
+            // Set before, but the writer may have cleared it when it took the logs that came before this one.
             self.bytes.set_urgent();
         }
         drop(waiting);
