@@ -4,6 +4,7 @@ import re
 from dataclasses import dataclass, field
 
 FUNCTION = re.compile(r"( *)(?:pub(?:\([a-z]+\))? )?(?:const )?(?:unsafe )?fn (\w+)")
+CONSTANT = re.compile(r"(?:pub(?:\([a-z]+\))? )?const (\w+):", re.MULTILINE)
 BLOCK = re.compile(r"(?:pub )?(?:impl|trait)\b(?:<.*?>)? (?:(?P<trait>.*) for )?&?(?P<type>\w+)")
 
 
@@ -11,13 +12,15 @@ BLOCK = re.compile(r"(?:pub )?(?:impl|trait)\b(?:<.*?>)? (?:(?P<trait>.*) for )?
 class Function:
     """A function of a source file and its lines, from 1, with its attributes, its comment and the last line.
 
-    `owner` is the type of a method, with the words of its trait behind it: the name that the prover gives the block.
+    `owner` is the type of a method, with the words of its trait behind it: the name that the prover gives the block. `body` is the line that opens a
+    body of several lines.
     """
 
     file: str
     owner: str
     name: str
     first: int
+    body: int | None
     last: int
 
     def holds(self, file, line):
@@ -45,11 +48,14 @@ class BadEdit(Exception):
 
 @dataclass
 class Edit:
-    """`changes` are (file, old, new) in order. `functions` are those in which the changes stand; none if a change stands outside of each."""
+    """`changes` are (file, old, new) in order. `functions` are those in which the changes stand, or that name a changed constant. An edit is `wide` if
+    a change stands outside of functions: then goals of others may fail too.
+    """
 
     name: str
     changes: list
     functions: list = field(default_factory=list)
+    wide: bool = False
 
     def apply(self, folder):
         """Changes the files below the folder, or raises BadEdit."""
@@ -63,41 +69,78 @@ class Edit:
                 source.write(text.replace(old, new))
 
     def meets(self, other):
-        """Whether the two change one function, or one writes a text that the other changes."""
+        """Whether the two can't share a check: one is wide, they change one function, or one writes a text that the other changes."""
         one_function = any(function in other.functions for function in self.functions)
-        return one_function or self.writes_text_of(other) or other.writes_text_of(self)
+        return self.wide or other.wide or one_function or self.writes_text_of(other) or other.writes_text_of(self)
 
     def writes_text_of(self, other):
         """Whether a new text holds a text that the other changes."""
         return any(old in new for _, _, new in self.changes for _, old, _ in other.changes)
 
 
-def functions_of(folder, file):
-    """The functions of a source file, which `rt fmt` has laid out: each ends with a brace below its `fn`."""
+def text_of(folder, file):
     with open(os.path.join(folder, file), encoding="utf-8") as source:
-        lines = source.read().split("\n")
+        return source.read()
+
+
+def body_of(lines, number, indent):
+    """The lines, from 0, that open and end the body of the function that begins at a line, as `rt fmt` has laid it out. No line opens a body that ends in
+    its first line, nor that of a trait's method without one."""
+    for at in range(number, len(lines)):
+        line = lines[at]
+        if line == indent + "{" or line.endswith(" {") and (at == number or line.startswith(indent + ")")):
+            return at, lines.index(indent + "}", at)
+        if line == indent + "{}" or at == number and line.endswith("}") or line.endswith(";") and lines[at + 1].strip() in ("", "}"):
+            return None, at
+    return None, number
+
+
+def functions_of(folder, file):
+    """The functions of a source file."""
+    lines = text_of(folder, file).split("\n")
     owner = None
     for number, line in enumerate(lines):
         block, begins = BLOCK.match(line), FUNCTION.match(line)
         if block:
             owner = block["type"] + "".join(re.findall(r"(?<!')\b\w+", block["trait"] or ""))
         if begins:
-            ends = (at for at in range(number, len(lines)) if lines[at] == begins[1] + "}")
-            last = number if line.endswith("}") else next(ends, number)
+            body, last = body_of(lines, number, begins[1])
             first = number
             while lines[first - 1].startswith((begins[1] + "#[", begins[1] + "///")):
                 first -= 1
-            yield Function(file, owner if begins[1] else "", begins[2], first + 1, last + 1)
+            yield Function(file, owner if begins[1] else "", begins[2], first + 1, body and body + 1, last + 1)
+
+
+def place_of(text, old):
+    """Where the text that is changed begins, past its spaces."""
+    return text.find(old) + len(old) - len(old.lstrip())
 
 
 def changed_function(folder, file, old):
     """The innermost function that holds the text, or None."""
-    with open(os.path.join(folder, file), encoding="utf-8") as source:
-        text = source.read()
-    at = text.find(old) + len(old) - len(old.lstrip())
-    line = text.count("\n", 0, at) + 1
+    text = text_of(folder, file)
+    line = text.count("\n", 0, place_of(text, old)) + 1
     found = [it for it in functions_of(folder, file) if it.holds(file, line)] if file.startswith("src/") else []
     return max(found, key=lambda it: it.first, default=None)
+
+
+def changed_constant(folder, file, old):
+    """The name of the constant whose item holds the text, or None. A blank line stands between two items."""
+    text = text_of(folder, file)
+    at = place_of(text, old)
+    item = text[text.rfind("\n\n", 0, at) + 1 : text.find("\n\n", at)]
+    constant = CONSTANT.search(item)
+    return constant and constant[1]
+
+
+def functions_naming(folder, words):
+    """The functions of the crate in the folder that name one of these constants."""
+    for place, _, names in os.walk(os.path.join(folder, "src")):
+        for file in (os.path.relpath(os.path.join(place, name), folder) for name in names):
+            lines = text_of(folder, file).split("\n")
+            for function in functions_of(folder, file):
+                if words & set(re.findall(r"\w+", "\n".join(lines[function.first - 1 : function.last]))):
+                    yield function
 
 
 def read_edit(folder, path):
@@ -113,7 +156,9 @@ def read_edit(folder, path):
             elif word == "new":
                 changes.append((file, old, rest[1:]))
     places = [changed_function(folder, file, old) for file, old, _ in changes]
-    return Edit(os.path.basename(path), changes, places if all(places) else [])
+    constants = {changed_constant(folder, file, old) for (file, old, _), place in zip(changes, places) if not place}
+    functions = {*filter(None, places), *functions_naming(folder, constants - {None})}
+    return Edit(os.path.basename(path), changes, sorted(functions, key=Function.path), None in places)
 
 
 def edits_of(folder):
@@ -124,11 +169,11 @@ def edits_of(folder):
 
 
 def in_groups(edits):
-    """Groups of edits that can share one check. An edit outside of functions has a group of its own."""
+    """Groups of edits that can share one check. A wide edit has a group of its own, behind the others: it makes anew what a check has kept."""
     groups = []
-    for edit in edits:
-        fitting = (group for group in groups if group[0].functions and not any(edit.meets(other) for other in group))
-        group = next(fitting, None) if edit.functions else None
+    for edit in sorted(edits, key=lambda it: it.wide):
+        fitting = (group for group in groups if not any(edit.meets(other) for other in group))
+        group = next(fitting, None)
         if group is None:
             groups.append([edit])
         else:

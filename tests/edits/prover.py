@@ -6,6 +6,8 @@ import subprocess
 import sys
 import tempfile
 
+from left_out import leave_out_bodies
+
 KIT_PROGRAMS = os.path.dirname(os.path.realpath(shutil.which("rt") or "rt"))
 sys.path.insert(0, KIT_PROGRAMS)
 import rtlib  # noqa: E402  (the kit's own library, which knows how a crate of crates.txt is checked)
@@ -23,10 +25,11 @@ NOT_COMPILED = re.compile(r".*\berror\[[\w-]+\]")
 
 
 class Report:
-    """What a check said."""
+    """What a check said. `left_out` are the functions that were checked without their bodies."""
 
-    def __init__(self, status, text):
+    def __init__(self, status, text, left_out=()):
         self.status = status
+        self.left_out = left_out
         self.lines = text.rstrip("\n").split("\n")
         self.refused = status == 1 and self.lines[-1].startswith(("logic=not-proved", "only="))
         self.proved = status == 0
@@ -42,6 +45,11 @@ class Report:
         """Whether a goal of the function isn't proved."""
         return any(function.holds(file, line) for file, line in self.places)
 
+    def names_others(self, functions):
+        """Whether a goal isn't proved outside of the functions and those without their bodies."""
+        known = [*functions, *self.left_out]
+        return any(not any(it.holds(file, line) for it in known) for file, line in self.places)
+
 
 class Prover:
     """Checks copies of one crate of a repository whose libraries are built. What a check proves serves the next one."""
@@ -56,20 +64,22 @@ class Prover:
     def __exit__(self, *_):
         shutil.rmtree(self.kept, ignore_errors=True)
 
-    def check(self, edits, functions=()):
-        """Checks a copy of the crate with the edits in it: these functions and those that they call, or else all."""
-        report = self.checked(edits, [it.path() for it in functions])
-        return self.checked(edits, []) if report.status == NO_FUNCTION and functions else report
+    def check(self, edits, functions=(), whole=True):
+        """Checks a copy of the crate with the edits in it: these functions and those that they call, or else all. Where it isn't whole, the bodies of the
+        others are left out."""
+        report = self.checked(edits, functions, whole)
+        return self.checked(edits, [], True) if report.status == NO_FUNCTION and functions else report
 
-    def checked(self, edits, paths):
+    def checked(self, edits, functions, whole):
         with tempfile.TemporaryDirectory(prefix="toxi-edited-") as copy:
             for part in rtlib.PARTS:
                 if os.path.isdir(f"{self.crate.folder}/{part}"):
                     shutil.copytree(f"{self.crate.folder}/{part}", f"{copy}/{part}")
             for edit in edits:
                 edit.apply(copy)
+            left_out = [] if whole else leave_out_bodies(copy, functions)
             words = [*self.crate.words(["--jobs", "1"], keeps=False), "--incremental", self.kept]
-            words += [word for path in paths for word in ("--only", path)]
+            words += [word for it in functions for word in ("--only", it.path())]
             ran = subprocess.run(
                 [*GUARDED, rtlib.RATTLE, "check", *words],
                 cwd=copy,
@@ -79,4 +89,4 @@ class Prover:
                 errors="replace",
                 check=False,
             )
-        return Report(ran.returncode, ran.stdout)
+        return Report(ran.returncode, ran.stdout, left_out)

@@ -1,0 +1,49 @@
+"""Bodies that a check leaves out, since only other functions are tried."""
+import os
+import re
+import shutil
+
+from edits import functions_of, text_of
+
+# What a body that is left out says. It is not proved, and takes next to no time.
+NO_BODY = "unreachable!()"
+# Attributes of a proof.
+OF_PROOF = re.compile(r" *#\[(tactic|cycle)\b")
+
+
+def leave_out_bodies(folder, tried):
+    """Leaves out the bodies of the crate in the folder, but for those of the tried functions: what these call is known to them by its clauses alone.
+    Each line keeps its number. Returns the functions that are left out."""
+    left = [it for file in files_in(folder, "src") for it in leave_out_of(folder, file, tried)]
+    for file in files_in(folder, "proofs"):
+        if any(it.holds(file, 0) for it in left):
+            # What is said of a proof may not fit the function without its body, as where that called itself.
+            os.remove(os.path.join(folder, file))
+    return left
+
+
+def files_in(folder, part):
+    """The files of a part of the crate in the folder, by their paths from there."""
+    places = os.walk(os.path.join(folder, part))
+    return [os.path.relpath(os.path.join(place, name), folder) for place, _, names in places for name in names]
+
+
+def leave_out_of(folder, file, tried):
+    """Leaves out the bodies of a file."""
+    lines = text_of(folder, file).split("\n")
+    left = [it for it in functions_of(folder, file) if can_be_left_out(it, lines, tried)]
+    for function in left:
+        for at in range(function.first - 1, function.last - 1):
+            if at >= function.body or OF_PROOF.match(lines[at]):
+                lines[at] = NO_BODY if at == function.body else ""
+    with open(os.path.join(folder, file), "w", encoding="utf-8") as source:
+        source.write("\n".join(lines))
+    return left
+
+
+def can_be_left_out(function, lines, tried):
+    """Whether it has a body of several lines and none of the tried functions stands in it. A constant's value may come from a `const fn`."""
+    has_body = function.body is not None and function.last - function.body > 1
+    if not has_body or "const fn" in "".join(lines[function.first - 1 : function.body]):
+        return False
+    return not any(it.file == function.file and function.first <= it.first <= function.last for it in tried)
