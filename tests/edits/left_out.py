@@ -7,8 +7,8 @@ from edits import functions_of, text_of
 
 # What a body that is left out says. It is not proved, and takes next to no time.
 NO_BODY = "unreachable!()"
-# Attributes of a proof.
-OF_PROOF = re.compile(r" *#\[(tactic|cycle)\b")
+# A constant's value may come from a body.
+CONSTANT_FUNCTION = re.compile(r"\bconst fn\b")
 
 
 def leave_out_bodies(folder, tried):
@@ -29,12 +29,14 @@ def files_in(folder, part):
 
 
 def leave_out_of(folder, file, tried):
-    """Leaves out the bodies of a file."""
+    """Leaves out the bodies of a file, unless some call each other: these are proved together."""
     lines = text_of(folder, file).split("\n")
+    if any(line.lstrip().startswith("#[cycle(") for line in lines):
+        return []
     left = [it for it in functions_of(folder, file) if can_be_left_out(it, lines, tried)]
     for function in left:
         for at in range(function.first - 1, function.last - 1):
-            if at >= function.body or OF_PROOF.match(lines[at]):
+            if at >= function.body or lines[at].lstrip().startswith("#[tactic("):
                 lines[at] = NO_BODY if at == function.body else ""
     with open(os.path.join(folder, file), "w", encoding="utf-8") as source:
         source.write("\n".join(lines))
@@ -42,8 +44,8 @@ def leave_out_of(folder, file, tried):
 
 
 def can_be_left_out(function, lines, tried):
-    """Whether it has a body of several lines and none of the tried functions stands in it. A constant's value may come from a `const fn`."""
+    """Whether it has a body of several lines, and none of the tried functions stands in it."""
     has_body = function.body is not None and function.last - function.body > 1
-    if not has_body or "const fn" in "".join(lines[function.first - 1 : function.body]):
+    if not has_body or CONSTANT_FUNCTION.search("\n".join(lines[function.first - 1 : function.body])):
         return False
     return not any(it.file == function.file and function.first <= it.first <= function.last for it in tried)
