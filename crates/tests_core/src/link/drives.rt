@@ -1,0 +1,321 @@
+//! Driven directions beside `deliver`, under schedules drawn at random.
+ghost use Rattle.std.specs.Prelude.{◌≡◌, ◌<◌, false, Some, MatchResult};
+ghost use Rattle.tox_time.specs.Time.{IsInstant};
+ghost use Rattle.tox_link.specs.direction.Driven.{IsAtEnd, IsReady};
+ghost use Rattle.tox_link.specs.direction.Follows.{IsHeld, IsNew};
+ghost use Rattle.tox_link.specs.Reports.{written_before};
+
+use crate::comparing::assert_equal_at;
+use crate::link::link_ends::{Noted, RestingClock};
+use crate::link::polled_ends::BusyEnd;
+use crate::link::schedules::drawn_chain;
+use rand_pcg::Lcg64Xsh32;
+use std::alloc::{AllocError, Global};
+use std::process::Abort;
+use std::sync::Arc;
+use std::sync::atomic::{AtomicU64, Ordering};
+use std::test::Fail;
+use tests_support::{below, drawn_words, table_of};
+use tox_compile::compile;
+use tox_defs::Chain;
+use tox_link::{LinkEvent, LinkFault, PolledLink, Progress, drive, finish};
+use tox_plan::deliver;
+use tox_time::{
+    ArrivalFault, Arrivals, Ending, MemorySink, MemorySource, Micros, Outcome, SliceList,
+};
+use tox_words::{Words, WordsFault};
+
+/// More drives than a drawn direction takes.
+const MAX_DRIVES: usize = 1_000_000;
+
+/// Drives a direction until it has ended or broken off. The clock goes on while it waits.
+fn drive_on(
+    rt: &(impl Abort + AllocGlobal),
+    generator: &mut Lcg64Xsh32,
+    link: &mut PolledLink,
+    clock: &RestingClock,
+    notes: &mut Noted,
+    source: &mut BusyEnd<MemorySource>,
+    sink: &mut BusyEnd<MemorySink>,
+) -> Result<Ending, LinkFault>
+    requires ready { IsReady IsInstant link.old
+        (Some source.old.end.bytes) source.old.end.failed }
+    requires working { sink.old.end.failed ≡ false }
+    ensures held { IsHeld link.new }
+    ensures driven { MatchResult result (IsAtEnd IsInstant link.new)
+        (λ fault. written_before fault ≡ link.new.written) }
+{
+    let mut scratch = [0; 16_384];
+    for _ in 0..MAX_DRIVES {
+        match drive(link, rt.alloc(), clock, notes, source, sink, &mut scratch) {
+            Ok(Progress::Again) => {}
+            Ok(Progress::Waits(until)) => go_on(generator, clock, until),
+            Ok(Progress::Ended(ending)) => return Ok(ending),
+            Err(fault) => return Err(fault),
+        }
+    }
+    panic!(rt; "no end")
+}
+
+/// Moves the clock on: to the instant that is waited for, or by a drawn time.
+fn go_on(generator: &mut Lcg64Xsh32, clock: &RestingClock, until: Option<Micros>) {
+    let now = clock.micros.load(Ordering::SeqCst);
+    let drawn = now.saturating_add(u64::from(below(generator, 1500)));
+    let next = match until {
+        Some(until) if below(generator, 2) == 0 => until.get().max(now),
+        _ => drawn,
+    };
+    clock.micros.store(next, Ordering::SeqCst);
+}
+
+/// The words that a seed draws.
+fn words_of(alloc: Global, seed: u64) -> Result<Words, WordsFault> {
+    drawn_words(alloc, &mut Lcg64Xsh32::new(seed, 4))
+}
+
+/// A direction under the chain and the words of a seed. It keeps the words only if it draws any.
+fn link_of(rt: &(impl Abort + AllocGlobal), chain: &Chain, seed: u64) -> PolledLink
+    ensures fresh { IsNew result }
+    ensures held { IsHeld result }
+{
+    let words = words_of(rt.alloc(), seed).expect(rt, "words");
+    let plan = compile(chain, &words);
+    let link = if plan.draws() {
+        PolledLink::new(rt.alloc(), plan, words)
+    } else {
+        PolledLink::without_words(rt.alloc(), plan)
+    };
+    link.expect(rt, "memory")
+}
+
+/// Bytes that tell their position, up to 600 of them.
+pub fn drawn_bytes(alloc: Global, generator: &mut Lcg64Xsh32) -> Result<Vec<u8>, AllocError> {
+    let mut bytes = Vec::new(alloc);
+    for nth in 0..below(generator, 600) {
+        bytes.push((nth % 251) as u8)?;
+    }
+    Ok(bytes)
+}
+
+/// At one call in eight of those that fail, which one.
+fn drawn_fault(generator: &mut Lcg64Xsh32) -> Option<u64> {
+    if below(generator, 8) == 0 {
+        Some(u64::from(1 + below(generator, 20)))
+    } else {
+        None
+    }
+}
+
+/// What a log heard.
+fn heard(alloc: Global, notes: &Noted) -> Result<Arrivals, ArrivalFault> {
+    let mut arrivals = Arrivals::new(alloc);
+    for event in notes.events.as_slice() {
+        match event {
+            LinkEvent::Piece(len, instant) => arrivals.push(*len, *instant)?,
+            LinkEvent::SourceEnd(instant) => arrivals.eof(*instant)?,
+            LinkEvent::Wrote(_, _) => {}
+        }
+    }
+    Ok(arrivals)
+}
+
+/// The instants of the bytes that a log said.
+fn said(alloc: Global, notes: &Noted) -> Result<Vec<u64>, AllocError> {
+    let mut slices = SliceList::new(alloc);
+    for event in notes.events.as_slice() {
+        if let LinkEvent::Wrote(slice, _) = event {
+            slices.push(*slice)?;
+        }
+    }
+    table_of(alloc, &slices)
+}
+
+/// How a direction reports that it ended, and how many bytes it says that it wrote.
+#[derive(Drop)]
+pub struct DrivenEnding {
+    ending: Ending,
+    written: u64,
+}
+
+/// What a drawn direction reported, noted and wrote.
+#[derive(Drop)]
+pub struct DrivenDirection {
+    pub answer: Result<DrivenEnding, LinkFault>,
+    pub notes: Noted,
+    pub written: Vec<u8>,
+}
+
+/// A source of these bytes, which gives as many a call as the generator draws.
+fn drawn_source(generator: &mut Lcg64Xsh32, bytes: Vec<u8>, seed: u64) -> BusyEnd<MemorySource>
+    ensures { result.end.failed ≡ false }
+{
+    let most = 1 + below(generator, 60) as usize;
+    let reader = MemorySource::new(bytes, most, drawn_fault(generator));
+    BusyEnd::new(reader, seed)
+}
+
+/// A sink with room for 600 bytes, which takes as many a call as the generator draws.
+fn drawn_sink(
+    rt: &(impl Abort + AllocGlobal),
+    generator: &mut Lcg64Xsh32,
+    seed: u64,
+) -> BusyEnd<MemorySink>
+    ensures { result.end.failed ≡ false }
+{
+    let most = 1 + below(generator, 60) as usize;
+    let writer = MemorySink::new(rt.alloc(), 600, most, drawn_fault(generator));
+    BusyEnd::new(writer.expect(rt, "memory"), seed)
+}
+
+/// Drives a direction under a chain to its end. Its ends give and take as the generator draws.
+pub fn driven_under(
+    rt: &(impl Abort + AllocGlobal),
+    generator: &mut Lcg64Xsh32,
+    chain: &Chain,
+    bytes: Vec<u8>,
+    seed: u64,
+) -> DrivenDirection {
+    let mut notes = Noted {
+        events: Vec::new(rt.alloc()),
+    };
+    let source = drawn_source(generator, bytes, seed);
+    let mut sink = drawn_sink(rt, generator, seed);
+    let link = link_of(rt, chain, seed);
+    let answer = driven_to_end(rt, generator, link, &mut notes, source, &mut sink);
+    let written = sink.end.bytes().to_vec(rt.alloc()).expect(rt, "memory");
+    DrivenDirection {
+        answer,
+        notes,
+        written,
+    }
+}
+
+/// Drives a direction from its start to its end.
+fn driven_to_end(
+    rt: &(impl Abort + AllocGlobal),
+    generator: &mut Lcg64Xsh32,
+    mut link: PolledLink,
+    notes: &mut Noted,
+    mut source: BusyEnd<MemorySource>,
+    sink: &mut BusyEnd<MemorySink>,
+) -> Result<DrivenEnding, LinkFault>
+    requires fresh { IsNew link }
+    requires held { IsHeld link }
+    requires gives { source.end.failed ≡ false }
+    requires working { sink.old.end.failed ≡ false }
+{
+    let micros = Arc::new(rt.alloc(), AtomicU64::new(0)).expect(rt, "memory");
+    let clock = RestingClock { micros };
+    let driven = drive_on(rt, generator, &mut link, &clock, notes, &mut source, sink);
+    let answer = finish(link, &clock, driven, source);
+    match &answer {
+        Ok(timed) => Ok(DrivenEnding {
+            ending: timed.report.ending,
+            written: timed.report.written,
+        }),
+        Err(fault) => Err(*fault),
+    }
+}
+
+/// The instants of the bytes that a direction said, those that are due, and the ending that is due.
+#[derive(Drop)]
+struct Comparison {
+    said: Vec<u64>,
+    due: Vec<u64>,
+    ending: Ending,
+}
+
+/// What a log says, beside what is delivered of what it heard.
+fn comparison_of(
+    alloc: Global,
+    notes: &Noted,
+    chain: &Chain,
+    seed: u64,
+) -> Result<Comparison, Fail> {
+    let said = said(alloc, notes)?;
+    let arrivals = heard(alloc, notes)?;
+    let outcome = due(alloc, chain, seed, &arrivals)?;
+    Ok(Comparison {
+        said,
+        due: table_of(alloc, &outcome.slices)?,
+        ending: outcome.ending,
+    })
+}
+
+/// What is delivered of these arrivals, under the words of a seed.
+fn due(alloc: Global, chain: &Chain, seed: u64, arrivals: &Arrivals) -> Result<Outcome, Fail> {
+    let words = words_of(alloc, seed)?;
+    Ok(deliver(alloc, chain, &words, arrivals)?)
+}
+
+impl Comparison {
+    /// A direction that ended said and wrote all that is due.
+    fn compare_all(&self, rt: &impl Abort, driven: &DrivenEnding, written: usize, seed: u64) {
+        assert_equal_at(rt, &self.said, &self.due, seed);
+        assert_equal_at(rt, &driven.ending, &self.ending, seed);
+        assert_equal_at(rt, &driven.written, &(written as u64), seed);
+    }
+
+    /// A direction that broke off said and wrote the first of what is due.
+    fn compare_part(&self, rt: &impl Abort, fault: &LinkFault, written: usize, seed: u64) {
+        let due = self.due.get(..self.said.len());
+        assert_equal_at(rt, &fault.written(), &(written as u64), seed);
+        assert_equal_at(rt, &Some(self.said.as_slice()), &due, seed);
+        assert!(rt; written <= self.due.len(), "seed {seed}");
+    }
+}
+
+fn compare_bytes(rt: &impl Abort, written: &[u8], bytes: &[u8], seed: u64) {
+    let front = bytes.get(..written.len());
+    assert_equal_at(rt, &Some(written), &front, seed);
+}
+
+/// Compares a direction that a seed draws with what is delivered. Returns whether it broke off.
+fn compare(rt: &(impl Abort + AllocGlobal), seed: u64) -> Result<bool, Fail> {
+    let generator = &mut Lcg64Xsh32::new(seed, 3);
+    let chain = drawn_chain(rt, generator);
+    let bytes = drawn_bytes(rt.alloc(), generator)?;
+    compare_driven(rt, generator, &chain, &bytes, seed)
+}
+
+/// Compares a direction of these bytes under this chain with what is delivered. Returns whether it broke off.
+fn compare_driven(
+    rt: &(impl Abort + AllocGlobal),
+    generator: &mut Lcg64Xsh32,
+    chain: &Chain,
+    bytes: &Vec<u8>,
+    seed: u64,
+) -> Result<bool, Fail> {
+    let driven = driven_under(rt, generator, chain, bytes.clone()?, seed);
+    compare_bytes(rt, &driven.written, bytes, seed);
+    compare_log(rt, &driven, chain, seed)?;
+    Ok(driven.answer.is_err())
+}
+
+/// Compares what a direction said, and how it ended, with what is due.
+fn compare_log(
+    rt: &(impl Abort + AllocGlobal),
+    driven: &DrivenDirection,
+    chain: &Chain,
+    seed: u64,
+) -> Result<(), Fail> {
+    let comparison = comparison_of(rt.alloc(), &driven.notes, chain, seed)?;
+    let written = driven.written.len();
+    match &driven.answer {
+        Ok(end) => comparison.compare_all(rt, end, written, seed),
+        Err(fault) => comparison.compare_part(rt, fault, written, seed),
+    }
+    Ok(())
+}
+
+#[test]
+fn drives_write_what_is_delivered(rt: HostRuntime) -> Result<(), Fail> {
+    let mut broken = 0u64;
+    for seed in 0..1000 {
+        if compare(&rt, seed)? {
+            broken = broken.saturating_add(1);
+        }
+    }
+    assert!(rt; 10 < broken && broken < 500);
+    Ok(())
+}

@@ -1,0 +1,119 @@
+//! The compiled runner beside the stages one after another, on chains, words and arrivals drawn at random.
+use crate::plan::orders::compare_outcomes;
+use crate::plan::staged::staged_outcome;
+use rand_pcg::Lcg64Xsh32;
+use std::alloc::Global;
+use std::process::Abort;
+use std::test::Fail;
+use tests_support::{below, drawn_words};
+use tox_defs::{Chain, Toxic};
+use tox_plan::deliver;
+use tox_time::{Arrivals, Micros};
+use tox_words::{Lanes, Words};
+
+fn toxic(generator: &mut Lcg64Xsh32) -> Toxic {
+    match below(generator, 7) {
+        0 => Toxic::Latency {
+            latency: below(generator, 4),
+            jitter: below(generator, 3),
+            until: below(generator, 6),
+        },
+        1 => Toxic::Bandwidth {
+            rate: 1 + below(generator, 3),
+            until: below(generator, 6),
+        },
+        2 => Toxic::SlowClose {
+            delay: below(generator, 3),
+        },
+        3 => Toxic::Timeout {
+            timeout: below(generator, 9),
+        },
+        4 => Toxic::ResetPeer {
+            timeout: below(generator, 9),
+        },
+        5 => slicer(generator),
+        _ => Toxic::LimitData {
+            bytes: u64::from(below(generator, 300)),
+        },
+    }
+}
+
+fn slicer(generator: &mut Lcg64Xsh32) -> Toxic {
+    let average_size = 1 + below(generator, 40);
+    Toxic::Slicer {
+        average_size,
+        size_variation: below(generator, average_size),
+        delay: u64::from(below(generator, 900)),
+        until: below(generator, 6),
+    }
+}
+
+/// A chain of 16 or 32 lanes and up to 5 toxics, of which a timeout comes seldom.
+fn chain(rt: &impl Abort, generator: &mut Lcg64Xsh32) -> Chain {
+    let lanes = match below(generator, 2) {
+        0 => Lanes::Sixteen,
+        _ => Lanes::ThirtyTwo,
+    };
+    let mut chain = Chain::with_lanes(lanes);
+    for _ in 0..below(generator, 6) {
+        push_toxic(rt, generator, &mut chain);
+    }
+    chain
+}
+
+/// Adds a toxic to a chain, but of six timeouts about one.
+fn push_toxic(rt: &impl Abort, generator: &mut Lcg64Xsh32, chain: &mut Chain) {
+    let toxic = toxic(generator);
+    if matches!(toxic, Toxic::Timeout { .. }) && below(generator, 6) != 0 {
+        return;
+    }
+    let toxicity = if below(generator, 4) == 0 { 500 } else { 1000 };
+    assert!(rt; toxic.check().is_ok());
+    assert!(rt; chain.push(toxic, toxicity).is_ok());
+}
+
+fn arrivals(alloc: Global, generator: &mut Lcg64Xsh32) -> Result<Arrivals, Fail> {
+    let mut arrivals = Arrivals::new(alloc);
+    let mut instant = Micros::ZERO;
+    for _ in 0..below(generator, 6) {
+        instant = instant.after(u64::from(below(generator, 4000)));
+        arrivals.push(u64::from(1 + below(generator, 150)), instant)?;
+    }
+    if below(generator, 2) == 0 {
+        arrivals.eof(instant.after(u64::from(below(generator, 4000))))?;
+    }
+    Ok(arrivals)
+}
+
+/// Compares stages and runner on what a seed draws.
+fn compare(rt: &(impl Abort + AllocGlobal), seed: u64) -> Result<(), Fail> {
+    let alloc = rt.alloc();
+    let generator = &mut Lcg64Xsh32::new(seed, 1);
+    let chain = chain(rt, generator);
+    let words = drawn_words(alloc, generator)?;
+    let arrivals = arrivals(alloc, generator)?;
+    compare_ways(rt, &chain, &words, &arrivals, seed)
+}
+
+/// Compares what stages and runner deliver of these arrivals.
+fn compare_ways(
+    rt: &(impl Abort + AllocGlobal),
+    chain: &Chain,
+    words: &Words,
+    arrivals: &Arrivals,
+    seed: u64,
+) -> Result<(), Fail> {
+    let alloc = rt.alloc();
+    let delivered = deliver(alloc, chain, words, arrivals)?;
+    let staged = staged_outcome(rt, alloc, chain, words, arrivals)?;
+    compare_outcomes(rt, alloc, &staged, &delivered, seed)?;
+    Ok(())
+}
+
+#[test]
+fn stages_and_runner_agree(rt: HostRuntime) -> Result<(), Fail> {
+    for seed in 0..4000 {
+        compare(&rt, seed)?;
+    }
+    Ok(())
+}

@@ -1,0 +1,11 @@
+//! Tests of the calls of tox_proxy: texts, served links over sockets of this machine, and each request for memory refused.
+#![tactic(auto)]
+
+#[cfg(test)]
+mod comparing;
+#[cfg(test)]
+mod memory;
+#[cfg(test)]
+mod serve;
+#[cfg(test)]
+mod texts;

@@ -1,0 +1,5 @@
+//! Tests in which each request for memory is refused.
+mod networks;
+mod refusing;
+mod runs;
+mod values;

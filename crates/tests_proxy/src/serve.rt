@@ -1,0 +1,5 @@
+//! Tests of served links over sockets of this machine, with ample and with too little memory.
+mod peers;
+mod scarce_serving;
+mod scarce_starts;
+mod serving;
