@@ -116,18 +116,14 @@ def place_of(text, old):
     return text.find(old) + len(old) - len(old.lstrip())
 
 
-def changed_function(folder, file, old):
-    """The innermost function that holds the text, or None."""
-    text = text_of(folder, file)
-    line = text.count("\n", 0, place_of(text, old)) + 1
+def changed_function(folder, file, line):
+    """The innermost function that holds the line of the file, or None."""
     found = [it for it in functions_of(folder, file) if it.holds(file, line)] if file.startswith("src/") else []
     return max(found, key=lambda it: it.first, default=None)
 
 
-def changed_constant(folder, file, old):
-    """The name of the constant whose item holds the text, or None. A blank line stands between two items."""
-    text = text_of(folder, file)
-    at = place_of(text, old)
+def changed_constant(text, at):
+    """The name of the constant whose item holds this place of a text, or None. A blank line stands between two items."""
     item = text[text.rfind("\n\n", 0, at) + 1 : text.find("\n\n", at)]
     constant = CONSTANT.search(item)
     return constant and constant[1]
@@ -143,6 +139,17 @@ def functions_naming(folder, words):
                     yield function
 
 
+def places_of(folder, changes):
+    """For each change the function in which it stands, and the constant whose item it stands in. A later change may find its text only where an earlier one
+    has changed another place of that text. Lines stay where they are."""
+    texts = {}
+    for file, old, new in changes:
+        text = texts.get(file) or text_of(folder, file)
+        at = place_of(text, old)
+        texts[file] = text.replace(old, new)
+        yield changed_function(folder, file, text.count("\n", 0, at) + 1), changed_constant(text, at)
+
+
 def read_edit(folder, path):
     """Reads an edit of the crate in the folder."""
     changes, file, old = [], None, None
@@ -155,10 +162,11 @@ def read_edit(folder, path):
                 old = rest[1:]
             elif word == "new":
                 changes.append((file, old, rest[1:]))
-    places = [changed_function(folder, file, old) for file, old, _ in changes]
-    constants = {changed_constant(folder, file, old) for (file, old, _), place in zip(changes, places) if not place}
-    functions = {*filter(None, places), *functions_naming(folder, constants - {None})}
-    return Edit(os.path.basename(path), changes, sorted(functions, key=Function.path), None in places)
+    places = list(places_of(folder, changes))
+    constants = {constant for function, constant in places if not function and constant}
+    functions = {*(function for function, _ in places if function), *functions_naming(folder, constants)}
+    wide = any(function is None for function, _ in places)
+    return Edit(os.path.basename(path), changes, sorted(functions, key=Function.path), wide)
 
 
 def edits_of(folder):
