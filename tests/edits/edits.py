@@ -78,6 +78,12 @@ class Edit:
         return any(old in new for _, _, new in self.changes for _, old, _ in other.changes)
 
 
+def files_in(folder, part):
+    """The files of a part of the crate in the folder, by their paths from there."""
+    places = os.walk(os.path.join(folder, part))
+    return [os.path.relpath(os.path.join(place, name), folder) for place, _, names in places for name in names]
+
+
 def text_of(folder, file):
     with open(os.path.join(folder, file), encoding="utf-8") as source:
         return source.read()
@@ -131,12 +137,11 @@ def changed_constant(text, at):
 
 def functions_naming(folder, words):
     """The functions of the crate in the folder that name one of these constants."""
-    for place, _, names in os.walk(os.path.join(folder, "src")):
-        for file in (os.path.relpath(os.path.join(place, name), folder) for name in names):
-            lines = text_of(folder, file).split("\n")
-            for function in functions_of(folder, file):
-                if words & set(re.findall(r"\w+", "\n".join(lines[function.first - 1 : function.last]))):
-                    yield function
+    for file in files_in(folder, "src"):
+        lines = text_of(folder, file).split("\n")
+        for function in functions_of(folder, file):
+            if words & set(re.findall(r"\w+", "\n".join(lines[function.first - 1 : function.last]))):
+                yield function
 
 
 def places_of(folder, changes):

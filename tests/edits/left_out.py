@@ -1,9 +1,8 @@
 """Bodies that a check leaves out, since only other functions are tried."""
 import os
 import re
-import shutil
 
-from edits import functions_of, text_of
+from edits import files_in, functions_of, text_of
 
 # What a body that is left out says. It is not proved, and takes next to no time.
 NO_BODY = "unreachable!()"
@@ -20,12 +19,6 @@ def leave_out_bodies(folder, tried):
             # What is said of a proof may not fit the function without its body, as where that called itself.
             os.remove(os.path.join(folder, file))
     return left
-
-
-def files_in(folder, part):
-    """The files of a part of the crate in the folder, by their paths from there."""
-    places = os.walk(os.path.join(folder, part))
-    return [os.path.relpath(os.path.join(place, name), folder) for place, _, names in places for name in names]
 
 
 def leave_out_of(folder, file, tried):
