@@ -1,189 +1,96 @@
-//! An argument of a command. It is made without memory, so only the step to `clap` may fail.
+//! An argument of a command: a row of the command's table, and how `clap` is told of it.
 use clap::builder::ValueParser;
-use clap::{Arg, ArgAction, value_parser};
+use clap::{Arg, ArgAction};
 use std::alloc::{AllocError, Global};
 
-/// An argument: its name, what it takes, and which others it stands beside.
+/// An argument. A table begins with one of the constants below, and says what is different.
 #[derive(Clone, Copy)]
 pub(crate) struct Argument {
-    name: &'static str,
-    /// The name of the value in the help.
-    value: &'static str,
-    help: &'static str,
-    form: Form,
-    reads: Reads,
-    presence: Presence,
-    conflicts: &'static [&'static str],
-    companions: &'static [&'static str],
+    pub(crate) name: &'static str,
+    /// Whether it is written as `--name`. Otherwise its values stand alone.
+    pub(crate) dashed: bool,
+    /// The name of a value in the help. A flag has no value, and doesn't show it.
+    pub(crate) value: &'static str,
+    pub(crate) help: &'static str,
+    /// What a value may be.
+    pub(crate) reads: ValueParser<'static>,
+    /// The fewest values that one use takes.
+    pub(crate) least: usize,
+    /// The most values that one use takes.
+    pub(crate) most: usize,
+    pub(crate) action: ArgAction,
+    /// Whether it must be there.
+    pub(crate) needed: bool,
+    /// It must be there unless one of these is. Empty: it may always be absent.
+    pub(crate) unless: &'static [&'static str],
+    /// It can't stand beside these.
+    pub(crate) without: &'static [&'static str],
+    /// It can't stand without these.
+    pub(crate) beside: &'static [&'static str],
 }
 
-/// How an argument is written.
-#[derive(Clone, Copy)]
-enum Form {
-    /// An option without a value.
-    Flag,
-    /// An option with a value.
-    Option,
-    /// An option with a value, which may be repeated.
-    Options,
-    /// A value without an option.
-    Place,
-    /// So many values or more, without an option.
-    Places(usize),
-}
+/// An option with a text.
+pub(crate) const OPTION: Argument = Argument {
+    name: "",
+    dashed: true,
+    value: "",
+    help: "",
+    reads: ValueParser::String,
+    least: 1,
+    most: 1,
+    action: ArgAction::Set,
+    needed: false,
+    unless: &[],
+    without: &[],
+    beside: &[],
+};
 
-/// What a value may be.
-#[derive(Clone, Copy)]
-enum Reads {
-    Text,
-    OneOf(&'static [&'static str]),
-    /// A number from 0 to 2^64 - 1.
-    Number,
-    /// A number from the first to the second.
-    NumberWithin(u64, u64),
-}
+/// An option with a text, which may be repeated.
+pub(crate) const OPTIONS: Argument = Argument {
+    action: ArgAction::Append,
+    ..OPTION
+};
 
-/// Whether an argument must be there.
-#[derive(Clone, Copy)]
-enum Presence {
-    Optional,
-    Needed,
-    NeededUnless(&'static str),
-}
+/// An option without a value.
+pub(crate) const FLAG: Argument = Argument {
+    reads: ValueParser::Bool,
+    least: 0,
+    most: 0,
+    action: ArgAction::SetTrue,
+    ..OPTION
+};
+
+/// A text without an option.
+pub(crate) const PLACE: Argument = Argument {
+    dashed: false,
+    ..OPTION
+};
+
+/// Texts without an option, as many as there are.
+pub(crate) const PLACES: Argument = Argument {
+    least: 0,
+    most: usize::MAX,
+    action: ArgAction::Append,
+    ..PLACE
+};
 
 impl Argument {
-    /// An option without a value.
-    pub(crate) fn flag(name: &'static str, help: &'static str) -> Argument {
-        Argument::new(name, "", help, Form::Flag)
-    }
-
-    /// An option with a text.
-    pub(crate) fn option(name: &'static str, value: &'static str, help: &'static str) -> Argument {
-        Argument::new(name, value, help, Form::Option)
-    }
-
-    /// An option with a text, which may be repeated.
-    pub(crate) fn options(name: &'static str, value: &'static str, help: &'static str) -> Argument {
-        Argument::new(name, value, help, Form::Options)
-    }
-
-    /// A text without an option.
-    pub(crate) fn place(name: &'static str, value: &'static str, help: &'static str) -> Argument {
-        Argument::new(name, value, help, Form::Place)
-    }
-
-    /// So many texts or more, without an option.
-    pub(crate) fn places(
-        name: &'static str,
-        value: &'static str,
-        help: &'static str,
-        least: usize,
-    ) -> Argument {
-        Argument::new(name, value, help, Form::Places(least))
-    }
-
-    fn new(name: &'static str, value: &'static str, help: &'static str, form: Form) -> Argument {
-        Argument {
-            name,
-            value,
-            help,
-            form,
-            reads: Reads::Text,
-            presence: Presence::Optional,
-            conflicts: &[],
-            companions: &[],
-        }
-    }
-
-    /// Takes one of these texts.
-    pub(crate) fn one_of(mut self, texts: &'static [&'static str]) -> Argument {
-        self.reads = Reads::OneOf(texts);
-        self
-    }
-
-    /// Takes a number from 0 to 2^64 - 1.
-    pub(crate) fn number(mut self) -> Argument {
-        self.reads = Reads::Number;
-        self
-    }
-
-    /// Takes a number from the first to the second.
-    pub(crate) fn within(mut self, least: u64, greatest: u64) -> Argument {
-        self.reads = Reads::NumberWithin(least, greatest);
-        self
-    }
-
-    /// Must be there.
-    pub(crate) fn needed(mut self) -> Argument {
-        self.presence = Presence::Needed;
-        self
-    }
-
-    /// Must be there unless the other is.
-    pub(crate) fn needed_unless(mut self, other: &'static str) -> Argument {
-        self.presence = Presence::NeededUnless(other);
-        self
-    }
-
-    /// Can't stand beside these.
-    pub(crate) fn without(mut self, others: &'static [&'static str]) -> Argument {
-        self.conflicts = others;
-        self
-    }
-
-    /// Can't stand without these.
-    pub(crate) fn beside(mut self, others: &'static [&'static str]) -> Argument {
-        self.companions = others;
-        self
-    }
-
     /// The argument as `clap` has it.
     pub(crate) fn arg<'a>(&self, alloc: Global) -> Result<Arg<'a>, AllocError> {
-        let arg = Arg::new(alloc, self.name).help(self.help);
-        let arg = self
-            .reads
-            .add_to(self.form.add_to(arg, self.name, self.value));
-        self.presence
-            .add_to(arg)?
-            .conflicts_with_all(self.conflicts)?
-            .requires_all(self.companions)
-    }
-}
-
-impl Form {
-    fn add_to<'a>(self, arg: Arg<'a>, name: &'static str, value: &'static str) -> Arg<'a> {
-        match self {
-            Form::Flag => arg.long(name).action(ArgAction::SetTrue),
-            Form::Option => arg.long(name).value_name(value),
-            Form::Options => arg.long(name).value_name(value).action(ArgAction::Append),
-            Form::Place => arg.value_name(value),
-            Form::Places(least) => arg
-                .value_name(value)
-                .num_args(least..)
-                .action(ArgAction::Append),
-        }
-    }
-}
-
-impl Reads {
-    fn add_to<'a>(self, arg: Arg<'a>) -> Arg<'a> {
-        match self {
-            Reads::Text => arg,
-            Reads::OneOf(texts) => arg.value_parser(ValueParser::from(texts)),
-            Reads::Number => arg.value_parser(value_parser!(u64)),
-            Reads::NumberWithin(least, greatest) => {
-                arg.value_parser(ValueParser::unsigned(least, greatest))
-            }
-        }
-    }
-}
-
-impl Presence {
-    fn add_to<'a>(self, arg: Arg<'a>) -> Result<Arg<'a>, AllocError> {
-        match self {
-            Presence::Optional => Ok(arg),
-            Presence::Needed => Ok(arg.required(true)),
-            Presence::NeededUnless(other) => arg.required_unless_present(other),
-        }
+        let arg = Arg::new(alloc, self.name)
+            .help(self.help)
+            .value_name(self.value)
+            .value_parser(self.reads)
+            .num_args(self.least..=self.most)
+            .action(self.action)
+            .required(self.needed);
+        let arg = if self.dashed {
+            arg.long(self.name)
+        } else {
+            arg
+        };
+        arg.required_unless_present_any(self.unless)?
+            .conflicts_with_all(self.without)?
+            .requires_all(self.beside)
     }
 }

@@ -1,38 +1,92 @@
-//! What the commands are given.
-ghost use Rattle.std.specs.Prelude.{◌≤◌};
+//! The arguments that several commands take, and what reads them.
+ghost use Rattle.std.specs.Prelude.{◌≤◌, IfSome};
 
-use tox_words::Lanes;
+use crate::argument::{Argument, FLAG, OPTION, PLACES};
+use clap::ArgMatches;
+use clap::builder::ValueParser;
+use std::alloc::{AllocError, Global};
+use tox_words::MAX_CONNECTIONS;
 
-/// What `dry`, `plan` and `stages` are given.
-#[derive(Drop)]
-pub struct LinkArguments<'a> {
-    pub lanes: Lanes,
-    pub words: Option<&'a str>,
-    pub toxics: Vec<&'a str>,
+pub(crate) const CONFIG: Argument = Argument {
+    name: "config",
+    value: "FILE",
+    help: "The populate file: the proxies, in JSON",
+    needed: true,
+    ..OPTION
+};
+
+pub(crate) const SCRIPT: Argument = Argument {
+    name: "script",
+    value: "FILE",
+    help: "The script: the toxics of connections, in TOML",
+    needed: true,
+    ..OPTION
+};
+
+pub(crate) const PROXY: Argument = Argument {
+    name: "proxy",
+    value: "NAME",
+    help: "The proxy's name",
+    needed: true,
+    ..OPTION
+};
+
+pub(crate) const SEED: Argument = Argument {
+    name: "seed",
+    value: "N",
+    help: "What the random words are made from, 0 to 2^64 - 1",
+    reads: ValueParser::Unsigned(0, u64::MAX),
+    needed: true,
+    ..OPTION
+};
+
+/// An option with a number of connections.
+pub(crate) const CONNECTIONS: Argument = Argument {
+    value: "N",
+    reads: ValueParser::Unsigned(1, MAX_CONNECTIONS),
+    ..OPTION
+};
+
+pub(crate) const JSON: Argument = Argument {
+    name: "json",
+    help: "Prints each line as one JSON object",
+    ..FLAG
+};
+
+/// The logs of a command.
+pub(crate) const FILES: Argument = Argument {
+    name: "files",
+    value: "FILE",
+    help: "The logs; - takes their names from standard input, one a line",
+    least: 1,
+    needed: true,
+    ..PLACES
+};
+
+/// The names of the populate file and of the script file, where both are given.
+pub(crate) fn files_of<'a>(given: &ArgMatches<'a>) -> Option<(&'a str, &'a str)> {
+    given.get_str("config").zip(given.get_str("script"))
 }
 
-/// What `draw` is given.
-#[derive(Drop)]
-pub enum DrawArguments<'a> {
-    /// A link whose arrivals are on standard input.
-    Link(LinkArguments<'a>),
-    /// The name of a log.
-    Log(&'a str),
+/// The number of connections that an option gives, 1 to 1,000,000. `clap` has rejected other values.
+pub(crate) fn connections_of(given: &ArgMatches<'_>, name: &str) -> Option<u64>
+    ensures { IfSome result (λ number. (1 ≤ number) × (number ≤ 1_000_000)) }
+{
+    let number = given.get_one::<u64>(name)?;
+    if number < 1 || MAX_CONNECTIONS < number {
+        return None;
+    }
+    Some(number)
 }
 
-/// What `pick` is given.
-#[derive(Clone, Copy)]
-pub struct PickArguments<'a> {
-    /// The name of the populate file.
-    pub config: &'a str,
-    /// The name of the script file.
-    pub script: &'a str,
-    /// The name of the proxy.
-    pub proxy: &'a str,
-    /// The number of the connection, 1 to 1,000,000.
-    pub conn: u64,
-    /// The name of the stream.
-    pub stream: &'a str,
-    pub seed: u64,
-    pub ghost numbered: { (1 ≤ conn) × (conn ≤ 1_000_000) },
+/// The values of an argument.
+pub(crate) fn strs_of<'a>(
+    alloc: Global,
+    given: &ArgMatches<'a>,
+    name: &str,
+) -> Result<Vec<&'a str>, AllocError> {
+    match given.get_strs(name) {
+        Some(texts) => Vec::from_slice(alloc, texts),
+        None => Ok(Vec::new(alloc)),
+    }
 }

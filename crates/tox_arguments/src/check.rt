@@ -1,9 +1,9 @@
 //! The command `check` and its options.
-use crate::argument::Argument;
-use crate::commands::{command_with, config, files_of, script};
+use crate::argument::{Argument, FLAG};
+use crate::arguments::{CONFIG, SCRIPT, files_of};
+use crate::command::CommandForm;
 use crate::help;
-use clap::{ArgMatches, Command};
-use std::alloc::{AllocError, Global};
+use clap::ArgMatches;
 
 /// What `check` is given.
 #[derive(Clone, Copy)]
@@ -17,24 +17,25 @@ pub struct CheckArguments<'a> {
     pub verbose: bool,
 }
 
-/// The command.
-pub(crate) fn check<'a>(alloc: Global) -> Result<Command<'a>, AllocError> {
-    let strict = Argument::flag(
-        "strict",
-        "Ends with V1 and status 1 where a line was printed",
-    );
-    let verbose = Argument::flag(
-        "verbose",
-        "Prints the numbers of proxies, rules and toxics too",
-    );
-    command_with(
-        alloc,
-        "check",
-        "Prints which rules and toxics of a script have no effect",
-        help::CHECK,
-        &[config().needed(), script().needed(), strict, verbose],
-    )
-}
+pub(crate) const CHECK: CommandForm = CommandForm {
+    name: "check",
+    about: "Prints which rules and toxics of a script have no effect",
+    examples: help::CHECK,
+    arguments: &[
+        CONFIG,
+        SCRIPT,
+        Argument {
+            name: "strict",
+            help: "Ends with V1 and status 1 where a line was printed",
+            ..FLAG
+        },
+        Argument {
+            name: "verbose",
+            help: "Prints the numbers of proxies, rules and toxics too",
+            ..FLAG
+        },
+    ],
+};
 
 /// What the command is asked, where each option that it needs is there.
 pub(crate) fn check_of<'a>(given: &ArgMatches<'a>) -> Option<CheckArguments<'a>> {

@@ -1,8 +1,9 @@
 //! The command line, as `clap` reads it.
-use crate::arguments::{DrawArguments, LinkArguments, PickArguments};
 use crate::check::{CheckArguments, check_of};
-use crate::commands::{connections_of, files_of, toxi};
+use crate::commands::toxi;
 use crate::forecast::{ForecastArguments, forecast_of};
+use crate::link::{DrawArguments, LinkArguments, cap_of, draw_of, link_of};
+use crate::pick::{PickArguments, pick_of};
 use crate::replay::{ONE_FILE, ReplayArguments, replay_of};
 use crate::report::{ReportArguments, report_of};
 use crate::serve::{InlineArguments, ServeArguments, ServeSource, serve_of, source_of};
@@ -12,10 +13,6 @@ use clap::{ArgMatches, Error};
 use std::alloc::{AllocError, Global};
 use std::convert::AsStr;
 use tox_time::Cap;
-use tox_words::Lanes;
-
-/// The room of each ring without `--cap`, in items.
-const DEFAULT_CAP: usize = 4;
 
 /// What the command line asks for.
 #[derive(Drop)]
@@ -158,53 +155,4 @@ fn files_task<'a>(name: &str, given: &ArgMatches<'a>) -> Option<Task<'a>> {
         "migrate" => given.get_str("script").map(Task::Migrate),
         _ => None,
     }
-}
-
-/// What `draw` is given: a log, or a link. `clap` has rejected both.
-fn draw_of<'a>(alloc: Global, given: &ArgMatches<'a>) -> Result<DrawArguments<'a>, AllocError> {
-    match given.get_str("log") {
-        Some(log) => Ok(DrawArguments::Log(log)),
-        None => Ok(DrawArguments::Link(link_of(alloc, given)?)),
-    }
-}
-
-/// The lanes, words and toxics that a command is given.
-fn link_of<'a>(alloc: Global, given: &ArgMatches<'a>) -> Result<LinkArguments<'a>, AllocError> {
-    let toxics = match given.get_strs("toxics") {
-        Some(toxics) => Vec::from_slice(alloc, toxics)?,
-        None => Vec::new(alloc),
-    };
-    Ok(LinkArguments {
-        lanes: lanes_of(given),
-        words: given.get_str("words"),
-        toxics,
-    })
-}
-
-/// The lanes of the chain. `clap` has rejected other values.
-fn lanes_of(given: &ArgMatches<'_>) -> Lanes {
-    match given.get_str("lanes") {
-        Some("32") => Lanes::ThirtyTwo,
-        _ => Lanes::Sixteen,
-    }
-}
-
-/// What `pick` is asked, where each of its options is there.
-fn pick_of<'a>(given: &ArgMatches<'a>) -> Option<PickArguments<'a>> {
-    let conn = connections_of(given, "conn")?;
-    let (config, script) = files_of(given)?;
-    let (proxy, stream) = given.get_str("proxy").zip(given.get_str("stream"))?;
-    Some(PickArguments {
-        config,
-        script,
-        proxy,
-        conn,
-        stream,
-        seed: given.get_one::<u64>("seed")?,
-    })
-}
-
-/// The room of each ring. `clap` has rejected other values.
-fn cap_of(given: &ArgMatches<'_>) -> Cap {
-    Cap::new(given.get_one::<usize>("cap").unwrap_or(DEFAULT_CAP))
 }

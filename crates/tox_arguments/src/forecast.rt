@@ -1,13 +1,11 @@
 //! The command `forecast` and its options.
 ghost use Rattle.std.specs.Prelude.{◌≤◌};
 
-use crate::argument::Argument;
-use crate::commands::{
-    command_with, config, connections, connections_of, files_of, json, proxy, script, seed,
-};
+use crate::argument::{Argument, OPTION};
+use crate::arguments::{CONFIG, CONNECTIONS, JSON, PROXY, SCRIPT, SEED, connections_of, files_of};
+use crate::command::CommandForm;
 use crate::help;
-use clap::{ArgMatches, Command};
-use std::alloc::{AllocError, Global};
+use clap::ArgMatches;
 
 /// What `forecast` is given.
 #[derive(Clone, Copy)]
@@ -30,35 +28,36 @@ pub struct ForecastArguments<'a> {
     pub ghost numbered: { (1 ≤ links) × (links ≤ 1_000_000) },
 }
 
-/// The command.
-pub(crate) fn forecast<'a>(alloc: Global) -> Result<Command<'a>, AllocError> {
-    let stream = Argument::option(
-        "stream",
-        "STREAM",
-        "Only lines of this stream: upstream or downstream",
-    );
-    let named = Argument::option(
-        "where",
-        "NAME",
-        "Only lines with an applied toxic of this name",
-    );
-    command_with(
-        alloc,
-        "forecast",
-        "Prints what the connections of a proxy will meet, and how often each toxic is applied",
-        help::FORECAST,
-        &[
-            config().needed(),
-            script().needed(),
-            proxy(),
-            connections("links", "The number of connections, 1 to 1000000").needed(),
-            seed(),
-            stream,
-            named,
-            json(),
-        ],
-    )
-}
+pub(crate) const FORECAST: CommandForm = CommandForm {
+    name: "forecast",
+    about: "Prints what the connections of a proxy will meet, and how often each toxic is applied",
+    examples: help::FORECAST,
+    arguments: &[
+        CONFIG,
+        SCRIPT,
+        PROXY,
+        Argument {
+            name: "links",
+            help: "The number of connections, 1 to 1000000",
+            needed: true,
+            ..CONNECTIONS
+        },
+        SEED,
+        Argument {
+            name: "stream",
+            value: "STREAM",
+            help: "Only lines of this stream: upstream or downstream",
+            ..OPTION
+        },
+        Argument {
+            name: "where",
+            value: "NAME",
+            help: "Only lines with an applied toxic of this name",
+            ..OPTION
+        },
+        JSON,
+    ],
+};
 
 /// What the command is asked, where each option that it needs is there.
 pub(crate) fn forecast_of<'a>(given: &ArgMatches<'a>) -> Option<ForecastArguments<'a>> {

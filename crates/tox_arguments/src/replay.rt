@@ -1,8 +1,9 @@
 //! The command `replay` and its options.
-use crate::argument::Argument;
-use crate::commands::{command_with, json};
+use crate::argument::{Argument, FLAG, OPTIONS};
+use crate::arguments::{FILES, JSON, strs_of};
+use crate::command::CommandForm;
 use crate::help;
-use clap::{ArgMatches, Command};
+use clap::ArgMatches;
 use std::alloc::{AllocError, Global};
 
 /// What `replay` prints.
@@ -47,46 +48,42 @@ impl<'a> ReplayArguments<'a> {
     }
 }
 
-/// The command.
-pub(crate) fn replay<'a>(alloc: Global) -> Result<Command<'a>, AllocError> {
-    let arrivals = Argument::flag(
-        "arrivals",
-        "Prints what the log heard as the arrivals of `dry`, its bytes as zeros",
-    )
-    .without(&["words", "result"]);
-    let words = Argument::flag("words", "Prints the log's random words, for `dry --words`").without(
-        &["result"],
-    );
-    let result = Argument::flag(
-        "result",
-        "Prints what the toxics mean for what the log heard, with lengths for the bytes",
-    );
-    let other = Argument::options(
-        "as",
-        "TOXIC",
-        "With --result: a toxic in place of the log's; may be repeated",
-    )
-    .beside(&["result"]);
-    let json = json().without(&["arrivals", "words", "result"]);
-    command_with(
-        alloc,
-        "replay",
-        "Says of each log of `serve` whether it is faithful, and how late it was",
-        help::REPLAY,
-        &[arrivals, words, result, other, json, files()],
-    )
-}
-
-/// The logs of a command.
-pub(crate) fn files() -> Argument {
-    Argument::places(
-        "files",
-        "FILE",
-        "The logs; - takes their names from standard input, one a line",
-        1,
-    )
-    .needed()
-}
+pub(crate) const REPLAY: CommandForm = CommandForm {
+    name: "replay",
+    about: "Says of each log of `serve` whether it is faithful, and how late it was",
+    examples: help::REPLAY,
+    arguments: &[
+        Argument {
+            name: "arrivals",
+            help: "Prints what the log heard as the arrivals of `dry`, its bytes as zeros",
+            without: &["words", "result"],
+            ..FLAG
+        },
+        Argument {
+            name: "words",
+            help: "Prints the log's random words, for `dry --words`",
+            without: &["result"],
+            ..FLAG
+        },
+        Argument {
+            name: "result",
+            help: "Prints what the toxics mean for what the log heard, with lengths for the bytes",
+            ..FLAG
+        },
+        Argument {
+            name: "as",
+            value: "TOXIC",
+            help: "With --result: a toxic in place of the log's; may be repeated",
+            beside: &["result"],
+            ..OPTIONS
+        },
+        Argument {
+            without: &["arrivals", "words", "result"],
+            ..JSON
+        },
+        FILES,
+    ],
+};
 
 /// What the command is given.
 pub(crate) fn replay_of<'a>(
@@ -111,16 +108,4 @@ fn mode_of<'a>(alloc: Global, given: &ArgMatches<'a>) -> Result<ReplayMode<'a>, 
         return Ok(ReplayMode::Result(strs_of(alloc, given, "as")?));
     }
     Ok(ReplayMode::Verdicts)
-}
-
-/// The values of an argument.
-pub(crate) fn strs_of<'a>(
-    alloc: Global,
-    given: &ArgMatches<'a>,
-    name: &str,
-) -> Result<Vec<&'a str>, AllocError> {
-    match given.get_strs(name) {
-        Some(texts) => Vec::from_slice(alloc, texts),
-        None => Ok(Vec::new(alloc)),
-    }
 }

@@ -1,9 +1,10 @@
 //! The command `report` and its options.
-use crate::argument::Argument;
-use crate::commands::command_with;
+use crate::argument::{Argument, OPTION};
+use crate::arguments::{FILES, strs_of};
+use crate::command::CommandForm;
 use crate::help;
-use crate::replay::{files, strs_of};
-use clap::{ArgMatches, Command};
+use clap::ArgMatches;
+use clap::builder::ValueParser;
 use std::alloc::{AllocError, Global};
 
 /// How many pictures a page has unless `--pictures` tells.
@@ -21,22 +22,21 @@ pub struct ReportArguments<'a> {
     pub files: Vec<&'a str>,
 }
 
-/// The command.
-pub(crate) fn report<'a>(alloc: Global) -> Result<Command<'a>, AllocError> {
-    let pictures = Argument::option(
-        "pictures",
-        "N",
-        "How many of the first rows have pictures, 0 to 1000000 [default: 100]",
-    )
-    .within(0, MAX_PICTURES);
-    command_with(
-        alloc,
-        "report",
-        "Prints a page of a run: what its logs are, with their pictures",
-        help::REPORT,
-        &[pictures, files()],
-    )
-}
+pub(crate) const REPORT: CommandForm = CommandForm {
+    name: "report",
+    about: "Prints a page of a run: what its logs are, with their pictures",
+    examples: help::REPORT,
+    arguments: &[
+        Argument {
+            name: "pictures",
+            value: "N",
+            help: "How many of the first rows have pictures, 0 to 1000000 [default: 100]",
+            reads: ValueParser::Unsigned(0, MAX_PICTURES),
+            ..OPTION
+        },
+        FILES,
+    ],
+};
 
 /// What the command is given.
 pub(crate) fn report_of<'a>(

@@ -1,10 +1,10 @@
 //! The command `serve` and its options.
-use crate::argument::Argument;
-use crate::commands::{
-    command_with, config, connections, files_of, json, script, seed, with_arguments,
-};
+use crate::argument::{Argument, FLAG, OPTION, OPTIONS};
+use crate::arguments::{CONFIG, CONNECTIONS, JSON, SCRIPT, SEED, files_of};
+use crate::command::CommandForm;
 use crate::help;
-use clap::{ArgMatches, Command};
+use clap::ArgMatches;
+use clap::builder::ValueParser;
 use std::alloc::{AllocError, Global};
 use tox_time::Stream;
 
@@ -83,109 +83,108 @@ pub struct LogArguments<'a> {
     pub bytes: u64,
 }
 
-/// The command.
-pub(crate) fn serve<'a>(alloc: Global) -> Result<Command<'a>, AllocError> {
-    let serve = command_with(
-        alloc,
-        "serve",
-        "Listens for each proxy, and carries its connections under their toxics",
-        help::SERVE,
-        &source_arguments(),
-    )?;
-    let serve = with_arguments(alloc, serve, &link_arguments())?;
-    with_arguments(alloc, serve, &output_arguments())
-}
-
-/// What is served: two files, or one proxy with its toxics.
-fn source_arguments() -> [Argument; 8] {
-    [
-        config().needed_unless("listen"),
-        script().needed_unless("listen"),
-        seed(),
-        Argument::option(
-            "listen",
-            "ADDRESS",
-            "In place of the files: the address of one proxy, `default`",
-        )
-        .beside(&["upstream"])
-        .without(&["config", "script"]),
-        with_listen(Argument::option(
-            "upstream",
-            "ADDRESS",
-            "With --listen: the address of the server behind it",
-        )),
-        with_listen(Argument::options(
-            "down",
-            "TOXIC",
-            "With --listen: a toxic from the server to the client; may be repeated",
-        )),
-        with_listen(Argument::options(
-            "up",
-            "TOXIC",
-            "With --listen: a toxic from the client to the server; may be repeated",
-        )),
-        with_listen(Argument::option(
-            "print-files",
-            "DIR",
-            "With --listen: writes proxies.json and script.toml that mean the same, and ends",
-        )),
-    ]
-}
-
-/// An option that stands only beside `--listen`.
-fn with_listen(option: Argument) -> Argument {
-    option.beside(&["listen"])
-}
-
-/// How links are served.
-fn link_arguments() -> [Argument; 3] {
-    [
-        connections(
-            "links",
-            "After how many connections each proxy stops listening, 1 to 1000000 [default: it goes on]",
-        ),
-        Argument::option(
-            "connect-timeout",
-            "MS",
-            "How many milliseconds a connect to an upstream may take, 1 to 600000 [default: the system's]",
-        )
-        .within(1, MAX_CONNECT_TIMEOUT),
-        Argument::option(
-            "workers",
-            "N",
-            "How many threads drive all links, 1 to 64 [default: each link has four of its own]",
-        )
-        .within(1, MAX_WORKERS),
-    ]
-}
-
-/// What is logged and printed.
-fn output_arguments() -> [Argument; 5] {
-    [
-        Argument::option(
-            "log",
-            "DIR",
-            "The folder that gets a log of each stream; it is made, or must be empty",
-        ),
-        connections(
-            "log-links",
-            "How many links of each proxy are logged, 1 to 1000000 [default: 10000]",
-        )
-        .beside(&["log"]),
-        Argument::option(
-            "log-bytes",
-            "N",
-            "How many bytes a log has at most, 1 to 2^40 [default: 67108864]",
-        )
-        .within(1, MAX_LOG_BYTES)
-        .beside(&["log"]),
-        Argument::flag(
-            "verbose",
-            "Prints what `check` says at the start, and a line for each stream of a link as its upstream is reached",
-        ),
-        json(),
-    ]
-}
+pub(crate) const SERVE: CommandForm = CommandForm {
+    name: "serve",
+    about: "Listens for each proxy, and carries its connections under their toxics",
+    examples: help::SERVE,
+    arguments: &[
+        // What is served: two files, or one proxy with its toxics.
+        Argument {
+            needed: false,
+            unless: &["listen"],
+            ..CONFIG
+        },
+        Argument {
+            needed: false,
+            unless: &["listen"],
+            ..SCRIPT
+        },
+        SEED,
+        Argument {
+            name: "listen",
+            value: "ADDRESS",
+            help: "In place of the files: the address of one proxy, `default`",
+            beside: &["upstream"],
+            without: &["config", "script"],
+            ..OPTION
+        },
+        Argument {
+            name: "upstream",
+            value: "ADDRESS",
+            help: "With --listen: the address of the server behind it",
+            beside: &["listen"],
+            ..OPTION
+        },
+        Argument {
+            name: "down",
+            value: "TOXIC",
+            help: "With --listen: a toxic from the server to the client; may be repeated",
+            beside: &["listen"],
+            ..OPTIONS
+        },
+        Argument {
+            name: "up",
+            value: "TOXIC",
+            help: "With --listen: a toxic from the client to the server; may be repeated",
+            beside: &["listen"],
+            ..OPTIONS
+        },
+        Argument {
+            name: "print-files",
+            value: "DIR",
+            help: "With --listen: writes proxies.json and script.toml that mean the same, and ends",
+            beside: &["listen"],
+            ..OPTION
+        },
+        // How links are served.
+        Argument {
+            name: "links",
+            help: "After how many connections each proxy stops listening, 1 to 1000000 [default: it goes on]",
+            ..CONNECTIONS
+        },
+        Argument {
+            name: "connect-timeout",
+            value: "MS",
+            help: "How many milliseconds a connect to an upstream may take, 1 to 600000 [default: the system's]",
+            reads: ValueParser::Unsigned(1, MAX_CONNECT_TIMEOUT),
+            ..OPTION
+        },
+        Argument {
+            name: "workers",
+            value: "N",
+            help: "How many threads drive all links, 1 to 64 [default: each link has four of its own]",
+            reads: ValueParser::Unsigned(1, MAX_WORKERS),
+            ..OPTION
+        },
+        // What is logged and printed.
+        Argument {
+            name: "log",
+            value: "DIR",
+            help: "The folder that gets a log of each stream; it is made, or must be empty",
+            ..OPTION
+        },
+        Argument {
+            name: "log-links",
+            help: "How many links of each proxy are logged, 1 to 1000000 [default: 10000]",
+            beside: &["log"],
+            ..CONNECTIONS
+        },
+        Argument {
+            name: "log-bytes",
+            value: "N",
+            help: "How many bytes a log has at most, 1 to 2^40 [default: 67108864]",
+            reads: ValueParser::Unsigned(1, MAX_LOG_BYTES),
+            beside: &["log"],
+            ..OPTION
+        },
+        Argument {
+            name: "verbose",
+            help: "Prints what `check` says at the start, and a line for each stream of a link as its upstream is reached",
+            ..FLAG
+        },
+        JSON,
+    ],
+};
 
 /// What the command is given beside what is served, where the seed is there.
 pub(crate) fn serve_of<'a>(

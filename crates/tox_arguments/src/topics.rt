@@ -1,10 +1,8 @@
 //! The command `help`: of a command, of toxics, scripts and faults, and of a fault by its code.
-use crate::argument::Argument;
-use crate::commands::command_with;
+use crate::argument::{Argument, PLACE};
+use crate::command::CommandForm;
 use crate::faults::fault_of;
 use crate::help;
-use clap::Command;
-use std::alloc::{AllocError, Global};
 
 /// A text of help.
 #[derive(Clone, Copy)]
@@ -15,21 +13,17 @@ pub enum HelpText {
     Faults,
 }
 
-/// The command.
-pub(crate) fn help_command<'a>(alloc: Global) -> Result<Command<'a>, AllocError> {
-    let topic = Argument::place(
-        "topic",
-        "TOPIC",
-        "A command, toxics, scripts, faults, or the code of a fault",
-    );
-    command_with(
-        alloc,
-        "help",
-        "Prints the help of a command, of toxics, scripts or faults, or of a fault by its code",
-        help::HELP,
-        &[topic],
-    )
-}
+pub(crate) const HELP: CommandForm = CommandForm {
+    name: "help",
+    about: "Prints the help of a command, of toxics, scripts or faults, or of a fault by its code",
+    examples: help::HELP,
+    arguments: &[Argument {
+        name: "topic",
+        value: "TOPIC",
+        help: "A command, toxics, scripts, faults, or the code of a fault",
+        ..PLACE
+    }],
+};
 
 /// The text of a topic that is no command.
 pub(crate) fn text_of(topic: &str) -> Option<HelpText> {

@@ -1,0 +1,133 @@
+//! The commands that are given a link: `dry`, `draw`, `plan` and `stages`.
+use crate::argument::{Argument, OPTION, PLACES};
+use crate::arguments::strs_of;
+use crate::command::CommandForm;
+use crate::help;
+use clap::ArgMatches;
+use clap::builder::ValueParser;
+use std::alloc::{AllocError, Global};
+use tox_time::{Cap, MAX_CAP};
+use tox_words::Lanes;
+
+/// The room of each ring without `--cap`, in items.
+const DEFAULT_CAP: usize = 4;
+
+/// What `dry`, `plan` and `stages` are given.
+#[derive(Drop)]
+pub struct LinkArguments<'a> {
+    pub lanes: Lanes,
+    pub words: Option<&'a str>,
+    pub toxics: Vec<&'a str>,
+}
+
+/// What `draw` is given.
+#[derive(Drop)]
+pub enum DrawArguments<'a> {
+    /// A link whose arrivals are on standard input.
+    Link(LinkArguments<'a>),
+    /// The name of a log.
+    Log(&'a str),
+}
+
+pub(crate) const DRY: CommandForm = CommandForm {
+    name: "dry",
+    about: "Prints when each byte would leave, and how the link would end",
+    examples: help::DRY,
+    arguments: &[LANES, WORDS, TOXICS],
+};
+
+pub(crate) const DRAW: CommandForm = CommandForm {
+    name: "draw",
+    about: "Prints a picture of what arrives, what leaves and what is held between",
+    examples: help::DRAW,
+    arguments: &[LOG, LANES, WORDS, TOXICS],
+};
+
+pub(crate) const PLAN: CommandForm = CommandForm {
+    name: "plan",
+    about: "Prints what the toxics are compiled into",
+    examples: help::PLAN,
+    arguments: &[LANES, WORDS, TOXICS],
+};
+
+pub(crate) const STAGES: CommandForm = CommandForm {
+    name: "stages",
+    about: "Prints what `dry` prints, by a thread for each toxic",
+    examples: help::STAGES,
+    arguments: &[CAP, LANES, WORDS, TOXICS],
+};
+
+const LANES: Argument = Argument {
+    name: "lanes",
+    value: "L",
+    help: "How many lanes share the random words: 16 or 32 [default: 16]",
+    reads: ValueParser::Names(&["16", "32"]),
+    ..OPTION
+};
+
+const WORDS: Argument = Argument {
+    name: "words",
+    value: "W",
+    help: "The random words: 1 to 4096 numbers up to 4294967295, separated by commas [default: 0]",
+    ..OPTION
+};
+
+const TOXICS: Argument = Argument {
+    name: "toxics",
+    value: "TOXIC",
+    help: "The toxics that the link meets, in order, at most one for each lane",
+    ..PLACES
+};
+
+const LOG: Argument = Argument {
+    name: "log",
+    value: "FILE",
+    help: "Draws the log of a stream of `serve` instead: what was due beside what was written",
+    without: &["lanes", "words", "toxics"],
+    ..OPTION
+};
+
+const CAP: Argument = Argument {
+    name: "cap",
+    value: "N",
+    help: "The room of each ring, in items: 1 to 1024 [default: 4]",
+    reads: ValueParser::Unsigned(1, MAX_CAP as u64),
+    ..OPTION
+};
+
+/// The lanes, words and toxics that a command is given.
+pub(crate) fn link_of<'a>(
+    alloc: Global,
+    given: &ArgMatches<'a>,
+) -> Result<LinkArguments<'a>, AllocError> {
+    let toxics = strs_of(alloc, given, "toxics")?;
+    Ok(LinkArguments {
+        lanes: lanes_of(given),
+        words: given.get_str("words"),
+        toxics,
+    })
+}
+
+/// The lanes of the chain. `clap` has rejected other values.
+fn lanes_of(given: &ArgMatches<'_>) -> Lanes {
+    match given.get_str("lanes") {
+        Some("32") => Lanes::ThirtyTwo,
+        _ => Lanes::Sixteen,
+    }
+}
+
+/// What `draw` is given: a log, or a link. `clap` has rejected both.
+pub(crate) fn draw_of<'a>(
+    alloc: Global,
+    given: &ArgMatches<'a>,
+) -> Result<DrawArguments<'a>, AllocError> {
+    match given.get_str("log") {
+        Some(log) => Ok(DrawArguments::Log(log)),
+        None => Ok(DrawArguments::Link(link_of(alloc, given)?)),
+    }
+}
+
+/// The room of each ring. `clap` has rejected other values.
+pub(crate) fn cap_of(given: &ArgMatches<'_>) -> Cap {
+    Cap::new(given.get_one::<usize>("cap").unwrap_or(DEFAULT_CAP))
+}

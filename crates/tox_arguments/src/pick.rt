@@ -1,0 +1,65 @@
+//! The command `pick` and its options.
+ghost use Rattle.std.specs.Prelude.{◌≤◌};
+
+use crate::argument::{Argument, OPTION};
+use crate::arguments::{CONFIG, CONNECTIONS, PROXY, SCRIPT, SEED, connections_of, files_of};
+use crate::command::CommandForm;
+use crate::help;
+use clap::ArgMatches;
+
+/// What `pick` is given.
+#[derive(Clone, Copy)]
+pub struct PickArguments<'a> {
+    /// The name of the populate file.
+    pub config: &'a str,
+    /// The name of the script file.
+    pub script: &'a str,
+    /// The name of the proxy.
+    pub proxy: &'a str,
+    /// The number of the connection, 1 to 1,000,000.
+    pub conn: u64,
+    /// The name of the stream.
+    pub stream: &'a str,
+    pub seed: u64,
+    pub ghost numbered: { (1 ≤ conn) × (conn ≤ 1_000_000) },
+}
+
+pub(crate) const PICK: CommandForm = CommandForm {
+    name: "pick",
+    about: "Prints what a numbered connection meets, from the files and the seed alone",
+    examples: help::PICK,
+    arguments: &[
+        CONFIG,
+        SCRIPT,
+        PROXY,
+        Argument {
+            name: "conn",
+            help: "The number of the connection, 1 to 1000000",
+            needed: true,
+            ..CONNECTIONS
+        },
+        Argument {
+            name: "stream",
+            value: "STREAM",
+            help: "upstream or downstream",
+            needed: true,
+            ..OPTION
+        },
+        SEED,
+    ],
+};
+
+/// What the command is asked, where each of its options is there.
+pub(crate) fn pick_of<'a>(given: &ArgMatches<'a>) -> Option<PickArguments<'a>> {
+    let conn = connections_of(given, "conn")?;
+    let (config, script) = files_of(given)?;
+    let (proxy, stream) = given.get_str("proxy").zip(given.get_str("stream"))?;
+    Some(PickArguments {
+        config,
+        script,
+        proxy,
+        conn,
+        stream,
+        seed: given.get_one::<u64>("seed")?,
+    })
+}
