@@ -17,8 +17,9 @@ use std::alloc::{AllocError, Global};
 const VERSION: &str = "0.2.0 (rattle-kit-13f logic dac8208d650f15bf)";
 
 /// The commands, in the order of the help.
-const COMMANDS: [CommandForm; 12] = [
-    DRY, DRAW, PLAN, STAGES, CHECK, PICK, FORECAST, MIGRATE, SERVE, REPLAY, REPORT, HELP,
+const COMMANDS: [&CommandForm; 12] = [
+    &DRY, &DRAW, &PLAN, &STAGES, &CHECK, &PICK, &FORECAST, &MIGRATE, &SERVE, &REPLAY, &REPORT,
+    &HELP,
 ];
 
 /// The program's command line.
