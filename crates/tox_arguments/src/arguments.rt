@@ -1,5 +1,5 @@
 //! The arguments that several commands take, and what reads them.
-ghost use Rattle.std.specs.Prelude.{◌≤◌, IfSome};
+ghost use Rattle.std.specs.Prelude.{◌≤◌};
 
 use crate::argument::{Argument, FLAG, OPTION, PLACES};
 use clap::ArgMatches;
@@ -68,15 +68,39 @@ pub(crate) fn files_of<'a>(given: &ArgMatches<'a>) -> Option<(&'a str, &'a str)>
     given.get_str("config").zip(given.get_str("script"))
 }
 
-/// The number of connections that an option gives, 1 to 1,000,000. `clap` has rejected other values.
-pub(crate) fn connections_of(given: &ArgMatches<'_>, name: &str) -> Option<u64>
-    ensures { IfSome result (λ number. (1 ≤ number) × (number ≤ 1_000_000)) }
-{
-    let number = given.get_one::<u64>(name)?;
+/// The proxy that `pick` or `forecast` asks about, with its files, the seed and a number.
+#[derive(Clone, Copy)]
+pub(crate) struct ProxyArguments<'a> {
+    pub(crate) config: &'a str,
+    pub(crate) script: &'a str,
+    pub(crate) proxy: &'a str,
+    pub(crate) seed: u64,
+    /// The number of a connection, or of connections, 1 to 1,000,000.
+    pub(crate) number: u64,
+    pub(crate) ghost numbered: { (1 ≤ number) × (number ≤ 1_000_000) },
+}
+
+/// What `pick` or `forecast` is asked, where each option that it needs is there.
+pub(crate) fn proxy_of<'a>(given: &ArgMatches<'a>, number: &str) -> Option<ProxyArguments<'a>> {
+    let (Some((config, script)), Some(proxy), Some(seed), Some(number)) = (
+        files_of(given),
+        given.get_str("proxy"),
+        given.get_one::<u64>("seed"),
+        given.get_one::<u64>(number),
+    ) else {
+        return None;
+    };
+    // `clap` has rejected other numbers.
     if number < 1 || MAX_CONNECTIONS < number {
         return None;
     }
-    Some(number)
+    Some(ProxyArguments {
+        config,
+        script,
+        proxy,
+        seed,
+        number,
+    })
 }
 
 /// The values of an argument.

@@ -2,8 +2,10 @@
 use crate::argument::{Argument, FLAG};
 use crate::arguments::{CONFIG, SCRIPT, files_of};
 use crate::command::CommandForm;
+use crate::command_line::{Task, incomplete};
 use crate::help;
-use clap::ArgMatches;
+use clap::{ArgMatches, Error};
+use std::alloc::Global;
 
 /// What `check` is given.
 #[derive(Clone, Copy)]
@@ -37,13 +39,14 @@ pub(crate) const CHECK: CommandForm = CommandForm {
     ],
 };
 
-/// What the command is asked, where each option that it needs is there.
-pub(crate) fn check_of<'a>(given: &ArgMatches<'a>) -> Option<CheckArguments<'a>> {
-    let (config, script) = files_of(given)?;
-    Some(CheckArguments {
+pub(crate) fn check_task<'a>(alloc: Global, given: &ArgMatches<'a>) -> Result<Task<'a>, Error> {
+    let Some((config, script)) = files_of(given) else {
+        return Err(incomplete(alloc));
+    };
+    Ok(Task::Check(CheckArguments {
         config,
         script,
         strict: given.get_flag("strict"),
         verbose: given.get_flag("verbose"),
-    })
+    }))
 }

@@ -2,10 +2,12 @@
 ghost use Rattle.std.specs.Prelude.{◌≤◌};
 
 use crate::argument::{Argument, OPTION};
-use crate::arguments::{CONFIG, CONNECTIONS, JSON, PROXY, SCRIPT, SEED, connections_of, files_of};
+use crate::arguments::{CONFIG, CONNECTIONS, JSON, PROXY, SCRIPT, SEED, proxy_of};
 use crate::command::CommandForm;
+use crate::command_line::{Task, incomplete};
 use crate::help;
-use clap::ArgMatches;
+use clap::{ArgMatches, Error};
+use std::alloc::Global;
 
 /// What `forecast` is given.
 #[derive(Clone, Copy)]
@@ -59,18 +61,18 @@ pub(crate) const FORECAST: CommandForm = CommandForm {
     ],
 };
 
-/// What the command is asked, where each option that it needs is there.
-pub(crate) fn forecast_of<'a>(given: &ArgMatches<'a>) -> Option<ForecastArguments<'a>> {
-    let links = connections_of(given, "links")?;
-    let (config, script) = files_of(given)?;
-    Some(ForecastArguments {
-        config,
-        script,
-        proxy: given.get_str("proxy")?,
-        links,
+pub(crate) fn forecast_task<'a>(alloc: Global, given: &ArgMatches<'a>) -> Result<Task<'a>, Error> {
+    let Some(asked) = proxy_of(given, "links") else {
+        return Err(incomplete(alloc));
+    };
+    Ok(Task::Forecast(ForecastArguments {
+        config: asked.config,
+        script: asked.script,
+        proxy: asked.proxy,
+        links: asked.number,
         stream: given.get_str("stream"),
         named: given.get_str("where"),
-        seed: given.get_one::<u64>("seed")?,
+        seed: asked.seed,
         json: given.get_flag("json"),
-    })
+    }))
 }

@@ -2,9 +2,10 @@
 use crate::argument::{Argument, OPTION, PLACES};
 use crate::arguments::strs_of;
 use crate::command::CommandForm;
+use crate::command_line::Task;
 use crate::help;
-use clap::ArgMatches;
 use clap::builder::ValueParser;
+use clap::{ArgMatches, Error};
 use std::alloc::{AllocError, Global};
 use tox_time::{Cap, MAX_CAP};
 use tox_words::Lanes;
@@ -95,39 +96,46 @@ const CAP: Argument = Argument {
     ..OPTION
 };
 
-/// The lanes, words and toxics that a command is given.
-pub(crate) fn link_of<'a>(
+/// The task of `dry`, `plan` or `stages`.
+pub(crate) fn link_task<'a>(
     alloc: Global,
+    name: &str,
     given: &ArgMatches<'a>,
-) -> Result<LinkArguments<'a>, AllocError> {
-    let toxics = strs_of(alloc, given, "toxics")?;
+) -> Result<Task<'a>, Error> {
+    let link = link_of(alloc, given)?;
+    Ok(match name {
+        "dry" => Task::Dry(link),
+        "plan" => Task::Plan(link),
+        _ => Task::Stages(cap_of(given), link),
+    })
+}
+
+/// The task of `draw`, which is given a log or a link. `clap` has rejected both.
+pub(crate) fn draw_task<'a>(alloc: Global, given: &ArgMatches<'a>) -> Result<Task<'a>, Error> {
+    Ok(Task::Draw(match given.get_str("log") {
+        Some(log) => DrawArguments::Log(log),
+        None => DrawArguments::Link(link_of(alloc, given)?),
+    }))
+}
+
+/// The lanes, words and toxics that a command is given.
+fn link_of<'a>(alloc: Global, given: &ArgMatches<'a>) -> Result<LinkArguments<'a>, AllocError> {
     Ok(LinkArguments {
         lanes: lanes_of(given),
         words: given.get_str("words"),
-        toxics,
+        toxics: strs_of(alloc, given, "toxics")?,
     })
 }
 
 /// The lanes of the chain. `clap` has rejected other values.
 fn lanes_of(given: &ArgMatches<'_>) -> Lanes {
-    match given.get_str("lanes") {
-        Some("32") => Lanes::ThirtyTwo,
+    match given.get_one::<u8>("lanes") {
+        Some(32) => Lanes::ThirtyTwo,
         _ => Lanes::Sixteen,
     }
 }
 
-/// What `draw` is given: a log, or a link. `clap` has rejected both.
-pub(crate) fn draw_of<'a>(
-    alloc: Global,
-    given: &ArgMatches<'a>,
-) -> Result<DrawArguments<'a>, AllocError> {
-    match given.get_str("log") {
-        Some(log) => Ok(DrawArguments::Log(log)),
-        None => Ok(DrawArguments::Link(link_of(alloc, given)?)),
-    }
-}
-
 /// The room of each ring. `clap` has rejected other values.
-pub(crate) fn cap_of(given: &ArgMatches<'_>) -> Cap {
+fn cap_of(given: &ArgMatches<'_>) -> Cap {
     Cap::new(given.get_one::<usize>("cap").unwrap_or(DEFAULT_CAP))
 }

@@ -1,7 +1,10 @@
 //! The command `migrate`.
 use crate::arguments::SCRIPT;
 use crate::command::CommandForm;
+use crate::command_line::{Task, incomplete};
 use crate::help;
+use clap::{ArgMatches, Error};
+use std::alloc::Global;
 
 pub(crate) const MIGRATE: CommandForm = CommandForm {
     name: "migrate",
@@ -9,3 +12,10 @@ pub(crate) const MIGRATE: CommandForm = CommandForm {
     examples: help::MIGRATE,
     arguments: &[SCRIPT],
 };
+
+pub(crate) fn migrate_task<'a>(alloc: Global, given: &ArgMatches<'a>) -> Result<Task<'a>, Error> {
+    match given.get_str("script") {
+        Some(script) => Ok(Task::Migrate(script)),
+        None => Err(incomplete(alloc)),
+    }
+}

@@ -2,10 +2,12 @@
 ghost use Rattle.std.specs.Prelude.{◌≤◌};
 
 use crate::argument::{Argument, OPTION};
-use crate::arguments::{CONFIG, CONNECTIONS, PROXY, SCRIPT, SEED, connections_of, files_of};
+use crate::arguments::{CONFIG, CONNECTIONS, PROXY, SCRIPT, SEED, proxy_of};
 use crate::command::CommandForm;
+use crate::command_line::{Task, incomplete};
 use crate::help;
-use clap::ArgMatches;
+use clap::{ArgMatches, Error};
+use std::alloc::Global;
 
 /// What `pick` is given.
 #[derive(Clone, Copy)]
@@ -49,17 +51,16 @@ pub(crate) const PICK: CommandForm = CommandForm {
     ],
 };
 
-/// What the command is asked, where each of its options is there.
-pub(crate) fn pick_of<'a>(given: &ArgMatches<'a>) -> Option<PickArguments<'a>> {
-    let conn = connections_of(given, "conn")?;
-    let (config, script) = files_of(given)?;
-    let (proxy, stream) = given.get_str("proxy").zip(given.get_str("stream"))?;
-    Some(PickArguments {
-        config,
-        script,
-        proxy,
-        conn,
+pub(crate) fn pick_task<'a>(alloc: Global, given: &ArgMatches<'a>) -> Result<Task<'a>, Error> {
+    let (Some(asked), Some(stream)) = (proxy_of(given, "conn"), given.get_str("stream")) else {
+        return Err(incomplete(alloc));
+    };
+    Ok(Task::Pick(PickArguments {
+        config: asked.config,
+        script: asked.script,
+        proxy: asked.proxy,
+        conn: asked.number,
         stream,
-        seed: given.get_one::<u64>("seed")?,
-    })
+        seed: asked.seed,
+    }))
 }

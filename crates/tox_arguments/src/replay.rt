@@ -2,8 +2,10 @@
 use crate::argument::{Argument, FLAG, OPTIONS};
 use crate::arguments::{FILES, JSON, strs_of};
 use crate::command::CommandForm;
+use crate::command_line::{Task, refusal};
 use crate::help;
-use clap::ArgMatches;
+use clap::error::ErrorKind;
+use clap::{ArgMatches, Error};
 use std::alloc::{AllocError, Global};
 
 /// What `replay` prints.
@@ -33,20 +35,7 @@ pub struct ReplayArguments<'a> {
 pub const NAMES_ON_INPUT: &str = "-";
 
 /// Why a command line is refused.
-pub(crate) const ONE_FILE: &str = "--arrivals, --words and --result take one FILE";
-
-impl<'a> ReplayArguments<'a> {
-    /// Whether one log is asked for, and it isn't named so.
-    pub(crate) fn lacks_one_file(&self) -> bool {
-        if let ReplayMode::Verdicts = &self.mode {
-            return false;
-        }
-        match self.files.as_slice() {
-            [file] => *file == NAMES_ON_INPUT,
-            _ => true,
-        }
-    }
-}
+const ONE_FILE: &str = "--arrivals, --words and --result take one FILE";
 
 pub(crate) const REPLAY: CommandForm = CommandForm {
     name: "replay",
@@ -85,16 +74,24 @@ pub(crate) const REPLAY: CommandForm = CommandForm {
     ],
 };
 
-/// What the command is given.
-pub(crate) fn replay_of<'a>(
-    alloc: Global,
-    given: &ArgMatches<'a>,
-) -> Result<ReplayArguments<'a>, AllocError> {
-    Ok(ReplayArguments {
+/// The task of `replay`, unless it is given more logs than it takes.
+pub(crate) fn replay_task<'a>(alloc: Global, given: &ArgMatches<'a>) -> Result<Task<'a>, Error> {
+    if lacks_one_file(given) {
+        return Err(refusal(alloc, ErrorKind::TooManyValues, ONE_FILE));
+    }
+    Ok(Task::Replay(ReplayArguments {
         mode: mode_of(alloc, given)?,
         files: strs_of(alloc, given, "files")?,
         json: given.get_flag("json"),
-    })
+    }))
+}
+
+/// Whether one log is asked for, and it isn't named so.
+fn lacks_one_file(given: &ArgMatches<'_>) -> bool {
+    match given.get_strs("files") {
+        Some([file]) if *file != NAMES_ON_INPUT => false,
+        _ => given.get_flag("arrivals") || given.get_flag("words") || given.get_flag("result"),
+    }
 }
 
 fn mode_of<'a>(alloc: Global, given: &ArgMatches<'a>) -> Result<ReplayMode<'a>, AllocError> {

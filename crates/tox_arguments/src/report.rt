@@ -2,10 +2,11 @@
 use crate::argument::{Argument, OPTION};
 use crate::arguments::{FILES, strs_of};
 use crate::command::CommandForm;
+use crate::command_line::Task;
 use crate::help;
-use clap::ArgMatches;
 use clap::builder::ValueParser;
-use std::alloc::{AllocError, Global};
+use clap::{ArgMatches, Error};
+use std::alloc::Global;
 
 /// How many pictures a page has unless `--pictures` tells.
 const DEFAULT_PICTURES: usize = 100;
@@ -38,15 +39,11 @@ pub(crate) const REPORT: CommandForm = CommandForm {
     ],
 };
 
-/// What the command is given.
-pub(crate) fn report_of<'a>(
-    alloc: Global,
-    given: &ArgMatches<'a>,
-) -> Result<ReportArguments<'a>, AllocError> {
-    Ok(ReportArguments {
+pub(crate) fn report_task<'a>(alloc: Global, given: &ArgMatches<'a>) -> Result<Task<'a>, Error> {
+    Ok(Task::Report(ReportArguments {
         pictures: given
             .get_one::<usize>("pictures")
             .unwrap_or(DEFAULT_PICTURES),
         files: strs_of(alloc, given, "files")?,
-    })
+    }))
 }

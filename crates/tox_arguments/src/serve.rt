@@ -2,9 +2,10 @@
 use crate::argument::{Argument, FLAG, OPTION, OPTIONS};
 use crate::arguments::{CONFIG, CONNECTIONS, JSON, SCRIPT, SEED, files_of};
 use crate::command::CommandForm;
+use crate::command_line::{Task, incomplete};
 use crate::help;
-use clap::ArgMatches;
 use clap::builder::ValueParser;
+use clap::{ArgMatches, Error};
 use std::alloc::{AllocError, Global};
 use tox_time::Stream;
 
@@ -186,39 +187,45 @@ pub(crate) const SERVE: CommandForm = CommandForm {
     ],
 };
 
-/// What the command is given beside what is served, where the seed is there.
-pub(crate) fn serve_of<'a>(
-    given: &ArgMatches<'a>,
-    source: ServeSource<'a>,
-) -> Option<ServeArguments<'a>> {
-    Some(ServeArguments {
-        seed: given.get_one::<u64>("seed")?,
+/// The task of `serve` with files or with one proxy. `clap` has rejected both.
+pub(crate) fn serve_task<'a>(alloc: Global, given: &ArgMatches<'a>) -> Result<Task<'a>, Error> {
+    let Some(seed) = given.get_one::<u64>("seed") else {
+        return Err(incomplete(alloc));
+    };
+    match files_of(given) {
+        Some((config, script)) => Ok(serving(given, seed, ServeSource::Files { config, script })),
+        None => inline_task(alloc, given, seed),
+    }
+}
+
+/// The task of `serve` with one proxy: to serve it, or to print the files that mean the same.
+fn inline_task<'a>(alloc: Global, given: &ArgMatches<'a>, seed: u64) -> Result<Task<'a>, Error> {
+    let Some((listen, upstream)) = given.get_str("listen").zip(given.get_str("upstream")) else {
+        return Err(incomplete(alloc));
+    };
+    let inline = InlineArguments {
+        listen,
+        upstream,
+        toxics: toxics_of(alloc, given)?,
+    };
+    Ok(match given.get_str("print-files") {
+        Some(folder) => Task::PrintFiles(inline, folder),
+        None => serving(given, seed, ServeSource::Inline(inline)),
+    })
+}
+
+/// The task to serve. `clap` has rejected numbers that are too large.
+fn serving<'a>(given: &ArgMatches<'a>, seed: u64, source: ServeSource<'a>) -> Task<'a> {
+    Task::Serve(ServeArguments {
         source,
+        seed,
         links: given.get_one::<u64>("links"),
-        connect_timeout: small_number(given, "connect-timeout"),
-        workers: small_number(given, "workers"),
+        connect_timeout: given.get_one::<u32>("connect-timeout"),
+        workers: given.get_one::<u32>("workers"),
         logs: logs_of(given),
         verbose: given.get_flag("verbose"),
         json: given.get_flag("json"),
     })
-}
-
-/// What is served. `clap` has rejected files beside a proxy, and either of them without the other.
-pub(crate) fn source_of<'a>(
-    alloc: Global,
-    given: &ArgMatches<'a>,
-) -> Result<Option<ServeSource<'a>>, AllocError> {
-    if let Some((config, script)) = files_of(given) {
-        return Ok(Some(ServeSource::Files { config, script }));
-    }
-    let Some((listen, upstream)) = given.get_str("listen").zip(given.get_str("upstream")) else {
-        return Ok(None);
-    };
-    Ok(Some(ServeSource::Inline(InlineArguments {
-        listen,
-        upstream,
-        toxics: toxics_of(alloc, given)?,
-    })))
 }
 
 /// The toxics of both streams, in the order typed.
@@ -264,10 +271,4 @@ fn logs_of<'a>(given: &ArgMatches<'a>) -> Option<LogArguments<'a>> {
             .get_one::<u64>("log-bytes")
             .unwrap_or(DEFAULT_LOG_BYTES),
     })
-}
-
-/// The number of an option whose numbers are small. `clap` has rejected other values.
-fn small_number(given: &ArgMatches<'_>, name: &str) -> Option<u32> {
-    let number = given.get_one::<u64>(name)?;
-    u32::try_from(number).ok()
 }

@@ -1,8 +1,11 @@
 //! The command `help`: of a command, of toxics, scripts and faults, and of a fault by its code.
 use crate::argument::{Argument, PLACE};
 use crate::command::CommandForm;
+use crate::command_line::{Task, incomplete, matches_of};
 use crate::faults::fault_of;
 use crate::help;
+use clap::{ArgMatches, Error};
+use std::alloc::Global;
 
 /// A text of help.
 #[derive(Clone, Copy)]
@@ -25,12 +28,30 @@ pub(crate) const HELP: CommandForm = CommandForm {
     }],
 };
 
-/// The text of a topic that is no command.
-pub(crate) fn text_of(topic: &str) -> Option<HelpText> {
-    match topic {
-        "toxics" => Some(HelpText::One(help::toxics())),
-        "scripts" => Some(HelpText::One(help::SCRIPTS)),
-        "faults" => Some(HelpText::Faults),
-        code => Some(HelpText::One(fault_of(code)?)),
+/// The task of `help`: a text, or `clap`'s own help, which is an error. Without a topic that is the
+/// program's, since `clap` answers the first `--help`.
+pub(crate) fn help_task<'a>(alloc: Global, given: &ArgMatches<'a>) -> Result<Task<'a>, Error> {
+    let topic = given.get_str("topic").unwrap_or("--help");
+    match text_of(topic) {
+        Some(text) => Ok(Task::Help(text)),
+        None => Err(command_help(alloc, topic)),
     }
+}
+
+/// What `clap` answers a command line that asks for the help of a command.
+fn command_help(alloc: Global, name: &str) -> Error {
+    match matches_of(alloc, &["toxi", name, "--help"]) {
+        Ok(_) => incomplete(alloc),
+        Err(help) => help,
+    }
+}
+
+/// The text of a topic that is no command.
+fn text_of(topic: &str) -> Option<HelpText> {
+    Some(match topic {
+        "toxics" => HelpText::One(help::toxics()),
+        "scripts" => HelpText::One(help::SCRIPTS),
+        "faults" => HelpText::Faults,
+        code => HelpText::One(fault_of(code)?),
+    })
 }
