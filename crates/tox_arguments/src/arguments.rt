@@ -82,12 +82,11 @@ pub(crate) struct ProxyArguments<'a> {
 
 /// What `pick` or `forecast` is asked, where each option that it needs is there.
 pub(crate) fn proxy_of<'a>(given: &ArgMatches<'a>, number: &str) -> Option<ProxyArguments<'a>> {
-    let (Some((config, script)), Some(proxy), Some(seed), Some(number)) = (
-        files_of(given),
-        given.get_str("proxy"),
-        given.get_one::<u64>("seed"),
-        given.get_one::<u64>(number),
-    ) else {
+    let files = files_of(given).zip(given.get_str("proxy"));
+    let numbers = given
+        .get_one::<u64>("seed")
+        .zip(given.get_one::<u64>(number));
+    let Some((((config, script), proxy), (seed, number))) = files.zip(numbers) else {
         return None;
     };
     // `clap` has rejected other numbers.

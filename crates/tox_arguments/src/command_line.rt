@@ -38,15 +38,17 @@ pub enum Task<'a> {
 /// Reads the command line. An error is `clap`'s own text, help too.
 #[inline(never)]
 pub fn read<'a, S: AsStr>(alloc: Global, words: &'a [S]) -> Result<Task<'a>, Error> {
-    let matches = matches_of(alloc, words)?;
-    match matches.subcommand() {
-        Some((name, given)) => task_of(alloc, name, given),
-        None => Err(incomplete(alloc)),
+    match matches_of(alloc, words) {
+        Ok(matches) => task_of(alloc, &matches),
+        Err(refusal) => Err(refusal),
     }
 }
 
 /// The task of a command with its options.
-fn task_of<'a>(alloc: Global, name: &str, given: &ArgMatches<'a>) -> Result<Task<'a>, Error> {
+fn task_of<'a>(alloc: Global, matches: &ArgMatches<'a>) -> Result<Task<'a>, Error> {
+    let Some((name, given)) = matches.subcommand() else {
+        return Err(incomplete(alloc));
+    };
     match name {
         "dry" | "plan" | "stages" => link_task(alloc, name, given),
         "draw" => draw_task(alloc, given),

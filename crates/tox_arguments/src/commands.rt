@@ -16,13 +16,6 @@ use std::alloc::{AllocError, Global};
 /// The version, and the kit that proves and builds it.
 const VERSION: &str = "0.2.0 (rattle-kit-13f logic dac8208d650f15bf)";
 
-const TOXI: CommandForm = CommandForm {
-    name: "toxi",
-    about: "A TCP proxy that adds scripted faults",
-    examples: help::PROGRAM,
-    arguments: &[],
-};
-
 /// The commands, in the order of the help.
 const COMMANDS: [&CommandForm; 12] = [
     &DRY, &DRAW, &PLAN, &STAGES, &CHECK, &PICK, &FORECAST, &MIGRATE, &SERVE, &REPLAY, &REPORT,
@@ -31,10 +24,11 @@ const COMMANDS: [&CommandForm; 12] = [
 
 /// The program's command line.
 pub(crate) fn toxi<'a>(alloc: Global) -> Result<Command<'a>, AllocError> {
-    let mut toxi = TOXI
-        .command(alloc)?
+    let mut toxi = Command::new(alloc, "toxi")
         .bin_name("toxi")?
         .version(VERSION)
+        .about("A TCP proxy that adds scripted faults")
+        .after_help(help::PROGRAM)
         .disable_help_subcommand(true)
         .subcommand_required(true);
     for form in COMMANDS {

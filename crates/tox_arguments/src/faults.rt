@@ -80,20 +80,22 @@ W3 BadWord <place>: that part is no word; a word is 1 to 10 digits, up to 429496
 
 /// The line of a code, in capital letters or not.
 pub(crate) fn fault_of(code: &str) -> Option<&'static str> {
-    for group in FAULTS {
-        for line in group.lines() {
-            if has_code(line, code) {
-                return Some(line);
-            }
+    for group in &FAULTS {
+        if let Some(line) = line_of(group, code) {
+            return Some(line);
         }
     }
     None
 }
 
-/// Whether a line begins with a code.
-fn has_code(line: &str, code: &str) -> bool {
-    match line.split_once(' ') {
-        Some((told, _)) => told.eq_ignore_ascii_case(code),
-        None => false,
+/// The line of a group that begins with a code.
+fn line_of<'a>(group: &'a str, code: &str) -> Option<&'a str> {
+    for line in group.lines() {
+        if let Some((told, _)) = line.split_once(' ') {
+            if told.eq_ignore_ascii_case(code) {
+                return Some(line);
+            }
+        }
     }
+    None
 }

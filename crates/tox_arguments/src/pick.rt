@@ -52,7 +52,7 @@ pub(crate) const PICK: CommandForm = CommandForm {
 };
 
 pub(crate) fn pick_task<'a>(alloc: Global, given: &ArgMatches<'a>) -> Result<Task<'a>, Error> {
-    let (Some(asked), Some(stream)) = (proxy_of(given, "conn"), given.get_str("stream")) else {
+    let Some((asked, stream)) = proxy_of(given, "conn").zip(given.get_str("stream")) else {
         return Err(incomplete(alloc));
     };
     Ok(Task::Pick(PickArguments {

@@ -247,7 +247,7 @@ fn add_toxics<'a>(
     name: &str,
     stream: Stream,
 ) -> Result<(), AllocError> {
-    let (Some(texts), Some(places)) = (given.get_strs(name), given.indices_of(name)) else {
+    let Some((texts, places)) = given.get_strs(name).zip(given.indices_of(name)) else {
         return Ok(());
     };
     for (toxic, place) in texts.iter().zip(places) {
@@ -262,8 +262,11 @@ fn add_toxics<'a>(
 
 /// What `serve` logs.
 fn logs_of<'a>(given: &ArgMatches<'a>) -> Option<LogArguments<'a>> {
+    let Some(folder) = given.get_str("log") else {
+        return None;
+    };
     Some(LogArguments {
-        folder: given.get_str("log")?,
+        folder,
         links: given
             .get_one::<u64>("log-links")
             .unwrap_or(DEFAULT_LOG_LINKS),

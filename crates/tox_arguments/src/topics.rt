@@ -32,26 +32,28 @@ pub(crate) const HELP: CommandForm = CommandForm {
 /// program's, since `clap` answers the first `--help`.
 pub(crate) fn help_task<'a>(alloc: Global, given: &ArgMatches<'a>) -> Result<Task<'a>, Error> {
     let topic = given.get_str("topic").unwrap_or("--help");
+    if topic == "faults" {
+        return Ok(Task::Help(HelpText::Faults));
+    }
     match text_of(topic) {
-        Some(text) => Ok(Task::Help(text)),
+        Some(text) => Ok(Task::Help(HelpText::One(text))),
         None => Err(command_help(alloc, topic)),
     }
 }
 
 /// What `clap` answers a command line that asks for the help of a command.
 fn command_help(alloc: Global, name: &str) -> Error {
-    match matches_of(alloc, &["toxi", name, "--help"]) {
-        Ok(_) => incomplete(alloc),
-        Err(help) => help,
+    match matches_of(alloc, &["toxi", name, "--help"]).err() {
+        Some(help) => help,
+        None => incomplete(alloc),
     }
 }
 
 /// The text of a topic that is no command.
-fn text_of(topic: &str) -> Option<HelpText> {
-    Some(match topic {
-        "toxics" => HelpText::One(help::toxics()),
-        "scripts" => HelpText::One(help::SCRIPTS),
-        "faults" => HelpText::Faults,
-        code => HelpText::One(fault_of(code)?),
-    })
+fn text_of(topic: &str) -> Option<&'static str> {
+    match topic {
+        "toxics" => Some(help::toxics()),
+        "scripts" => Some(help::SCRIPTS),
+        code => fault_of(code),
+    }
 }
