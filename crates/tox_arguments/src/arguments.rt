@@ -102,14 +102,11 @@ pub(crate) fn proxy_of<'a>(given: &ArgMatches<'a>, number: &str) -> Option<Proxy
     })
 }
 
-/// The values of an argument.
+/// The values of an argument, none if it is absent.
 pub(crate) fn strs_of<'a>(
     alloc: Global,
     given: &ArgMatches<'a>,
     name: &str,
 ) -> Result<Vec<&'a str>, AllocError> {
-    match given.get_strs(name) {
-        Some(texts) => Vec::from_slice(alloc, texts),
-        None => Ok(Vec::new(alloc)),
-    }
+    Vec::from_slice(alloc, given.get_strs(name).unwrap_or(&[]))
 }

@@ -39,6 +39,7 @@ pub(crate) const CHECK: CommandForm = CommandForm {
     ],
 };
 
+/// The task of `check`.
 pub(crate) fn check_task<'a>(alloc: Global, given: &ArgMatches<'a>) -> Result<Task<'a>, Error> {
     let Some((config, script)) = files_of(given) else {
         return Err(incomplete(alloc));

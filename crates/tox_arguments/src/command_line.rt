@@ -11,7 +11,7 @@ use crate::serve::{InlineArguments, ServeArguments, serve_task};
 use crate::topics::{HelpText, help_task};
 use clap::error::ErrorKind;
 use clap::{ArgMatches, Error};
-use std::alloc::{AllocError, Global};
+use std::alloc::Global;
 use std::convert::AsStr;
 use tox_time::Cap;
 
@@ -84,12 +84,12 @@ pub(crate) fn incomplete(alloc: Global) -> Error {
 
 /// A refusal in `clap`'s form, with the program's usage.
 pub(crate) fn refusal(alloc: Global, kind: ErrorKind, why: &str) -> Error {
-    match refusal_in(alloc, kind, why) {
+    let refusal = match toxi(alloc) {
+        Ok(mut toxi) => toxi.error(kind, why),
+        Err(fault) => Err(fault),
+    };
+    match refusal {
         Ok(refusal) => refusal,
         Err(fault) => fault.into(),
     }
-}
-
-fn refusal_in(alloc: Global, kind: ErrorKind, why: &str) -> Result<Error, AllocError> {
-    toxi(alloc)?.error(kind, why)
 }

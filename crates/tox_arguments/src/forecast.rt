@@ -61,6 +61,7 @@ pub(crate) const FORECAST: CommandForm = CommandForm {
     ],
 };
 
+/// The task of `forecast`.
 pub(crate) fn forecast_task<'a>(alloc: Global, given: &ArgMatches<'a>) -> Result<Task<'a>, Error> {
     let Some(asked) = proxy_of(given, "links") else {
         return Err(incomplete(alloc));

@@ -13,6 +13,7 @@ pub(crate) const MIGRATE: CommandForm = CommandForm {
     arguments: &[SCRIPT],
 };
 
+/// The task of `migrate`.
 pub(crate) fn migrate_task<'a>(alloc: Global, given: &ArgMatches<'a>) -> Result<Task<'a>, Error> {
     match given.get_str("script") {
         Some(script) => Ok(Task::Migrate(script)),

@@ -51,6 +51,7 @@ pub(crate) const PICK: CommandForm = CommandForm {
     ],
 };
 
+/// The task of `pick`.
 pub(crate) fn pick_task<'a>(alloc: Global, given: &ArgMatches<'a>) -> Result<Task<'a>, Error> {
     let Some((asked, stream)) = proxy_of(given, "conn").zip(given.get_str("stream")) else {
         return Err(incomplete(alloc));

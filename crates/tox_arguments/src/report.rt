@@ -39,6 +39,7 @@ pub(crate) const REPORT: CommandForm = CommandForm {
     ],
 };
 
+/// The task of `report`.
 pub(crate) fn report_task<'a>(alloc: Global, given: &ArgMatches<'a>) -> Result<Task<'a>, Error> {
     Ok(Task::Report(ReportArguments {
         pictures: given
