@@ -13,11 +13,12 @@ class Function:
     """A function of a source file and its lines, from 1, with its attributes, its comment and the last line.
 
     `owner` is the type of a method, with the words of its trait behind it: the name that the prover gives the block. `body` is the line that opens a
-    body of several lines.
+    body of several lines. A copy under another name may stand beside it where it is no method `of_trait`.
     """
 
     file: str
     owner: str
+    of_trait: bool
     name: str
     first: int
     body: int | None
@@ -57,21 +58,24 @@ class Edit:
     functions: list = field(default_factory=list)
     wide: bool = False
 
+    def fits_copy(self):
+        """Whether a copy of its function can be changed in place of the function."""
+        return not self.wide and len(self.functions) == 1 and not self.functions[0].of_trait
+
     def apply(self, folder):
         """Changes the files below the folder, or raises BadEdit."""
-        for file, old, new in self.changes:
-            path = os.path.join(folder, file)
-            with open(path, encoding="utf-8") as source:
-                text = source.read()
-            if text.count(old) != 1:
-                raise BadEdit(f"an `old:` text stands in {file} {text.count(old)} times, and not once")
-            with open(path, "w", encoding="utf-8") as source:
-                source.write(text.replace(old, new))
+        for change in self.changes:
+            file = change[0]
+            write_text(folder, file, replaced(text_of(folder, file), change))
 
     def meets(self, other):
-        """Whether the two can't share a check: one is wide, they change one function, or one writes a text that the other changes."""
+        """Whether the two can't share a check: one is wide, or they clash and neither can change a copy."""
+        return self.wide or other.wide or self.clashes(other) and not self.fits_copy() and not other.fits_copy()
+
+    def clashes(self, other):
+        """Whether the two change one function, or one writes a text that the other changes."""
         one_function = any(function in other.functions for function in self.functions)
-        return self.wide or other.wide or one_function or self.writes_text_of(other) or other.writes_text_of(self)
+        return one_function or self.writes_text_of(other) or other.writes_text_of(self)
 
     def writes_text_of(self, other):
         """Whether a new text holds a text that the other changes."""
@@ -89,6 +93,19 @@ def text_of(folder, file):
         return source.read()
 
 
+def write_text(folder, file, text):
+    with open(os.path.join(folder, file), "w", encoding="utf-8") as source:
+        source.write(text)
+
+
+def replaced(text, change):
+    """The text with a change of its file in it."""
+    file, old, new = change
+    if text.count(old) != 1:
+        raise BadEdit(f"an `old:` text stands in {file} {text.count(old)} times, and not once")
+    return text.replace(old, new)
+
+
 def body_of(lines, number, indent):
     """The lines, from 0, that open and end the body of the function that begins at a line, as `rt fmt` has laid it out. No line opens a body that ends in
     its first line, nor that of a trait's method without one."""
@@ -104,17 +121,19 @@ def body_of(lines, number, indent):
 def functions_of(folder, file):
     """The functions of a source file."""
     lines = text_of(folder, file).split("\n")
-    owner = None
+    owner, of_trait = None, False
     for number, line in enumerate(lines):
         block, begins = BLOCK.match(line), FUNCTION.match(line)
         if block:
             owner = block["type"] + "".join(re.findall(r"(?<!')\b\w+", block["trait"] or ""))
+            of_trait = bool(block["trait"]) or block[0].startswith(("trait", "pub trait"))
         if begins:
             body, last = body_of(lines, number, begins[1])
             first = number
             while lines[first - 1].startswith((begins[1] + "#[", begins[1] + "///")):
                 first -= 1
-            yield Function(file, owner if begins[1] else "", begins[2], first + 1, body and body + 1, last + 1)
+            is_method = bool(begins[1])
+            yield Function(file, owner if is_method else "", is_method and of_trait, begins[2], first + 1, body and body + 1, last + 1)
 
 
 def place_of(text, old):

@@ -6,6 +6,7 @@ import subprocess
 import sys
 import tempfile
 
+from copies import apply_all
 from left_out import leave_out_bodies
 
 KIT_PROGRAMS = os.path.dirname(os.path.realpath(shutil.which("rt") or "rt"))
@@ -25,10 +26,11 @@ NOT_COMPILED = re.compile(r".*\berror\[[\w-]+\]")
 
 
 class Report:
-    """What a check said. `left_out` are the functions that were checked without their bodies."""
+    """What a check said. `changed` has the functions that each edit changed, by its name. `left_out` are those that were checked without their bodies."""
 
-    def __init__(self, status, text, left_out=()):
+    def __init__(self, status, text, changed, left_out):
         self.status = status
+        self.changed = changed
         self.left_out = left_out
         self.lines = text.rstrip("\n").split("\n")
         self.refused = status == 1 and self.lines[-1].startswith(("logic=not-proved", "only="))
@@ -41,13 +43,13 @@ class Report:
         # The files and lines at which a goal isn't proved.
         self.places = [(it[1] or it[3], int(it[2] or it[4])) for it in found if it]
 
-    def names(self, function):
-        """Whether a goal of the function isn't proved."""
-        return any(function.holds(file, line) for file, line in self.places)
+    def refuses(self, edit):
+        """Whether a goal of a function that the edit changed isn't proved."""
+        return any(it.holds(file, line) for it in self.changed[edit.name] for file, line in self.places)
 
-    def names_others(self, functions):
-        """Whether a goal isn't proved outside of the functions and those without their bodies."""
-        known = [*functions, *self.left_out]
+    def names_others(self):
+        """Whether a goal isn't proved outside of the changed functions and those without their bodies."""
+        known = [*(it for functions in self.changed.values() for it in functions), *self.left_out]
         return any(not any(it.holds(file, line) for it in known) for file, line in self.places)
 
 
@@ -64,22 +66,23 @@ class Prover:
     def __exit__(self, *_):
         shutil.rmtree(self.kept, ignore_errors=True)
 
-    def check(self, edits, functions=(), whole=True):
-        """Checks a copy of the crate with the edits in it: these functions and those that they call, or else all. Where it isn't whole, the bodies of the
-        others are left out."""
-        report = self.checked(edits, functions, whole)
-        return self.checked(edits, [], True) if report.status == NO_FUNCTION and functions else report
+    def check(self, edits, every=False, whole=True):
+        """Checks a copy of the crate with the edits in it: every function, or those that are changed and those that they call. Where it isn't whole, the
+        bodies of the others are left out."""
+        report = self.checked(edits, every, whole)
+        return self.checked(edits, True, True) if report.status == NO_FUNCTION and not every else report
 
-    def checked(self, edits, functions, whole):
+    def checked(self, edits, every, whole):
         with tempfile.TemporaryDirectory(prefix="toxi-edited-") as copy:
             for part in rtlib.PARTS:
                 if os.path.isdir(f"{self.crate.folder}/{part}"):
                     shutil.copytree(f"{self.crate.folder}/{part}", f"{copy}/{part}")
-            for edit in edits:
-                edit.apply(copy)
-            left_out = [] if whole else leave_out_bodies(copy, functions)
+            changed = apply_all(edits, copy, self.crate.folder)
+            tried = {it for functions in changed.values() for it in functions}
+            left_out = [] if whole else leave_out_bodies(copy, tried)
             words = [*self.crate.words(["--jobs", "1"], keeps=False), "--incremental", self.kept]
-            words += [word for it in functions for word in ("--only", it.path())]
+            if not every:
+                words += [word for path in sorted({it.path() for it in tried}) for word in ("--only", path)]
             ran = subprocess.run(
                 [*GUARDED, rtlib.RATTLE, "check", *words],
                 cwd=copy,
@@ -89,4 +92,4 @@ class Prover:
                 errors="replace",
                 check=False,
             )
-        return Report(ran.returncode, ran.stdout, left_out)
+        return Report(ran.returncode, ran.stdout, changed, left_out)
