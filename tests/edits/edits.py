@@ -32,15 +32,17 @@ class Function:
         """
         if file == self.file:
             return self.first <= line <= self.last
-        module = self.file.removeprefix("src/").removesuffix(".rt")
-        place = rf".+/{self.owner}" if self.owner else module
-        return re.fullmatch(rf"proofs/{place}/(\+?{self.name}|fn/{self.name}/\w+)/\w+\.antt", file) is not None
+        before = [".+", self.owner] if self.owner else module_of(self.file)
+        place = "/".join(["proofs", *before, rf"(\+?{self.name}|fn/{self.name}/\w+)", r"\w+\.antt"])
+        return re.fullmatch(place, file) is not None
 
     def path(self):
         """The end of the name that the prover gives the function."""
-        module = self.file.removeprefix("src/").removesuffix(".rt").split("/")
-        before = [self.owner] if self.owner else [] if module in (["lib"], ["main"]) else module
-        return "::".join([*before, self.name])
+        return "::".join([*([self.owner] if self.owner else module_of(self.file)), self.name])
+
+    def place(self, file):
+        """The folder of its proof. The file is that of the type of a method, or its own."""
+        return "/".join(["proofs", *module_of(file), *([self.owner] if self.owner else []), self.name])
 
 
 class BadEdit(Exception):
@@ -80,6 +82,12 @@ class Edit:
     def writes_text_of(self, other):
         """Whether a new text holds a text that the other changes."""
         return any(old in new for _, _, new in self.changes for _, old, _ in other.changes)
+
+
+def module_of(file):
+    """The path of the module that a source file holds."""
+    module = file.removeprefix("src/").removesuffix(".rt").split("/")
+    return [] if module in (["lib"], ["main"]) else module
 
 
 def files_in(folder, part):

@@ -79,7 +79,7 @@ class Prover:
                     shutil.copytree(f"{self.crate.folder}/{part}", f"{copy}/{part}")
             changed = apply_all(edits, copy, self.crate.folder)
             tried = {it for functions in changed.values() for it in functions}
-            left_out = [] if whole else leave_out_bodies(copy, tried)
+            left_out = [] if whole else leave_out_bodies(copy, self.crate.name, tried)
             words = [*self.crate.words(["--jobs", "1"], keeps=False), "--incremental", self.kept]
             if not every:
                 words += [word for path in sorted({it.path() for it in tried}) for word in ("--only", path)]
