@@ -1,15 +1,13 @@
 //! The compiled runner beside the stages one after another, on chains, words and arrivals drawn at random.
-use crate::plan::orders::compare_outcomes;
-use crate::plan::staged::staged_outcome;
+use crate::plan::outcomes::compare_outcomes;
+use crate::plan::settings::Setting;
+use crate::plan::staged::{outcome_of, staged_items};
 use rand_pcg::Lcg64Xsh32;
-use std::alloc::Global;
 use std::process::Abort;
-use std::test::Fail;
 use tests_support::{below, drawn_words};
 use tox_defs::{Chain, Toxic};
-use tox_plan::deliver;
 use tox_time::{Arrivals, Micros};
-use tox_words::{Lanes, Words};
+use tox_words::Lanes;
 
 fn toxic(generator: &mut Lcg64Xsh32) -> Toxic {
     match below(generator, 7) {
@@ -72,48 +70,36 @@ fn push_toxic(rt: &impl Abort, generator: &mut Lcg64Xsh32, chain: &mut Chain) {
     assert!(rt; chain.push(toxic, toxicity).is_ok());
 }
 
-fn arrivals(alloc: Global, generator: &mut Lcg64Xsh32) -> Result<Arrivals, Fail> {
-    let mut arrivals = Arrivals::new(alloc);
+fn arrivals(rt: &(impl Abort + AllocGlobal), generator: &mut Lcg64Xsh32) -> Arrivals {
+    let mut arrivals = Arrivals::new(rt.alloc());
     let mut instant = Micros::ZERO;
     for _ in 0..below(generator, 6) {
         instant = instant.after(u64::from(below(generator, 4000)));
-        arrivals.push(u64::from(1 + below(generator, 150)), instant)?;
+        let len = u64::from(1 + below(generator, 150));
+        arrivals.push(len, instant).expect(rt, "a piece");
     }
     if below(generator, 2) == 0 {
-        arrivals.eof(instant.after(u64::from(below(generator, 4000))))?;
+        let end = instant.after(u64::from(below(generator, 4000)));
+        arrivals.eof(end).expect(rt, "an end");
     }
-    Ok(arrivals)
+    arrivals
 }
 
-/// Compares stages and runner on what a seed draws.
-fn compare(rt: &(impl Abort + AllocGlobal), seed: u64) -> Result<(), Fail> {
-    let alloc = rt.alloc();
+/// Compares what stages and runner deliver in a setting that a seed draws.
+fn compare(rt: &(impl Abort + AllocGlobal), seed: u64) {
     let generator = &mut Lcg64Xsh32::new(seed, 1);
-    let chain = chain(rt, generator);
-    let words = drawn_words(alloc, generator)?;
-    let arrivals = arrivals(alloc, generator)?;
-    compare_ways(rt, &chain, &words, &arrivals, seed)
-}
-
-/// Compares what stages and runner deliver of these arrivals.
-fn compare_ways(
-    rt: &(impl Abort + AllocGlobal),
-    chain: &Chain,
-    words: &Words,
-    arrivals: &Arrivals,
-    seed: u64,
-) -> Result<(), Fail> {
-    let alloc = rt.alloc();
-    let delivered = deliver(alloc, chain, words, arrivals)?;
-    let staged = staged_outcome(rt, alloc, chain, words, arrivals)?;
-    compare_outcomes(rt, alloc, &staged, &delivered, seed)?;
-    Ok(())
+    let setting = Setting {
+        chain: chain(rt, generator),
+        words: drawn_words(rt.alloc(), generator).expect(rt, "memory"),
+        arrivals: arrivals(rt, generator),
+    };
+    let staged = outcome_of(rt, &staged_items(rt, &setting));
+    compare_outcomes(rt, &staged, &setting.delivered(rt), seed);
 }
 
 #[test]
-fn stages_and_runner_agree(rt: HostRuntime) -> Result<(), Fail> {
+fn stages_and_runner_agree(rt: HostRuntime) {
     for seed in 0..4000 {
-        compare(&rt, seed)?;
+        compare(&rt, seed);
     }
-    Ok(())
 }

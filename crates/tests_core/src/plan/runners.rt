@@ -1,13 +1,36 @@
 //! A runner, call by call.
-ghost use Rattle.std.specs.Prelude.{◌≡◌};
+ghost use Rattle.std.specs.Prelude.{◌≡◌, true};
 
-use crate::comparing::assert_equal;
+use crate::comparing::assert_equal_at;
 use std::process::Abort;
 use tests_support::{at, chain_of, slice};
 use tox_compile::compile;
 use tox_plan::Runner;
-use tox_time::{ArrivalFault, Ending, Micros, Slice};
+use tox_time::{ArrivalFault, Ending, Slice};
 use tox_words::Words;
+
+/// A call of a runner, and what it answers. Instants are in microseconds.
+pub enum Step {
+    /// An idle runner is offered so many bytes at an instant.
+    Offer(u64, u64, Result<(), ArrivalFault>),
+    /// The next slice has this start, stop and instant.
+    Gives(u64, u64, u64),
+    GivesNothing,
+    /// Whether it is idle.
+    Idle(bool),
+    /// It knows no ending yet.
+    Open,
+    Closed(u64),
+    Reset(u64),
+    /// The source of an idle runner ends at the first instant. The link closes at the second.
+    Finish(u64, u64),
+    /// The source of an idle runner stays quiet. The link stays open.
+    Quiet,
+    Cuts(u64),
+    Pieces(u64),
+    Turns(u64),
+    Latest(u64),
+}
 
 /// A table of these words.
 pub fn words_of(rt: &(impl Abort + AllocGlobal), words: &[u32]) -> Words {
@@ -22,89 +45,164 @@ pub fn runner_of<'w>(rt: &impl Abort, toxics: &str, words: &'w Words) -> Runner<
     Runner::new(compile(&chain, words), words)
 }
 
+/// Stops the test unless the runner is idle.
+pub fn assert_idle(rt: &impl Abort, runner: &Runner<'_>)
+    ensures { runner.now.idle ≡ true }
+{
+    assert!(rt; runner.is_idle());
+}
+
 /// Compares how an idle runner answers an offer.
 fn answers(
     rt: &impl Abort,
     runner: &mut Runner<'_>,
     len: u64,
-    instant: Micros,
-    answer: Result<(), ArrivalFault>,
+    micros: u64,
+    answer: &Result<(), ArrivalFault>,
+    number: u64,
 ) {
-    assert!(rt; runner.is_idle());
-    assert_equal(rt, &runner.offer(len, instant), &answer);
+    assert_idle(rt, runner);
+    assert_equal_at(rt, &runner.offer(len, at(micros)), answer, number);
 }
 
 /// Compares the next slice.
-pub fn gives(rt: &impl Abort, runner: &mut Runner<'_>, slice: Option<Slice>) {
-    assert_equal(rt, &runner.next_cut(), &slice);
+fn gives(rt: &impl Abort, runner: &mut Runner<'_>, slice: Option<Slice>, number: u64) {
+    assert_equal_at(rt, &runner.next_cut(), &slice, number);
 }
 
-fn compare_ending(rt: &impl Abort, runner: &Runner<'_>, ending: Option<Ending>) {
-    assert_equal(rt, &runner.ending(), &ending);
-}
-
-#[test]
-fn a_limit_ends_the_link(rt: HostRuntime) {
-    let words = words_of(&rt, &[0]);
-    let mut runner = runner_of(&rt, "limit_data:bytes=1", &words);
-    answers(&rt, &mut runner, 1, at(5), Ok(()));
-    gives(&rt, &mut runner, Some(slice(0, 1, 5)));
-    compare_ending(&rt, &runner, None);
-    gives(&rt, &mut runner, None);
-    compare_ending(&rt, &runner, Some(Ending::Closed(at(5))));
-    answers(&rt, &mut runner, 1, at(5), Err(ArrivalFault::AfterEnd));
-    assert_equal(&rt, &(runner.cuts(), runner.pieces()), &(1, 1));
-    assert_equal(&rt, &runner.latest(), &at(5));
-}
-
-#[test]
-fn a_runner_goes_on_until_its_source_ends(rt: HostRuntime) {
-    let words = words_of(&rt, &[0]);
-    let mut runner = runner_of(&rt, "latency:latency=1", &words);
-    answers(&rt, &mut runner, 2, at(5), Ok(()));
-    gives(&rt, &mut runner, Some(slice(0, 2, 1005)));
-    gives(&rt, &mut runner, None);
-    answers(&rt, &mut runner, 2, at(4), Err(ArrivalFault::TimeBack));
-    compare_finish(&rt, &mut runner, at(9), Ending::Closed(at(1005)));
-    answers(&rt, &mut runner, 1, at(8), Err(ArrivalFault::TimeBack));
-    assert_equal(&rt, &runner.turns(), &1);
+fn compare_ending(rt: &impl Abort, runner: &Runner<'_>, ending: Option<Ending>, number: u64) {
+    assert_equal_at(rt, &runner.ending(), &ending, number);
 }
 
 /// Compares the ending of an idle runner whose source ends.
-fn compare_finish(rt: &impl Abort, runner: &mut Runner<'_>, end: Micros, ending: Ending) {
-    assert!(rt; runner.is_idle());
+fn finishes(rt: &impl Abort, runner: &mut Runner<'_>, micros: u64, ending: Ending, number: u64) {
+    let end = at(micros);
+    assert_idle(rt, runner);
     assert!(rt; runner.latest() <= end);
-    assert_equal(rt, &runner.finish(end), &ending);
-    compare_ending(rt, runner, Some(ending));
+    assert_equal_at(rt, &runner.finish(end), &ending, number);
 }
+
+/// Compares the ending of an idle runner whose source stays quiet.
+fn stays_open(rt: &impl Abort, runner: &mut Runner<'_>, number: u64) {
+    assert_idle(rt, runner);
+    assert_equal_at(rt, &runner.quiet(), &Ending::StillOpen, number);
+}
+
+/// Makes the step of this number.
+fn make_step(rt: &impl Abort, runner: &mut Runner<'_>, step: &Step, number: u64) {
+    match *step {
+        Step::Offer(len, micros, answer) => answers(rt, runner, len, micros, &answer, number),
+        Step::Gives(start, stop, micros) => {
+            gives(rt, runner, Some(slice(start, stop, micros)), number);
+        }
+        Step::GivesNothing => gives(rt, runner, None, number),
+        Step::Finish(end, closed) => {
+            finishes(rt, runner, end, Ending::Closed(at(closed)), number);
+        }
+        Step::Quiet => stays_open(rt, runner, number),
+        _ => look(rt, runner, step, number),
+    }
+}
+
+/// Compares what a runner tells of itself.
+fn look(rt: &impl Abort, runner: &Runner<'_>, step: &Step, number: u64) {
+    match *step {
+        Step::Idle(idle) => assert_equal_at(rt, &runner.is_idle(), &idle, number),
+        Step::Open => compare_ending(rt, runner, None, number),
+        Step::Closed(micros) => {
+            compare_ending(rt, runner, Some(Ending::Closed(at(micros))), number);
+        }
+        Step::Reset(micros) => {
+            compare_ending(rt, runner, Some(Ending::Reset(at(micros))), number);
+        }
+        Step::Cuts(cuts) => assert_equal_at(rt, &runner.cuts(), &cuts, number),
+        Step::Pieces(pieces) => assert_equal_at(rt, &runner.pieces(), &pieces, number),
+        Step::Turns(turns) => assert_equal_at(rt, &runner.turns(), &turns, number),
+        Step::Latest(micros) => assert_equal_at(rt, &runner.latest(), &at(micros), number),
+        _ => {}
+    }
+}
+
+/// Makes these steps with a runner. A failure prints the number of its step, counted from 0.
+pub fn make_steps(rt: &impl Abort, runner: &mut Runner<'_>, steps: &[Step]) {
+    for (number, step) in steps.iter().enumerate() {
+        make_step(rt, runner, step, number as u64);
+    }
+}
+
+/// Makes these steps with a runner of these toxics under these words.
+fn follow(rt: &(impl Abort + AllocGlobal), toxics: &str, words: &[u32], steps: &[Step]) {
+    let words = words_of(rt, words);
+    let mut runner = runner_of(rt, toxics, &words);
+    make_steps(rt, &mut runner, steps);
+}
+
+const LIMIT: &[Step] = &[
+    Step::Offer(1, 5, Ok(())),
+    Step::Gives(0, 1, 5),
+    Step::Open,
+    Step::GivesNothing,
+    Step::Closed(5),
+    Step::Offer(1, 5, Err(ArrivalFault::AfterEnd)),
+    Step::Cuts(1),
+    Step::Pieces(1),
+    Step::Latest(5),
+];
+
+#[test]
+fn a_limit_ends_the_link(rt: HostRuntime) {
+    follow(&rt, "limit_data:bytes=1", &[0], LIMIT);
+}
+
+const LATENCY: &[Step] = &[
+    Step::Offer(2, 5, Ok(())),
+    Step::Gives(0, 2, 1005),
+    Step::GivesNothing,
+    Step::Offer(2, 4, Err(ArrivalFault::TimeBack)),
+    Step::Finish(9, 1005),
+    Step::Closed(1005),
+    Step::Offer(1, 8, Err(ArrivalFault::TimeBack)),
+    Step::Turns(1),
+];
+
+#[test]
+fn a_runner_goes_on_until_its_source_ends(rt: HostRuntime) {
+    follow(&rt, "latency:latency=1", &[0], LATENCY);
+}
+
+const SLICER: &[Step] = &[
+    Step::Offer(5, 0, Ok(())),
+    Step::Gives(0, 5, 0),
+    Step::Cuts(2),
+    Step::GivesNothing,
+];
 
 #[test]
 fn neighbours_of_one_instant_are_one_slice(rt: HostRuntime) {
-    let words = words_of(&rt, &[0, 1, 2]);
     let slicer = "slicer:average_size=2,size_variation=1";
-    let mut runner = runner_of(&rt, slicer, &words);
-    answers(&rt, &mut runner, 5, Micros::ZERO, Ok(()));
-    gives(&rt, &mut runner, Some(slice(0, 5, 0)));
-    assert_equal(&rt, &runner.cuts(), &2);
-    gives(&rt, &mut runner, None);
+    follow(&rt, slicer, &[0, 1, 2], SLICER);
 }
+
+const CUTOFF: &[Step] = &[
+    Step::Offer(1, 20000, Ok(())),
+    Step::GivesNothing,
+    Step::Reset(20000),
+    Step::Offer(1, 20001, Err(ArrivalFault::AfterEnd)),
+];
 
 #[test]
 fn a_cutoff_is_remembered_once_its_piece_is_read(rt: HostRuntime) {
-    let words = words_of(&rt, &[0]);
-    let mut runner = runner_of(&rt, "reset_peer:timeout=20", &words);
-    answers(&rt, &mut runner, 1, at(20000), Ok(()));
-    gives(&rt, &mut runner, None);
-    compare_ending(&rt, &runner, Some(Ending::Reset(at(20000))));
-    answers(&rt, &mut runner, 1, at(20001), Err(ArrivalFault::AfterEnd));
+    follow(&rt, "reset_peer:timeout=20", &[0], CUTOFF);
 }
+
+const CUTOFF_AT_THE_START: &[Step] = &[
+    Step::Open,
+    Step::Offer(1, 0, Ok(())),
+    Step::GivesNothing,
+    Step::Reset(0),
+];
 
 #[test]
 fn a_cutoff_at_the_start_waits_for_a_piece(rt: HostRuntime) {
-    let words = words_of(&rt, &[0]);
-    let mut runner = runner_of(&rt, "reset_peer:timeout=0", &words);
-    compare_ending(&rt, &runner, None);
-    answers(&rt, &mut runner, 1, at(0), Ok(()));
-    gives(&rt, &mut runner, None);
-    compare_ending(&rt, &runner, Some(Ending::Reset(at(0))));
+    follow(&rt, "reset_peer:timeout=0", &[0], CUTOFF_AT_THE_START);
 }

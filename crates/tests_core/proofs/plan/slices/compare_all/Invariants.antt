@@ -1,7 +1,0 @@
--- The slices are still those of the offered piece.
-use Rattle.std.proofs.Common.{◌≡◌}
-use Rattle.tox_plan.specs.Slices.{CanLend}
-use Rattle.tests_core.proofs.plan.slices.compare_all.Given as goal
-
-abbrev pub invariant-loop-slice : goal.invariant-loop-slice
-invariant-loop-slice g l = CanLend l.slices × (l.slices.runner.piece ≡ l.initial.slices.runner.piece)
