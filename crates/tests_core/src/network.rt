@@ -2,6 +2,7 @@
 mod arrivals;
 mod ends;
 mod gates;
+mod running;
 mod scarce_stages;
 mod short_forms;
 mod slice_lists;

@@ -1,72 +1,101 @@
 //! What arrivals accept and refuse.
-use crate::comparing::assert_equal;
+use crate::comparing::{assert_equal, assert_equal_at};
 use std::process::Abort;
-use std::test::Fail;
 use tests_support::at;
 use tox_time::{ArrivalFault, Arrivals, Item, MAX_BYTES, Micros, Span};
 
-#[test]
-fn arrivals_are_listed(rt: HostRuntime) -> Result<(), Fail> {
+/// What arrives at an instant in microseconds.
+enum Call {
+    Piece(u64, u64),
+    End(u64),
+}
+
+/// Calls and what each answers.
+type Calls = &'static [(Call, Result<(), ArrivalFault>)];
+
+/// Makes these calls. A failure prints the number of its call, counted from 0.
+fn arrive(rt: &(impl Abort + AllocGlobal), calls: Calls) -> Arrivals {
     let mut arrivals = Arrivals::new(rt.alloc());
-    arrivals.push(3, at(5))?;
-    arrivals.push(MAX_BYTES - 3, at(5))?;
-    arrivals.eof(at(7))?;
+    for (number, (call, answer)) in calls.iter().enumerate() {
+        let got = match *call {
+            Call::Piece(len, micros) => arrivals.push(len, at(micros)),
+            Call::End(micros) => arrivals.eof(at(micros)),
+        };
+        assert_equal_at(rt, &got, answer, number as u64);
+    }
+    arrivals
+}
+
+const ACCEPTED: Calls = &[
+    (Call::Piece(3, 5), Ok(())),
+    (Call::Piece(MAX_BYTES - 3, 5), Ok(())),
+    (Call::End(7), Ok(())),
+];
+
+#[test]
+fn arrivals_are_listed(rt: HostRuntime) {
+    let arrivals = arrive(&rt, ACCEPTED);
+    let first = Span { start: 0, stop: 3 };
+    let second = Span {
+        start: 3,
+        stop: MAX_BYTES,
+    };
     let listed = [
-        Item::Chunk(Span { start: 0, stop: 3 }, at(5)),
-        Item::Chunk(
-            Span {
-                start: 3,
-                stop: MAX_BYTES,
-            },
-            at(5),
-        ),
+        Item::Chunk(first, at(5)),
+        Item::Chunk(second, at(5)),
         Item::Closed(at(7)),
     ];
     assert_equal(&rt, &arrivals.items(), &listed.as_slice());
-    Ok(())
 }
 
-/// Compares why a piece is refused.
-fn refuse(rt: &impl Abort, arrivals: &mut Arrivals, len: u64, micros: u64, fault: ArrivalFault) {
-    assert_eq!(rt;
-        arrivals.push(len, at(micros)),
-        Err(fault),
-        "{len} bytes at {micros}"
-    );
-}
-
-#[test]
-fn arrivals_are_refused_in_order(rt: HostRuntime) -> Result<(), Fail> {
-    let mut ended = Arrivals::new(rt.alloc());
-    ended.push(MAX_BYTES, at(5))?;
-    ended.eof(at(5))?;
-    refuse(&rt, &mut ended, 0, 4, ArrivalFault::TimeBack);
-    refuse(&rt, &mut ended, 1, 4, ArrivalFault::TimeBack);
-    refuse(&rt, &mut ended, 0, 5, ArrivalFault::EmptyPiece);
-    refuse(&rt, &mut ended, 1, 5, ArrivalFault::TooManyBytes);
-    assert_equal(&rt, &ended.eof(at(4)), &Err(ArrivalFault::TimeBack));
-    assert_equal(&rt, &ended.eof(at(5)), &Err(ArrivalFault::AfterEnd));
-    Ok(())
-}
+const REFUSED_IN_ORDER: Calls = &[
+    (Call::Piece(MAX_BYTES, 5), Ok(())),
+    (Call::End(5), Ok(())),
+    (Call::Piece(0, 4), Err(ArrivalFault::TimeBack)),
+    (Call::Piece(1, 4), Err(ArrivalFault::TimeBack)),
+    (Call::Piece(0, 5), Err(ArrivalFault::EmptyPiece)),
+    (Call::Piece(1, 5), Err(ArrivalFault::TooManyBytes)),
+    (Call::End(4), Err(ArrivalFault::TimeBack)),
+    (Call::End(5), Err(ArrivalFault::AfterEnd)),
+];
 
 #[test]
-fn arrivals_are_refused_behind_an_end(rt: HostRuntime) -> Result<(), Fail> {
-    let mut closed = Arrivals::new(rt.alloc());
-    closed.eof(at(5))?;
-    refuse(&rt, &mut closed, 0, 4, ArrivalFault::TimeBack);
-    refuse(&rt, &mut closed, 0, 5, ArrivalFault::EmptyPiece);
-    refuse(&rt, &mut closed, 1, 5, ArrivalFault::AfterEnd);
-    Ok(())
+fn arrivals_are_refused_in_order(rt: HostRuntime) {
+    let _ended = arrive(&rt, REFUSED_IN_ORDER);
+}
+
+const REFUSED_BEHIND_AN_END: Calls = &[
+    (Call::End(5), Ok(())),
+    (Call::Piece(0, 4), Err(ArrivalFault::TimeBack)),
+    (Call::Piece(0, 5), Err(ArrivalFault::EmptyPiece)),
+    (Call::Piece(1, 5), Err(ArrivalFault::AfterEnd)),
+];
+
+#[test]
+fn arrivals_are_refused_behind_an_end(rt: HostRuntime) {
+    let _closed = arrive(&rt, REFUSED_BEHIND_AN_END);
 }
 
 #[test]
 fn time_stops_at_the_horizon(rt: HostRuntime) {
     let horizon = at(u64::MAX);
-    assert_equal(&rt, &horizon.get(), &1_000_000_000_000_000);
-    assert_equal(&rt, &Micros::new(1_000_000_000_000_000), &Some(horizon));
-    assert_equal(&rt, &Micros::new(1_000_000_000_000_001), &None);
-    assert_equal(&rt, &Micros::from_millis(3_600_000).get(), &3_600_000_000);
-    assert_equal(&rt, &Micros::from_millis(u64::MAX), &horizon);
-    assert_equal(&rt, &horizon.plus(at(1)), &horizon);
-    assert_equal(&rt, &at(3).later(at(2)), &at(3));
+    let instants = [
+        horizon,
+        Micros::from_millis(3_600_000),
+        Micros::from_millis(u64::MAX),
+        horizon.plus(at(1)),
+        at(3).later(at(2)),
+    ];
+    compare_instants(&rt, &instants, &[LAST, 3_600_000_000, LAST, LAST, 3]);
+    assert_equal(&rt, &Micros::new(LAST), &Some(horizon));
+    assert_equal(&rt, &Micros::new(LAST + 1), &None);
+}
+
+/// The last instant, in microseconds.
+const LAST: u64 = 1_000_000_000_000_000;
+
+fn compare_instants(rt: &impl Abort, instants: &[Micros; 5], expected: &[u64; 5]) {
+    for (number, (instant, micros)) in instants.iter().zip(expected).enumerate() {
+        assert_equal_at(rt, &instant.get(), micros, number as u64);
+    }
 }

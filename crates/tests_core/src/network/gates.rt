@@ -1,5 +1,5 @@
 //! A gate that records what passes it.
-use crate::comparing::assert_equal;
+use crate::comparing::{assert_equal, assert_equal_at};
 use std::process::Abort;
 use std::sync::atomic::{AtomicBool, AtomicU64, Ordering};
 use std::thread;
@@ -53,7 +53,8 @@ impl Log {
         for nth in 0..5usize {
             let passed = self.returned[nth].load(Ordering::SeqCst);
             let taken = self.entered[5 + nth].load(Ordering::SeqCst);
-            assert!(rt; 0 < passed && passed < taken, "item {nth}");
+            let is_in_order = 0 < passed && passed < taken;
+            assert_equal_at(rt, &is_in_order, &true, nth as u64);
         }
         let first_passed = self.returned[5].load(Ordering::SeqCst);
         assert!(rt; first_passed < self.entered[3].load(Ordering::SeqCst));

@@ -1,23 +1,17 @@
 //! Running stages, with too little memory and too few threads.
 ghost use Rattle.std.specs.Prelude.{◌≡◌, false};
 
-use std::alloc::Global;
+use crate::network::running::TWO_LATENCIES;
+use crate::plan::settings::Setting;
 use std::process::Abort;
 use std::sync::Wait;
 use std::test::Fail;
 use std::thread::Threads;
-use tests_support::{
-    CountingGate, Refusals, Scarcity, Tried, bytes_at_zero, chain_of, table_of, try_each,
-    with_stacks,
-};
-use tox_defs::Chain;
+use tests_support::{CountingGate, Refusals, Scarcity, Tried, table_of, try_each, with_stacks};
 use tox_runs::{StagesFault, stages_run};
 use tox_stages::{StageFault, run_stages};
 use tox_text::DryFault;
-use tox_time::{Arrivals, Ending, MemorySink, MemorySource, Outcome, Sink, Source};
-use tox_words::Words;
-
-const TWO_LATENCIES: &str = "latency:latency=1 latency:latency=2";
+use tox_time::{Ending, MemorySink, MemorySource, Outcome};
 
 const TEXT: &str = "0 data 61\n0 data 62\n";
 
@@ -32,44 +26,30 @@ const RING_PAGES: usize = 3 * 6;
 /// More pages than running stages need.
 const PAGES: usize = 90;
 
+/// What two stages work on: two bytes as arrivals, or as a text.
+#[derive(Clone, Copy)]
+enum Input {
+    Arrivals,
+    Text,
+}
+
 /// What running stages answered to the two bytes.
-fn tried_of(alloc: Global, answer: &Result<Outcome, StageFault>) -> Result<Tried, Fail> {
+fn tried_of(rt: &(impl Abort + AllocGlobal), answer: &Result<Outcome, StageFault>) -> Tried {
     match answer {
-        Ok(outcome) => delivered(alloc, outcome),
-        Err(StageFault::OutOfMemory) => Ok(Tried::NoMemory),
-        Err(StageFault::SpawnRefused) => Ok(Tried::NoThread),
+        Ok(outcome) => delivered(rt, outcome),
+        Err(StageFault::OutOfMemory) => Tried::NoMemory,
+        Err(StageFault::SpawnRefused) => Tried::NoThread,
     }
 }
 
 /// Wrong unless both bytes were delivered late, and no end.
-fn delivered(alloc: Global, outcome: &Outcome) -> Result<Tried, Fail> {
-    let table = table_of(alloc, &outcome.slices)?;
+fn delivered(rt: &(impl Abort + AllocGlobal), outcome: &Outcome) -> Tried {
+    let table = table_of(rt.alloc(), &outcome.slices).expect(rt, "memory");
     if table.as_slice() == [3000, 3000].as_slice() && outcome.ending == Ending::StillOpen {
-        Ok(Tried::Answered)
+        Tried::Answered
     } else {
-        Ok(Tried::Wrong)
+        Tried::Wrong
     }
-}
-
-/// Running stages with little memory. Nobody passes the gate once they have answered.
-fn run<R: Threads + Wait + Sync>(
-    rt: &R,
-    scarcity: &mut Scarcity,
-    alloc: Global,
-    pages: usize,
-    chain: &Chain,
-    arrivals: &Arrivals,
-) -> Result<Tried, Fail> {
-    let words = Words::from_list(alloc, &[0])?;
-    let gate = CountingGate::new();
-    scarcity.leave_pages(alloc, pages)?;
-    let answer = run_stages(rt, alloc, chain, &words, arrivals, CAP, &gate);
-    let passes = gate.passes();
-    scarcity.end();
-    if gate.passes() != passes {
-        return Ok(Tried::Wrong);
-    }
-    tried_of(alloc, &answer)
 }
 
 /// What running stages answered to the text.
@@ -84,122 +64,145 @@ fn text_tried(answer: &Result<(), StagesFault>) -> Tried {
     }
 }
 
-/// Runs stages between these ends with little memory. Nobody passes the gate after an answer.
-fn run_between<T: Threads + Wait + Sync, R: Source, W: Sink>(
-    rt: &T,
-    scarcity: &mut Scarcity,
-    alloc: Global,
-    pages: usize,
-    reader: &mut R,
-    writer: &mut W,
-    chain: &Chain,
-    words: &Words,
-) -> Result<Tried, Fail>
-    requires reads { R.failed reader.old ≡ false }
-    requires works { W.failed writer.old ≡ false }
-{
-    let gate = CountingGate::new();
-    scarcity.leave_pages(alloc, pages)?;
-    let answer = stages_run(rt, alloc, reader, writer, chain, words, CAP, &gate);
-    let passes = gate.passes();
-    scarcity.end();
-    if gate.passes() != passes {
-        return Ok(Tried::Wrong);
-    }
-    Ok(text_tried(&answer))
-}
-
-/// The same from text to text. Nothing is written after a refusal.
-fn run_text<R: Threads + Wait + Sync>(
+/// Running stages with the memory that is left.
+fn run_arrivals<R: Threads + Wait + Sync + AllocGlobal>(
     rt: &R,
-    scarcity: &mut Scarcity,
-    alloc: Global,
-    pages: usize,
-    chain: &Chain,
-) -> Result<Tried, Fail> {
-    let words = Words::from_list(alloc, &[0])?;
-    let mut reader = MemorySource::new(TEXT.as_bytes().to_vec(alloc)?, 64, None);
-    let mut writer = MemorySink::new(alloc, 100, 64, None)?;
-    let tried = run_between(
+    setting: &Setting,
+    gate: &CountingGate,
+) -> Result<Outcome, StageFault> {
+    run_stages(
         rt,
-        scarcity,
-        alloc,
-        pages,
-        &mut reader,
-        &mut writer,
-        chain,
-        &words,
-    )?;
-    Ok(tried.writing(writer.bytes(), RESULT))
-}
-
-/// Runs two stages where there are stacks for so many threads.
-fn run_behind<R: Threads + Wait + Sync + AllocGlobal>(
-    rt: &R,
-    threads: usize,
-) -> Result<Refusals, Fail> {
-    let alloc = rt.alloc();
-    let chain = chain_of(TWO_LATENCIES).ok_or("no short forms")?;
-    let arrivals = bytes_at_zero(alloc, 2)?;
-    let mut scarcity = with_stacks(rt, alloc, threads)?;
-    try_each(&mut scarcity, PAGES, |scarcity, pages| {
-        run(rt, scarcity, alloc, pages, &chain, &arrivals)
-    })
+        rt.alloc(),
+        &setting.chain,
+        &setting.words,
+        &setting.arrivals,
+        CAP,
+        gate,
+    )
 }
 
 /// The same from text to text.
-fn run_text_behind<R: Threads + Wait + Sync + AllocGlobal>(
+fn run_text<R: Threads + Wait + Sync + AllocGlobal>(
     rt: &R,
+    setting: &Setting,
+    gate: &CountingGate,
+    reader: &mut MemorySource,
+    writer: &mut MemorySink,
+) -> Result<(), StagesFault>
+    requires reads { reader.old.failed ≡ false }
+    requires works { writer.old.failed ≡ false }
+{
+    let (chain, words) = (&setting.chain, &setting.words);
+    stages_run(rt, rt.alloc(), reader, writer, chain, words, CAP, gate)
+}
+
+/// Wrong if the gate was passed after the answer.
+fn settled(gate: &CountingGate, passes: u64, tried: Tried) -> Tried {
+    if gate.passes() == passes {
+        tried
+    } else {
+        Tried::Wrong
+    }
+}
+
+/// Running stages with so many pages of memory. Nobody passes the gate once they have answered.
+fn try_arrivals<R: Threads + Wait + Sync + AllocGlobal + Abort>(
+    rt: &R,
+    scarcity: &mut Scarcity,
+    setting: &Setting,
+    pages: usize,
+) -> Tried {
+    let gate = CountingGate::new();
+    scarcity.leave_pages(rt.alloc(), pages).expect(rt, "pages");
+    let answer = run_arrivals(rt, setting, &gate);
+    let passes = gate.passes();
+    scarcity.end();
+    settled(&gate, passes, tried_of(rt, &answer))
+}
+
+/// The same from text to text. Nothing is written after a refusal.
+fn try_text<R: Threads + Wait + Sync + AllocGlobal + Abort>(
+    rt: &R,
+    scarcity: &mut Scarcity,
+    setting: &Setting,
+    pages: usize,
+) -> Tried {
+    let text = TEXT.as_bytes().to_vec(rt.alloc()).expect(rt, "memory");
+    let mut reader = MemorySource::new(text, 64, None);
+    let mut writer = MemorySink::new(rt.alloc(), 100, 64, None).expect(rt, "memory");
+    let gate = CountingGate::new();
+    scarcity.leave_pages(rt.alloc(), pages).expect(rt, "pages");
+    let answer = run_text(rt, setting, &gate, &mut reader, &mut writer);
+    let passes = gate.passes();
+    scarcity.end();
+    settled(&gate, passes, text_tried(&answer)).writing(writer.bytes(), RESULT)
+}
+
+/// Running stages with so many pages of memory.
+fn try_input<R: Threads + Wait + Sync + AllocGlobal + Abort>(
+    rt: &R,
+    scarcity: &mut Scarcity,
+    setting: &Setting,
+    pages: usize,
+    input: Input,
+) -> Tried {
+    match input {
+        Input::Arrivals => try_arrivals(rt, scarcity, setting, pages),
+        Input::Text => try_text(rt, scarcity, setting, pages),
+    }
+}
+
+/// Runs two stages with ever more memory, where there are stacks for so many threads.
+fn refusals_of<R: Threads + Wait + Sync + AllocGlobal + Abort>(
+    rt: &R,
+    input: Input,
     threads: usize,
 ) -> Result<Refusals, Fail> {
-    let alloc = rt.alloc();
-    let chain = chain_of(TWO_LATENCIES).ok_or("no short forms")?;
-    let mut scarcity = with_stacks(rt, alloc, threads)?;
+    let setting = Setting::read(rt, "0", TWO_LATENCIES, "1@0 1@0");
+    let mut scarcity = with_stacks(rt, rt.alloc(), threads).expect(rt, "stacks");
     try_each(&mut scarcity, PAGES, |scarcity, pages| {
-        run_text(rt, scarcity, alloc, pages, &chain)
+        Ok(try_input(rt, scarcity, &setting, pages, input))
     })
 }
 
-/// Prints what was refused: memory, and a thread in the end.
-fn are_refused_a_thread(rt: &(impl Abort + Eprint), refusals: &Refusals) -> Result<(), Fail> {
-    eprintln!(rt; "{refusals:?}")?;
-    assert!(rt; 0 < refusals.memory && refusals.last == Some(Tried::NoThread));
-    Ok(())
-}
-
-/// Prints what was refused: memory for each page of the rings, and nothing in the end.
-fn are_refused_memory(rt: &(impl Abort + Eprint), refusals: &Refusals) -> Result<(), Fail> {
-    eprintln!(rt; "{refusals:?}")?;
-    assert!(rt; refusals.is_answered && RING_PAGES < refusals.memory);
+/// Prints and compares what two stages were refused where there are stacks for so many threads: memory, and a thread in the
+/// end if there are fewer than two; otherwise memory for each page of the rings, and nothing in the end.
+fn compare<R: Threads + Wait + Sync + AllocGlobal + Abort + Eprint>(
+    rt: &R,
+    input: Input,
+    threads: usize,
+) -> Result<(), Fail> {
+    let refusals = refusals_of(rt, input, threads)?;
+    eprintln!(rt; "{refusals:?}").expect(rt, "standard error");
+    if threads < 2 {
+        assert!(rt; 0 < refusals.memory && refusals.last == Some(Tried::NoThread));
+    } else {
+        assert!(rt; refusals.is_answered && RING_PAGES < refusals.memory);
+    }
     Ok(())
 }
 
 #[test]
 fn running_stages_are_refused_each_thread(rt: HostRuntime) -> Result<(), Fail> {
-    let refusals = run_behind(&rt, 0)?;
-    are_refused_a_thread(&rt, &refusals)
+    compare(&rt, Input::Arrivals, 0)
 }
 
 #[test]
 fn running_stages_are_refused_the_second_thread(rt: HostRuntime) -> Result<(), Fail> {
-    let refusals = run_behind(&rt, 1)?;
-    are_refused_a_thread(&rt, &refusals)
+    compare(&rt, Input::Arrivals, 1)
 }
 
 #[test]
 fn running_stages_are_refused_memory(rt: HostRuntime) -> Result<(), Fail> {
-    let refusals = run_behind(&rt, 2)?;
-    are_refused_memory(&rt, &refusals)
+    compare(&rt, Input::Arrivals, 2)
 }
 
 #[test]
 fn a_text_in_threads_is_refused_the_second_thread(rt: HostRuntime) -> Result<(), Fail> {
-    let refusals = run_text_behind(&rt, 1)?;
-    are_refused_a_thread(&rt, &refusals)
+    compare(&rt, Input::Text, 1)
 }
 
 #[test]
 fn a_text_in_threads_is_refused_memory(rt: HostRuntime) -> Result<(), Fail> {
-    let refusals = run_text_behind(&rt, 2)?;
-    are_refused_memory(&rt, &refusals)
+    compare(&rt, Input::Text, 2)
 }

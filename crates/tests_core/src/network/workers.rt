@@ -3,89 +3,84 @@ ghost use Rattle.std.specs.Prelude.{◌≤◌};
 
 use crate::comparing::assert_equal;
 use crate::network::gates::Log;
+use crate::network::running::{TWO_LATENCIES, outcome_at};
+use crate::plan::settings::Setting;
 use std::process::Abort;
 use std::sync::Wait;
-use std::test::Fail;
 use std::thread::Threads;
-use tests_support::{Meeting, bytes_at_zero, chain_of, slice};
+use tests_support::{Meeting, bytes_at_zero, slice};
 use tox_defs::Lanes;
 use tox_runs::read_chain;
-use tox_stages::run_stages;
-use tox_time::{Ending, Gate, OpenGate, Outcome, Slice};
+use tox_time::{Ending, OpenGate, Outcome};
 use tox_words::Words;
 
-const TWO_LATENCIES: &str = "latency:latency=1 latency:latency=2";
-
-/// What the stages of these toxics deliver of single bytes at instant 0, over rings of `cap` items.
-fn delivered<R: Threads + Wait + Sync + AllocGlobal + Abort>(
-    rt: &R,
-    toxics: &str,
-    bytes: usize,
-    cap: usize,
-    gate: &impl Gate,
-) -> Result<Outcome, Fail>
-    requires { (1 ≤ cap) × (cap ≤ 1024) }
-{
-    let words = Words::from_list(rt.alloc(), &[0])?;
-    let chain = chain_of(toxics).expect(rt, "short forms");
-    let arrivals = bytes_at_zero(rt.alloc(), bytes)?;
-    Ok(run_stages(rt, rt.alloc(), &chain, &words, &arrivals, cap, gate)?)
-}
-
-/// Compares what was delivered with these slices and no end.
-fn compare(rt: &impl Abort, outcome: &Outcome, expected: &[Slice]) {
-    assert_equal(rt, &outcome.slices.as_slice(), &expected);
+/// Compares with so many slices of one byte, all at this instant, and no end.
+fn compare(rt: &(impl Abort + AllocGlobal), outcome: &Outcome, bytes: u64, micros: u64) {
+    let mut expected = Vec::new(rt.alloc());
+    for start in 0..bytes {
+        let single = slice(start, start + 1, micros);
+        expected.push(single).expect(rt, "memory");
+    }
+    assert_equal(rt, &outcome.slices.as_slice(), &expected.as_slice());
     assert_equal(rt, &outcome.ending, &Ending::StillOpen);
 }
 
-#[test]
-fn a_chain_may_have_thirty_two_workers(rt: HostRuntime) -> Result<(), Fail> {
-    let words = Words::from_list(rt.alloc(), &[0])?;
-    let arrivals = bytes_at_zero(rt.alloc(), 1)?;
-    let chain = read_chain(Lanes::ThirtyTwo, &["latency:latency=1"; 32]).expect(&rt, "room");
-    let outcome = run_stages(&rt, rt.alloc(), &chain, &words, &arrivals, 1, &OpenGate)?;
-    compare(&rt, &outcome, &[slice(0, 1, 32_000)]);
-    Ok(())
+/// A chain of so many latencies of a millisecond as there can be toxics, which one byte meets.
+fn thirty_two_latencies(rt: &(impl Abort + AllocGlobal)) -> Setting {
+    let toxics = ["latency:latency=1"; 32];
+    Setting {
+        words: Words::from_list(rt.alloc(), &[0]).expect(rt, "memory"),
+        chain: read_chain(Lanes::ThirtyTwo, &toxics).expect(rt, "room"),
+        arrivals: bytes_at_zero(rt.alloc(), 1).expect(rt, "memory"),
+    }
 }
 
 #[test]
-fn two_workers_meet(rt: HostRuntime) -> Result<(), Fail> {
-    let gate = Meeting::new(1);
-    let outcome = delivered(&rt, TWO_LATENCIES, 2, 1, &gate)?;
+fn a_chain_may_have_thirty_two_workers(rt: HostRuntime) {
+    let setting = thirty_two_latencies(&rt);
+    let outcome = outcome_at(&rt, &setting, 1, &OpenGate);
+    compare(&rt, &outcome, 1, 32_000);
+}
+
+/// Compares what two latencies deliver over rings of `cap` items, where stage 1 with its first byte and stage 0 with byte
+/// `nth` wait for each other.
+fn meet<R: Threads + Wait + Sync + AllocGlobal + Abort>(
+    rt: &R,
+    toxics: &str,
+    arrived: &str,
+    cap: usize,
+    nth: u64,
+) -> Outcome
+    requires { (1 ≤ cap) × (cap ≤ 1024) }
+{
+    let gate = Meeting::new(nth);
+    let setting = Setting::read(rt, "0", toxics, arrived);
+    let outcome = outcome_at(rt, &setting, cap, &gate);
     assert!(rt; gate.met());
-    compare(&rt, &outcome, &[slice(0, 1, 3000), slice(1, 2, 3000)]);
-    Ok(())
+    outcome
+}
+
+#[test]
+fn two_workers_meet(rt: HostRuntime) {
+    let outcome = meet(&rt, TWO_LATENCIES, "1@0 1@0", 1, 1);
+    compare(&rt, &outcome, 2, 3000);
 }
 
 /// While stage 1 has one item in hand, the ring before it takes as many as it has room for, and stage 0 one more. The
 /// toxic between them, which no link meets, has no stage.
 #[test]
-fn rings_have_their_room(rt: HostRuntime) -> Result<(), Fail> {
+fn rings_have_their_room(rt: HostRuntime) {
     let toxics = "latency:latency=1 latency:latency=9,toxicity=0 latency:latency=2";
-    for (cap, nth) in [(1, 2), (3, 4)] {
-        let gate = Meeting::new(nth);
-        let outcome = delivered(&rt, toxics, 5, cap, &gate)?;
-        assert!(rt; gate.met(), "rings of {cap}");
-        assert_equal(
-            &rt,
-            &outcome.slices.as_slice().last(),
-            &Some(&slice(4, 5, 3000)),
-        );
-    }
-    Ok(())
+    let arrived = "1@0 1@0 1@0 1@0 1@0";
+    compare(&rt, &meet(&rt, toxics, arrived, 1, 2), 5, 3000);
+    compare(&rt, &meet(&rt, toxics, arrived, 3, 4), 5, 3000);
 }
 
 #[test]
-fn each_worker_takes_from_its_own_ring(rt: HostRuntime) -> Result<(), Fail> {
+fn each_worker_takes_from_its_own_ring(rt: HostRuntime) {
     let gate = Log::new();
-    let outcome = delivered(&rt, TWO_LATENCIES, 4, 1, &gate)?;
+    let setting = Setting::read(&rt, "0", TWO_LATENCIES, "1@0 1@0 1@0 1@0");
+    let outcome = outcome_at(&rt, &setting, 1, &gate);
     gate.check(&rt);
-    let expected = [
-        slice(0, 1, 3000),
-        slice(1, 2, 3000),
-        slice(2, 3, 3000),
-        slice(3, 4, 3000),
-    ];
-    compare(&rt, &outcome, &expected);
-    Ok(())
+    compare(&rt, &outcome, 4, 3000);
 }

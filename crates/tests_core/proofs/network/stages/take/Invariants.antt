@@ -1,6 +1,0 @@
--- Each item that leaves a stage is one fewer that is left.
-use Rattle.std.proofs.Common.{length}
-use Rattle.tests_core.proofs.network.stages.take.Given as goal
-
-abbrev pub decreases-loop-item : goal.decreases-loop-item
-decreases-loop-item g l = length l.stage.pending
