@@ -1,5 +1,6 @@
 //! Tests of compiled plans: runners, lent slices and `deliver`, beside the stages one after another.
 mod cases;
+pub mod demands;
 mod orders;
 pub mod outcomes;
 mod plans;
@@ -8,6 +9,6 @@ mod readme;
 mod runners;
 pub mod settings;
 mod slices;
-mod staged;
+pub mod staged;
 mod windows;
 mod worked;

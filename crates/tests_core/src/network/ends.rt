@@ -2,6 +2,7 @@
 ghost use Rattle.std.specs.Prelude.{◌≡◌};
 
 use crate::comparing::assert_equal;
+use crate::plan::demands::demand;
 use std::process::Abort;
 use tox_time::{EndFault, MemorySink, MemorySource, Real, Sink, Source};
 
@@ -9,7 +10,8 @@ use tox_time::{EndFault, MemorySink, MemorySource, Real, Sink, Source};
 fn returns(rt: &impl Abort, got: Result<usize, EndFault>, want: Result<usize, EndFault>)
     ensures { got ≡ want }
 {
-    assert!(rt; got == want);
+    assert_equal(rt, &got, &want);
+    demand(rt, got == want);
 }
 
 #[test]

@@ -1,5 +1,6 @@
 //! A gate that records what passes it.
 use crate::comparing::{assert_equal, assert_equal_at};
+use crate::plan::demands::demand;
 use std::process::Abort;
 use std::sync::atomic::{AtomicBool, AtomicU64, Ordering};
 use std::thread;
@@ -48,7 +49,7 @@ impl Log {
     /// Each worker passed five items, none before the worker in front of it had passed it, and stage 0 took its fourth
     /// only after stage 1 had passed its first.
     pub fn check(&self, rt: &impl Abort) {
-        assert!(rt; !self.missed.load(Ordering::SeqCst));
+        demand(rt, !self.missed.load(Ordering::SeqCst));
         assert_equal(rt, &self.calls.load(Ordering::SeqCst), &10);
         for nth in 0..5usize {
             let passed = self.returned[nth].load(Ordering::SeqCst);
@@ -57,7 +58,7 @@ impl Log {
             assert_equal_at(rt, &is_in_order, &true, nth as u64);
         }
         let first_passed = self.returned[5].load(Ordering::SeqCst);
-        assert!(rt; first_passed < self.entered[3].load(Ordering::SeqCst));
+        demand(rt, first_passed < self.entered[3].load(Ordering::SeqCst));
     }
 
     fn tick(&self) -> u64 {

@@ -1,7 +1,9 @@
 //! Running stages, with too little memory and too few threads.
 ghost use Rattle.std.specs.Prelude.{◌≡◌, false};
 
+use crate::comparing::assert_equal;
 use crate::network::running::TWO_LATENCIES;
+use crate::plan::demands::demand;
 use crate::plan::settings::Setting;
 use std::process::Abort;
 use std::sync::Wait;
@@ -174,11 +176,13 @@ fn compare<R: Threads + Wait + Sync + AllocGlobal + Abort + Eprint>(
 ) -> Result<(), Fail> {
     let refusals = refusals_of(rt, input, threads)?;
     eprintln!(rt; "{refusals:?}").expect(rt, "standard error");
-    if threads < 2 {
-        assert!(rt; 0 < refusals.memory && refusals.last == Some(Tried::NoThread));
+    let (fewest, last) = if threads < 2 {
+        (0, Tried::NoThread)
     } else {
-        assert!(rt; refusals.is_answered && RING_PAGES < refusals.memory);
-    }
+        (RING_PAGES, Tried::Answered)
+    };
+    demand(rt, fewest < refusals.memory);
+    assert_equal(rt, &refusals.last, &Some(last));
     Ok(())
 }
 

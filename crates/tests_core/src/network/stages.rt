@@ -1,5 +1,7 @@
 //! What a stage may take. What each toxic's stage gives is among the worked cases of `plan/cases.rt`.
 use crate::comparing::assert_equal_at;
+use crate::plan::demands::demand;
+use crate::plan::staged::stage_of;
 use std::process::Abort;
 use tests_support::at;
 use tox_defs::{Stage, Toxic};
@@ -30,8 +32,7 @@ fn compare(rt: &impl Abort, stage: &Stage<'_>) {
 fn a_new_stage_takes_what_begins_a_stream(rt: HostRuntime) {
     let words = Words::from_list(rt.alloc(), &[0]).expect(&rt, "memory");
     let toxic = Toxic::SlowClose { delay: 0 };
-    assert!(rt; toxic.check().is_ok());
-    let stage = Stage::new(toxic, Lanes::ThirtyTwo, 31, &words);
+    let stage = stage_of(&rt, toxic, Lanes::ThirtyTwo, 31, &words);
     compare(&rt, &stage);
-    assert!(rt; stage.may_take(&Item::Quiet));
+    demand(&rt, stage.may_take(&Item::Quiet));
 }

@@ -4,6 +4,7 @@ ghost use Rattle.std.specs.Prelude.{◌≤◌};
 use crate::comparing::assert_equal;
 use crate::network::gates::Log;
 use crate::network::running::{TWO_LATENCIES, compare_text, outcome_at};
+use crate::plan::demands::demand;
 use crate::plan::outcomes::compare_outcomes;
 use crate::plan::settings::Setting;
 use std::process::Abort;
@@ -93,7 +94,7 @@ fn meet<R: Threads + Wait + Sync + AllocGlobal + Abort>(
 {
     let gate = Meeting::new(nth);
     compare_text(rt, TWO_LATENCIES, read, cap, &gate, &Ok(()), want);
-    assert!(rt; gate.met());
+    demand(rt, gate.met());
 }
 
 #[test]

@@ -4,6 +4,7 @@ ghost use Rattle.std.specs.Prelude.{◌≤◌};
 use crate::comparing::assert_equal;
 use crate::network::gates::Log;
 use crate::network::running::{TWO_LATENCIES, outcome_at};
+use crate::plan::demands::demand;
 use crate::plan::settings::Setting;
 use std::process::Abort;
 use std::sync::Wait;
@@ -56,7 +57,7 @@ fn meet<R: Threads + Wait + Sync + AllocGlobal + Abort>(
     let gate = Meeting::new(nth);
     let setting = Setting::read(rt, "0", toxics, arrived);
     let outcome = outcome_at(rt, &setting, cap, &gate);
-    assert!(rt; gate.met());
+    demand(rt, gate.met());
     outcome
 }
 

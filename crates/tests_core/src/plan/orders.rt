@@ -1,7 +1,7 @@
 //! The stage network, settled in drawn orders, beside the compiled plan.
 ghost use Rattle.std.specs.Prelude.{◌≤◌};
 
-use crate::plan::cases::CASES;
+use crate::plan::cases::{CASES, Case};
 use crate::plan::outcomes::compare_outcomes;
 use crate::plan::settings::Setting;
 use rand_pcg::Lcg64Xsh32;
@@ -69,17 +69,18 @@ fn compare(rt: &(impl Abort + AllocGlobal), setting: &Setting, delivered: &Outco
     }
 }
 
+/// Compares a case with little room and with ample room.
+fn compare_rooms(rt: &(impl Abort + AllocGlobal), case: &Case) {
+    let setting = Setting::read(rt, case.words, case.toxics, case.arrived);
+    let delivered = setting.delivered(rt);
+    compare(rt, &setting, &delivered, 1);
+    compare(rt, &setting, &delivered, 2);
+    compare(rt, &setting, &delivered, 1024);
+}
+
 #[test]
 fn drawn_orders_and_the_plan_agree(rt: HostRuntime) {
     for case in CASES {
-        let setting = Setting::read(&rt, case.0, case.1, case.2);
-        compare_rooms(&rt, &setting, &setting.delivered(&rt));
+        compare_rooms(&rt, case);
     }
-}
-
-/// Compares a case with little room and with ample room.
-fn compare_rooms(rt: &(impl Abort + AllocGlobal), setting: &Setting, delivered: &Outcome) {
-    compare(rt, setting, delivered, 1);
-    compare(rt, setting, delivered, 2);
-    compare(rt, setting, delivered, 1024);
 }

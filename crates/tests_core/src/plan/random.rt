@@ -1,4 +1,5 @@
 //! The compiled runner beside the stages one after another, on chains, words and arrivals drawn at random.
+use crate::plan::demands::demand;
 use crate::plan::outcomes::compare_outcomes;
 use crate::plan::settings::Setting;
 use crate::plan::staged::{outcome_of, staged_items};
@@ -66,8 +67,8 @@ fn push_toxic(rt: &impl Abort, generator: &mut Lcg64Xsh32, chain: &mut Chain) {
         return;
     }
     let toxicity = if below(generator, 4) == 0 { 500 } else { 1000 };
-    assert!(rt; toxic.check().is_ok());
-    assert!(rt; chain.push(toxic, toxicity).is_ok());
+    demand(rt, toxic.check().is_ok());
+    demand(rt, chain.push(toxic, toxicity).is_ok());
 }
 
 fn arrivals(rt: &(impl Abort + AllocGlobal), generator: &mut Lcg64Xsh32) -> Arrivals {
@@ -85,14 +86,18 @@ fn arrivals(rt: &(impl Abort + AllocGlobal), generator: &mut Lcg64Xsh32) -> Arri
     arrivals
 }
 
-/// Compares what stages and runner deliver in a setting that a seed draws.
-fn compare(rt: &(impl Abort + AllocGlobal), seed: u64) {
+fn setting(rt: &(impl Abort + AllocGlobal), seed: u64) -> Setting {
     let generator = &mut Lcg64Xsh32::new(seed, 1);
-    let setting = Setting {
+    Setting {
         chain: chain(rt, generator),
         words: drawn_words(rt.alloc(), generator).expect(rt, "memory"),
         arrivals: arrivals(rt, generator),
-    };
+    }
+}
+
+/// Compares what stages and runner deliver in a setting that a seed draws.
+fn compare(rt: &(impl Abort + AllocGlobal), seed: u64) {
+    let setting = setting(rt, seed);
     let staged = outcome_of(rt, &staged_items(rt, &setting));
     compare_outcomes(rt, &staged, &setting.delivered(rt), seed);
 }

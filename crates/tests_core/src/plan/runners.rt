@@ -1,7 +1,8 @@
 //! A runner, call by call.
-ghost use Rattle.std.specs.Prelude.{◌≡◌, true};
+ghost use Rattle.std.specs.Prelude.{◌≡◌};
 
 use crate::comparing::assert_equal_at;
+use crate::plan::demands::demand;
 use std::process::Abort;
 use tests_support::{at, chain_of, slice};
 use tox_compile::compile;
@@ -45,13 +46,6 @@ pub fn runner_of<'w>(rt: &impl Abort, toxics: &str, words: &'w Words) -> Runner<
     Runner::new(compile(&chain, words), words)
 }
 
-/// Stops the test unless the runner is idle.
-pub fn assert_idle(rt: &impl Abort, runner: &Runner<'_>)
-    ensures { runner.now.idle ≡ true }
-{
-    assert!(rt; runner.is_idle());
-}
-
 /// Compares how an idle runner answers an offer.
 fn answers(
     rt: &impl Abort,
@@ -61,7 +55,7 @@ fn answers(
     answer: &Result<(), ArrivalFault>,
     number: u64,
 ) {
-    assert_idle(rt, runner);
+    demand(rt, runner.is_idle());
     assert_equal_at(rt, &runner.offer(len, at(micros)), answer, number);
 }
 
@@ -77,14 +71,14 @@ fn compare_ending(rt: &impl Abort, runner: &Runner<'_>, ending: Option<Ending>, 
 /// Compares the ending of an idle runner whose source ends.
 fn finishes(rt: &impl Abort, runner: &mut Runner<'_>, micros: u64, ending: Ending, number: u64) {
     let end = at(micros);
-    assert_idle(rt, runner);
-    assert!(rt; runner.latest() <= end);
+    demand(rt, runner.is_idle());
+    demand(rt, runner.latest() <= end);
     assert_equal_at(rt, &runner.finish(end), &ending, number);
 }
 
 /// Compares the ending of an idle runner whose source stays quiet.
 fn stays_open(rt: &impl Abort, runner: &mut Runner<'_>, number: u64) {
-    assert_idle(rt, runner);
+    demand(rt, runner.is_idle());
     assert_equal_at(rt, &runner.quiet(), &Ending::StillOpen, number);
 }
 

@@ -3,7 +3,8 @@ ghost use Rattle.std.specs.Prelude.{◌≡◌, ◌+◌, length, false};
 ghost use Rattle.tox_plan.specs.Slices.{CanLend, IsOffered};
 
 use crate::comparing::assert_equal_at;
-use crate::plan::runners::{Step, assert_idle, make_steps, runner_of, words_of};
+use crate::plan::demands::demand;
+use crate::plan::runners::{Step, make_steps, runner_of, words_of};
 use std::process::Abort;
 use tests_support::at;
 use tox_lend::{Lent, Piece};
@@ -61,7 +62,7 @@ fn offer(rt: &impl Abort, runner: &mut Runner<'_>, piece: &Piece)
     ensures unread { (runner.new.idle ≡ false)
         × (runner.new.position ≡ runner.new.piece.span.start) }
 {
-    assert_idle(rt, runner);
+    demand(rt, runner.is_idle());
     runner
         .offer(piece.bytes.len() as u64, piece.instant)
         .expect(rt, "an accepted piece");

@@ -1,37 +1,41 @@
 //! The plain program: the arrivals pass through the stages of the applied toxics, one after another.
+use crate::plan::demands::demand;
 use crate::plan::settings::Setting;
 use std::process::Abort;
 use tox_defs::{Stage, Toxic};
 use tox_time::{Arrivals, Ending, Item, Outcome, Slice, SliceList};
 use tox_words::{Drawing, Lanes, Words};
 
+/// The stage of a toxic.
+pub fn stage_of<'w>(
+    rt: &impl Abort,
+    toxic: Toxic,
+    lanes: Lanes,
+    lane: usize,
+    words: &'w Words,
+) -> Stage<'w> {
+    demand(rt, lane < lanes.count());
+    demand(rt, toxic.check().is_ok());
+    Stage::new(toxic, lanes, lane, words)
+}
+
 /// Gives an idle stage an item, and collects all that it emits.
 fn pass(rt: &impl Abort, stage: &mut Stage<'_>, item: &Item, given: &mut Vec<Item>) {
-    assert!(rt; stage.is_idle());
-    assert!(rt; stage.may_take(item));
+    demand(rt, stage.is_idle());
+    demand(rt, stage.may_take(item));
     stage.take(*item);
     while let Some(item) = stage.emit() {
         given.push(item).expect(rt, "memory");
     }
 }
 
-/// What the stage of a toxic gives for these items, behind which it takes no more.
-fn passed(
-    rt: &(impl Abort + AllocGlobal),
-    toxic: Toxic,
-    lanes: Lanes,
-    lane: usize,
-    words: &Words,
-    items: &[Item],
-) -> Vec<Item> {
-    assert!(rt; lane < lanes.count());
-    assert!(rt; toxic.check().is_ok());
-    let mut stage = Stage::new(toxic, lanes, lane, words);
+/// What a stage gives for these items, behind which it takes no more.
+fn passed(rt: &(impl Abort + AllocGlobal), stage: &mut Stage<'_>, items: &[Item]) -> Vec<Item> {
     let mut given = Vec::new(rt.alloc());
     for item in items {
-        pass(rt, &mut stage, item, &mut given);
+        pass(rt, stage, item, &mut given);
     }
-    assert!(rt; !stage.may_take(&Item::Quiet));
+    demand(rt, !stage.may_take(&Item::Quiet));
     given
 }
 
@@ -51,7 +55,8 @@ pub fn staged_items(rt: &(impl Abort + AllocGlobal), setting: &Setting) -> Vec<I
     let drawing = Drawing::new(lanes, &setting.words);
     for (lane, entry) in setting.chain.entries().iter().enumerate() {
         if entry.is_applied(lane, &drawing) {
-            items = passed(rt, entry.toxic, lanes, lane, &setting.words, &items);
+            let mut stage = stage_of(rt, entry.toxic, lanes, lane, &setting.words);
+            items = passed(rt, &mut stage, &items);
         }
     }
     items

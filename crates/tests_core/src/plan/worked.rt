@@ -10,15 +10,15 @@ use tox_time::Item;
 
 /// The items that the stages of a case give.
 fn expected_items(rt: &(impl Abort + AllocGlobal), case: &Case) -> Vec<Item> {
-    let chunks = arrivals_of(rt.alloc(), case.3).expect(rt, "chunks");
+    let chunks = arrivals_of(rt.alloc(), case.chunks).expect(rt, "chunks");
     let mut items = chunks.items().to_vec(rt.alloc()).expect(rt, "memory");
-    items.push(case.4.to_item()).expect(rt, "memory");
+    items.push(case.last.to_item()).expect(rt, "memory");
     items
 }
 
 /// Compares item by item what the stages give in the case of this number, and byte by byte what the compiled plan delivers.
 fn compare(rt: &(impl Abort + AllocGlobal), case: &Case, number: u64) {
-    let setting = Setting::read(rt, case.0, case.1, case.2);
+    let setting = Setting::read(rt, case.words, case.toxics, case.arrived);
     let expected = expected_items(rt, case);
     assert_equal_at(rt, &staged_items(rt, &setting), &expected, number);
     let outcome = outcome_of(rt, &expected);
