@@ -76,26 +76,17 @@ fn arrivals_are_refused_behind_an_end(rt: HostRuntime) {
     let _closed = arrive(&rt, REFUSED_BEHIND_AN_END);
 }
 
-#[test]
-fn time_stops_at_the_horizon(rt: HostRuntime) {
-    let horizon = at(u64::MAX);
-    let instants = [
-        horizon,
-        Micros::from_millis(3_600_000),
-        Micros::from_millis(u64::MAX),
-        horizon.plus(at(1)),
-        at(3).later(at(2)),
-    ];
-    compare_instants(&rt, &instants, &[LAST, 3_600_000_000, LAST, LAST, 3]);
-    assert_equal(&rt, &Micros::new(LAST), &Some(horizon));
-    assert_equal(&rt, &Micros::new(LAST + 1), &None);
-}
-
 /// The last instant, in microseconds.
 const LAST: u64 = 1_000_000_000_000_000;
 
-fn compare_instants(rt: &impl Abort, instants: &[Micros; 5], expected: &[u64; 5]) {
-    for (number, (instant, micros)) in instants.iter().zip(expected).enumerate() {
-        assert_equal_at(rt, &instant.get(), micros, number as u64);
-    }
+#[test]
+fn time_stops_at_the_horizon(rt: HostRuntime) {
+    let horizon = at(u64::MAX);
+    assert_equal(&rt, &horizon.get(), &LAST);
+    assert_equal(&rt, &Micros::new(LAST), &Some(horizon));
+    assert_equal(&rt, &Micros::new(LAST + 1), &None);
+    assert_equal(&rt, &Micros::from_millis(3_600_000), &at(3_600_000_000));
+    assert_equal(&rt, &Micros::from_millis(u64::MAX), &horizon);
+    assert_equal(&rt, &horizon.plus(at(1)), &horizon);
+    assert_equal(&rt, &at(3).later(at(2)), &at(3));
 }

@@ -6,11 +6,11 @@ use crate::plan::settings::Setting;
 use std::process::Abort;
 use std::sync::Wait;
 use std::thread::Threads;
-use tests_support::chain_of;
+use tests_support::{chain_of, slice};
 use tox_defs::Chain;
 use tox_runs::{StagesFault, stages_run};
 use tox_stages::run_stages;
-use tox_time::{Gate, MemorySink, MemorySource, Outcome};
+use tox_time::{Ending, Gate, MemorySink, MemorySource, Outcome};
 use tox_words::Words;
 
 pub const TWO_LATENCIES: &str = "latency:latency=1 latency:latency=2";
@@ -34,6 +34,22 @@ pub fn outcome_at<R: Threads + Wait + Sync + AllocGlobal + Abort>(
         gate,
     )
     .expect(rt, "memory and threads")
+}
+
+/// Compares with so many slices of one byte, all at this instant, and no end.
+pub fn compare_singles(
+    rt: &(impl Abort + AllocGlobal),
+    outcome: &Outcome,
+    bytes: u64,
+    micros: u64,
+) {
+    let mut expected = Vec::new(rt.alloc());
+    for start in 0..bytes {
+        let single = slice(start, start + 1, micros);
+        expected.push(single).expect(rt, "memory");
+    }
+    assert_equal(rt, &outcome.slices.as_slice(), &expected.as_slice());
+    assert_equal(rt, &outcome.ending, &Ending::StillOpen);
 }
 
 /// Compares what `stages_run` answers and writes of a text over rings of `cap` items.

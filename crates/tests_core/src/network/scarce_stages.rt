@@ -2,18 +2,18 @@
 ghost use Rattle.std.specs.Prelude.{◌≡◌, false};
 
 use crate::comparing::assert_equal;
-use crate::network::running::TWO_LATENCIES;
+use crate::network::running::{TWO_LATENCIES, compare_singles};
 use crate::plan::demands::demand;
 use crate::plan::settings::Setting;
 use std::process::Abort;
 use std::sync::Wait;
 use std::test::Fail;
 use std::thread::Threads;
-use tests_support::{CountingGate, Refusals, Scarcity, Tried, table_of, try_each, with_stacks};
+use tests_support::{CountingGate, Refusals, Scarcity, Tried, try_each, with_stacks};
 use tox_runs::{StagesFault, stages_run};
 use tox_stages::{StageFault, run_stages};
 use tox_text::DryFault;
-use tox_time::{Ending, MemorySink, MemorySource, Outcome};
+use tox_time::{MemorySink, MemorySource, Outcome};
 
 const TEXT: &str = "0 data 61\n0 data 62\n";
 
@@ -35,22 +35,15 @@ enum Input {
     Text,
 }
 
-/// What running stages answered to the two bytes.
+/// What running stages answered to the two bytes. An outcome has both late, and no end.
 fn tried_of(rt: &(impl Abort + AllocGlobal), answer: &Result<Outcome, StageFault>) -> Tried {
     match answer {
-        Ok(outcome) => delivered(rt, outcome),
+        Ok(outcome) => {
+            compare_singles(rt, outcome, 2, 3000);
+            Tried::Answered
+        }
         Err(StageFault::OutOfMemory) => Tried::NoMemory,
         Err(StageFault::SpawnRefused) => Tried::NoThread,
-    }
-}
-
-/// Wrong unless both bytes were delivered late, and no end.
-fn delivered(rt: &(impl Abort + AllocGlobal), outcome: &Outcome) -> Tried {
-    let table = table_of(rt.alloc(), &outcome.slices).expect(rt, "memory");
-    if table.as_slice() == [3000, 3000].as_slice() && outcome.ending == Ending::StillOpen {
-        Tried::Answered
-    } else {
-        Tried::Wrong
     }
 }
 

@@ -1,30 +1,18 @@
 //! Workers of `run_stages`: their items, their rings, and that they run side by side.
 ghost use Rattle.std.specs.Prelude.{◌≤◌};
 
-use crate::comparing::assert_equal;
 use crate::network::gates::Log;
-use crate::network::running::{TWO_LATENCIES, outcome_at};
+use crate::network::running::{TWO_LATENCIES, compare_singles, outcome_at};
 use crate::plan::demands::demand;
 use crate::plan::settings::Setting;
 use std::process::Abort;
 use std::sync::Wait;
 use std::thread::Threads;
-use tests_support::{Meeting, bytes_at_zero, slice};
+use tests_support::{Meeting, bytes_at_zero};
 use tox_defs::Lanes;
 use tox_runs::read_chain;
-use tox_time::{Ending, OpenGate, Outcome};
+use tox_time::{OpenGate, Outcome};
 use tox_words::Words;
-
-/// Compares with so many slices of one byte, all at this instant, and no end.
-fn compare(rt: &(impl Abort + AllocGlobal), outcome: &Outcome, bytes: u64, micros: u64) {
-    let mut expected = Vec::new(rt.alloc());
-    for start in 0..bytes {
-        let single = slice(start, start + 1, micros);
-        expected.push(single).expect(rt, "memory");
-    }
-    assert_equal(rt, &outcome.slices.as_slice(), &expected.as_slice());
-    assert_equal(rt, &outcome.ending, &Ending::StillOpen);
-}
 
 /// A chain of so many latencies of a millisecond as there can be toxics, which one byte meets.
 fn thirty_two_latencies(rt: &(impl Abort + AllocGlobal)) -> Setting {
@@ -40,7 +28,7 @@ fn thirty_two_latencies(rt: &(impl Abort + AllocGlobal)) -> Setting {
 fn a_chain_may_have_thirty_two_workers(rt: HostRuntime) {
     let setting = thirty_two_latencies(&rt);
     let outcome = outcome_at(&rt, &setting, 1, &OpenGate);
-    compare(&rt, &outcome, 1, 32_000);
+    compare_singles(&rt, &outcome, 1, 32_000);
 }
 
 /// Compares what two latencies deliver over rings of `cap` items, where stage 1 with its first byte and stage 0 with byte
@@ -64,7 +52,7 @@ fn meet<R: Threads + Wait + Sync + AllocGlobal + Abort>(
 #[test]
 fn two_workers_meet(rt: HostRuntime) {
     let outcome = meet(&rt, TWO_LATENCIES, "1@0 1@0", 1, 1);
-    compare(&rt, &outcome, 2, 3000);
+    compare_singles(&rt, &outcome, 2, 3000);
 }
 
 /// While stage 1 has one item in hand, the ring before it takes as many as it has room for, and stage 0 one more. The
@@ -73,8 +61,8 @@ fn two_workers_meet(rt: HostRuntime) {
 fn rings_have_their_room(rt: HostRuntime) {
     let toxics = "latency:latency=1 latency:latency=9,toxicity=0 latency:latency=2";
     let arrived = "1@0 1@0 1@0 1@0 1@0";
-    compare(&rt, &meet(&rt, toxics, arrived, 1, 2), 5, 3000);
-    compare(&rt, &meet(&rt, toxics, arrived, 3, 4), 5, 3000);
+    compare_singles(&rt, &meet(&rt, toxics, arrived, 1, 2), 5, 3000);
+    compare_singles(&rt, &meet(&rt, toxics, arrived, 3, 4), 5, 3000);
 }
 
 #[test]
@@ -83,5 +71,5 @@ fn each_worker_takes_from_its_own_ring(rt: HostRuntime) {
     let setting = Setting::read(&rt, "0", TWO_LATENCIES, "1@0 1@0 1@0 1@0");
     let outcome = outcome_at(&rt, &setting, 1, &gate);
     gate.check(&rt);
-    compare(&rt, &outcome, 4, 3000);
+    compare_singles(&rt, &outcome, 4, 3000);
 }

@@ -1,6 +1,6 @@
 //! Worked cases: words, toxics and arrivals, and what they come to.
 use tests_support::at;
-use tox_time::{Ending, Item};
+use tox_time::Ending;
 
 /// How a link ends, with instants in microseconds.
 pub enum Final {
@@ -10,12 +10,11 @@ pub enum Final {
 }
 
 impl Final {
-    /// As the stages give it.
-    pub fn to_item(&self) -> Item {
+    pub fn to_ending(&self) -> Ending {
         match self {
-            Final::Open => Item::Quiet,
-            Final::Closed(micros) => Item::Closed(at(*micros)),
-            Final::Reset(micros) => Item::Reset(at(*micros)),
+            Final::Open => Ending::StillOpen,
+            Final::Closed(micros) => Ending::Closed(at(*micros)),
+            Final::Reset(micros) => Ending::Reset(at(*micros)),
         }
     }
 }

@@ -2,7 +2,7 @@
 use crate::comparing::assert_equal;
 use std::process::Abort;
 use tests_support::{at, chain_of};
-use tox_compile::{Op, Plan, compile};
+use tox_compile::{Op, compile};
 use tox_time::{Ending, Micros};
 use tox_words::Words;
 
@@ -39,33 +39,34 @@ fn operations() -> [Op; 7] {
     ]
 }
 
-/// The plan of these toxics.
-fn plan_of(rt: &(impl Abort + AllocGlobal), toxics: &str) -> Plan {
+/// Compares the operations and the deadline of the plan of these toxics.
+fn compare(rt: &(impl Abort + AllocGlobal), toxics: &str, operations: &[Op], deadline: Micros) {
     let words = Words::from_list(rt.alloc(), &[0]).expect(rt, "memory");
     let chain = chain_of(toxics).expect(rt, "short forms");
-    compile(&chain, &words)
+    let plan = compile(&chain, &words);
+    assert_equal(rt, &plan.ops(), &operations);
+    assert_equal(rt, &plan.deadline(), &Some(deadline));
 }
+
+/// Each toxic, in the order of the operations above.
+const TOXICS: &str = "\
+latency:latency=3
+bandwidth:rate=7
+latency:latency=5,jitter=2
+slow_close:delay=2
+limit_data:bytes=9
+slicer:average_size=4,size_variation=1,delay=6
+reset_peer:timeout=8
+";
 
 #[test]
 fn each_toxic_has_its_operation(rt: HostRuntime) {
-    let plan = plan_of(
-        &rt,
-        "latency:latency=3 \
-         bandwidth:rate=7 \
-         latency:latency=5,jitter=2 \
-         slow_close:delay=2 \
-         limit_data:bytes=9 \
-         slicer:average_size=4,size_variation=1,delay=6 \
-         reset_peer:timeout=8",
-    );
-    assert_equal(&rt, &plan.ops(), &operations().as_slice());
-    assert_equal(&rt, &plan.deadline(), &Some(Micros::from_millis(8)));
+    compare(&rt, TOXICS, &operations(), Micros::from_millis(8));
 }
 
 #[test]
 fn a_timeout_stands_alone(rt: HostRuntime) {
-    let plan = plan_of(&rt, "timeout:timeout=50 bandwidth:rate=7");
     let ending = Ending::Closed(at(50_000));
-    assert_equal(&rt, &plan.ops(), &[Op::Mute { ending }].as_slice());
-    assert_equal(&rt, &plan.deadline(), &Some(Micros::ZERO));
+    let toxics = "timeout:timeout=50 bandwidth:rate=7";
+    compare(&rt, toxics, &[Op::Mute { ending }], Micros::ZERO);
 }

@@ -2,6 +2,7 @@
 ghost use Rattle.std.specs.Prelude.{◌≡◌};
 
 use crate::comparing::assert_equal_at;
+use crate::plan::cases::Final;
 use crate::plan::demands::demand;
 use std::process::Abort;
 use tests_support::{at, chain_of, slice};
@@ -19,18 +20,21 @@ pub enum Step {
     GivesNothing,
     /// Whether it is idle.
     Idle(bool),
-    /// It knows no ending yet.
-    Open,
-    Closed(u64),
-    Reset(u64),
-    /// The source of an idle runner ends at the first instant. The link closes at the second.
-    Finish(u64, u64),
+    /// How it ends, where it is known.
+    Ending(Option<Final>),
+    /// The source of an idle runner ends at an instant, and the link in this way.
+    Finish(u64, Final),
     /// The source of an idle runner stays quiet. The link stays open.
     Quiet,
-    Cuts(u64),
-    Pieces(u64),
-    Turns(u64),
-    Latest(u64),
+    Counts(Count, u64),
+}
+
+/// What a runner counts, and its latest instant.
+pub enum Count {
+    Cuts,
+    Pieces,
+    Turns,
+    Latest,
 }
 
 /// A table of these words.
@@ -64,16 +68,21 @@ fn gives(rt: &impl Abort, runner: &mut Runner<'_>, slice: Option<Slice>, number:
     assert_equal_at(rt, &runner.next_cut(), &slice, number);
 }
 
-fn compare_ending(rt: &impl Abort, runner: &Runner<'_>, ending: Option<Ending>, number: u64) {
+/// Compares how it ends, where it is known.
+fn compare_ending(rt: &impl Abort, runner: &Runner<'_>, last: &Option<Final>, number: u64) {
+    let ending = match last {
+        Some(last) => Some(last.to_ending()),
+        None => None,
+    };
     assert_equal_at(rt, &runner.ending(), &ending, number);
 }
 
 /// Compares the ending of an idle runner whose source ends.
-fn finishes(rt: &impl Abort, runner: &mut Runner<'_>, micros: u64, ending: Ending, number: u64) {
+fn finishes(rt: &impl Abort, runner: &mut Runner<'_>, micros: u64, last: &Final, number: u64) {
     let end = at(micros);
     demand(rt, runner.is_idle());
     demand(rt, runner.latest() <= end);
-    assert_equal_at(rt, &runner.finish(end), &ending, number);
+    assert_equal_at(rt, &runner.finish(end), &last.to_ending(), number);
 }
 
 /// Compares the ending of an idle runner whose source stays quiet.
@@ -82,38 +91,28 @@ fn stays_open(rt: &impl Abort, runner: &mut Runner<'_>, number: u64) {
     assert_equal_at(rt, &runner.quiet(), &Ending::StillOpen, number);
 }
 
-/// Makes the step of this number.
-fn make_step(rt: &impl Abort, runner: &mut Runner<'_>, step: &Step, number: u64) {
-    match *step {
-        Step::Offer(len, micros, answer) => answers(rt, runner, len, micros, &answer, number),
-        Step::Gives(start, stop, micros) => {
-            gives(rt, runner, Some(slice(start, stop, micros)), number);
-        }
-        Step::GivesNothing => gives(rt, runner, None, number),
-        Step::Finish(end, closed) => {
-            finishes(rt, runner, end, Ending::Closed(at(closed)), number);
-        }
-        Step::Quiet => stays_open(rt, runner, number),
-        _ => look(rt, runner, step, number),
+fn count_of(runner: &Runner<'_>, count: &Count) -> u64 {
+    match count {
+        Count::Cuts => runner.cuts(),
+        Count::Pieces => runner.pieces(),
+        Count::Turns => runner.turns(),
+        Count::Latest => runner.latest().get(),
     }
 }
 
-/// Compares what a runner tells of itself.
-fn look(rt: &impl Abort, runner: &Runner<'_>, step: &Step, number: u64) {
-    match *step {
-        Step::Idle(idle) => assert_equal_at(rt, &runner.is_idle(), &idle, number),
-        Step::Open => compare_ending(rt, runner, None, number),
-        Step::Closed(micros) => {
-            compare_ending(rt, runner, Some(Ending::Closed(at(micros))), number);
+/// Makes the step of this number.
+fn make_step(rt: &impl Abort, runner: &mut Runner<'_>, step: &Step, number: u64) {
+    match step {
+        Step::Offer(len, micros, answer) => answers(rt, runner, *len, *micros, answer, number),
+        Step::Gives(start, stop, micros) => {
+            gives(rt, runner, Some(slice(*start, *stop, *micros)), number);
         }
-        Step::Reset(micros) => {
-            compare_ending(rt, runner, Some(Ending::Reset(at(micros))), number);
-        }
-        Step::Cuts(cuts) => assert_equal_at(rt, &runner.cuts(), &cuts, number),
-        Step::Pieces(pieces) => assert_equal_at(rt, &runner.pieces(), &pieces, number),
-        Step::Turns(turns) => assert_equal_at(rt, &runner.turns(), &turns, number),
-        Step::Latest(micros) => assert_equal_at(rt, &runner.latest(), &at(micros), number),
-        _ => {}
+        Step::GivesNothing => gives(rt, runner, None, number),
+        Step::Idle(idle) => assert_equal_at(rt, &runner.is_idle(), idle, number),
+        Step::Ending(last) => compare_ending(rt, runner, last, number),
+        Step::Finish(end, last) => finishes(rt, runner, *end, last, number),
+        Step::Quiet => stays_open(rt, runner, number),
+        Step::Counts(count, want) => assert_equal_at(rt, &count_of(runner, count), want, number),
     }
 }
 
@@ -134,13 +133,13 @@ fn follow(rt: &(impl Abort + AllocGlobal), toxics: &str, words: &[u32], steps: &
 const LIMIT: &[Step] = &[
     Step::Offer(1, 5, Ok(())),
     Step::Gives(0, 1, 5),
-    Step::Open,
+    Step::Ending(None),
     Step::GivesNothing,
-    Step::Closed(5),
+    Step::Ending(Some(Final::Closed(5))),
     Step::Offer(1, 5, Err(ArrivalFault::AfterEnd)),
-    Step::Cuts(1),
-    Step::Pieces(1),
-    Step::Latest(5),
+    Step::Counts(Count::Cuts, 1),
+    Step::Counts(Count::Pieces, 1),
+    Step::Counts(Count::Latest, 5),
 ];
 
 #[test]
@@ -153,10 +152,10 @@ const LATENCY: &[Step] = &[
     Step::Gives(0, 2, 1005),
     Step::GivesNothing,
     Step::Offer(2, 4, Err(ArrivalFault::TimeBack)),
-    Step::Finish(9, 1005),
-    Step::Closed(1005),
+    Step::Finish(9, Final::Closed(1005)),
+    Step::Ending(Some(Final::Closed(1005))),
     Step::Offer(1, 8, Err(ArrivalFault::TimeBack)),
-    Step::Turns(1),
+    Step::Counts(Count::Turns, 1),
 ];
 
 #[test]
@@ -167,7 +166,7 @@ fn a_runner_goes_on_until_its_source_ends(rt: HostRuntime) {
 const SLICER: &[Step] = &[
     Step::Offer(5, 0, Ok(())),
     Step::Gives(0, 5, 0),
-    Step::Cuts(2),
+    Step::Counts(Count::Cuts, 2),
     Step::GivesNothing,
 ];
 
@@ -180,7 +179,7 @@ fn neighbours_of_one_instant_are_one_slice(rt: HostRuntime) {
 const CUTOFF: &[Step] = &[
     Step::Offer(1, 20000, Ok(())),
     Step::GivesNothing,
-    Step::Reset(20000),
+    Step::Ending(Some(Final::Reset(20000))),
     Step::Offer(1, 20001, Err(ArrivalFault::AfterEnd)),
 ];
 
@@ -190,10 +189,10 @@ fn a_cutoff_is_remembered_once_its_piece_is_read(rt: HostRuntime) {
 }
 
 const CUTOFF_AT_THE_START: &[Step] = &[
-    Step::Open,
+    Step::Ending(None),
     Step::Offer(1, 0, Ok(())),
     Step::GivesNothing,
-    Step::Reset(0),
+    Step::Ending(Some(Final::Reset(0))),
 ];
 
 #[test]

@@ -37,13 +37,19 @@ fn compare_second(rt: &impl Abort, window: &Window) {
     assert_equal(rt, &window.has_room(), &true);
 }
 
+/// Takes the first piece.
+fn compare_taken(rt: &impl Abort, window: &mut Window, expected: Option<(u64, &[u8])>) {
+    let taken = window.take_first();
+    compare(rt, taken.as_ref(), expected);
+}
+
 /// Adds one byte at 5 to an empty window, and takes it.
 fn add_last(rt: &(impl Abort + AllocGlobal), window: &mut Window) {
     demand(rt, window.has_room());
     demand(rt, window.stop() == 5);
     window.add(piece_of(rt, 5, b"f", 0));
-    compare(rt, window.take_first().as_ref(), Some((5, b"f")));
-    compare(rt, window.take_first().as_ref(), None);
+    compare_taken(rt, window, Some((5, b"f")));
+    compare_taken(rt, window, None);
     assert_equal(rt, &window.stop(), &6);
 }
 
