@@ -1,10 +1,9 @@
 //! Running stages beside the compiled plan, and their runs from text to text.
 ghost use Rattle.std.specs.Prelude.{◌≤◌};
 
-use crate::comparing::assert_equal;
+use crate::comparing::{assert_equal, assert_equal_at};
 use crate::network::gates::Log;
 use crate::network::running::{TWO_LATENCIES, compare_text, outcome_at};
-use crate::plan::demands::demand;
 use crate::plan::outcomes::compare_outcomes;
 use crate::plan::settings::Setting;
 use std::process::Abort;
@@ -82,7 +81,7 @@ fn a_text_runs_in_threads(rt: HostRuntime) {
 }
 
 /// Compares what two latencies make of a text over rings of `cap` items, where stage 1 with its first item and stage 0
-/// with item `nth` wait for each other.
+/// with item `nth` wait for each other. If they miss each other, a failure prints `cap`.
 fn meet<R: Threads + Wait + Sync + AllocGlobal + Abort>(
     rt: &R,
     read: &str,
@@ -94,7 +93,7 @@ fn meet<R: Threads + Wait + Sync + AllocGlobal + Abort>(
 {
     let gate = Meeting::new(nth);
     compare_text(rt, TWO_LATENCIES, read, cap, &gate, &Ok(()), want);
-    demand(rt, gate.met());
+    assert_equal_at(rt, &gate.met(), &true, cap as u64);
 }
 
 #[test]

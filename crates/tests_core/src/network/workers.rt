@@ -1,9 +1,9 @@
 //! Workers of `run_stages`: their items, their rings, and that they run side by side.
 ghost use Rattle.std.specs.Prelude.{◌≤◌};
 
+use crate::comparing::assert_equal_at;
 use crate::network::gates::Log;
 use crate::network::running::{TWO_LATENCIES, compare_singles, outcome_at};
-use crate::plan::demands::demand;
 use crate::plan::settings::Setting;
 use std::process::Abort;
 use std::sync::Wait;
@@ -32,7 +32,7 @@ fn a_chain_may_have_thirty_two_workers(rt: HostRuntime) {
 }
 
 /// Compares what two latencies deliver over rings of `cap` items, where stage 1 with its first byte and stage 0 with byte
-/// `nth` wait for each other.
+/// `nth` wait for each other. A failure prints `cap`.
 fn meet<R: Threads + Wait + Sync + AllocGlobal + Abort>(
     rt: &R,
     toxics: &str,
@@ -45,7 +45,7 @@ fn meet<R: Threads + Wait + Sync + AllocGlobal + Abort>(
     let gate = Meeting::new(nth);
     let setting = Setting::read(rt, "0", toxics, arrived);
     let outcome = outcome_at(rt, &setting, cap, &gate);
-    demand(rt, gate.met());
+    assert_equal_at(rt, &gate.met(), &true, cap as u64);
     outcome
 }
 
