@@ -1,11 +1,16 @@
 //! Tests of live links: the core, `carry`, `drive` and the book.
 mod books;
 mod carries;
+mod carrying;
+mod core_case;
 mod cores;
 mod drives;
 mod drives_one_by_one;
+mod driving;
 mod link_ends;
 mod plain_drives;
+mod planning;
 mod polled_ends;
 mod scarce_links;
 mod schedules;
+mod table_values;

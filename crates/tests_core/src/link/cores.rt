@@ -1,142 +1,106 @@
 //! A link core, call by call.
-ghost use Rattle.std.specs.Prelude.{◌≡◌, ◌≤◌, false};
-
-use crate::comparing::assert_equal;
+use crate::comparing::assert_equal_at;
+use crate::link::core_case::CoreCase;
+use crate::link::planning::{one_word, plan_of};
+use crate::link::table_values::End;
 use std::process::Abort;
-use std::test::Fail;
-use tests_support::{at, chain_of, slice};
-use tox_compile::compile;
+use tests_support::{at, slice};
 use tox_link::{Act, LinkCore};
-use tox_time::{ArrivalFault, Ending, Micros};
-use tox_words::Words;
+use tox_time::ArrivalFault;
 
-/// Asserts that the core's last instant isn't after `now`.
-pub fn assert_reached(rt: &impl Abort, core: &LinkCore<'_>, now: Micros)
-    ensures { core.now.latest ≤ now }
-{
-    assert!(rt; core.latest() <= now);
+/// What a core answers.
+enum Answer {
+    /// It writes the bytes from the first number to the second, which leave at an instant.
+    Write(u64, u64, u64),
+    WaitUntil(u64),
+    WaitForInput,
+    End(End),
 }
 
-/// What the core answers at an instant.
-pub fn ask(rt: &impl Abort, core: &mut LinkCore<'_>, now: Micros) -> Act
-    ensures { core.new.ended ≡ core.old.ended }
-{
-    assert_reached(rt, core, now);
-    core.on_clock(now)
+impl Answer {
+    fn act(&self) -> Act {
+        match self {
+            Answer::Write(start, stop, micros) => Act::Write(slice(*start, *stop, *micros)),
+            Answer::WaitUntil(micros) => Act::WaitUntil(at(*micros)),
+            Answer::WaitForInput => Act::WaitForInput,
+            Answer::End(end) => Act::End(end.ending()),
+        }
+    }
 }
 
-/// Whether the core takes a piece.
-pub fn give(
-    rt: &impl Abort,
-    core: &mut LinkCore<'_>,
-    len: u64,
-    now: Micros,
-) -> Result<(), ArrivalFault>
-    ensures { core.new.ended ≡ core.old.ended }
-{
-    assert!(rt; core.has_room());
-    assert_reached(rt, core, now);
-    core.on_piece(len, now)
+/// A call of a core, or a look at it.
+enum Step {
+    /// A piece of so many bytes comes at an instant.
+    Piece(u64, u64, Result<(), ArrivalFault>),
+    /// The core is asked at an instant.
+    Ask(u64, Answer),
+    /// The source ends at an instant.
+    SourceEnd(u64),
+    /// The last instant handed in, and the ending once it is known.
+    State(u64, Option<End>),
 }
 
-/// Compares what the core answers at an instant.
-fn answers(rt: &impl Abort, core: &mut LinkCore<'_>, now: Micros, act: Act)
-    ensures { core.new.ended ≡ core.old.ended }
-{
-    assert_equal(rt, &ask(rt, core, now), &act);
+/// Calls a core under these toxics as the steps say. A difference names the step by its number.
+fn follow(rt: &(impl Abort + AllocGlobal), toxics: &str, steps: &[Step]) {
+    let words = one_word(rt);
+    let plan = plan_of(rt, toxics, &words);
+    take_all(rt, &mut CoreCase::new(rt, plan, &words), steps);
 }
 
-/// Compares whether the core takes a piece.
-fn takes(
-    rt: &impl Abort,
-    core: &mut LinkCore<'_>,
-    len: u64,
-    now: Micros,
-    answer: Result<(), ArrivalFault>,
-)
-    ensures { core.new.ended ≡ core.old.ended }
-{
-    assert_equal(rt, &give(rt, core, len, now), &answer);
+fn take_all(rt: &impl Abort, case: &mut CoreCase<'_>, steps: &[Step]) {
+    for (nth, step) in steps.iter().enumerate() {
+        take(rt, case, step, nth as u64);
+    }
 }
 
-fn compare_ending(rt: &impl Abort, core: &LinkCore<'_>, ending: Option<Ending>) {
-    assert_equal(rt, &core.ending(), &ending);
+fn take(rt: &impl Abort, case: &mut CoreCase<'_>, step: &Step, nth: u64) {
+    match step {
+        Step::Piece(len, micros, answer) => {
+            assert_equal_at(rt, &case.give(rt, *len, at(*micros)), answer, nth);
+        }
+        Step::Ask(micros, answer) => {
+            assert_equal_at(rt, &case.ask(rt, at(*micros)), &answer.act(), nth);
+        }
+        Step::SourceEnd(micros) => case.end(rt, at(*micros)),
+        Step::State(latest, end) => compare_state(rt, &case.core, *latest, *end, nth),
+    }
 }
 
-fn compare_latest(rt: &impl Abort, core: &LinkCore<'_>, latest: Micros) {
-    assert_equal(rt, &core.latest(), &latest);
+fn compare_state(rt: &impl Abort, core: &LinkCore<'_>, latest: u64, end: Option<End>, nth: u64) {
+    let state = (core.latest(), core.ending());
+    assert_equal_at(rt, &state, &(at(latest), end.map(End::ending)), nth);
 }
 
-fn end(rt: &impl Abort, core: &mut LinkCore<'_>, now: Micros)
-    requires { core.old.ended ≡ false }
-{
-    assert_reached(rt, core, now);
-    core.on_end(now);
-}
-
-fn closed(micros: u64) -> Ending {
-    Ending::Closed(at(micros))
-}
-
-/// A core under these toxics.
-fn core_of<'w>(rt: &(impl Abort + AllocGlobal), toxics: &str, words: &'w Words) -> LinkCore<'w>
-    ensures { result.ended ≡ false }
-{
-    let chain = chain_of(toxics).expect(rt, "short forms");
-    LinkCore::new(rt.alloc(), compile(&chain, words), words).expect(rt, "memory")
-}
+/// A piece comes at 0 and leaves after a millisecond, and then the source ends.
+const LATENCY: &[Step] = &[
+    Step::State(0, None),
+    Step::Piece(2, 0, Ok(())),
+    Step::Ask(0, Answer::WaitUntil(1000)),
+    Step::Ask(1000, Answer::Write(0, 2, 1000)),
+    Step::Ask(1000, Answer::WaitForInput),
+    Step::State(1000, None),
+    Step::SourceEnd(1500),
+    Step::State(1500, Some(End::Closed(1500))),
+    Step::Ask(1500, Answer::End(End::Closed(1500))),
+    Step::State(1500, Some(End::Closed(1500))),
+];
 
 #[test]
-fn latency_waits_writes_and_closes(rt: HostRuntime) -> Result<(), Fail> {
-    let words = Words::from_list(rt.alloc(), &[0])?;
-    let mut core = core_of(&rt, "latency:latency=1", &words);
-    compare_delayed_piece(&rt, &mut core);
-    compare_close(&rt, &mut core);
-    Ok(())
+fn latency_waits_writes_and_closes(rt: HostRuntime) {
+    follow(&rt, "latency:latency=1", LATENCY);
 }
 
-/// Compares what a core does with a piece that comes at 0 and leaves after a millisecond.
-fn compare_delayed_piece(rt: &impl Abort, core: &mut LinkCore<'_>)
-    ensures { core.new.ended ≡ core.old.ended }
-{
-    compare_latest(rt, core, at(0));
-    takes(rt, core, 2, at(0), Ok(()));
-    answers(rt, core, at(0), Act::WaitUntil(at(1000)));
-    answers(rt, core, at(1000), Act::Write(slice(0, 2, 1000)));
-    answers(rt, core, at(1000), Act::WaitForInput);
-}
-
-/// Compares what a core that has written all does with the source's end.
-fn compare_close(rt: &impl Abort, core: &mut LinkCore<'_>)
-    requires { core.old.ended ≡ false }
-{
-    compare_ending(rt, core, None);
-    end(rt, core, at(1500));
-    compare_latest(rt, core, at(1500));
-    answers(rt, core, at(1500), Act::End(closed(1500)));
-    compare_ending(rt, core, Some(closed(1500)));
-}
+/// A piece comes right before the deadline, and another one after it.
+const RESET: &[Step] = &[
+    Step::Ask(5, Answer::WaitUntil(20_000)),
+    Step::Piece(0, 19_999, Err(ArrivalFault::EmptyPiece)),
+    Step::Piece(1, 19_999, Ok(())),
+    Step::Ask(20_000, Answer::Write(0, 1, 19_999)),
+    Step::Ask(20_000, Answer::End(End::Reset(20_000))),
+    Step::Piece(1, 20_001, Err(ArrivalFault::AfterEnd)),
+];
 
 #[test]
-fn a_reset_comes_at_its_deadline(rt: HostRuntime) -> Result<(), Fail> {
-    let words = Words::from_list(rt.alloc(), &[0])?;
-    let mut core = core_of(&rt, "reset_peer:timeout=20", &words);
-    compare_last_piece(&rt, &mut core);
-    compare_reset(&rt, &mut core);
-    Ok(())
-}
-
-/// Compares what a core does with a piece that comes right before its deadline.
-fn compare_last_piece(rt: &impl Abort, core: &mut LinkCore<'_>) {
-    answers(rt, core, at(5), Act::WaitUntil(at(20000)));
-    takes(rt, core, 0, at(19999), Err(ArrivalFault::EmptyPiece));
-    takes(rt, core, 1, at(19999), Ok(()));
-    answers(rt, core, at(20000), Act::Write(slice(0, 1, 19999)));
-}
-
-/// Compares what a core does from its deadline on.
-fn compare_reset(rt: &impl Abort, core: &mut LinkCore<'_>) {
-    let reset = Ending::Reset(at(20000));
-    answers(rt, core, at(20000), Act::End(reset));
-    takes(rt, core, 1, at(20001), Err(ArrivalFault::AfterEnd));
+fn a_reset_comes_at_its_deadline(rt: HostRuntime) {
+    follow(&rt, "reset_peer:timeout=20", RESET);
 }

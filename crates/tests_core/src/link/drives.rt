@@ -8,22 +8,17 @@ ghost use Rattle.tox_link.specs.Reports.{written_before};
 use crate::comparing::assert_equal_at;
 use crate::link::link_ends::{Noted, RestingClock};
 use crate::link::polled_ends::BusyEnd;
-use crate::link::schedules::drawn_chain;
+use crate::link::schedules::{drawn_chain, instants_of};
 use rand_pcg::Lcg64Xsh32;
-use std::alloc::{AllocError, Global};
 use std::process::Abort;
-use std::sync::Arc;
-use std::sync::atomic::{AtomicU64, Ordering};
-use std::test::Fail;
-use tests_support::{below, drawn_words, table_of};
+use std::sync::atomic::Ordering;
+use tests_support::{below, drawn_words};
 use tox_compile::compile;
 use tox_defs::Chain;
-use tox_link::{LinkEvent, LinkFault, PolledLink, Progress, drive, finish};
+use tox_link::{LinkEvent, LinkFault, PolledLink, Progress, TimedReport, drive, finish};
 use tox_plan::deliver;
-use tox_time::{
-    ArrivalFault, Arrivals, Ending, MemorySink, MemorySource, Micros, Outcome, SliceList,
-};
-use tox_words::{Words, WordsFault};
+use tox_time::{Arrivals, Ending, MemorySink, MemorySource, Micros, Outcome, SliceList};
+use tox_words::Words;
 
 /// More drives than a drawn direction takes.
 const MAX_DRIVES: usize = 1_000_000;
@@ -69,8 +64,8 @@ fn go_on(generator: &mut Lcg64Xsh32, clock: &RestingClock, until: Option<Micros>
 }
 
 /// The words that a seed draws.
-fn words_of(alloc: Global, seed: u64) -> Result<Words, WordsFault> {
-    drawn_words(alloc, &mut Lcg64Xsh32::new(seed, 4))
+fn words_of(rt: &(impl Abort + AllocGlobal), seed: u64) -> Words {
+    drawn_words(rt.alloc(), &mut Lcg64Xsh32::new(seed, 4)).expect(rt, "words")
 }
 
 /// A direction under the chain and the words of a seed. It keeps the words only if it draws any.
@@ -78,7 +73,7 @@ fn link_of(rt: &(impl Abort + AllocGlobal), chain: &Chain, seed: u64) -> PolledL
     ensures fresh { IsNew result }
     ensures held { IsHeld result }
 {
-    let words = words_of(rt.alloc(), seed).expect(rt, "words");
+    let words = words_of(rt, seed);
     let plan = compile(chain, &words);
     let link = if plan.draws() {
         PolledLink::new(rt.alloc(), plan, words)
@@ -89,12 +84,12 @@ fn link_of(rt: &(impl Abort + AllocGlobal), chain: &Chain, seed: u64) -> PolledL
 }
 
 /// Bytes that tell their position, up to 600 of them.
-pub fn drawn_bytes(alloc: Global, generator: &mut Lcg64Xsh32) -> Result<Vec<u8>, AllocError> {
-    let mut bytes = Vec::new(alloc);
+pub fn drawn_bytes(rt: &(impl Abort + AllocGlobal), generator: &mut Lcg64Xsh32) -> Vec<u8> {
+    let mut bytes = Vec::new(rt.alloc());
     for nth in 0..below(generator, 600) {
-        bytes.push((nth % 251) as u8)?;
+        bytes.push((nth % 251) as u8).expect(rt, "memory");
     }
-    Ok(bytes)
+    bytes
 }
 
 /// At one call in eight of those that fail, which one.
@@ -106,28 +101,32 @@ fn drawn_fault(generator: &mut Lcg64Xsh32) -> Option<u64> {
     }
 }
 
-/// What a log heard.
-fn heard(alloc: Global, notes: &Noted) -> Result<Arrivals, ArrivalFault> {
-    let mut arrivals = Arrivals::new(alloc);
-    for event in notes.events.as_slice() {
-        match event {
-            LinkEvent::Piece(len, instant) => arrivals.push(*len, *instant)?,
-            LinkEvent::SourceEnd(instant) => arrivals.eof(*instant)?,
-            LinkEvent::Wrote(_, _) => {}
-        }
-    }
-    Ok(arrivals)
+/// What a direction heard and said.
+#[derive(Drop)]
+struct Log {
+    arrivals: Arrivals,
+    slices: SliceList,
 }
 
-/// The instants of the bytes that a log said.
-fn said(alloc: Global, notes: &Noted) -> Result<Vec<u64>, AllocError> {
-    let mut slices = SliceList::new(alloc);
-    for event in notes.events.as_slice() {
-        if let LinkEvent::Wrote(slice, _) = event {
-            slices.push(*slice)?;
+impl Log {
+    fn new(rt: &(impl Abort + AllocGlobal), notes: &Noted) -> Log {
+        let mut log = Log {
+            arrivals: Arrivals::new(rt.alloc()),
+            slices: SliceList::new(rt.alloc()),
+        };
+        for event in notes.events.as_slice() {
+            log.add(rt, event);
+        }
+        log
+    }
+
+    fn add(&mut self, rt: &impl Abort, event: &LinkEvent) {
+        match event {
+            LinkEvent::Piece(len, at) => self.arrivals.push(*len, *at).expect(rt, "a piece"),
+            LinkEvent::SourceEnd(at) => self.arrivals.eof(*at).expect(rt, "an end"),
+            LinkEvent::Wrote(slice, _) => self.slices.push(*slice).expect(rt, "a slice"),
         }
     }
-    table_of(alloc, &slices)
 }
 
 /// How a direction reports that it ended, and how many bytes it says that it wrote.
@@ -175,9 +174,7 @@ pub fn driven_under(
     bytes: Vec<u8>,
     seed: u64,
 ) -> DrivenDirection {
-    let mut notes = Noted {
-        events: Vec::new(rt.alloc()),
-    };
+    let mut notes = Noted::new(rt.alloc());
     let source = drawn_source(generator, bytes, seed);
     let mut sink = drawn_sink(rt, generator, seed);
     let link = link_of(rt, chain, seed);
@@ -204,11 +201,16 @@ fn driven_to_end(
     requires gives { source.end.failed ≡ false }
     requires working { sink.old.end.failed ≡ false }
 {
-    let micros = Arc::new(rt.alloc(), AtomicU64::new(0)).expect(rt, "memory");
-    let clock = RestingClock { micros };
+    let clock = RestingClock::new(rt);
     let driven = drive_on(rt, generator, &mut link, &clock, notes, &mut source, sink);
-    let answer = finish(link, &clock, driven, source);
-    match &answer {
+    driven_ending(&finish(link, &clock, driven, source))
+}
+
+/// What a report says of the ending.
+fn driven_ending(
+    finished: &Result<TimedReport<BusyEnd<MemorySource>>, LinkFault>,
+) -> Result<DrivenEnding, LinkFault> {
+    match finished {
         Ok(timed) => Ok(DrivenEnding {
             ending: timed.report.ending,
             written: timed.report.written,
@@ -227,25 +229,24 @@ struct Comparison {
 
 /// What a log says, beside what is delivered of what it heard.
 fn comparison_of(
-    alloc: Global,
+    rt: &(impl Abort + AllocGlobal),
     notes: &Noted,
     chain: &Chain,
     seed: u64,
-) -> Result<Comparison, Fail> {
-    let said = said(alloc, notes)?;
-    let arrivals = heard(alloc, notes)?;
-    let outcome = due(alloc, chain, seed, &arrivals)?;
-    Ok(Comparison {
-        said,
-        due: table_of(alloc, &outcome.slices)?,
+) -> Comparison {
+    let log = Log::new(rt, notes);
+    let outcome = due(rt, chain, seed, &log.arrivals);
+    Comparison {
+        said: instants_of(rt, &log.slices),
+        due: instants_of(rt, &outcome.slices),
         ending: outcome.ending,
-    })
+    }
 }
 
 /// What is delivered of these arrivals, under the words of a seed.
-fn due(alloc: Global, chain: &Chain, seed: u64, arrivals: &Arrivals) -> Result<Outcome, Fail> {
-    let words = words_of(alloc, seed)?;
-    Ok(deliver(alloc, chain, &words, arrivals)?)
+fn due(rt: &(impl Abort + AllocGlobal), chain: &Chain, seed: u64, arrivals: &Arrivals) -> Outcome {
+    let words = words_of(rt, seed);
+    deliver(rt.alloc(), chain, &words, arrivals).expect(rt, "an outcome")
 }
 
 impl Comparison {
@@ -261,7 +262,7 @@ impl Comparison {
         let due = self.due.get(..self.said.len());
         assert_equal_at(rt, &fault.written(), &(written as u64), seed);
         assert_equal_at(rt, &Some(self.said.as_slice()), &due, seed);
-        assert!(rt; written <= self.due.len(), "seed {seed}");
+        assert_equal_at(rt, &(written <= self.due.len()), &true, seed);
     }
 }
 
@@ -271,10 +272,10 @@ fn compare_bytes(rt: &impl Abort, written: &[u8], bytes: &[u8], seed: u64) {
 }
 
 /// Compares a direction that a seed draws with what is delivered. Returns whether it broke off.
-fn compare(rt: &(impl Abort + AllocGlobal), seed: u64) -> Result<bool, Fail> {
+fn compare(rt: &(impl Abort + AllocGlobal), seed: u64) -> bool {
     let generator = &mut Lcg64Xsh32::new(seed, 3);
     let chain = drawn_chain(rt, generator);
-    let bytes = drawn_bytes(rt.alloc(), generator)?;
+    let bytes = drawn_bytes(rt, generator);
     compare_driven(rt, generator, &chain, &bytes, seed)
 }
 
@@ -285,11 +286,12 @@ fn compare_driven(
     chain: &Chain,
     bytes: &Vec<u8>,
     seed: u64,
-) -> Result<bool, Fail> {
-    let driven = driven_under(rt, generator, chain, bytes.clone()?, seed);
+) -> bool {
+    let given = bytes.clone().expect(rt, "memory");
+    let driven = driven_under(rt, generator, chain, given, seed);
     compare_bytes(rt, &driven.written, bytes, seed);
-    compare_log(rt, &driven, chain, seed)?;
-    Ok(driven.answer.is_err())
+    compare_log(rt, &driven, chain, seed);
+    driven.answer.is_err()
 }
 
 /// Compares what a direction said, and how it ended, with what is due.
@@ -298,24 +300,20 @@ fn compare_log(
     driven: &DrivenDirection,
     chain: &Chain,
     seed: u64,
-) -> Result<(), Fail> {
-    let comparison = comparison_of(rt.alloc(), &driven.notes, chain, seed)?;
+) {
+    let comparison = comparison_of(rt, &driven.notes, chain, seed);
     let written = driven.written.len();
     match &driven.answer {
         Ok(end) => comparison.compare_all(rt, end, written, seed),
         Err(fault) => comparison.compare_part(rt, fault, written, seed),
     }
-    Ok(())
 }
 
 #[test]
-fn drives_write_what_is_delivered(rt: HostRuntime) -> Result<(), Fail> {
+fn drives_write_what_is_delivered(rt: HostRuntime) {
     let mut broken = 0u64;
     for seed in 0..1000 {
-        if compare(&rt, seed)? {
-            broken = broken.saturating_add(1);
-        }
+        broken = broken.saturating_add(u64::from(compare(&rt, seed)));
     }
     assert!(rt; 10 < broken && broken < 500);
-    Ok(())
 }

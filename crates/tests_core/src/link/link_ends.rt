@@ -3,6 +3,7 @@ ghost use Rattle.std.specs.Prelude.{Some, None};
 ghost use Rattle.tox_time.specs.Time.{IsInstant};
 
 use std::alloc::{AllocError, Global};
+use std::process::Abort;
 use std::sync::Arc;
 use std::sync::atomic::{AtomicBool, AtomicU64, Ordering};
 use tests_support::comes_true;
@@ -13,6 +14,21 @@ use tox_time::{EndFault, Ending, Gate, Micros, Sink, Source};
 #[derive(Drop)]
 pub struct RestingClock {
     pub micros: Arc<AtomicU64>,
+}
+
+impl RestingClock {
+    /// A clock at 0.
+    pub fn new(rt: &(impl Abort + AllocGlobal)) -> RestingClock {
+        let micros = Arc::new(rt.alloc(), AtomicU64::new(0));
+        RestingClock {
+            micros: micros.expect(rt, "memory"),
+        }
+    }
+
+    /// Its instant for another owner.
+    pub fn share(&self, rt: &impl Abort) -> Arc<AtomicU64> {
+        self.micros.clone().expect(rt, "few owners")
+    }
 }
 
 impl Clock for RestingClock {
@@ -33,6 +49,14 @@ impl Clock for RestingClock {
 #[derive(Drop)]
 pub struct Noted {
     pub events: Vec<LinkEvent>,
+}
+
+impl Noted {
+    pub fn new(alloc: Global) -> Noted {
+        Noted {
+            events: Vec::new(alloc),
+        }
+    }
 }
 
 impl Notes for Noted {
@@ -82,13 +106,23 @@ impl<W: Sink> Sink for WatchingSink<W> {
     }
 }
 
-/// A source that yields before its second read until a sink has a byte.
+/// A source that yields before its second read until a sink has a byte, if it waits.
 #[derive(Drop)]
 pub struct WaitingSource<S> {
     pub source: S,
+    pub waits: bool,
     pub bytes: Arc<AtomicU64>,
     pub reads: u64,
     pub missed: Arc<AtomicBool>,
+}
+
+impl<S> WaitingSource<S> {
+    /// Yields until a sink has a byte.
+    fn wait(&self) {
+        if !comes_true(|| self.bytes.load(Ordering::SeqCst) != 0) {
+            self.missed.store(true, Ordering::SeqCst);
+        }
+    }
 }
 
 impl<S: Source> Source for WaitingSource<S> {
@@ -98,8 +132,8 @@ impl<S: Source> Source for WaitingSource<S> {
 
     fn read(&mut self, buffer: &mut [u8]) -> Result<usize, EndFault> {
         self.reads = self.reads.saturating_add(1);
-        if self.reads == 2 && !comes_true(|| self.bytes.load(Ordering::SeqCst) != 0) {
-            self.missed.store(true, Ordering::SeqCst);
+        if self.waits && self.reads == 2 {
+            self.wait();
         }
         self.source.read(buffer)
     }

@@ -6,7 +6,6 @@ use std::alloc::Global;
 use std::process::Abort;
 use std::sync::atomic::{AtomicU64, Ordering};
 use std::sync::{Arc, Wait};
-use std::test::Fail;
 use std::thread::Threads;
 use tests_support::{CountingGate, Refusals, Scarcity, Tried, try_each, with_stacks};
 use tox_compile::compile;
@@ -50,9 +49,9 @@ type Counts = (u64, u64);
 /// What a link of two bytes answered, of which these were written. A fault tells how many.
 fn tried_of(answer: &Result<Counts, LinkFault>, written: &[u8]) -> Tried {
     match answer {
-        Ok(counts) if *counts == (2, 2) && written == b"ab".as_slice() => Tried::Answered,
+        Ok((2, 2)) => Tried::Answered.writing(written, "ab"),
         Err(LinkFault::OutOfMemory(count)) if *count == written.len() as u64 => Tried::NoMemory,
-        Err(LinkFault::SpawnRefused(0)) if written.is_empty() => Tried::NoThread,
+        Err(LinkFault::SpawnRefused(0)) => Tried::NoThread.writing(written, ""),
         Ok(_) | Err(_) => Tried::Wrong,
     }
 }
@@ -95,16 +94,17 @@ fn tried_link<R: Threads + Wait + Copy + Send + Abort + 'static>(
     pages: usize,
     words: &Words,
     gate: &Arc<CountingGate>,
-) -> Result<Tried, Fail> {
-    let reader = MemorySource::new(vec![in alloc; 0x61, 0x62]?, 1, None);
+) -> Tried {
+    let bytes = vec![in alloc; 0x61, 0x62].expect(rt, "memory");
+    let reader = MemorySource::new(bytes, 1, None);
     let mut ends = Ends {
         writer: MemorySink::new(alloc, 16, 16, None).expect(rt, "memory"),
         hangup: NoHangup,
     };
-    scarcity.leave_pages(alloc, pages)?;
+    scarcity.leave_pages(alloc, pages).expect(rt, "room");
     let answer = carried(rt, alloc, reader, &mut ends, words, gate);
     scarcity.end();
-    Ok(tried_of(&answer, ends.writer.bytes()))
+    tried_of(&answer, ends.writer.bytes())
 }
 
 /// Carries a link with little memory. Counts in `reads_refused` a refusal after the reader's thread has read.
@@ -114,49 +114,59 @@ fn link<R: Threads + Wait + Copy + Send + Abort + 'static>(
     alloc: Global,
     pages: usize,
     reads_refused: &AtomicU64,
-) -> Result<Tried, Fail> {
+) -> Tried {
     let words = Words::from_list(alloc, &[0]).expect(rt, "memory");
     let gate = Arc::new(alloc, CountingGate::new()).expect(rt, "memory");
-    let tried = tried_link(rt, scarcity, alloc, pages, &words, &gate)?;
+    let tried = tried_link(rt, scarcity, alloc, pages, &words, &gate);
     if tried == Tried::NoMemory && 0 < gate.passes() {
         reads_refused.fetch_add(1, Ordering::SeqCst);
     }
-    Ok(tried)
+    tried
 }
 
-/// Carries links with ever more pages, where there are stacks for so many threads. Returns the refusals, and how many of them came
-/// after a reader's thread had read.
-fn carry_behind<R>(rt: &R, threads: usize) -> Result<(Refusals, u64), Fail>
+/// Carries links with ever more pages, where there are stacks for so many threads, and prints what was refused. Returns the
+/// refusals, and how many of them came after a reader's thread had read.
+fn carry_behind<R>(rt: &R, threads: usize) -> (Refusals, u64)
 where
-    R: Threads + Wait + Copy + Send + Sync + AllocGlobal + Abort + 'static,
+    R: Threads + Wait + Copy + Send + Sync + AllocGlobal + Abort + Eprint + 'static,
 {
-    let alloc = rt.alloc();
-    let mut scarcity = with_stacks(rt, alloc, threads)?;
+    let mut scarcity = with_stacks(rt, rt.alloc(), threads).expect(rt, "memory");
     let reads_refused = AtomicU64::new(0);
-    let refusals = try_each(&mut scarcity, PAGES, |scarcity, pages| {
-        link(rt, scarcity, alloc, pages, &reads_refused)
-    })?;
-    Ok((refusals, reads_refused.load(Ordering::SeqCst)))
+    let refusals = carry_all(rt, &mut scarcity, rt.alloc(), &reads_refused);
+    let reads_refused = reads_refused.load(Ordering::SeqCst);
+    print_refusals(rt, &refusals, reads_refused);
+    (refusals, reads_refused)
+}
+
+/// Carries links with ever more pages. Counts in `reads_refused` the refusals after a reader's thread has read.
+fn carry_all<R: Threads + Wait + Copy + Send + Sync + Abort + 'static>(
+    rt: &R,
+    scarcity: &mut Scarcity,
+    alloc: Global,
+    reads_refused: &AtomicU64,
+) -> Refusals {
+    let refusals = try_each(scarcity, PAGES, |scarcity, pages| {
+        Ok(link(rt, scarcity, alloc, pages, reads_refused))
+    });
+    let Ok(refusals) = refusals else {
+        panic!(rt; "another answer than with ample memory")
+    };
+    refusals
 }
 
 /// Prints how often links were refused, and how many of the refusals came after a reader's thread had read.
-fn print_refusals(rt: &impl Eprint, refusals: &Refusals, reads_refused: u64) -> Result<(), Fail> {
-    eprintln!(rt; "{refusals:?}, {reads_refused} of reads")?;
-    Ok(())
+fn print_refusals(rt: &(impl Abort + Eprint), refusals: &Refusals, reads_refused: u64) {
+    eprintln!(rt; "{refusals:?}, {reads_refused} of reads").expect(rt, "a standard error");
 }
 
 #[test]
-fn a_link_is_refused_its_thread(rt: HostRuntime) -> Result<(), Fail> {
-    let (refusals, reads_refused) = carry_behind(&rt, 0)?;
-    print_refusals(&rt, &refusals, reads_refused)?;
+fn a_link_is_refused_its_thread(rt: HostRuntime) {
+    let (refusals, _) = carry_behind(&rt, 0);
     assert!(rt; !refusals.is_answered && 0 < refusals.memory && 0 < refusals.threads);
-    Ok(())
 }
 
 #[test]
-fn a_link_is_refused_memory(rt: HostRuntime) -> Result<(), Fail> {
-    let (refusals, reads_refused) = carry_behind(&rt, 1)?;
-    print_refusals(&rt, &refusals, reads_refused)?;
+fn a_link_is_refused_memory(rt: HostRuntime) {
+    let (refusals, reads_refused) = carry_behind(&rt, 1);
     assert!(rt; refusals.is_answered && 0 < refusals.memory && 0 < reads_refused);
-    Ok(())
 }

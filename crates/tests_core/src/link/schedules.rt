@@ -1,18 +1,14 @@
 //! A link core beside `deliver`, on schedules drawn at random.
-ghost use Rattle.std.specs.Prelude.{◌≡◌, false};
-
 use crate::comparing::assert_equal_at;
-use crate::link::cores::{ask, assert_reached, give};
+use crate::link::core_case::CoreCase;
 use rand_pcg::Lcg64Xsh32;
-use std::alloc::AllocError;
 use std::process::Abort;
-use std::test::Fail;
 use tests_support::{below, drawn_words, table_of};
-use tox_compile::compile;
+use tox_compile::{Plan, compile};
 use tox_defs::{Chain, read_short};
-use tox_link::{Act, LinkCore};
+use tox_link::Act;
 use tox_plan::deliver;
-use tox_time::{ArrivalFault, Arrivals, Ending, Micros, SliceList};
+use tox_time::{Arrivals, Ending, Micros, Slice, SliceList};
 use tox_words::Words;
 
 /// The toxics of drawn chains.
@@ -43,117 +39,121 @@ pub fn drawn_chain(rt: &impl Abort, generator: &mut Lcg64Xsh32) -> Chain {
 /// A core, what arrived and was accepted, and what it had written.
 #[derive(Drop)]
 struct Run<'w> {
-    core: LinkCore<'w>,
+    case: CoreCase<'w>,
     arrivals: Arrivals,
     slices: SliceList,
-    ended: bool,
-    ghost same: { ended ≡ core.ended },
 }
 
 impl<'w> Run<'w> {
     /// A core at which nothing has arrived.
-    fn new(rt: &(impl Abort + AllocGlobal), chain: &Chain, words: &'w Words) -> Run<'w> {
-        let core = LinkCore::new(rt.alloc(), compile(chain, words), words);
+    fn new(rt: &(impl Abort + AllocGlobal), plan: Plan, words: &'w Words) -> Run<'w> {
         Run {
-            core: core.expect(rt, "memory"),
+            case: CoreCase::new(rt, plan, words),
             arrivals: Arrivals::new(rt.alloc()),
             slices: SliceList::new(rt.alloc()),
-            ended: false,
         }
     }
 
     /// One drawn event at `now`: a piece, the source's end, or nothing.
-    fn hear(
-        &mut self,
-        rt: &impl Abort,
-        generator: &mut Lcg64Xsh32,
-        now: Micros,
-    ) -> Result<(), ArrivalFault> {
+    fn hear(&mut self, rt: &impl Abort, generator: &mut Lcg64Xsh32, now: Micros) {
         match below(generator, 12) {
-            0..8 if self.core.has_room() => {
+            0..8 if self.case.core.has_room() => {
                 let len = u64::from(1 + below(generator, 60));
-                self.hear_piece(rt, len, now)
+                self.hear_piece(rt, len, now);
             }
-            8 if !self.ended => self.hear_end(rt, now),
-            _ => Ok(()),
+            8 if !self.case.ended => self.hear_end(rt, now),
+            _ => {}
         }
     }
 
     /// A piece. It is an arrival if the core takes it.
-    fn hear_piece(&mut self, rt: &impl Abort, len: u64, now: Micros) -> Result<(), ArrivalFault> {
-        if give(rt, &mut self.core, len, now).is_err() {
-            return Ok(());
+    fn hear_piece(&mut self, rt: &impl Abort, len: u64, now: Micros) {
+        if self.case.give(rt, len, now).is_ok() {
+            self.arrivals.push(len, now).expect(rt, "an arrival");
         }
-        self.arrivals.push(len, now)
     }
 
     /// The source's end.
-    fn hear_end(&mut self, rt: &impl Abort, now: Micros) -> Result<(), ArrivalFault>
-        requires { self.old.ended ≡ false }
-    {
-        if self.core.ending().is_none() {
-            self.arrivals.eof(now)?;
+    fn hear_end(&mut self, rt: &impl Abort, now: Micros) {
+        if self.case.core.ending().is_none() {
+            self.arrivals.eof(now).expect(rt, "an end");
         }
-        assert_reached(rt, &self.core, now);
-        self.core.on_end(now);
-        self.ended = true;
-        Ok(())
+        self.case.end(rt, now);
     }
 
     /// Asks the core at `now` until it writes nothing more.
-    fn write(&mut self, rt: &impl Abort, now: Micros) -> Result<Act, AllocError> {
+    fn write(&mut self, rt: &impl Abort, now: Micros) -> Act {
         for _ in 0..1000 {
-            match ask(rt, &mut self.core, now) {
-                Act::Write(slice) => {
-                    assert!(rt; slice.instant <= now);
-                    self.slices.push(slice)?;
-                }
-                act => return Ok(act),
+            match self.case.ask(rt, now) {
+                Act::Write(slice) => self.keep(rt, slice, now),
+                act => return act,
             }
         }
         panic!(rt; "too many slices")
     }
 
+    /// Keeps a slice that the core writes at `now`.
+    fn keep(&mut self, rt: &impl Abort, slice: Slice, now: Micros) {
+        assert!(rt; slice.instant.get() <= now.get());
+        self.slices.push(slice).expect(rt, "memory");
+    }
+
     /// Hears drawn events at drawn instants, and is asked at some of them. Returns the last instant.
-    fn drive(&mut self, rt: &impl Abort, generator: &mut Lcg64Xsh32) -> Result<Micros, Fail> {
+    fn drive(&mut self, rt: &impl Abort, generator: &mut Lcg64Xsh32) -> Micros {
         let mut now = Micros::ZERO;
         for _ in 0..below(generator, 30) {
             now = now.after(u64::from(below(generator, 1500)));
-            self.hear(rt, generator, now)?;
+            self.hear(rt, generator, now);
             if below(generator, 3) == 0 {
-                self.write(rt, now)?;
+                self.write(rt, now);
             }
         }
-        Ok(now)
+        now
     }
 
     /// Hears and writes what the generator draws. Returns the ending.
-    fn finish(&mut self, rt: &impl Abort, generator: &mut Lcg64Xsh32) -> Result<Ending, Fail> {
-        let now = self.drive(rt, generator)?;
-        Ok(self.settle(rt, now)?)
+    fn finish(&mut self, rt: &impl Abort, generator: &mut Lcg64Xsh32) -> Ending {
+        let now = self.drive(rt, generator);
+        self.settle(rt, now)
     }
 
     /// Goes on from `now` until nothing is left to do. Returns the ending.
-    fn settle(&mut self, rt: &impl Abort, mut now: Micros) -> Result<Ending, AllocError> {
+    fn settle(&mut self, rt: &impl Abort, mut now: Micros) -> Ending {
         for _ in 0..1000 {
-            match self.write(rt, now)? {
+            match self.write(rt, now) {
                 Act::WaitUntil(instant) => now = instant,
-                Act::End(ending) => return Ok(ending),
-                _ => return Ok(Ending::StillOpen),
+                Act::End(ending) => return ending,
+                _ => return Ending::StillOpen,
             }
         }
         panic!(rt; "no end")
     }
 }
 
+/// The instant of each byte, in microseconds.
+pub fn instants_of(rt: &(impl Abort + AllocGlobal), slices: &SliceList) -> Vec<u64> {
+    table_of(rt.alloc(), slices).expect(rt, "memory")
+}
+
 /// Compares a core on what a seed draws with what is delivered.
-fn compare(rt: &(impl Abort + AllocGlobal), seed: u64) -> Result<(), Fail> {
+fn compare(rt: &(impl Abort + AllocGlobal), seed: u64) {
     let generator = &mut Lcg64Xsh32::new(seed, 1);
     let chain = drawn_chain(rt, generator);
-    let words = drawn_words(rt.alloc(), generator)?;
-    let mut run = Run::new(rt, &chain, &words);
-    let ending = run.finish(rt, generator)?;
-    compare_run(rt, &chain, &words, &run, &ending, seed)
+    let words = drawn_words(rt.alloc(), generator).expect(rt, "words");
+    compare_under(rt, generator, &chain, &words, seed);
+}
+
+/// Compares a core on what the generator draws with what is delivered under these words.
+fn compare_under(
+    rt: &(impl Abort + AllocGlobal),
+    generator: &mut Lcg64Xsh32,
+    chain: &Chain,
+    words: &Words,
+    seed: u64,
+) {
+    let mut run = Run::new(rt, compile(chain, words), words);
+    let ending = run.finish(rt, generator);
+    compare_run(rt, chain, words, &run, &ending, seed);
 }
 
 /// Compares a run that ended so with what is delivered of its arrivals.
@@ -164,29 +164,16 @@ fn compare_run(
     run: &Run<'_>,
     ending: &Ending,
     seed: u64,
-) -> Result<(), Fail> {
-    let outcome = deliver(rt.alloc(), chain, words, &run.arrivals)?;
+) {
+    let outcome = deliver(rt.alloc(), chain, words, &run.arrivals).expect(rt, "an outcome");
     assert_equal_at(rt, ending, &outcome.ending, seed);
-    compare_slices(rt, &run.slices, &outcome.slices, seed)
-}
-
-/// Compares when each byte leaves.
-fn compare_slices(
-    rt: &(impl Abort + AllocGlobal),
-    slices: &SliceList,
-    expected: &SliceList,
-    seed: u64,
-) -> Result<(), Fail> {
-    let table = table_of(rt.alloc(), slices)?;
-    let due = table_of(rt.alloc(), expected)?;
-    assert_equal_at(rt, &table, &due, seed);
-    Ok(())
+    let written = instants_of(rt, &run.slices);
+    assert_equal_at(rt, &written, &instants_of(rt, &outcome.slices), seed);
 }
 
 #[test]
-fn schedules_write_what_is_delivered(rt: HostRuntime) -> Result<(), Fail> {
+fn schedules_write_what_is_delivered(rt: HostRuntime) {
     for seed in 0..1000 {
-        compare(&rt, seed)?;
+        compare(&rt, seed);
     }
-    Ok(())
 }

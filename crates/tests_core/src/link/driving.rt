@@ -1,0 +1,267 @@
+//! A direction that is driven drive by drive, as the steps of a table say.
+ghost use Rattle.std.specs.Prelude.{◌≡◌, true, false, None};
+ghost use Rattle.tox_time.specs.Time.{IsInstant};
+ghost use Rattle.tox_link.specs.direction.Driven.{IsReady};
+
+use crate::comparing::assert_equal_at;
+use crate::link::link_ends::{Noted, RestingClock};
+use crate::link::planning::{one_word, plan_of};
+use crate::link::table_values::{Event, events_of};
+use std::alloc::AllocError;
+use std::process::Abort;
+use std::sync::Arc;
+use std::sync::atomic::{AtomicU64, Ordering};
+use tests_support::{Scarcity, at};
+use tox_link::{
+    LinkEvent, LinkFault, NoNotes, Notes, PollSink, PollSource, PolledLink, Progress, drive,
+};
+use tox_time::{EndFault, Micros};
+
+/// A source that gives one byte a call, so often, and then would wait. The clock moves on by 10 at each call.
+#[derive(Drop)]
+struct TickingSource {
+    micros: Arc<AtomicU64>,
+    left: u64,
+    waits: bool,
+}
+
+impl PollSource for TickingSource {
+    ghost failed = { λ _. false };
+
+    ghost remaining = { λ _. None };
+
+    ghost waits = { λ s. s.waits };
+
+    fn poll_read(&mut self, buffer: &mut [u8]) -> Result<Option<usize>, EndFault> {
+        self.micros.fetch_add(10, Ordering::SeqCst);
+        self.waits = self.left == 0 || buffer.is_empty();
+        if self.waits {
+            return Ok(None);
+        }
+        self.left = self.left.saturating_sub(1);
+        Ok(Some(1))
+    }
+}
+
+/// A sink that takes all, or would wait until it is due and then fails.
+#[derive(Drop)]
+struct DueSink {
+    micros: Arc<AtomicU64>,
+    due: Option<Micros>,
+    failed: bool,
+}
+
+impl PollSink for DueSink {
+    ghost failed = { λ s. s.failed };
+
+    ghost written = { λ _. None };
+
+    ghost waits = { λ _. true };
+
+    ghost due = { λ s. s.due };
+
+    fn poll_write(&mut self, bytes: &[u8]) -> Result<Option<usize>, EndFault> {
+        let Some(due) = self.due else {
+            return Ok(Some(bytes.len()));
+        };
+        self.failed = due.get() <= self.micros.load(Ordering::SeqCst);
+        if self.failed {
+            return Err(EndFault);
+        }
+        Ok(None)
+    }
+
+    fn due(&self) -> Option<Micros> {
+        self.due
+    }
+}
+
+/// Notes that are kept, or none.
+#[derive(Drop)]
+enum CaseNotes {
+    Kept(Noted),
+    Dropped(NoNotes),
+}
+
+impl Notes for CaseNotes {
+    ghost events = { λ _. None };
+
+    fn note(&mut self, event: LinkEvent) -> Result<(), AllocError> {
+        match self {
+            CaseNotes::Kept(notes) => notes.note(event),
+            CaseNotes::Dropped(notes) => notes.note(event),
+        }
+    }
+}
+
+/// A direction under these toxics, at which nothing has arrived.
+fn planned_link(rt: &(impl Abort + AllocGlobal), toxics: &str) -> PolledLink
+    ensures { IsReady IsInstant result None false }
+{
+    let words = one_word(rt);
+    let plan = plan_of(rt, toxics, &words);
+    PolledLink::new(rt.alloc(), plan, words).expect(rt, "memory")
+}
+
+/// What a direction is driven with, and how.
+pub struct DriveCase {
+    pub toxics: &'static str,
+    /// How many bytes the source gives.
+    pub gives: u64,
+    /// When a sink that takes nothing is due.
+    pub due: Option<u64>,
+    pub keeps_notes: bool,
+    pub steps: &'static [Step],
+}
+
+/// A step of a table.
+pub enum Step {
+    /// A drive waits, at most until this instant if there is one, or breaks off.
+    Drive(Result<Option<u64>, LinkFault>),
+    /// The same where there is no memory.
+    DriveWithoutMemory(Result<Option<u64>, LinkFault>),
+    /// The clock goes to this instant.
+    Clock(u64),
+    /// The source has so many bytes more.
+    Gives(u64),
+    /// So many bytes of the source are left.
+    Left(u64),
+    /// All events that were noted.
+    Events(&'static [Event]),
+}
+
+/// A direction that is driven drive by drive.
+#[derive(Drop)]
+struct DrivenLink {
+    link: PolledLink,
+    clock: RestingClock,
+    source: TickingSource,
+    sink: DueSink,
+    notes: CaseNotes,
+}
+
+/// Drives a direction as the steps of a case say, from a clock at 0. A difference names the step by its number.
+pub fn follow(rt: &(impl Abort + AllocGlobal), case: &DriveCase) {
+    let clock = RestingClock::new(rt);
+    let mut driven = DrivenLink {
+        link: planned_link(rt, case.toxics),
+        source: case.source(rt, &clock),
+        sink: case.sink(rt, &clock),
+        clock,
+        notes: case.notes(rt),
+    };
+    driven.take_all(rt, case.steps);
+}
+
+impl DriveCase {
+    fn source(&self, rt: &impl Abort, clock: &RestingClock) -> TickingSource {
+        TickingSource {
+            micros: clock.share(rt),
+            left: self.gives,
+            waits: false,
+        }
+    }
+
+    fn sink(&self, rt: &impl Abort, clock: &RestingClock) -> DueSink {
+        DueSink {
+            micros: clock.share(rt),
+            due: self.due.map(at),
+            failed: false,
+        }
+    }
+
+    fn notes(&self, rt: &impl AllocGlobal) -> CaseNotes {
+        if self.keeps_notes {
+            CaseNotes::Kept(Noted::new(rt.alloc()))
+        } else {
+            CaseNotes::Dropped(NoNotes)
+        }
+    }
+}
+
+impl DrivenLink {
+    /// Takes all steps.
+    fn take_all(&mut self, rt: &(impl Abort + AllocGlobal), steps: &[Step])
+        requires { IsReady IsInstant self.old.link None false }
+    {
+        for (nth, step) in steps.iter().enumerate() {
+            self.take(rt, step, nth as u64);
+        }
+    }
+
+    /// Takes a step.
+    fn take(&mut self, rt: &(impl Abort + AllocGlobal), step: &Step, nth: u64)
+        requires { IsReady IsInstant self.old.link None false }
+        ensures { IsReady IsInstant self.new.link None false }
+    {
+        match step {
+            Step::Drive(answer) => {
+                let driven = self.drive(rt);
+                compare_answer(rt, driven, answer, nth);
+            }
+            Step::DriveWithoutMemory(answer) => {
+                let driven = self.drive_without_memory(rt);
+                compare_answer(rt, driven, answer, nth);
+            }
+            Step::Clock(micros) => self.clock.micros.store(*micros, Ordering::SeqCst),
+            Step::Gives(count) => self.source.left = *count,
+            Step::Left(count) => assert_equal_at(rt, &self.source.left, count, nth),
+            Step::Events(events) => self.compare_events(rt, events, nth),
+        }
+    }
+
+    /// Drives it once.
+    fn drive(&mut self, rt: &(impl Abort + AllocGlobal)) -> Result<Progress, LinkFault>
+        requires { IsReady IsInstant self.old.link None false }
+        ensures { IsReady IsInstant self.new.link None false }
+    {
+        assert!(rt; !self.sink.failed);
+        let mut scratch = [0; 16_384];
+        drive(
+            &mut self.link,
+            rt.alloc(),
+            &self.clock,
+            &mut self.notes,
+            &mut self.source,
+            &mut self.sink,
+            &mut scratch,
+        )
+    }
+
+    /// Drives it once without memory.
+    fn drive_without_memory(
+        &mut self,
+        rt: &(impl Abort + AllocGlobal),
+    ) -> Result<Progress, LinkFault>
+        requires { IsReady IsInstant self.old.link None false }
+        ensures { IsReady IsInstant self.new.link None false }
+    {
+        let mut scarcity = Scarcity::new(rt.alloc()).expect(rt, "memory");
+        scarcity.leave(rt.alloc(), 0).expect(rt, "room");
+        let driven = self.drive(rt);
+        scarcity.end();
+        driven
+    }
+
+    /// Compares all events of notes that are kept.
+    fn compare_events(&self, rt: &(impl Abort + AllocGlobal), events: &[Event], nth: u64) {
+        let CaseNotes::Kept(notes) = &self.notes else {
+            panic!(rt; "no notes are kept")
+        };
+        assert_equal_at(rt, &notes.events, &events_of(rt, events), nth);
+    }
+}
+
+/// Compares what a drive answered with what a table says.
+fn compare_answer(
+    rt: &impl Abort,
+    driven: Result<Progress, LinkFault>,
+    answer: &Result<Option<u64>, LinkFault>,
+    nth: u64,
+) {
+    let answer = match answer {
+        Ok(until) => Ok(Progress::Waits(until.map(at))),
+        Err(fault) => Err(*fault),
+    };
+    assert_equal_at(rt, &driven, &answer, nth);
+}

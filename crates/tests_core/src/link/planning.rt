@@ -1,0 +1,16 @@
+//! Words and plans of links under test.
+use std::process::Abort;
+use tests_support::chain_of;
+use tox_compile::{Plan, compile};
+use tox_words::Words;
+
+/// A table of one word.
+pub fn one_word(rt: &(impl Abort + AllocGlobal)) -> Words {
+    Words::from_list(rt.alloc(), &[0]).expect(rt, "memory")
+}
+
+/// The plan of these toxics.
+pub fn plan_of(rt: &impl Abort, toxics: &str, words: &Words) -> Plan {
+    let chain = chain_of(toxics).expect(rt, "short forms");
+    compile(&chain, words)
+}
