@@ -1,5 +1,5 @@
 //! One direction of a link, carried between ends in memory.
-use crate::link::carrying::{AT_ONCE, CarryCase, GateKind, follow};
+use crate::link::carrying::{AT_ONCE, CarryCase, follow};
 use crate::link::table_values::{End, Event};
 use tox_link::{LinkFault, SourceEnding};
 
@@ -37,7 +37,7 @@ fn latency_delays_two_bytes(rt: HostRuntime) {
 }
 
 const MEETING: &CarryCase = &CarryCase {
-    gate: GateKind::Meets,
+    meets: true,
     ..AT_ONCE
 };
 
@@ -101,15 +101,16 @@ fn a_later_piece_has_a_later_instant(rt: HostRuntime) {
 const TICKS: &CarryCase = &CarryCase {
     bytes: b"abc",
     most_read: 1,
-    gate: GateKind::Ticks,
+    ticks: true,
     answer: Ok((3, End::Closed(40), SourceEnding::Eof)),
     hangup: (1, true, End::Closed(40), 40),
     written: Some(b"abc"),
-    pieces: &[
+    events: &[&[
         Event::Piece(1, 10),
         Event::Piece(1, 20),
         Event::Piece(1, 30),
-    ],
+    ]],
+    only_pieces: true,
     ..AT_ONCE
 };
 

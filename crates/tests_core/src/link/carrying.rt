@@ -12,19 +12,8 @@ use std::sync::atomic::{AtomicBool, AtomicU64, Ordering};
 use std::sync::{Arc, Wait};
 use std::thread::Threads;
 use tests_support::Meeting;
-use tox_link::{Ends, LinkEvent, LinkFault, LinkReport, SourceEnding, carry};
+use tox_link::{Ends, LinkEvent, LinkFault, SourceEnding, carry};
 use tox_time::{Ending, Gate, MemorySink, MemorySource, OpenGate};
-
-/// How the reader's and the writer's threads are let on.
-#[derive(Clone, Copy)]
-pub enum GateKind {
-    /// Both may go on at once.
-    Open,
-    /// The reader's second read and the writer's first message wait for each other.
-    Meets,
-    /// The clock moves on by 10 at each message that the writer's side takes.
-    Ticks,
-}
 
 /// What a link is carried with, and what is then found. The clock stands at 0, and moves where the link rests or the gate ticks.
 #[derive(Drop)]
@@ -46,7 +35,10 @@ pub struct CarryCase {
     pub most_written: usize,
     /// The call of the writer that fails, counted from 1.
     pub failing_write: Option<u64>,
-    pub gate: GateKind,
+    /// Whether the reader's second read and the writer's first message wait for each other.
+    pub meets: bool,
+    /// Whether the clock moves on by 10 at each message that the writer's side takes.
+    pub ticks: bool,
     /// How many bytes are taken and written, how the link ends, and how its source.
     pub answer: Result<(u64, End, SourceEnding), LinkFault>,
     /// How often the hangup is called, whether it is told of the source's end, and of which ending, and the clock at that.
@@ -57,8 +49,8 @@ pub struct CarryCase {
     pub first_write: Option<u64>,
     /// Which events may be noted. None are compared if this is empty.
     pub events: &'static [&'static [Event]],
-    /// Those events that are pieces. None are compared if this is empty.
-    pub pieces: &'static [Event],
+    /// Whether only those events are compared that are pieces.
+    pub only_pieces: bool,
 }
 
 /// Two bytes that are read at once and written at once.
@@ -73,65 +65,64 @@ pub const AT_ONCE: CarryCase = CarryCase {
     room: 16,
     most_written: 16,
     failing_write: None,
-    gate: GateKind::Open,
+    meets: false,
+    ticks: false,
     answer: Ok((2, End::Closed(0), SourceEnding::Eof)),
     hangup: (1, true, End::Closed(0), 0),
     written: Some(b"ab"),
     first_write: None,
     events: &[],
-    pieces: &[],
+    only_pieces: false,
 };
 
-/// A gate of one of the kinds.
+/// The far end of a link in memory.
+type CaseEnds = Ends<WatchingSink<MemorySink>, HungUp>;
+
+/// A gate at which threads may meet, and which may move the clock on.
 #[derive(Drop)]
-enum CaseGate {
-    Open(OpenGate),
-    Meets(Meeting),
-    Ticks(TickingGate),
+struct CaseGate {
+    meeting: Meeting,
+    meets: bool,
+    ticking: TickingGate,
+    ticks: bool,
 }
 
 impl CaseGate {
-    fn new(kind: GateKind, micros: Arc<AtomicU64>) -> CaseGate {
-        match kind {
-            GateKind::Open => CaseGate::Open(OpenGate),
-            GateKind::Meets => CaseGate::Meets(Meeting::new(1)),
-            GateKind::Ticks => CaseGate::Ticks(TickingGate { micros }),
-        }
-    }
-
     /// Whether the threads that wait for each other have met.
     fn met(&self) -> bool {
-        match self {
-            CaseGate::Meets(meeting) => meeting.met(),
-            CaseGate::Open(_) | CaseGate::Ticks(_) => true,
-        }
+        !self.meets || self.meeting.met()
     }
 }
 
 impl Gate for CaseGate {
     fn pass(&self, stage: usize, nth: u64) {
-        match self {
-            CaseGate::Open(gate) => gate.pass(stage, nth),
-            CaseGate::Meets(gate) => gate.pass(stage, nth),
-            CaseGate::Ticks(gate) => gate.pass(stage, nth),
+        OpenGate.pass(stage, nth);
+        if self.meets {
+            self.meeting.pass(stage, nth);
+        }
+        if self.ticks {
+            self.ticking.pass(stage, nth);
         }
     }
 }
 
-/// What is shared with the ends of a link: its clock, how many bytes were written, and whether a read waited in vain.
+/// What is shared with the ends of a link: its clock and gate, how many bytes were written, and whether a read waited in vain.
 #[derive(Drop)]
 struct Shared {
     clock: RestingClock,
+    gate: Arc<CaseGate>,
     written: Arc<AtomicU64>,
     missed: Arc<AtomicBool>,
 }
 
 impl Shared {
-    fn new(rt: &(impl Abort + AllocGlobal)) -> Shared {
+    fn new(rt: &(impl Abort + AllocGlobal), case: &CarryCase) -> Shared {
+        let clock = RestingClock::new(rt);
         let written = Arc::new(rt.alloc(), AtomicU64::new(0));
         let missed = Arc::new(rt.alloc(), AtomicBool::new(false));
         Shared {
-            clock: RestingClock::new(rt),
+            gate: case.gate(rt, &clock),
+            clock,
             written: written.expect(rt, "memory"),
             missed: missed.expect(rt, "memory"),
         }
@@ -139,6 +130,12 @@ impl Shared {
 
     fn share_written(&self, rt: &impl Abort) -> Arc<AtomicU64> {
         self.written.clone().expect(rt, "few owners")
+    }
+
+    /// Asserts that the threads met, and that no read waited in vain.
+    fn assert_met(&self, rt: &impl Abort) {
+        assert!(rt; self.gate.met());
+        assert!(rt; !self.missed.load(Ordering::SeqCst));
     }
 }
 
@@ -178,11 +175,7 @@ impl CarryCase {
         }
     }
 
-    fn ends(
-        &self,
-        rt: &(impl Abort + AllocGlobal),
-        with: &Shared,
-    ) -> Ends<WatchingSink<MemorySink>, HungUp>
+    fn ends(&self, rt: &(impl Abort + AllocGlobal), with: &Shared) -> CaseEnds
         ensures { result.writer.sink.failed ≡ false }
     {
         Ends {
@@ -191,8 +184,16 @@ impl CarryCase {
         }
     }
 
-    fn gate(&self, rt: &(impl Abort + AllocGlobal), with: &Shared) -> Arc<CaseGate> {
-        let gate = CaseGate::new(self.gate, with.clock.share(rt));
+    fn gate(&self, rt: &(impl Abort + AllocGlobal), clock: &RestingClock) -> Arc<CaseGate> {
+        let ticking = TickingGate {
+            micros: clock.share(rt),
+        };
+        let gate = CaseGate {
+            meeting: Meeting::new(1),
+            meets: self.meets,
+            ticking,
+            ticks: self.ticks,
+        };
         Arc::new(rt.alloc(), gate).expect(rt, "memory")
     }
 }
@@ -200,118 +201,100 @@ impl CarryCase {
 /// The bytes that were taken and written, and how the link and its source ended.
 type Answer = Result<(u64, u64, Ending, SourceEnding), LinkFault>;
 
-/// What came of a link.
-#[derive(Drop)]
-struct Carried {
-    answer: Answer,
-    ends: Ends<WatchingSink<MemorySink>, HungUp>,
-    notes: Noted,
-}
-
 /// Carries a link, and compares what came of it with what its case says. Its threads meet, and its reads wait no longer than
 /// they have to.
 pub fn follow<R>(rt: &R, case: &CarryCase)
 where
     R: Threads + Wait + Copy + Send + AllocGlobal + Abort + 'static,
 {
-    let with = Shared::new(rt);
-    let gate = case.gate(rt, &with);
-    let carried = carry_case(rt, case, &with, &gate);
-    assert!(rt; gate.met());
-    assert!(rt; !with.missed.load(Ordering::SeqCst));
-    carried.compare(rt, case);
+    let with = Shared::new(rt, case);
+    carry_case(rt, case, &with);
+    with.assert_met(rt);
 }
 
-/// Carries what the reader of a case gives to its end.
-fn carry_case<R>(rt: &R, case: &CarryCase, with: &Shared, gate: &Arc<CaseGate>) -> Carried
+/// Carries what the reader of a case gives to its end, and compares what came of it.
+fn carry_case<R>(rt: &R, case: &CarryCase, with: &Shared)
 where
     R: Threads + Wait + Copy + Send + AllocGlobal + Abort + 'static,
 {
     let mut ends = case.ends(rt, with);
     let mut notes = Noted::new(rt.alloc());
-    let reader = case.reader(rt, with);
-    let words = one_word(rt);
-    let plan = plan_of(rt, case.toxics, &words);
-    let answer = carry(
-        rt,
-        rt.alloc(),
-        reader,
-        &mut ends,
-        &with.clock,
-        plan,
-        &words,
-        case.reads,
-        &mut notes,
-        gate,
-    );
-    Carried {
-        answer: answer_of(answer),
-        ends,
-        notes,
-    }
+    let answer = answer_of(rt, case, with, &mut ends, &mut notes);
+    case.compare_ends(rt, &answer, &ends.hangup);
+    case.compare_writer(rt, &ends.writer);
+    case.compare_events(rt, &notes);
 }
 
 /// What `carry` answers, without its reader.
-fn answer_of<S: Drop>(answer: Result<LinkReport<S>, LinkFault>) -> Answer {
-    match answer {
+fn answer_of<R>(
+    rt: &R,
+    case: &CarryCase,
+    with: &Shared,
+    ends: &mut CaseEnds,
+    notes: &mut Noted,
+) -> Answer
+where
+    R: Threads + Wait + Copy + Send + AllocGlobal + Abort + 'static,
+    requires { ends.old.writer.sink.failed ≡ false }
+{
+    let words = one_word(rt);
+    match carry(
+        rt,
+        rt.alloc(),
+        case.reader(rt, with),
+        ends,
+        &with.clock,
+        plan_of(rt, case.toxics, &words),
+        &words,
+        case.reads,
+        notes,
+        &with.gate,
+    ) {
         Ok(report) => Ok((report.taken, report.written, report.ending, report.source)),
         Err(fault) => Err(fault),
     }
 }
 
-impl Carried {
-    /// Compares all that came of a link.
-    fn compare(&self, rt: &(impl Abort + AllocGlobal), case: &CarryCase) {
-        self.compare_ends(rt, case);
-        self.compare_writer(rt, case);
-        if !case.events.is_empty() {
-            compare_events(rt, &self.notes, case.events);
-        }
-        if !case.pieces.is_empty() {
-            compare_pieces(rt, &self.notes, case.pieces);
-        }
-    }
-
+impl CarryCase {
     /// Compares what `carry` answered, and what the hangup was told.
-    fn compare_ends(&self, rt: &impl Abort, case: &CarryCase) {
-        let answer = match case.answer {
+    fn compare_ends(&self, rt: &impl Abort, answer: &Answer, hangup: &HungUp) {
+        let expected = match self.answer {
             Ok((bytes, end, source)) => Ok((bytes, bytes, end.ending(), source)),
             Err(fault) => Err(fault),
         };
-        assert_equal(rt, &self.answer, &answer);
-        let hangup = &self.ends.hangup;
+        assert_equal(rt, answer, &expected);
         let told = (hangup.calls, hangup.source_ended, hangup.ending, hangup.at);
-        let (calls, source_ended, end, micros) = case.hangup;
+        let (calls, source_ended, end, micros) = self.hangup;
         assert_equal(rt, &told, &(calls, source_ended, end.ending(), micros));
     }
 
-    fn compare_writer(&self, rt: &impl Abort, case: &CarryCase) {
-        let writer = &self.ends.writer;
-        if case.written.is_some() {
-            assert_equal(rt, &Some(writer.sink.bytes()), &case.written);
+    fn compare_writer(&self, rt: &impl Abort, writer: &WatchingSink<MemorySink>) {
+        if self.written.is_some() {
+            assert_equal(rt, &Some(writer.sink.bytes()), &self.written);
         }
-        if case.first_write.is_some() {
-            assert_equal(rt, &writer.first, &case.first_write);
+        if self.first_write.is_some() {
+            assert_equal(rt, &writer.first, &self.first_write);
         }
     }
-}
 
-/// Asserts that the notes are one of these logs.
-fn compare_events(rt: &(impl Abort + AllocGlobal), notes: &Noted, logs: &[&[Event]]) {
-    let mut found = false;
-    for log in logs {
-        found = found || notes.events == events_of(rt, log);
-    }
-    assert!(rt; found, "{:?}", notes.events);
-}
-
-/// Compares those notes that are pieces.
-fn compare_pieces(rt: &(impl Abort + AllocGlobal), notes: &Noted, expected: &[Event]) {
-    let mut pieces = Vec::new(rt.alloc());
-    for event in notes.events.as_slice() {
-        if let LinkEvent::Piece(_, _) = event {
-            pieces.push(*event).expect(rt, "memory");
+    /// Asserts that the notes are one of the case's logs.
+    fn compare_events(&self, rt: &(impl Abort + AllocGlobal), notes: &Noted) {
+        let events = self.kept(rt, notes);
+        let mut found = self.events.is_empty();
+        for log in self.events {
+            found = found || events == events_of(rt, log);
         }
+        assert!(rt; found, "{events:?}");
     }
-    assert_equal(rt, &pieces, &events_of(rt, expected));
+
+    /// The events that are compared.
+    fn kept(&self, rt: &(impl Abort + AllocGlobal), notes: &Noted) -> Vec<LinkEvent> {
+        let mut kept = Vec::new(rt.alloc());
+        for event in notes.events.as_slice() {
+            if !self.only_pieces || matches!(event, LinkEvent::Piece(_, _)) {
+                kept.push(*event).expect(rt, "memory");
+            }
+        }
+        kept
+    }
 }

@@ -252,17 +252,17 @@ fn due(rt: &(impl Abort + AllocGlobal), chain: &Chain, seed: u64, arrivals: &Arr
 impl Comparison {
     /// A direction that ended said and wrote all that is due.
     fn compare_all(&self, rt: &impl Abort, driven: &DrivenEnding, written: usize, seed: u64) {
-        assert_equal_at(rt, &self.said, &self.due, seed);
-        assert_equal_at(rt, &driven.ending, &self.ending, seed);
-        assert_equal_at(rt, &driven.written, &(written as u64), seed);
+        let found = (&self.said, driven.ending, driven.written);
+        let due = (&self.due, self.ending, written as u64);
+        assert_equal_at(rt, &found, &due, seed);
     }
 
     /// A direction that broke off said and wrote the first of what is due.
     fn compare_part(&self, rt: &impl Abort, fault: &LinkFault, written: usize, seed: u64) {
-        let due = self.due.get(..self.said.len());
-        assert_equal_at(rt, &fault.written(), &(written as u64), seed);
-        assert_equal_at(rt, &Some(self.said.as_slice()), &due, seed);
-        assert_equal_at(rt, &(written <= self.due.len()), &true, seed);
+        let is_part = written <= self.due.len();
+        let found = (fault.written(), Some(self.said.as_slice()), is_part);
+        let due = (written as u64, self.due.get(..self.said.len()), true);
+        assert_equal_at(rt, &found, &due, seed);
     }
 }
 

@@ -78,18 +78,19 @@ impl PollSink for DueSink {
 
 /// Notes that are kept, or none.
 #[derive(Drop)]
-enum CaseNotes {
-    Kept(Noted),
-    Dropped(NoNotes),
+struct CaseNotes {
+    noted: Noted,
+    keeps: bool,
 }
 
 impl Notes for CaseNotes {
     ghost events = { λ _. None };
 
     fn note(&mut self, event: LinkEvent) -> Result<(), AllocError> {
-        match self {
-            CaseNotes::Kept(notes) => notes.note(event),
-            CaseNotes::Dropped(notes) => notes.note(event),
+        if self.keeps {
+            self.noted.note(event)
+        } else {
+            NoNotes.note(event)
         }
     }
 }
@@ -171,10 +172,9 @@ impl DriveCase {
     }
 
     fn notes(&self, rt: &impl AllocGlobal) -> CaseNotes {
-        if self.keeps_notes {
-            CaseNotes::Kept(Noted::new(rt.alloc()))
-        } else {
-            CaseNotes::Dropped(NoNotes)
+        CaseNotes {
+            noted: Noted::new(rt.alloc()),
+            keeps: self.keeps_notes,
         }
     }
 }
@@ -206,7 +206,9 @@ impl DrivenLink {
             Step::Clock(micros) => self.clock.micros.store(*micros, Ordering::SeqCst),
             Step::Gives(count) => self.source.left = *count,
             Step::Left(count) => assert_equal_at(rt, &self.source.left, count, nth),
-            Step::Events(events) => self.compare_events(rt, events, nth),
+            Step::Events(events) => {
+                assert_equal_at(rt, &self.notes.noted.events, &events_of(rt, events), nth);
+            }
         }
     }
 
@@ -241,14 +243,6 @@ impl DrivenLink {
         let driven = self.drive(rt);
         scarcity.end();
         driven
-    }
-
-    /// Compares all events of notes that are kept.
-    fn compare_events(&self, rt: &(impl Abort + AllocGlobal), events: &[Event], nth: u64) {
-        let CaseNotes::Kept(notes) = &self.notes else {
-            panic!(rt; "no notes are kept")
-        };
-        assert_equal_at(rt, &notes.events, &events_of(rt, events), nth);
     }
 }
 
