@@ -2,6 +2,7 @@
 mod books;
 mod carries;
 mod carrying;
+mod case_notes;
 mod core_case;
 mod cores;
 mod drives;

@@ -1,5 +1,6 @@
 //! One direction of a link, carried between ends in memory.
 use crate::link::carrying::{AT_ONCE, CarryCase, follow};
+use crate::link::case_notes::Kept;
 use crate::link::table_values::{End, Event};
 use tox_link::{LinkFault, SourceEnding};
 
@@ -110,7 +111,7 @@ const TICKS: &CarryCase = &CarryCase {
         Event::Piece(1, 20),
         Event::Piece(1, 30),
     ]],
-    only_pieces: true,
+    kept: Kept::Pieces,
     ..AT_ONCE
 };
 
@@ -169,8 +170,8 @@ fn reads_are_used_up(rt: HostRuntime) {
 }
 
 const MANY_READS: &CarryCase = &CarryCase {
-    bytes: b"a",
-    repeats: MANY,
+    leading: MANY,
+    bytes: b"",
     most_read: 1,
     reads: MANY as u64,
     room: MANY,

@@ -2,9 +2,8 @@
 ghost use Rattle.std.specs.Prelude.{◌≡◌, false};
 
 use crate::comparing::assert_equal;
-use crate::link::link_ends::{
-    HungUp, Noted, RestingClock, TickingGate, WaitingSource, WatchingSink,
-};
+use crate::link::case_notes::{CaseNotes, Kept};
+use crate::link::link_ends::{HungUp, RestingClock, TickingGate, WaitingSource, WatchingSink};
 use crate::link::planning::{one_word, plan_of};
 use crate::link::table_values::{End, Event, events_of};
 use std::process::Abort;
@@ -19,9 +18,9 @@ use tox_time::{Ending, Gate, MemorySink, MemorySource, OpenGate};
 #[derive(Drop)]
 pub struct CarryCase {
     pub toxics: &'static str,
-    /// The reader gives these bytes so many times over.
+    /// The reader gives so many bytes `a`, and then these bytes.
+    pub leading: usize,
     pub bytes: &'static [u8],
-    pub repeats: usize,
     /// How many bytes a read gives at most.
     pub most_read: usize,
     /// The call of the reader that fails, counted from 1.
@@ -49,15 +48,15 @@ pub struct CarryCase {
     pub first_write: Option<u64>,
     /// Which events may be noted. None are compared if this is empty.
     pub events: &'static [&'static [Event]],
-    /// Whether only those events are compared that are pieces.
-    pub only_pieces: bool,
+    /// Which events are noted.
+    pub kept: Kept,
 }
 
 /// Two bytes that are read at once and written at once.
 pub const AT_ONCE: CarryCase = CarryCase {
     toxics: "",
+    leading: 0,
     bytes: b"ab",
-    repeats: 1,
     most_read: 16,
     failing_read: None,
     read_waits: false,
@@ -72,11 +71,11 @@ pub const AT_ONCE: CarryCase = CarryCase {
     written: Some(b"ab"),
     first_write: None,
     events: &[],
-    only_pieces: false,
+    kept: Kept::All,
 };
 
 /// The far end of a link in memory.
-type CaseEnds = Ends<WatchingSink<MemorySink>, HungUp>;
+type CaseEnds = Ends<WatchingSink, HungUp>;
 
 /// A gate at which threads may meet, and which may move the clock on.
 #[derive(Drop)]
@@ -142,14 +141,12 @@ impl Shared {
 impl CarryCase {
     /// All bytes that the reader gives.
     fn given(&self, rt: &(impl Abort + AllocGlobal)) -> Vec<u8> {
-        let mut bytes = Vec::new(rt.alloc());
-        for _ in 0..self.repeats {
-            bytes.extend_from_slice(self.bytes).expect(rt, "memory");
-        }
+        let mut bytes = vec![in rt.alloc(); 0x61; self.leading].expect(rt, "memory");
+        bytes.extend_from_slice(self.bytes).expect(rt, "memory");
         bytes
     }
 
-    fn reader(&self, rt: &(impl Abort + AllocGlobal), with: &Shared) -> WaitingSource<MemorySource>
+    fn reader(&self, rt: &(impl Abort + AllocGlobal), with: &Shared) -> WaitingSource
         ensures { result.source.failed ≡ false }
     {
         let bytes = self.given(rt);
@@ -162,7 +159,7 @@ impl CarryCase {
         }
     }
 
-    fn writer(&self, rt: &(impl Abort + AllocGlobal), with: &Shared) -> WatchingSink<MemorySink>
+    fn writer(&self, rt: &(impl Abort + AllocGlobal), with: &Shared) -> WatchingSink
         ensures { result.sink.failed ≡ false }
     {
         let most = self.most_written.max(1);
@@ -218,11 +215,11 @@ where
     R: Threads + Wait + Copy + Send + AllocGlobal + Abort + 'static,
 {
     let mut ends = case.ends(rt, with);
-    let mut notes = Noted::new(rt.alloc());
+    let mut notes = CaseNotes::new(rt.alloc(), case.kept);
     let answer = answer_of(rt, case, with, &mut ends, &mut notes);
     case.compare_ends(rt, &answer, &ends.hangup);
     case.compare_writer(rt, &ends.writer);
-    case.compare_events(rt, &notes);
+    case.compare_events(rt, &notes.noted.events);
 }
 
 /// What `carry` answers, without its reader.
@@ -231,7 +228,7 @@ fn answer_of<R>(
     case: &CarryCase,
     with: &Shared,
     ends: &mut CaseEnds,
-    notes: &mut Noted,
+    notes: &mut CaseNotes,
 ) -> Answer
 where
     R: Threads + Wait + Copy + Send + AllocGlobal + Abort + 'static,
@@ -268,7 +265,7 @@ impl CarryCase {
         assert_equal(rt, &told, &(calls, source_ended, end.ending(), micros));
     }
 
-    fn compare_writer(&self, rt: &impl Abort, writer: &WatchingSink<MemorySink>) {
+    fn compare_writer(&self, rt: &impl Abort, writer: &WatchingSink) {
         if self.written.is_some() {
             assert_equal(rt, &Some(writer.sink.bytes()), &self.written);
         }
@@ -278,23 +275,16 @@ impl CarryCase {
     }
 
     /// Asserts that the notes are one of the case's logs.
-    fn compare_events(&self, rt: &(impl Abort + AllocGlobal), notes: &Noted) {
-        let events = self.kept(rt, notes);
+    fn compare_events(&self, rt: &(impl Abort + AllocGlobal), events: &Vec<LinkEvent>) {
         let mut found = self.events.is_empty();
         for log in self.events {
-            found = found || events == events_of(rt, log);
+            found = found || is_log(rt, events, log);
         }
         assert!(rt; found, "{events:?}");
     }
+}
 
-    /// The events that are compared.
-    fn kept(&self, rt: &(impl Abort + AllocGlobal), notes: &Noted) -> Vec<LinkEvent> {
-        let mut kept = Vec::new(rt.alloc());
-        for event in notes.events.as_slice() {
-            if !self.only_pieces || matches!(event, LinkEvent::Piece(_, _)) {
-                kept.push(*event).expect(rt, "memory");
-            }
-        }
-        kept
-    }
+/// Whether these are the events that a table writes.
+fn is_log(rt: &(impl Abort + AllocGlobal), events: &Vec<LinkEvent>, log: &[Event]) -> bool {
+    *events == events_of(rt, log)
 }

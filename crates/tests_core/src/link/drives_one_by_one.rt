@@ -1,4 +1,5 @@
 //! A driven direction, drive by drive.
+use crate::link::case_notes::Kept;
 use crate::link::driving::{DriveCase, Step, follow};
 use crate::link::table_values::Event;
 use tox_link::LinkFault;
@@ -7,7 +8,7 @@ const STAMPED: &DriveCase = &DriveCase {
     toxics: "latency:latency=1",
     gives: 1,
     due: None,
-    keeps_notes: true,
+    kept: Kept::All,
     steps: &[
         Step::Drive(Ok(Some(1010))),
         Step::Events(&[Event::Piece(1, 10)]),
@@ -26,7 +27,7 @@ const WAITING_SLICE: &DriveCase = &DriveCase {
     toxics: "reset_peer:timeout=20",
     gives: 1,
     due: Some(20_000),
-    keeps_notes: false,
+    kept: Kept::Nothing,
     steps: &[
         Step::Drive(Ok(Some(20_000))),
         Step::Clock(20_000),
@@ -43,7 +44,7 @@ const NOTHING_MOVES: &DriveCase = &DriveCase {
     toxics: "latency:latency=1",
     gives: 0,
     due: None,
-    keeps_notes: false,
+    kept: Kept::Nothing,
     steps: &[
         Step::DriveWithoutMemory(Ok(None)),
         Step::Gives(1),

@@ -4,17 +4,15 @@ ghost use Rattle.tox_time.specs.Time.{IsInstant};
 ghost use Rattle.tox_link.specs.direction.Driven.{IsReady};
 
 use crate::comparing::assert_equal_at;
-use crate::link::link_ends::{Noted, RestingClock};
+use crate::link::case_notes::{CaseNotes, Kept};
+use crate::link::link_ends::RestingClock;
 use crate::link::planning::{one_word, plan_of};
 use crate::link::table_values::{Event, events_of};
-use std::alloc::AllocError;
 use std::process::Abort;
 use std::sync::Arc;
 use std::sync::atomic::{AtomicU64, Ordering};
 use tests_support::{Scarcity, at};
-use tox_link::{
-    LinkEvent, LinkFault, NoNotes, Notes, PollSink, PollSource, PolledLink, Progress, drive,
-};
+use tox_link::{LinkFault, PollSink, PollSource, PolledLink, Progress, drive};
 use tox_time::{EndFault, Micros};
 
 /// A source that gives one byte a call, so often, and then would wait. The clock moves on by 10 at each call.
@@ -76,25 +74,6 @@ impl PollSink for DueSink {
     }
 }
 
-/// Notes that are kept, or none.
-#[derive(Drop)]
-struct CaseNotes {
-    noted: Noted,
-    keeps: bool,
-}
-
-impl Notes for CaseNotes {
-    ghost events = { λ _. None };
-
-    fn note(&mut self, event: LinkEvent) -> Result<(), AllocError> {
-        if self.keeps {
-            self.noted.note(event)
-        } else {
-            NoNotes.note(event)
-        }
-    }
-}
-
 /// A direction under these toxics, at which nothing has arrived.
 fn planned_link(rt: &(impl Abort + AllocGlobal), toxics: &str) -> PolledLink
     ensures { IsReady IsInstant result None false }
@@ -111,7 +90,7 @@ pub struct DriveCase {
     pub gives: u64,
     /// When a sink that takes nothing is due.
     pub due: Option<u64>,
-    pub keeps_notes: bool,
+    pub kept: Kept,
     pub steps: &'static [Step],
 }
 
@@ -149,7 +128,7 @@ pub fn follow(rt: &(impl Abort + AllocGlobal), case: &DriveCase) {
         source: case.source(rt, &clock),
         sink: case.sink(rt, &clock),
         clock,
-        notes: case.notes(rt),
+        notes: CaseNotes::new(rt.alloc(), case.kept),
     };
     driven.take_all(rt, case.steps);
 }
@@ -168,13 +147,6 @@ impl DriveCase {
             micros: clock.share(rt),
             due: self.due.map(at),
             failed: false,
-        }
-    }
-
-    fn notes(&self, rt: &impl AllocGlobal) -> CaseNotes {
-        CaseNotes {
-            noted: Noted::new(rt.alloc()),
-            keeps: self.keeps_notes,
         }
     }
 }

@@ -8,7 +8,7 @@ use std::sync::Arc;
 use std::sync::atomic::{AtomicBool, AtomicU64, Ordering};
 use std::thread;
 use tox_link::{Clock, Hangup, LinkEvent, Notes};
-use tox_time::{EndFault, Ending, Gate, Micros, Sink, Source};
+use tox_time::{EndFault, Ending, Gate, MemorySink, MemorySource, Micros, Sink, Source};
 
 /// How often a source yields at most until a sink has a byte.
 const TURNS: u64 = 1_000_000;
@@ -86,18 +86,18 @@ impl Gate for TickingGate {
 
 /// A sink that looks at the clock at each write, and counts its bytes.
 #[derive(Drop)]
-pub struct WatchingSink<W> {
-    pub sink: W,
+pub struct WatchingSink {
+    pub sink: MemorySink,
     pub micros: Arc<AtomicU64>,
     pub bytes: Arc<AtomicU64>,
     /// The clock at the first write.
     pub first: Option<u64>,
 }
 
-impl<W: Sink> Sink for WatchingSink<W> {
-    ghost failed = { λ s. W.failed s.sink };
+impl Sink for WatchingSink {
+    ghost failed = { λ s. s.sink.failed };
 
-    ghost written = { λ s. W.written s.sink };
+    ghost written = { λ s. Some s.sink.bytes };
 
     fn write(&mut self, bytes: &[u8]) -> Result<usize, EndFault> {
         if self.first.is_none() {
@@ -113,15 +113,15 @@ impl<W: Sink> Sink for WatchingSink<W> {
 
 /// A source that yields before its second read until a sink has a byte, if it waits.
 #[derive(Drop)]
-pub struct WaitingSource<S> {
-    pub source: S,
+pub struct WaitingSource {
+    pub source: MemorySource,
     pub waits: bool,
     pub bytes: Arc<AtomicU64>,
     pub reads: u64,
     pub missed: Arc<AtomicBool>,
 }
 
-impl<S> WaitingSource<S> {
+impl WaitingSource {
     /// Yields until a sink has a byte.
     fn wait(&self) {
         for _ in 0..TURNS {
@@ -134,10 +134,10 @@ impl<S> WaitingSource<S> {
     }
 }
 
-impl<S: Source> Source for WaitingSource<S> {
-    ghost failed = { λ s. S.failed s.source };
+impl Source for WaitingSource {
+    ghost failed = { λ s. s.source.failed };
 
-    ghost remaining = { λ s. S.remaining s.source };
+    ghost remaining = { λ s. Some s.source.bytes };
 
     fn read(&mut self, buffer: &mut [u8]) -> Result<usize, EndFault> {
         self.reads = self.reads.saturating_add(1);

@@ -1,5 +1,6 @@
 //! Directions whose plan has no operation.
 use crate::comparing::assert_equal_at;
+use crate::link::case_notes::Kept;
 use crate::link::drives::{drawn_bytes, driven_under};
 use crate::link::driving::{DriveCase, Step, follow};
 use rand_pcg::Lcg64Xsh32;
@@ -40,7 +41,7 @@ const ONE_READ: &DriveCase = &DriveCase {
     toxics: "",
     gives: 5,
     due: Some(20_000),
-    keeps_notes: false,
+    kept: Kept::Nothing,
     steps: &[
         Step::Drive(Ok(Some(20_000))),
         Step::DriveWithoutMemory(Ok(Some(20_000))),
