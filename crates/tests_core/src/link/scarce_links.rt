@@ -2,7 +2,6 @@
 ghost use Rattle.std.specs.Prelude.{◌≡◌, false, None};
 ghost use Rattle.tox_time.specs.Time.{IsInstant};
 
-use crate::link::planning::one_word;
 use std::alloc::Global;
 use std::process::Abort;
 use std::sync::atomic::{AtomicU64, Ordering};
@@ -108,55 +107,21 @@ fn tried_link<R: Threads + Wait + Copy + Send + Abort + 'static>(
     tried_of(&answer, ends.writer.bytes())
 }
 
-/// What links with little memory are carried with, and how many were refused memory after the reader's thread had read.
-#[derive(Drop)]
-struct Tries {
-    words: Words,
-    gate: Arc<CountingGate>,
-    reads_refused: AtomicU64,
-}
-
-impl Tries {
-    fn new(rt: &(impl Abort + AllocGlobal)) -> Tries {
-        let gate = Arc::new(rt.alloc(), CountingGate::new());
-        Tries {
-            words: one_word(rt),
-            gate: gate.expect(rt, "memory"),
-            reads_refused: AtomicU64::new(0),
-        }
+/// Carries a link with little memory. Counts in `reads_refused` a refusal after the reader's thread has read.
+fn link<R: Threads + Wait + Copy + Send + Abort + 'static>(
+    rt: &R,
+    scarcity: &mut Scarcity,
+    alloc: Global,
+    pages: usize,
+    reads_refused: &AtomicU64,
+) -> Tried {
+    let words = Words::from_list(alloc, &[0]).expect(rt, "memory");
+    let gate = Arc::new(alloc, CountingGate::new()).expect(rt, "memory");
+    let tried = tried_link(rt, scarcity, alloc, pages, &words, &gate);
+    if tried == Tried::NoMemory && 0 < gate.passes() {
+        reads_refused.fetch_add(1, Ordering::SeqCst);
     }
-
-    /// Carries a link with so many pages.
-    fn carry<R: Threads + Wait + Copy + Send + Abort + 'static>(
-        &self,
-        rt: &R,
-        scarcity: &mut Scarcity,
-        alloc: Global,
-        pages: usize,
-    ) -> Tried {
-        let before = self.gate.passes();
-        let tried = tried_link(rt, scarcity, alloc, pages, &self.words, &self.gate);
-        if tried == Tried::NoMemory && before < self.gate.passes() {
-            self.reads_refused.fetch_add(1, Ordering::SeqCst);
-        }
-        tried
-    }
-
-    /// Carries links with ever more pages.
-    fn carry_all<R: Threads + Wait + Copy + Send + Sync + Abort + 'static>(
-        &self,
-        rt: &R,
-        scarcity: &mut Scarcity,
-        alloc: Global,
-    ) -> Refusals {
-        let refusals = try_each(scarcity, PAGES, |scarcity, pages| {
-            Ok(self.carry(rt, scarcity, alloc, pages))
-        });
-        let Ok(refusals) = refusals else {
-            panic!(rt; "another answer than with ample memory")
-        };
-        refusals
-    }
+    tried
 }
 
 /// Carries links with ever more pages, where there are stacks for so many threads, and prints what was refused. Returns the
@@ -165,12 +130,28 @@ fn carry_behind<R>(rt: &R, threads: usize) -> (Refusals, u64)
 where
     R: Threads + Wait + Copy + Send + Sync + AllocGlobal + Abort + Eprint + 'static,
 {
-    let tries = Tries::new(rt);
     let mut scarcity = with_stacks(rt, rt.alloc(), threads).expect(rt, "memory");
-    let refusals = tries.carry_all(rt, &mut scarcity, rt.alloc());
-    let reads_refused = tries.reads_refused.load(Ordering::SeqCst);
+    let reads_refused = AtomicU64::new(0);
+    let refusals = carry_all(rt, &mut scarcity, rt.alloc(), &reads_refused);
+    let reads_refused = reads_refused.load(Ordering::SeqCst);
     print_refusals(rt, &refusals, reads_refused);
     (refusals, reads_refused)
+}
+
+/// Carries links with ever more pages. Counts in `reads_refused` the refusals after a reader's thread has read.
+fn carry_all<R: Threads + Wait + Copy + Send + Sync + Abort + 'static>(
+    rt: &R,
+    scarcity: &mut Scarcity,
+    alloc: Global,
+    reads_refused: &AtomicU64,
+) -> Refusals {
+    let refusals = try_each(scarcity, PAGES, |scarcity, pages| {
+        Ok(link(rt, scarcity, alloc, pages, reads_refused))
+    });
+    let Ok(refusals) = refusals else {
+        panic!(rt; "another answer than with ample memory")
+    };
+    refusals
 }
 
 /// Prints how often links were refused, and how many of the refusals came after a reader's thread had read.
