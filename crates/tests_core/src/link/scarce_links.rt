@@ -145,8 +145,15 @@ fn carry_all<R: Threads + Wait + Copy + Send + Sync + Abort + 'static>(
     alloc: Global,
     reads_refused: &AtomicU64,
 ) -> Refusals {
-    let refusals = try_each(scarcity, PAGES, |scarcity, pages| {
-        Ok(link(rt, scarcity, alloc, pages, reads_refused))
+    let mut threads_refused = 0usize;
+    let refusals = try_each(scarcity, PAGES, |scarcity, nth| {
+        // A refused thread tells nothing of so many pages, so they are left once more.
+        let pages = nth.saturating_sub(threads_refused);
+        let tried = link(rt, scarcity, alloc, pages, reads_refused);
+        if tried == Tried::NoThread {
+            threads_refused = threads_refused.saturating_add(1);
+        }
+        Ok(tried)
     });
     let Ok(refusals) = refusals else {
         panic!(rt; "another answer than with ample memory")
