@@ -7,7 +7,12 @@ pub fn assert_equal<T: PartialEq + Debug>(rt: &impl Abort, value: &T, expected: 
     assert_eq!(rt; value, expected);
 }
 
-/// The same in one of many cases, whose number it prints too. A drawn case has its seed's number.
-pub fn assert_equal_at<T: PartialEq + Debug>(rt: &impl Abort, value: &T, expected: &T, case: u64) {
-    assert_eq!(rt; value, expected, "case {case}");
+/// The same in one of many cases, whose name or number it prints too. A drawn case has its seed's number.
+pub fn assert_equal_at<T: PartialEq + Debug>(
+    rt: &impl Abort,
+    value: &T,
+    expected: &T,
+    case: &impl Debug,
+) {
+    assert_eq!(rt; value, expected, "case {case:?}");
 }

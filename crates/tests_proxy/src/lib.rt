@@ -4,8 +4,12 @@
 #[cfg(test)]
 mod comparing;
 #[cfg(test)]
+mod files;
+#[cfg(test)]
 mod memory;
 #[cfg(test)]
 mod serve;
+#[cfg(test)]
+mod setups;
 #[cfg(test)]
 mod texts;

@@ -4,7 +4,6 @@ mod dry;
 mod fault_names;
 mod migrations;
 mod picks;
-mod plan_texts;
 mod scripts;
 mod words;
 mod written;

@@ -1,33 +1,22 @@
 //! Runs, picks, forecasts and checks, from text to text, with too little memory.
-use crate::memory::refusing::assert_refused;
+ghost use Rattle.std.specs.Prelude.{◌≡◌, false};
+
+use crate::memory::given::{Given, SCRIPT};
+use crate::memory::refusing::{Call, assert_refused, tried_of};
 use std::alloc::Global;
+use std::process::Abort;
 use std::test::Fail;
-use tests_support::{Scarcity, Tried, answer_of, chain_of};
-use tox_config::{ProxyDef, read_populate};
-use tox_defs::Chain;
+use tests_support::{Scarcity, Tried};
 use tox_proxy::{
     DryFault, PrintMigratedFault, PrintPickFault, Question, Setup, dry_run, find_proxy,
     print_check, print_forecast, print_migrated, print_pick,
 };
-use tox_script::{Script, ScriptFault, read_script};
-use tox_time::{MemorySink, MemorySource, Stream};
-use tox_words::Words;
+use tox_script::ScriptFault;
+use tox_time::{MemorySink, MemorySource, Sink, Source, Stream};
 
 const TEXT: &str = "0 data 616263\n5 eof\n";
 
 const RESULT: &str = "1000 0..3 616263\nclosed 1000\n";
-
-const CONFIG: &str = "[{\"name\":\"a\",\"upstream\":\"h:1\"}]";
-
-const SCRIPT: &str = "\
-[[rule]]
-proxy = \"a\"
-first = 1
-
-[[rule.toxic]]
-type = \"latency\"
-attributes = { latency = 100 }
-";
 
 const PICK: &str = "\
 proxy a listen localhost:0 upstream h:1 enabled
@@ -40,22 +29,6 @@ const FORECAST: &str = "\
 2 upstream rule 1 applied
 2 downstream rule 1 applied 0
 rule 1 toxic 1 applied 2 of 2 latency_downstream
-";
-
-const MISTYPED_CONFIG: &str = "[{\"name\":\"shop\",\"upstream\":\"h:1\"}]";
-
-const MISTYPED_SCRIPT: &str = "\
-[[rule]]
-proxy = \"shpo\"
-first = 1
-
-[[rule]]
-proxy = \"shop\"
-first = 2
-
-[[rule]]
-proxy = \"shop\"
-first = 1
 ";
 
 const CHECK: &str = "\
@@ -79,128 +52,128 @@ type = \"latency\"
 latency = 100
 ";
 
-/// A dry run with little memory.
-fn run(
-    scarcity: &mut Scarcity,
-    alloc: Global,
-    sixteens: usize,
-    chain: &Chain,
-    words: &Words,
-) -> Result<Tried, Fail> {
-    let mut reader = MemorySource::new(TEXT.as_bytes().to_vec(alloc)?, 64, None);
-    let mut writer = MemorySink::new(alloc, 100, 64, None)?;
-    scarcity.leave(alloc, sixteens)?;
-    let answer = dry_run(alloc, &mut reader, &mut writer, chain, words);
-    scarcity.end();
-    let tried = answer_of(&answer, &DryFault::OutOfMemory);
-    Ok(tried.writing(writer.bytes(), RESULT))
+const QUESTION: Question<'static> = Question {
+    links: 2,
+    seed: 1,
+    stream: None,
+    named: None,
+    json: false,
+};
+
+/// A call that writes a text.
+#[derive(Drop)]
+pub enum Run {
+    Dry,
+    Pick,
+    Forecast,
+    Check,
+    Migration,
+}
+
+/// What a pick of connection 1 downstream returns.
+fn pick<W: Sink>(alloc: Global, writer: &mut W, setup: &Setup) -> Tried
+    requires { W.failed writer.old ≡ false }
+{
+    match find_proxy(&setup.proxies, "a") {
+        Some(proxy) => tried_of(
+            print_pick(
+                alloc,
+                writer,
+                proxy,
+                &setup.script,
+                1,
+                Stream::Downstream,
+                1,
+            ),
+            &PrintPickFault::OutOfMemory,
+        ),
+        None => Tried::Wrong,
+    }
+}
+
+impl Run {
+    /// The text that it writes with ample memory.
+    fn text(&self) -> &'static str {
+        match self {
+            Run::Dry => RESULT,
+            Run::Pick => PICK,
+            Run::Forecast => FORECAST,
+            Run::Check => CHECK,
+            Run::Migration => MIGRATED,
+        }
+    }
+
+    /// What it returns with the memory that is left.
+    fn tried<R: Source, W: Sink>(
+        &self,
+        alloc: Global,
+        reader: &mut R,
+        writer: &mut W,
+        given: &Given,
+    ) -> Tried
+        requires reads { R.failed reader.old ≡ false }
+        requires works { W.failed writer.old ≡ false }
+    {
+        match self {
+            Run::Dry => tried_of(
+                dry_run(alloc, reader, writer, &given.latency, &given.words),
+                &DryFault::OutOfMemory,
+            ),
+            Run::Pick => pick(alloc, writer, &given.setup),
+            Run::Forecast => tried_of(
+                print_forecast(alloc, writer, "a", &given.setup.script, &QUESTION),
+                &PrintPickFault::OutOfMemory,
+            ),
+            Run::Check => tried_of(
+                print_check(alloc, writer, &given.mistyped, true),
+                &PrintPickFault::OutOfMemory,
+            ),
+            Run::Migration => tried_of(
+                print_migrated(alloc, writer, SCRIPT.as_bytes()),
+                &PrintMigratedFault::Script(ScriptFault::OutOfMemory),
+            ),
+        }
+    }
+
+    /// Makes the call with about so many times 16 bytes. A refused one has written nothing.
+    pub fn attempt(
+        &self,
+        rt: &(impl Abort + AllocGlobal),
+        given: &Given,
+        scarcity: &mut Scarcity,
+        sixteens: usize,
+    ) -> Tried {
+        let text = TEXT.as_bytes().to_vec(rt.alloc()).expect(rt, "memory");
+        let mut reader = MemorySource::new(text, 64, None);
+        let mut writer = MemorySink::new(rt.alloc(), 200, 64, None).expect(rt, "memory");
+        scarcity.leave(rt.alloc(), sixteens).expect(rt, "memory");
+        let tried = self.tried(rt.alloc(), &mut reader, &mut writer, given);
+        scarcity.end();
+        tried.writing(writer.bytes(), self.text())
+    }
 }
 
 #[test]
 fn a_dry_run_is_refused_memory(rt: HostRuntime) -> Result<(), Fail> {
-    let alloc = rt.alloc();
-    let words = Words::from_list(alloc, &[0])?;
-    let chain = chain_of("latency:latency=1").expect(&rt, "a short form");
-    assert_refused(
-        &rt,
-        |scarcity, nth| run(scarcity, alloc, nth, &chain, &words),
-    )
-}
-
-/// A pick with little memory.
-fn pick(
-    scarcity: &mut Scarcity,
-    alloc: Global,
-    sixteens: usize,
-    proxy: &ProxyDef,
-    script: &Script,
-) -> Result<Tried, Fail> {
-    let mut writer = MemorySink::new(alloc, 200, 64, None)?;
-    scarcity.leave(alloc, sixteens)?;
-    let answer = print_pick(alloc, &mut writer, proxy, script, 1, Stream::Downstream, 1);
-    scarcity.end();
-    let tried = answer_of(&answer, &PrintPickFault::OutOfMemory);
-    Ok(tried.writing(writer.bytes(), PICK))
+    assert_refused(&rt, &[Call::Run(Run::Dry)])
 }
 
 #[test]
 fn a_pick_is_refused_memory(rt: HostRuntime) -> Result<(), Fail> {
-    let alloc = rt.alloc();
-    let proxies = read_populate(alloc, CONFIG.as_bytes())?;
-    let proxy = find_proxy(&proxies, "a").ok_or("no proxy a")?;
-    let script = read_script(alloc, SCRIPT.as_bytes())?;
-    assert_refused(
-        &rt,
-        |scarcity, nth| pick(scarcity, alloc, nth, proxy, &script),
-    )
-}
-
-/// A forecast with little memory.
-fn forecast(
-    scarcity: &mut Scarcity,
-    alloc: Global,
-    sixteens: usize,
-    script: &Script,
-) -> Result<Tried, Fail> {
-    let question = Question {
-        links: 2,
-        seed: 1,
-        stream: None,
-        named: None,
-        json: false,
-    };
-    let mut writer = MemorySink::new(alloc, 200, 64, None)?;
-    scarcity.leave(alloc, sixteens)?;
-    let answer = print_forecast(alloc, &mut writer, "a", script, &question);
-    scarcity.end();
-    let tried = answer_of(&answer, &PrintPickFault::OutOfMemory);
-    Ok(tried.writing(writer.bytes(), FORECAST))
+    assert_refused(&rt, &[Call::Run(Run::Pick)])
 }
 
 #[test]
 fn a_forecast_is_refused_memory(rt: HostRuntime) -> Result<(), Fail> {
-    let alloc = rt.alloc();
-    let script = read_script(alloc, SCRIPT.as_bytes())?;
-    assert_refused(&rt, |scarcity, nth| forecast(scarcity, alloc, nth, &script))
-}
-
-/// A check with little memory.
-fn check(
-    scarcity: &mut Scarcity,
-    alloc: Global,
-    sixteens: usize,
-    setup: &Setup,
-) -> Result<Tried, Fail> {
-    let mut writer = MemorySink::new(alloc, 200, 64, None)?;
-    scarcity.leave(alloc, sixteens)?;
-    let answer = print_check(alloc, &mut writer, setup, true);
-    scarcity.end();
-    let tried = answer_of(&answer, &PrintPickFault::OutOfMemory);
-    Ok(tried.writing(writer.bytes(), CHECK))
+    assert_refused(&rt, &[Call::Run(Run::Forecast)])
 }
 
 #[test]
 fn a_check_is_refused_memory(rt: HostRuntime) -> Result<(), Fail> {
-    let alloc = rt.alloc();
-    let setup = Setup {
-        proxies: read_populate(alloc, MISTYPED_CONFIG.as_bytes())?,
-        script: read_script(alloc, MISTYPED_SCRIPT.as_bytes())?,
-    };
-    assert_refused(&rt, |scarcity, nth| check(scarcity, alloc, nth, &setup))
-}
-
-/// A migration with little memory.
-fn migration(scarcity: &mut Scarcity, alloc: Global, sixteens: usize) -> Result<Tried, Fail> {
-    let mut writer = MemorySink::new(alloc, 200, 64, None)?;
-    scarcity.leave(alloc, sixteens)?;
-    let answer = print_migrated(alloc, &mut writer, SCRIPT.as_bytes());
-    scarcity.end();
-    let memory = PrintMigratedFault::Script(ScriptFault::OutOfMemory);
-    Ok(answer_of(&answer, &memory).writing(writer.bytes(), MIGRATED))
+    assert_refused(&rt, &[Call::Run(Run::Check)])
 }
 
 #[test]
 fn a_printed_migration_is_refused_memory(rt: HostRuntime) -> Result<(), Fail> {
-    let alloc = rt.alloc();
-    assert_refused(&rt, |scarcity, nth| migration(scarcity, alloc, nth))
+    assert_refused(&rt, &[Call::Run(Run::Migration)])
 }

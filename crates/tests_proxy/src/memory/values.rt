@@ -1,16 +1,17 @@
 //! Lists and files, read with too little memory.
-use crate::comparing::assert_equal;
-use crate::memory::refusing::{print, without_memory};
+use crate::comparing::assert_equal_at;
+use crate::files::path_of;
+use crate::memory::refusing::{Call, assert_refused, print_refused, tried_of, without_memory};
 use std::alloc::Global;
 use std::process::Abort;
-use std::rt::{Env, Files};
+use std::rt::Files;
 use std::test::Fail;
-use std::{env, fs, process};
-use tests_support::{Scarcity, answer_of, times_refused};
+use std::{fs, process};
+use tests_support::{Tried, at};
 use tox_config::{ConfigFault, read_populate};
 use tox_proxy::{FileFault, read_file};
 use tox_script::{ScriptFault, migrate, read_script};
-use tox_time::{ArrivalFault, Arrivals, Micros, Stream};
+use tox_time::{ArrivalFault, Arrivals, Stream};
 use tox_words::{Words, WordsFault};
 
 const CONFIG: &str =
@@ -26,134 +27,122 @@ type = \"latency\"
 attributes = { latency = 100 }
 ";
 
-/// How often words of a list are refused.
-fn lists_refused(scarcity: &mut Scarcity, alloc: Global) -> Result<usize, Fail> {
-    times_refused(scarcity, alloc, || {
-        answer_of(
-            &Words::from_list(alloc, &[1, 2, 3]),
-            &WordsFault::OutOfMemory,
-        )
-    })
+/// A call that reads a value.
+#[derive(Drop)]
+pub enum Value<'a> {
+    ListedWords,
+    WrittenWords,
+    SeededWords,
+    Config,
+    Script,
+    Migration,
+    /// The file of this name.
+    File(&'a str),
 }
 
-/// How often words of a text are refused.
-fn texts_refused(scarcity: &mut Scarcity, alloc: Global) -> Result<usize, Fail> {
-    times_refused(scarcity, alloc, || {
-        answer_of(&Words::from_text(alloc, "1,2,3"), &WordsFault::OutOfMemory)
-    })
-}
+impl Value<'_> {
+    /// What it returns with the memory that is left.
+    pub fn tried(&self, rt: &impl Files, alloc: Global) -> Tried {
+        match self {
+            Value::Config => tried_of(
+                read_populate(alloc, CONFIG.as_bytes()),
+                &ConfigFault::OutOfMemory,
+            ),
+            Value::Script => tried_of(
+                read_script(alloc, SCRIPT.as_bytes()),
+                &ScriptFault::OutOfMemory,
+            ),
+            Value::Migration => {
+                tried_of(migrate(alloc, SCRIPT.as_bytes()), &ScriptFault::OutOfMemory)
+            }
+            Value::File(name) => tried_of(read_file(rt, alloc, name), &FileFault::OutOfMemory),
+            Value::ListedWords | Value::WrittenWords | Value::SeededWords => {
+                tried_of(self.words(alloc), &WordsFault::OutOfMemory)
+            }
+        }
+    }
 
-/// How often words of a seed are refused.
-fn seeds_refused(scarcity: &mut Scarcity, alloc: Global) -> Result<usize, Fail> {
-    times_refused(scarcity, alloc, || {
-        answer_of(
-            &Words::from_seed(alloc, 1, 1, Stream::Upstream),
-            &WordsFault::OutOfMemory,
-        )
-    })
+    /// The words of a list, a text or a seed.
+    fn words(&self, alloc: Global) -> Result<Words, WordsFault> {
+        match self {
+            Value::ListedWords => Words::from_list(alloc, &[1, 2, 3]),
+            Value::WrittenWords => Words::from_text(alloc, "1,2,3"),
+            _ => Words::from_seed(alloc, 1, 1, Stream::Upstream),
+        }
+    }
 }
 
 #[test]
 fn words_are_refused_memory(rt: HostRuntime) -> Result<(), Fail> {
-    let alloc = rt.alloc();
-    let mut scarcity = Scarcity::new(alloc).expect(&rt, "memory");
-    let listed = lists_refused(&mut scarcity, alloc)?;
-    let written = texts_refused(&mut scarcity, alloc)?;
-    let seeded = seeds_refused(&mut scarcity, alloc)?;
-    print_three(&rt, listed, written, seeded)
-}
-
-/// Prints how often each of three calls was refused, and asserts that it was.
-fn print_three(
-    rt: &(impl Abort + Eprint),
-    first: usize,
-    second: usize,
-    third: usize,
-) -> Result<(), Fail> {
-    eprintln!(rt; "refused {first}, {second} and {third} times")?;
-    assert!(rt; 0 < first && 0 < second && 0 < third);
-    Ok(())
-}
-
-#[test]
-fn arrivals_are_refused_memory(rt: HostRuntime) -> Result<(), Fail> {
-    let mut arrivals = Arrivals::new(rt.alloc());
-    let mut scarcity = without_memory(&rt);
-    let piece = arrivals.push(3, Micros::from_millis(1));
-    let end = arrivals.eof(Micros::from_millis(1));
-    scarcity.end();
-    assert_equal(&rt, &piece, &Err(ArrivalFault::OutOfMemory));
-    assert_equal(&rt, &end, &Err(ArrivalFault::OutOfMemory));
-    assert_equal(&rt, &arrivals.items().len(), &0);
-    assert_equal(&rt, &arrivals.push(3, Micros::from_millis(1)), &Ok(()));
-    assert_equal(&rt, &arrivals.eof(Micros::from_millis(1)), &Ok(()));
-    assert_equal(&rt, &arrivals.items().len(), &2);
-    print(&rt, "refused once each")
-}
-
-/// How often a config is refused.
-fn configs_refused(scarcity: &mut Scarcity, alloc: Global) -> Result<usize, Fail> {
-    times_refused(scarcity, alloc, || {
-        answer_of(
-            &read_populate(alloc, CONFIG.as_bytes()),
-            &ConfigFault::OutOfMemory,
-        )
-    })
-}
-
-/// How often a script is refused.
-fn scripts_refused(scarcity: &mut Scarcity, alloc: Global) -> Result<usize, Fail> {
-    times_refused(scarcity, alloc, || {
-        answer_of(
-            &read_script(alloc, SCRIPT.as_bytes()),
-            &ScriptFault::OutOfMemory,
-        )
-    })
-}
-
-#[test]
-fn files_are_refused_memory(rt: HostRuntime) -> Result<(), Fail> {
-    let alloc = rt.alloc();
-    let folder = env::temp_dir(&rt)?;
-    let id = process::id(rt.process());
-    let name = format!(in alloc; "{}/toxi-{id}-memory", folder.as_str())?;
-    let mut scarcity = Scarcity::new(alloc).expect(&rt, "memory");
-    let config = configs_refused(&mut scarcity, alloc)?;
-    let script = scripts_refused(&mut scarcity, alloc)?;
-    let file = files_refused(&rt, &mut scarcity, alloc, &name)?;
-    print_three(&rt, config, script, file)
-}
-
-/// How often reading a file is refused, which is written before and removed after.
-fn files_refused<F: Files>(
-    rt: &F,
-    scarcity: &mut Scarcity,
-    alloc: Global,
-    name: &str,
-) -> Result<usize, Fail> {
-    fs::write(rt, name, CONFIG)?;
-    let refused = times_refused(scarcity, alloc, || {
-        answer_of(&read_file(rt, alloc, name), &FileFault::OutOfMemory)
-    })?;
-    fs::remove_file(rt, name)?;
-    Ok(refused)
-}
-
-/// How often a migration is refused.
-fn migrations_refused(alloc: Global) -> Result<usize, Fail> {
-    let mut scarcity = Scarcity::new(alloc)?;
-    times_refused(&mut scarcity, alloc, || {
-        answer_of(
-            &migrate(alloc, SCRIPT.as_bytes()),
-            &ScriptFault::OutOfMemory,
-        )
-    })
+    assert_refused(
+        &rt,
+        &[
+            Call::Value(Value::ListedWords),
+            Call::Value(Value::WrittenWords),
+            Call::Value(Value::SeededWords),
+        ],
+    )
 }
 
 #[test]
 fn a_migration_is_refused_memory(rt: HostRuntime) -> Result<(), Fail> {
-    let refused = migrations_refused(rt.alloc())?;
-    eprintln!(rt; "refused {refused} times")?;
-    assert!(rt; 0 < refused);
+    assert_refused(&rt, &[Call::Value(Value::Migration)])
+}
+
+/// The file is written before and removed after.
+#[test]
+fn files_are_refused_memory(rt: HostRuntime) -> Result<(), Fail> {
+    let name = path_of(&rt, process::id(rt.process()), "memory");
+    fs::write(&rt, name.as_str(), CONFIG)?;
+    assert_refused(
+        &rt,
+        &[
+            Call::Value(Value::Config),
+            Call::Value(Value::Script),
+            Call::Value(Value::File(name.as_str())),
+        ],
+    )?;
+    fs::remove_file(&rt, name.as_str())?;
     Ok(())
+}
+
+/// What is done with arrivals at 1 ms, and what it answers.
+enum Step {
+    Push(Result<(), ArrivalFault>),
+    Eof(Result<(), ArrivalFault>),
+    Len(usize),
+}
+
+/// The steps without memory.
+const REFUSED: &[Step] = &[
+    Step::Push(Err(ArrivalFault::OutOfMemory)),
+    Step::Eof(Err(ArrivalFault::OutOfMemory)),
+];
+
+/// The steps that follow with ample memory.
+const TAKEN: &[Step] = &[
+    Step::Len(0),
+    Step::Push(Ok(())),
+    Step::Eof(Ok(())),
+    Step::Len(2),
+];
+
+fn follow(rt: &impl Abort, arrivals: &mut Arrivals, steps: &[Step]) {
+    for (nth, step) in steps.iter().enumerate() {
+        match step {
+            Step::Push(answer) => assert_equal_at(rt, &arrivals.push(3, at(1000)), answer, &nth),
+            Step::Eof(answer) => assert_equal_at(rt, &arrivals.eof(at(1000)), answer, &nth),
+            Step::Len(len) => assert_equal_at(rt, &arrivals.items().len(), len, &nth),
+        }
+    }
+}
+
+#[test]
+fn arrivals_are_refused_memory(rt: HostRuntime) {
+    let mut arrivals = Arrivals::new(rt.alloc());
+    let mut scarcity = without_memory(&rt);
+    follow(&rt, &mut arrivals, REFUSED);
+    scarcity.end();
+    follow(&rt, &mut arrivals, TAKEN);
+    print_refused(&rt, 0, 1);
 }

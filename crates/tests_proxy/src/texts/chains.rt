@@ -1,17 +1,10 @@
 //! Chains made from short forms.
 ghost use Rattle.std.specs.Prelude.{◌≤◌};
 
-use crate::comparing::assert_equal;
+use crate::comparing::{assert_equal, assert_equal_at};
 use std::process::Abort;
 use tox_defs::{Chain, Lanes, TooManyToxics, Toxic};
 use tox_proxy::{ToxicsFault, read_chain};
-
-/// Adds a toxic to a chain that has room.
-fn push(rt: &impl Abort, chain: &mut Chain, toxic: Toxic, toxicity: u16) {
-    assert!(rt; toxic.check().is_ok());
-    assert!(rt; toxicity <= 1000);
-    assert!(rt; chain.push(toxic, toxicity).is_ok());
-}
 
 /// What the chains here are filled with.
 const TOXIC: Toxic = Toxic::LimitData { bytes: 5 };
@@ -20,31 +13,25 @@ const TOXIC: Toxic = Toxic::LimitData { bytes: 5 };
 fn fill(rt: &impl Abort, chain: &mut Chain, most: u16)
     requires { most ≤ 32 }
 {
-    assert!(rt; chain.is_empty());
-    for toxicity in 0..most {
-        assert!(rt; !chain.is_full());
-        push(rt, chain, TOXIC, toxicity);
-    }
-    assert!(rt; chain.is_full());
-}
-
-/// Compares a chain that was filled with so many toxics. It takes no other.
-fn compare(rt: &impl Abort, chain: &mut Chain, most: u16)
-    requires { (16 ≤ most) × (most ≤ 32) }
-{
     assert!(rt; TOXIC.check().is_ok());
-    assert_equal(rt, &chain.push(TOXIC, most), &Err(TooManyToxics));
-    assert_eq!(rt; chain.len(), usize::from(most));
-    assert_equal(rt, &chain.toxicity(15), &15);
-    assert_equal(rt, &chain.toxic(15), &TOXIC);
+    assert_equal(rt, &chain.is_empty(), &true);
+    for toxicity in 0..most {
+        assert_equal_at(rt, &chain.is_full(), &false, &toxicity);
+        assert_equal_at(rt, &chain.push(TOXIC, toxicity), &Ok(()), &toxicity);
+    }
+    assert_equal(rt, &chain.is_full(), &true);
 }
 
-/// Fills a new chain, and compares it.
+/// Fills a new chain, and compares it. It takes no other toxic.
 fn has_room_for(rt: &impl Abort, chain: &mut Chain, most: u16)
     requires { (16 ≤ most) × (most ≤ 32) }
 {
     fill(rt, chain, most);
-    compare(rt, chain, most);
+    assert!(rt; TOXIC.check().is_ok());
+    assert_equal(rt, &chain.push(TOXIC, most), &Err(TooManyToxics));
+    assert!(rt; chain.len() == usize::from(most));
+    assert_equal(rt, &chain.toxicity(15), &15);
+    assert_equal(rt, &chain.toxic(15), &TOXIC);
 }
 
 #[test]
@@ -55,10 +42,8 @@ fn a_chain_has_a_toxic_for_each_lane(rt: HostRuntime) {
 
 /// Compares the number of the short form that is one too many.
 fn refuse(rt: &impl Abort, lanes: Lanes, number: usize) {
-    let fault = read_chain(lanes, &["latency"; 33])
-        .err()
-        .expect(rt, "a fault");
-    assert_equal(rt, &fault, &ToxicsFault::TooMany(number));
+    let fault = read_chain(lanes, &["latency"; 33]).err();
+    assert_equal(rt, &fault, &Some(ToxicsFault::TooMany(number)));
 }
 
 #[test]

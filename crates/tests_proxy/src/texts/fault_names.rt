@@ -2,7 +2,6 @@
 use crate::comparing::assert_equal;
 use std::fmt::Display;
 use std::process::Abort;
-use std::test::Fail;
 use tox_config::ConfigFault;
 use tox_defs::{ShortFault, TooManyToxics};
 use tox_network::StepFault;
@@ -14,80 +13,164 @@ use tox_script::ScriptFault;
 use tox_time::ArrivalFault;
 use tox_words::WordsFault;
 
+/// A fault.
+enum Fault {
+    Arrival(ArrivalFault),
+    Words(WordsFault),
+    Config(ConfigFault),
+    File(FileFault<'static>),
+    Script(ScriptFault),
+    PrintMigrated(PrintMigratedFault),
+    Short(ShortFault),
+    Toxics(ToxicsFault),
+    Step(StepFault),
+    Dry(DryFault),
+    PrintPick(PrintPickFault),
+    Pick(PickFault<'static>),
+    Serve(ServeFault<'static>),
+    TooManyToxics(TooManyToxics),
+    Write(WriteFault),
+}
+
 /// Compares what is printed of a fault.
-fn told<F: Display>(rt: &(impl Abort + AllocGlobal), fault: &F, name: &str) -> Result<(), Fail> {
-    let printed = format!(in rt.alloc(); "{fault}")?;
+fn compare_one(rt: &(impl Abort + AllocGlobal), fault: &impl Display, name: &str) {
+    let printed = format!(in rt.alloc(); "{fault}").expect(rt, "memory");
     assert_equal(rt, &printed.as_str(), &name);
-    Ok(())
+}
+
+/// Compares what is printed of each of these faults.
+fn compare(rt: &(impl Abort + AllocGlobal), faults: &[(Fault, &str)]) {
+    for (fault, name) in faults {
+        match fault {
+            Fault::Arrival(fault) => compare_one(rt, fault, name),
+            Fault::Words(fault) => compare_one(rt, fault, name),
+            Fault::Config(fault) => compare_one(rt, fault, name),
+            Fault::File(fault) => compare_one(rt, fault, name),
+            Fault::Script(fault) => compare_one(rt, fault, name),
+            Fault::PrintMigrated(fault) => compare_one(rt, fault, name),
+            Fault::Short(fault) => compare_one(rt, fault, name),
+            Fault::Toxics(fault) => compare_one(rt, fault, name),
+            Fault::Step(fault) => compare_one(rt, fault, name),
+            Fault::Dry(fault) => compare_one(rt, fault, name),
+            Fault::PrintPick(fault) => compare_one(rt, fault, name),
+            Fault::Pick(fault) => compare_one(rt, fault, name),
+            Fault::Serve(fault) => compare_one(rt, fault, name),
+            Fault::TooManyToxics(fault) => compare_one(rt, fault, name),
+            Fault::Write(fault) => compare_one(rt, fault, name),
+        }
+    }
 }
 
 #[test]
-fn faults_of_arrivals_and_words_print_their_names(rt: HostRuntime) -> Result<(), Fail> {
-    told(&rt, &ArrivalFault::OutOfMemory, "A0 OutOfMemory")?;
-    told(&rt, &ArrivalFault::TooManyBytes, "A3 TooManyBytes")?;
-    told(&rt, &WordsFault::OutOfMemory, "W0 OutOfMemory")?;
-    told(&rt, &WordsFault::NoWords, "W1 NoWords")?;
-    told(&rt, &WordsFault::TooMany, "W2 TooMany")?;
-    told(&rt, &WordsFault::BadWord(4), "W3 BadWord 4")
-}
-
-#[test]
-fn faults_of_files_print_their_names(rt: HostRuntime) -> Result<(), Fail> {
-    told(&rt, &ConfigFault::OutOfMemory, "C0 OutOfMemory")?;
-    told(&rt, &ConfigFault::TooMany(64), "C8 TooMany 64")?;
-    told(&rt, &FileFault::OutOfMemory, "P0 OutOfMemory")?;
-    told(&rt, &FileFault::TooLong("a"), "P2 FileTooLong a")
-}
-
-#[test]
-fn faults_of_scripts_print_their_names(rt: HostRuntime) -> Result<(), Fail> {
-    told(&rt, &ScriptFault::OutOfMemory, "S0 OutOfMemory")?;
-    told(
+fn faults_of_arrivals_and_words_print_their_names(rt: HostRuntime) {
+    compare(
         &rt,
-        &PrintMigratedFault::Script(ScriptFault::AlreadyVersion2),
-        "M1 AlreadyVersion2",
-    )?;
-    told(&rt, &PrintMigratedFault::WriteFault, "L4 WriteFault")
+        &[
+            (Fault::Arrival(ArrivalFault::OutOfMemory), "A0 OutOfMemory"),
+            (
+                Fault::Arrival(ArrivalFault::TooManyBytes),
+                "A3 TooManyBytes",
+            ),
+            (Fault::Words(WordsFault::OutOfMemory), "W0 OutOfMemory"),
+            (Fault::Words(WordsFault::NoWords), "W1 NoWords"),
+            (Fault::Words(WordsFault::TooMany), "W2 TooMany"),
+            (Fault::Words(WordsFault::BadWord(4)), "W3 BadWord 4"),
+        ],
+    );
 }
 
 #[test]
-fn faults_of_chains_print_their_names(rt: HostRuntime) -> Result<(), Fail> {
-    told(&rt, &ShortFault::DoubleKey, "Q2 DoubleKey")?;
-    told(&rt, &TooManyToxics, "S9 TooManyToxics")?;
-    told(&rt, &ToxicsFault::TooMany(17), "S9 TooManyToxics 17")?;
-    told(&rt, &StepFault::OutOfMemory, "N0 OutOfMemory")?;
-    told(&rt, &StepFault::NotPossible, "N1 NotPossible")
+fn faults_of_files_print_their_names(rt: HostRuntime) {
+    compare(
+        &rt,
+        &[
+            (Fault::Config(ConfigFault::OutOfMemory), "C0 OutOfMemory"),
+            (Fault::Config(ConfigFault::TooMany(64)), "C8 TooMany 64"),
+            (Fault::File(FileFault::OutOfMemory), "P0 OutOfMemory"),
+            (Fault::File(FileFault::TooLong("a")), "P2 FileTooLong a"),
+        ],
+    );
 }
 
 #[test]
-fn faults_of_runs_print_their_names(rt: HostRuntime) -> Result<(), Fail> {
-    told(&rt, &DryFault::OutOfMemory, "L0 OutOfMemory")?;
-    told(&rt, &DryFault::TooLong, "L2 TooLong")?;
-    told(&rt, &DryFault::ReadFault, "L3 ReadFault")?;
-    told(&rt, &DryFault::WriteFault, "L4 WriteFault")?;
-    told(&rt, &WriteFault, "L4 WriteFault")?;
-    told(&rt, &PrintPickFault::OutOfMemory, "W0 OutOfMemory")?;
-    told(&rt, &PrintPickFault::WriteFault, "L4 WriteFault")
+fn faults_of_scripts_print_their_names(rt: HostRuntime) {
+    compare(
+        &rt,
+        &[
+            (Fault::Script(ScriptFault::OutOfMemory), "S0 OutOfMemory"),
+            (
+                Fault::PrintMigrated(PrintMigratedFault::Script(ScriptFault::AlreadyVersion2)),
+                "M1 AlreadyVersion2",
+            ),
+            (
+                Fault::PrintMigrated(PrintMigratedFault::WriteFault),
+                "L4 WriteFault",
+            ),
+        ],
+    );
+}
+
+#[test]
+fn faults_of_chains_print_their_names(rt: HostRuntime) {
+    compare(
+        &rt,
+        &[
+            (Fault::Short(ShortFault::DoubleKey), "Q2 DoubleKey"),
+            (Fault::TooManyToxics(TooManyToxics), "S9 TooManyToxics"),
+            (
+                Fault::Toxics(ToxicsFault::TooMany(17)),
+                "S9 TooManyToxics 17",
+            ),
+            (Fault::Step(StepFault::OutOfMemory), "N0 OutOfMemory"),
+            (Fault::Step(StepFault::NotPossible), "N1 NotPossible"),
+        ],
+    );
+}
+
+#[test]
+fn faults_of_runs_print_their_names(rt: HostRuntime) {
+    compare(
+        &rt,
+        &[
+            (Fault::Dry(DryFault::OutOfMemory), "L0 OutOfMemory"),
+            (Fault::Dry(DryFault::TooLong), "L2 TooLong"),
+            (Fault::Dry(DryFault::ReadFault), "L3 ReadFault"),
+            (Fault::Dry(DryFault::WriteFault), "L4 WriteFault"),
+            (Fault::Write(WriteFault), "L4 WriteFault"),
+            (
+                Fault::PrintPick(PrintPickFault::OutOfMemory),
+                "W0 OutOfMemory",
+            ),
+            (
+                Fault::PrintPick(PrintPickFault::WriteFault),
+                "L4 WriteFault",
+            ),
+        ],
+    );
 }
 
 /// A fault is one line, whatever it names.
 #[test]
-fn faults_keep_to_their_line(rt: HostRuntime) -> Result<(), Fail> {
-    told(&rt, &FileFault::Unreadable("a\n"), "P1 FileFault a\\x0a")?;
-    told(
+fn faults_keep_to_their_line(rt: HostRuntime) {
+    compare(
         &rt,
-        &FileFault::TooLong("\x1b[31m"),
-        "P2 FileTooLong \\x1b[31m",
-    )?;
-    told(
-        &rt,
-        &PickFault::UnknownProxy("\x7fé\\"),
-        "P3 UnknownProxy \\x7fé\\",
-    )?;
-    told(
-        &rt,
-        &ServeFault::ListenRefused("the\nshop"),
-        "P4 ListenRefused the\\x0ashop",
-    )?;
-    Ok(())
+        &[
+            (
+                Fault::File(FileFault::Unreadable("a\n")),
+                "P1 FileFault a\\x0a",
+            ),
+            (
+                Fault::File(FileFault::TooLong("\x1b[31m")),
+                "P2 FileTooLong \\x1b[31m",
+            ),
+            (
+                Fault::Pick(PickFault::UnknownProxy("\x7fé\\")),
+                "P3 UnknownProxy \\x7fé\\",
+            ),
+            (
+                Fault::Serve(ServeFault::ListenRefused("the\nshop")),
+                "P4 ListenRefused the\\x0ashop",
+            ),
+        ],
+    );
 }
