@@ -3,15 +3,15 @@ use std::alloc::Global;
 use std::io;
 use std::io::{Read, Write};
 use std::net::{Net, Shutdown, TcpListener, TcpStream};
+use std::process::Abort;
 
 /// Takes one connection, reads it to its end, and sends back what it read.
-pub fn echo_once(alloc: Global, listener: &TcpListener) -> io::Result<()> {
-    let (stream, _) = listener.accept()?;
+pub fn echo_once(rt: &impl Abort, alloc: Global, listener: &TcpListener) {
+    let (stream, _) = listener.accept().expect(rt, "a connection");
     let mut bytes = Vec::new(alloc);
-    let mut reader = &stream;
-    reader.read_to_end(&mut bytes)?;
-    let mut writer = &stream;
-    writer.write_all(&bytes)
+    let mut socket = &stream;
+    let _ = socket.read_to_end(&mut bytes);
+    let _ = socket.write_all(&bytes);
 }
 
 /// Sends back what comes, to its end. Takes no memory.
@@ -37,12 +37,18 @@ pub fn echo_all(listener: &TcpListener) {
     }
 }
 
-/// Sends these bytes, and reads until the connection is closed. Takes no memory.
-pub fn ask<R: Net<Stream = TcpStream>>(rt: &R, address: &str, bytes: &[u8]) -> io::Result<()> {
-    let stream = TcpStream::connect(rt, address)?;
+/// A client that has sent these bytes, and sends no more. Takes no memory.
+pub fn send<R: Net<Stream = TcpStream> + Abort>(rt: &R, address: &str, bytes: &[u8]) -> TcpStream {
+    let stream = TcpStream::connect(rt, address).expect(rt, "a connection");
     let mut socket = &stream;
     let _ = socket.write_all(bytes);
     let _ = stream.shutdown(Shutdown::Write);
+    stream
+}
+
+/// Reads until the connection is closed. Takes no memory.
+pub fn drain(stream: &TcpStream) {
+    let mut socket = stream;
     let mut answer = [0; 16];
     for _ in 0..u64::MAX {
         match socket.read(&mut answer) {
@@ -50,5 +56,4 @@ pub fn ask<R: Net<Stream = TcpStream>>(rt: &R, address: &str, bytes: &[u8]) -> i
             Ok(_) => {}
         }
     }
-    Ok(())
 }

@@ -1,6 +1,7 @@
 //! The start of serving, with too little memory and too few threads: the queues of lines, the thread that writes them, and the
 //! thread of a proxy.
-use std::alloc::Global;
+use crate::comparing::assert_equal;
+use crate::setups::setup_of;
 use std::net::{Net, TcpListener, TcpStream};
 use std::process::Abort;
 use std::sync::{Mutex, Wait};
@@ -8,9 +9,7 @@ use std::test::Fail;
 use std::thread::Threads;
 use std::time::Clock;
 use tests_support::{Refusals, Scarcity, Tried, try_each, with_stacks};
-use tox_config::{ProxyDef, read_populate};
-use tox_proxy::{NoGaps, NoLogs, ServeFault, ServeOptions, Stop, serve_with};
-use tox_script::{Script, read_script};
+use tox_proxy::{NoGaps, NoLogs, ServeFault, ServeOptions, Setup, Stop, serve_with};
 
 /// Room for all lines.
 const OUT_SIZE: usize = 1_024;
@@ -20,6 +19,8 @@ const QUEUE_PAGES: usize = 2 * 16;
 
 /// More pages than a start needs.
 const PAGES: usize = 120;
+
+const CONFIG: &str = "[{\"name\":\"a\",\"listen\":\"127.0.0.1:0\",\"upstream\":\"127.0.0.1:1\"}]";
 
 /// What a run without links prints behind the first line.
 const TOTAL: &str = "total a 0 up 0 down 0\n";
@@ -54,26 +55,22 @@ fn serve_with_pages<
         + Copy
         + Send
         + Sync
-        + 'static,
->(
-    rt: &R,
-    scarcity: &mut Scarcity,
-    alloc: Global,
-    pages: usize,
-    proxies: &[ProxyDef],
-    script: &Script,
-) -> Result<Tried, Fail> {
-    let out: Vec<u8> = Vec::with_capacity(alloc, OUT_SIZE)?;
+        + 'static
+        + AllocGlobal
+        + Abort,
+>(rt: &R, scarcity: &mut Scarcity, pages: usize, setup: &Setup) -> Tried {
+    let (alloc, proxies, script) = (rt.alloc(), setup.proxies.as_slice(), &setup.script);
+    let out: Vec<u8> = Vec::with_capacity(alloc, OUT_SIZE).expect(rt, "memory");
     let out = Mutex::new(out);
     let stop = Stop::new();
     stop.tell(rt);
     let options = ServeOptions::default();
-    scarcity.leave_pages(alloc, pages)?;
+    scarcity.leave_pages(alloc, pages).expect(rt, "memory");
     let answer = serve_with(
         rt, alloc, proxies, script, 1, &out, &NoGaps, &stop, &NoLogs, &options,
     );
     scarcity.end();
-    Ok(tried_of(&answer, &out.into_inner()))
+    tried_of(&answer, &out.into_inner())
 }
 
 /// Starts with ever more pages, where there are stacks for so many threads.
@@ -86,41 +83,39 @@ fn start_behind<
         + Send
         + Sync
         + 'static
-        + AllocGlobal,
+        + AllocGlobal
+        + Abort,
 >(rt: &R, threads: usize) -> Result<Refusals, Fail> {
-    let alloc = rt.alloc();
-    let text = b"[{\"name\":\"a\",\"listen\":\"127.0.0.1:0\",\"upstream\":\"127.0.0.1:1\"}]";
-    let proxies = read_populate(alloc, text)?;
-    let script = read_script(alloc, b"")?;
-    let mut scarcity = with_stacks(rt, alloc, threads)?;
+    let setup = setup_of(rt, CONFIG, b"");
+    let mut scarcity = with_stacks(rt, rt.alloc(), threads).expect(rt, "memory");
     try_each(&mut scarcity, PAGES, |scarcity, pages| {
-        serve_with_pages(rt, scarcity, alloc, pages, &proxies, &script)
+        Ok(serve_with_pages(rt, scarcity, pages, &setup))
     })
+}
+
+/// Prints what was refused, and compares how the last start ended.
+fn compare(rt: &(impl Abort + Eprint), refusals: &Refusals, last: Tried) {
+    eprintln!(rt; "{refusals:?}").expect(rt, "standard error");
+    assert_equal(rt, &refusals.last, &Some(last));
+    assert_equal(rt, &refusals.is_answered, &(last == Tried::Answered));
 }
 
 #[test]
 fn the_queues_of_lines_are_refused_memory(rt: HostRuntime) -> Result<(), Fail> {
     let refusals = start_behind(&rt, 3)?;
-    eprintln!(rt; "{refusals:?}")?;
-    assert!(rt; refusals.is_answered && refusals.memory >= QUEUE_PAGES);
-    Ok(())
-}
-
-/// Prints what was refused, and stops the test unless a thread was in the end.
-fn assert_refused_a_thread(rt: &(impl Abort + Eprint), refusals: &Refusals) -> Result<(), Fail> {
-    eprintln!(rt; "{refusals:?}")?;
-    assert!(rt; !refusals.is_answered && refusals.last == Some(Tried::NoThread));
+    compare(&rt, &refusals, Tried::Answered);
+    assert!(rt; refusals.memory >= QUEUE_PAGES);
     Ok(())
 }
 
 #[test]
 fn the_writer_of_lines_is_refused(rt: HostRuntime) -> Result<(), Fail> {
-    let refusals = start_behind(&rt, 0)?;
-    assert_refused_a_thread(&rt, &refusals)
+    compare(&rt, &start_behind(&rt, 0)?, Tried::NoThread);
+    Ok(())
 }
 
 #[test]
 fn a_proxy_is_refused_its_thread(rt: HostRuntime) -> Result<(), Fail> {
-    let refusals = start_behind(&rt, 1)?;
-    assert_refused_a_thread(&rt, &refusals)
+    compare(&rt, &start_behind(&rt, 1)?, Tried::NoThread);
+    Ok(())
 }

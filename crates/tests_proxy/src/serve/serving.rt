@@ -1,17 +1,15 @@
 //! Served links, over sockets of this machine.
 use crate::comparing::assert_equal;
-use crate::serve::peers::{ask, echo_once};
-use std::alloc::Global;
+use crate::serve::peers::{drain, echo_once, send};
+use crate::setups::setup_of;
 use std::io::{Read, Write};
 use std::net::{Net, TcpListener, TcpStream};
+use std::process::Abort;
 use std::sync::{Mutex, Wait};
-use std::test::Fail;
+use std::thread;
 use std::thread::Threads;
 use std::time::{Clock, Duration};
-use std::{io, thread};
-use tox_config::{ProxyDef, read_populate};
-use tox_proxy::{NoGaps, NoLogs, ServeFault, ServeOptions, Stop, serve, serve_with};
-use tox_script::{Script, read_script};
+use tox_proxy::{NoGaps, NoLogs, ServeFault, ServeOptions, Setup, Stop, serve, serve_with};
 
 /// Three bytes pass downstream.
 const THREE_BYTES: &str = "\
@@ -24,221 +22,95 @@ type = \"limit_data\"
 attributes = { bytes = 3 }
 ";
 
-/// A proxy of this name from one address to another.
-fn proxy(alloc: Global, listen: &str, upstream: &str) -> Result<Vec<ProxyDef>, Fail> {
-    let text = format!(in alloc;
+/// A proxy from one address to another, and a script.
+fn setup_between(
+    rt: &(impl Abort + AllocGlobal),
+    listen: &str,
+    upstream: &str,
+    script: &str,
+) -> Setup {
+    let config = format!(in rt.alloc();
         "[{{\"name\":\"a\",\"listen\":\"{listen}\",\"upstream\":\"{upstream}\"}}]"
-    )?;
-    Ok(read_populate(alloc, text.as_bytes())?)
+    );
+    let config = config.expect(rt, "memory");
+    setup_of(rt, config.as_str(), script.as_bytes())
 }
 
-/// The address at which a listener is found.
-fn address_of(alloc: Global, listener: &TcpListener) -> Result<String, Fail> {
-    let address = listener.local_addr()?;
-    Ok(format!(in alloc; "{address}")?)
+/// The address at which a listener is found, or one where nobody listens.
+fn address_of(rt: &(impl Abort + AllocGlobal), listener: Option<&TcpListener>) -> String {
+    let text = match listener {
+        Some(listener) => {
+            let address = listener.local_addr().expect(rt, "an address");
+            format!(in rt.alloc(); "{address}")
+        }
+        None => "127.0.0.1:1".to_string(rt.alloc()),
+    };
+    text.expect(rt, "memory")
 }
 
-/// The address of the first line, if it is there.
-fn first_address(alloc: Global, lines: &[u8]) -> io::Result<Option<String>> {
-    let Ok(text) = str::from_utf8(lines) else {
-        return Ok(None);
-    };
-    let Some((line, _)) = text.split_once('\n') else {
-        return Ok(None);
-    };
-    match line.strip_prefix("listening a ") {
-        Some(address) => Ok(Some(address.to_string(alloc)?)),
-        None => Ok(None),
+/// The address of the first line, once there is one.
+fn first_address(rt: &(impl Abort + AllocGlobal), lines: &[u8]) -> Option<String> {
+    let text = str::from_utf8(lines).expect(rt, "UTF-8");
+    match text.split_once('\n') {
+        Some((line, _)) => {
+            let address = line.strip_prefix("listening a ").expect(rt, "an address");
+            Some(address.to_string(rt.alloc()).expect(rt, "memory"))
+        }
+        None => None,
     }
 }
 
-/// The address of the first line, once it is there.
-fn listening<R: Wait + Clock>(rt: &R, alloc: Global, out: &Mutex<Vec<u8>>) -> io::Result<String> {
+/// Waits for the address of the first line.
+fn listening<R: Wait + Clock + Abort + AllocGlobal>(rt: &R, out: &Mutex<Vec<u8>>) -> String {
     for _ in rt.forever() {
         thread::sleep(rt, Duration::from_millis(1));
-        let found = first_address(alloc, &out.lock(rt))?;
-        if let Some(address) = found {
-            return Ok(address);
+        if let Some(address) = first_address(rt, &out.lock(rt)) {
+            return address;
         }
     }
     unreachable!()
 }
 
-/// Answers one connection, if there is an upstream.
-fn answer(alloc: Global, upstream: Option<&TcpListener>) -> bool {
-    match upstream {
-        Some(listener) => echo_once(alloc, listener).is_ok(),
-        None => true,
-    }
-}
-
-/// What stands behind the first line.
-fn behind_first_line(alloc: Global, bytes: &[u8]) -> Result<String, Fail> {
-    let text = str::from_utf8(bytes)?;
-    let Some((_, rest)) = text.split_once('\n') else {
-        return Ok(String::new(alloc));
-    };
-    Ok(rest.to_string(alloc)?)
-}
-
-/// Serves one link, on which a client sends five bytes.
-fn serve_one_link<
-    R: Net<Listener = TcpListener, Stream = TcpStream>
-        + Threads
-        + Wait
-        + Clock
-        + Copy
-        + Send
-        + Sync
-        + 'static,
->(
-    rt: &R,
-    alloc: Global,
-    proxies: &[ProxyDef],
-    script: &Script,
-    upstream: Option<&TcpListener>,
-    lines: &Mutex<Vec<u8>>,
-) -> io::Result<()> {
-    thread::scope(thread::scope_env(), rt, |scope| -> io::Result<()> {
-        let server = scope.spawn(move || serve(
-            rt,
-            alloc,
-            proxies,
-            script,
-            1,
-            Some(1),
-            lines,
-        ).is_ok());
-        let Ok(server) = server else {
-            return Ok(());
-        };
-        let answers = scope.spawn(move || answer(alloc, upstream));
-        let address = listening(rt, alloc, lines)?;
-        let _ = ask(rt, &address, b"abcde");
-        server.join(rt);
-        if let Ok(answers) = answers {
-            answers.join(rt);
-        }
-        Ok(())
-    })
-}
-
-/// What is printed behind the first line for one link, on which a client sends five bytes.
-fn served<
-    R: Net<Listener = TcpListener, Stream = TcpStream>
-        + Threads
-        + Wait
-        + Clock
-        + Copy
-        + Send
-        + Sync
-        + 'static
-        + AllocGlobal,
->(rt: &R, address: &str, script: &str, upstream: Option<&TcpListener>) -> Result<String, Fail> {
-    let alloc = rt.alloc();
-    let proxies = proxy(alloc, "127.0.0.1:0", address)?;
-    let script = read_script(alloc, script.as_bytes())?;
-    let out = Mutex::new(Vec::new(alloc));
-    serve_one_link(rt, alloc, &proxies, &script, upstream, &out)?;
-    behind_first_line(alloc, &out.into_inner())
-}
-
-#[test]
-fn a_link_is_carried_and_told(rt: HostRuntime) -> Result<(), Fail> {
-    let upstream = TcpListener::bind(&rt, "127.0.0.1:0")?;
-    let address = address_of(rt.alloc(), &upstream)?;
-    let printed = served(&rt, &address, THREE_BYTES, Some(&upstream))?;
-    assert_equal(
-        &rt,
-        &printed.as_str(),
-        &"link a 1 up 5 closed down 3 closed\ntotal a 1 up 5 down 3\n",
-    );
-    Ok(())
-}
-
-#[test]
-fn an_upstream_where_nobody_listens_breaks_the_link(rt: HostRuntime) -> Result<(), Fail> {
-    let printed = served(&rt, "127.0.0.1:1", "", None)?;
-    assert_equal(
-        &rt,
-        &printed.as_str(),
-        &"link a 1 up 0 broken down 0 broken\ntotal a 1 up 0 down 0\n",
-    );
-    Ok(())
-}
-
-#[test]
-fn a_taken_port_is_refused(rt: HostRuntime) -> Result<(), Fail> {
-    let alloc = rt.alloc();
-    let taken = TcpListener::bind(&rt, "127.0.0.1:0")?;
-    let address = address_of(alloc, &taken)?;
-    let proxies = proxy(alloc, &address, "127.0.0.1:1")?;
-    let script = read_script(alloc, b"")?;
-    let out = Mutex::new(Vec::new(alloc));
-    let answer = serve(&rt, alloc, &proxies, &script, 1, Some(1), &out);
-    assert_equal(&rt, &answer, &Err(ServeFault::ListenRefused("a")));
-    assert_equal(&rt, &out.into_inner().len(), &0);
-    Ok(())
+/// Compares what stands behind the first line.
+fn compare_behind(rt: &impl Abort, lines: &[u8], expected: &str) {
+    let text = str::from_utf8(lines).expect(rt, "UTF-8");
+    let (_, rest) = text.split_once('\n').expect(rt, "a line");
+    assert_equal(rt, &rest, &expected);
 }
 
 /// Sends five bytes through a link, and tells its run to stop while it lives. Gives both peers, so that they close nothing before the link is reset.
-fn tell_a_living_link<R: Net<Stream = TcpStream> + Wait>(
+fn tell_a_living_link<R: Net<Stream = TcpStream> + Wait + Abort>(
     rt: &R,
     address: &str,
     upstream: &TcpListener,
     stop: &Stop,
-) -> io::Result<(TcpStream, TcpStream)> {
-    let client = TcpStream::connect(rt, address)?;
-    let (server, _) = upstream.accept()?;
+) -> (TcpStream, TcpStream) {
+    let client = TcpStream::connect(rt, address).expect(rt, "a connection");
+    let (server, _) = upstream.accept().expect(rt, "a connection");
     let mut sender = &client;
-    sender.write_all(b"abcde")?;
+    sender.write_all(b"abcde").expect(rt, "a write");
     let mut bytes = [0; 5];
     let mut receiver = &server;
-    receiver.read_exact(&mut bytes)?;
+    receiver.read_exact(&mut bytes).expect(rt, "a read");
     stop.tell(rt);
-    Ok((client, server))
+    (client, server)
 }
 
-/// Serves until it is told to stop while a link lives, on which a client has sent five bytes.
-fn serve_until_told<
-    R: Net<Listener = TcpListener, Stream = TcpStream>
-        + Threads
-        + Wait
-        + Clock
-        + Copy
-        + Send
-        + Sync
-        + 'static,
->(
+/// Sends five bytes, and reads to the end what the upstream sends back, if there is one.
+fn ask_upstream<R: Net<Stream = TcpStream> + Abort + AllocGlobal>(
     rt: &R,
-    alloc: Global,
-    proxies: &[ProxyDef],
-    script: &Script,
-    upstream: &TcpListener,
-    lines: &Mutex<Vec<u8>>,
-) -> io::Result<()> {
-    let stop = Stop::new();
-    let told = &stop;
-    let options = ServeOptions::default();
-    thread::scope(thread::scope_env(), rt, |scope| -> io::Result<()> {
-        let server = scope.spawn(move || {
-            serve_with(
-                rt, alloc, proxies, script, 1, lines, &NoGaps, told, &NoLogs, &options,
-            )
-            .is_ok()
-        });
-        let address = listening(rt, alloc, lines)?;
-        let peers = tell_a_living_link(rt, &address, upstream, told)?;
-        if let Ok(server) = server {
-            server.join(rt);
-        }
-        drop(peers);
-        Ok(())
-    })
+    address: &str,
+    upstream: Option<&TcpListener>,
+) {
+    let client = send(rt, address, b"abcde");
+    if let Some(listener) = upstream {
+        echo_once(rt, rt.alloc(), listener);
+    }
+    drain(&client);
 }
 
-/// What is printed behind the first line of a run that is told to stop while a link lives, on which a client has sent five bytes.
-fn stopped<
+/// Serves until a run is told to stop, or else one link.
+fn run<
     R: Net<Listener = TcpListener, Stream = TcpStream>
         + Threads
         + Wait
@@ -248,24 +120,113 @@ fn stopped<
         + Sync
         + 'static
         + AllocGlobal,
->(rt: &R, upstream: &TcpListener) -> Result<String, Fail> {
-    let alloc = rt.alloc();
-    let address = address_of(alloc, upstream)?;
-    let proxies = proxy(alloc, "127.0.0.1:0", &address)?;
-    let script = read_script(alloc, b"")?;
-    let out = Mutex::new(Vec::new(alloc));
-    serve_until_told(rt, alloc, &proxies, &script, upstream, &out)?;
-    behind_first_line(alloc, &out.into_inner())
+>(rt: &R, setup: &Setup, stop: Option<&Stop>, lines: &Mutex<Vec<u8>>) -> bool {
+    let (alloc, proxies, script) = (rt.alloc(), setup.proxies.as_slice(), &setup.script);
+    let answer = match stop {
+        Some(stop) => {
+            let options = ServeOptions::default();
+            serve_with(
+                rt, alloc, proxies, script, 1, lines, &NoGaps, stop, &NoLogs, &options,
+            )
+        }
+        None => serve(rt, alloc, proxies, script, 1, Some(1), lines),
+    };
+    answer.is_ok()
+}
+
+/// Serves a link, on which a client sends five bytes.
+fn serve_link<
+    R: Net<Listener = TcpListener, Stream = TcpStream>
+        + Threads
+        + Wait
+        + Clock
+        + Copy
+        + Send
+        + Sync
+        + 'static
+        + AllocGlobal
+        + Abort,
+>(
+    rt: &R,
+    setup: &Setup,
+    upstream: Option<&TcpListener>,
+    stop: Option<&Stop>,
+    lines: &Mutex<Vec<u8>>,
+) {
+    thread::scope(thread::scope_env(), rt, |scope| {
+        let server = scope.spawn(move || run(rt, setup, stop, lines));
+        let server = server.expect(rt, "a thread");
+        let address = listening(rt, lines);
+        match (upstream, stop) {
+            (Some(upstream), Some(stop)) => {
+                let peers = tell_a_living_link(rt, &address, upstream, stop);
+                server.join(rt);
+                drop(peers);
+            }
+            _ => {
+                ask_upstream(rt, &address, upstream);
+                server.join(rt);
+            }
+        }
+    })
+}
+
+/// Serves a link, on which a client sends five bytes, and compares what is printed behind the first line. With a stop the run is told to
+/// stop while the link lives.
+fn compare_served<
+    R: Net<Listener = TcpListener, Stream = TcpStream>
+        + Threads
+        + Wait
+        + Clock
+        + Copy
+        + Send
+        + Sync
+        + 'static
+        + AllocGlobal
+        + Abort,
+>(rt: &R, script: &str, upstream: Option<&TcpListener>, stop: Option<&Stop>, expected: &str) {
+    let address = address_of(rt, upstream);
+    let setup = setup_between(rt, "127.0.0.1:0", address.as_str(), script);
+    let lines = Mutex::new(Vec::new(rt.alloc()));
+    serve_link(rt, &setup, upstream, stop, &lines);
+    compare_behind(rt, &lines.into_inner(), expected);
 }
 
 #[test]
-fn a_told_run_ends_with_its_totals(rt: HostRuntime) -> Result<(), Fail> {
-    let upstream = TcpListener::bind(&rt, "127.0.0.1:0")?;
-    let printed = stopped(&rt, &upstream)?;
-    assert_equal(
+fn a_link_is_carried_and_told(rt: HostRuntime) {
+    let upstream = TcpListener::bind(&rt, "127.0.0.1:0").expect(&rt, "a port");
+    let expected = "link a 1 up 5 closed down 3 closed\ntotal a 1 up 5 down 3\n";
+    compare_served(&rt, THREE_BYTES, Some(&upstream), None, expected);
+}
+
+#[test]
+fn an_upstream_where_nobody_listens_breaks_the_link(rt: HostRuntime) {
+    let expected = "link a 1 up 0 broken down 0 broken\ntotal a 1 up 0 down 0\n";
+    compare_served(&rt, "", None, None, expected);
+}
+
+#[test]
+fn a_told_run_ends_with_its_totals(rt: HostRuntime) {
+    let upstream = TcpListener::bind(&rt, "127.0.0.1:0").expect(&rt, "a port");
+    let expected = "link a 1 up 5 broken down 0 broken\ntotal a 1 up 5 down 0\n";
+    compare_served(&rt, "", Some(&upstream), Some(&Stop::new()), expected);
+}
+
+#[test]
+fn a_taken_port_is_refused(rt: HostRuntime) {
+    let taken = TcpListener::bind(&rt, "127.0.0.1:0").expect(&rt, "a port");
+    let address = address_of(&rt, Some(&taken));
+    let setup = setup_between(&rt, address.as_str(), "127.0.0.1:1", "");
+    let out = Mutex::new(Vec::new(rt.alloc()));
+    let answer = serve(
         &rt,
-        &printed.as_str(),
-        &"link a 1 up 5 broken down 0 broken\ntotal a 1 up 5 down 0\n",
+        rt.alloc(),
+        &setup.proxies,
+        &setup.script,
+        1,
+        Some(1),
+        &out,
     );
-    Ok(())
+    assert_equal(&rt, &answer, &Err(ServeFault::ListenRefused("a")));
+    assert_equal(&rt, &out.into_inner().len(), &0);
 }
