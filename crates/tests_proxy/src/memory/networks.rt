@@ -4,7 +4,6 @@ use crate::memory::given::Given;
 use crate::memory::refusing::{Call, assert_refused, print_refused, tried_of, without_memory};
 use std::alloc::{AllocError, Global};
 use std::process::Abort;
-use std::test::Fail;
 use tests_support::{Scarcity, Tried, answer_of, at, table_of};
 use tox_compile::compile;
 use tox_defs::Chain;
@@ -40,7 +39,7 @@ impl Link {
 }
 
 #[test]
-fn a_delivery_is_refused_memory(rt: HostRuntime) -> Result<(), Fail> {
+fn a_delivery_is_refused_memory(rt: HostRuntime) {
     assert_refused(
         &rt,
         &[
@@ -49,7 +48,7 @@ fn a_delivery_is_refused_memory(rt: HostRuntime) -> Result<(), Fail> {
             Call::Link(Link::Window),
             Call::Link(Link::Core),
         ],
-    )
+    );
 }
 
 #[test]
@@ -92,8 +91,8 @@ fn compare_settled(rt: &(impl Abort + AllocGlobal), outcome: &Outcome) {
 }
 
 #[test]
-fn a_settled_network_is_refused_memory(rt: HostRuntime) -> Result<(), Fail> {
-    assert_refused(&rt, &[Call::Settle])
+fn a_settled_network_is_refused_memory(rt: HostRuntime) {
+    assert_refused(&rt, &[Call::Settle]);
 }
 
 #[test]

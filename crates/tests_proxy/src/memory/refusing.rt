@@ -5,8 +5,7 @@ use crate::memory::runs::Run;
 use crate::memory::values::Value;
 use std::process::Abort;
 use std::rt::Files;
-use std::test::Fail;
-use tests_support::{MAX_TRIES, Scarcity, Tried, answer_of, try_each};
+use tests_support::{MAX_TRIES, Scarcity, Tried, answer_of};
 
 /// A call that asks for memory.
 #[derive(Drop)]
@@ -70,20 +69,30 @@ pub fn print_refused(rt: &(impl Abort + Eprint), nth: usize, refused: usize) {
     eprintln!(rt; "call {nth}: refused {refused} times").expect(rt, "standard error");
 }
 
-/// Tries each call with ever more memory. Prints how often it was refused, and asserts that it was, and was answered in the end.
-pub fn assert_refused(
-    rt: &(impl Abort + AllocGlobal + Eprint + Files),
-    calls: &[Call<'_>],
-) -> Result<(), Fail> {
+/// How often a call is refused with ever more memory, until it is answered. Stops the test at another answer.
+fn times_refused(
+    rt: &(impl Abort + AllocGlobal + Files),
+    given: &Given,
+    scarcity: &mut Scarcity,
+    call: &Call<'_>,
+) -> usize {
+    for sixteens in 0..MAX_TRIES {
+        match call.attempt(rt, given, scarcity, sixteens) {
+            Tried::Answered => return sixteens,
+            Tried::NoMemory => {}
+            Tried::NoThread | Tried::Wrong => panic!(rt; "another answer than with ample memory"),
+        }
+    }
+    panic!(rt; "refused whatever is left")
+}
+
+/// Prints how often each of these calls is refused until it is answered, and asserts that it is.
+pub fn assert_refused(rt: &(impl Abort + AllocGlobal + Eprint + Files), calls: &[Call<'_>]) {
     let given = Given::new(rt);
     let mut scarcity = Scarcity::new(rt.alloc()).expect(rt, "memory");
     for (nth, call) in calls.iter().enumerate() {
-        let refusals = try_each(&mut scarcity, MAX_TRIES, |scarcity, sixteens| {
-            Ok(call.attempt(rt, &given, scarcity, sixteens))
-        })?;
-        print_refused(rt, nth, refusals.memory);
-        assert!(rt; refusals.is_answered);
-        assert!(rt; 0 < refusals.memory);
+        let refused = times_refused(rt, &given, &mut scarcity, call);
+        print_refused(rt, nth, refused);
+        assert!(rt; 0 < refused);
     }
-    Ok(())
 }

@@ -5,7 +5,6 @@ use crate::memory::given::{Given, SCRIPT};
 use crate::memory::refusing::{Call, assert_refused, tried_of};
 use std::alloc::Global;
 use std::process::Abort;
-use std::test::Fail;
 use tests_support::{Scarcity, Tried};
 use tox_proxy::{
     DryFault, PrintMigratedFault, PrintPickFault, Question, Setup, dry_run, find_proxy,
@@ -154,26 +153,26 @@ impl Run {
 }
 
 #[test]
-fn a_dry_run_is_refused_memory(rt: HostRuntime) -> Result<(), Fail> {
-    assert_refused(&rt, &[Call::Run(Run::Dry)])
+fn a_dry_run_is_refused_memory(rt: HostRuntime) {
+    assert_refused(&rt, &[Call::Run(Run::Dry)]);
 }
 
 #[test]
-fn a_pick_is_refused_memory(rt: HostRuntime) -> Result<(), Fail> {
-    assert_refused(&rt, &[Call::Run(Run::Pick)])
+fn a_pick_is_refused_memory(rt: HostRuntime) {
+    assert_refused(&rt, &[Call::Run(Run::Pick)]);
 }
 
 #[test]
-fn a_forecast_is_refused_memory(rt: HostRuntime) -> Result<(), Fail> {
-    assert_refused(&rt, &[Call::Run(Run::Forecast)])
+fn a_forecast_is_refused_memory(rt: HostRuntime) {
+    assert_refused(&rt, &[Call::Run(Run::Forecast)]);
 }
 
 #[test]
-fn a_check_is_refused_memory(rt: HostRuntime) -> Result<(), Fail> {
-    assert_refused(&rt, &[Call::Run(Run::Check)])
+fn a_check_is_refused_memory(rt: HostRuntime) {
+    assert_refused(&rt, &[Call::Run(Run::Check)]);
 }
 
 #[test]
-fn a_printed_migration_is_refused_memory(rt: HostRuntime) -> Result<(), Fail> {
-    assert_refused(&rt, &[Call::Run(Run::Migration)])
+fn a_printed_migration_is_refused_memory(rt: HostRuntime) {
+    assert_refused(&rt, &[Call::Run(Run::Migration)]);
 }

@@ -5,7 +5,6 @@ use crate::memory::refusing::{Call, assert_refused, print_refused, tried_of, wit
 use std::alloc::Global;
 use std::process::Abort;
 use std::rt::Files;
-use std::test::Fail;
 use std::{fs, process};
 use tests_support::{Tried, at};
 use tox_config::{ConfigFault, read_populate};
@@ -73,7 +72,7 @@ impl Value<'_> {
 }
 
 #[test]
-fn words_are_refused_memory(rt: HostRuntime) -> Result<(), Fail> {
+fn words_are_refused_memory(rt: HostRuntime) {
     assert_refused(
         &rt,
         &[
@@ -81,19 +80,19 @@ fn words_are_refused_memory(rt: HostRuntime) -> Result<(), Fail> {
             Call::Value(Value::WrittenWords),
             Call::Value(Value::SeededWords),
         ],
-    )
+    );
 }
 
 #[test]
-fn a_migration_is_refused_memory(rt: HostRuntime) -> Result<(), Fail> {
-    assert_refused(&rt, &[Call::Value(Value::Migration)])
+fn a_migration_is_refused_memory(rt: HostRuntime) {
+    assert_refused(&rt, &[Call::Value(Value::Migration)]);
 }
 
 /// The file is written before and removed after.
 #[test]
-fn files_are_refused_memory(rt: HostRuntime) -> Result<(), Fail> {
+fn files_are_refused_memory(rt: HostRuntime) {
     let name = path_of(&rt, process::id(rt.process()), "memory");
-    fs::write(&rt, name.as_str(), CONFIG)?;
+    fs::write(&rt, name.as_str(), CONFIG).expect(&rt, "a file");
     assert_refused(
         &rt,
         &[
@@ -101,9 +100,8 @@ fn files_are_refused_memory(rt: HostRuntime) -> Result<(), Fail> {
             Call::Value(Value::Script),
             Call::Value(Value::File(name.as_str())),
         ],
-    )?;
-    fs::remove_file(&rt, name.as_str())?;
-    Ok(())
+    );
+    fs::remove_file(&rt, name.as_str()).expect(&rt, "a file");
 }
 
 /// What is done with arrivals at 1 ms, and what it answers.

@@ -32,145 +32,144 @@ enum Fault {
     Write(WriteFault),
 }
 
-/// Compares what is printed of a fault.
-fn compare_one(rt: &(impl Abort + AllocGlobal), fault: &impl Display, name: &str) {
+/// Compares what is printed of a fault of one kind.
+fn compare_printed(rt: &(impl Abort + AllocGlobal), fault: &impl Display, name: &str) {
     let printed = format!(in rt.alloc(); "{fault}").expect(rt, "memory");
     assert_equal(rt, &printed.as_str(), &name);
+}
+
+/// Compares what is printed of a fault of any kind.
+fn compare_one(rt: &(impl Abort + AllocGlobal), fault: &Fault, name: &str) {
+    match fault {
+        Fault::Arrival(fault) => compare_printed(rt, fault, name),
+        Fault::Words(fault) => compare_printed(rt, fault, name),
+        Fault::Config(fault) => compare_printed(rt, fault, name),
+        Fault::File(fault) => compare_printed(rt, fault, name),
+        Fault::Script(fault) => compare_printed(rt, fault, name),
+        Fault::PrintMigrated(fault) => compare_printed(rt, fault, name),
+        Fault::Short(fault) => compare_printed(rt, fault, name),
+        Fault::Toxics(fault) => compare_printed(rt, fault, name),
+        Fault::Step(fault) => compare_printed(rt, fault, name),
+        Fault::Dry(fault) => compare_printed(rt, fault, name),
+        Fault::PrintPick(fault) => compare_printed(rt, fault, name),
+        Fault::Pick(fault) => compare_printed(rt, fault, name),
+        Fault::Serve(fault) => compare_printed(rt, fault, name),
+        Fault::TooManyToxics(fault) => compare_printed(rt, fault, name),
+        Fault::Write(fault) => compare_printed(rt, fault, name),
+    }
 }
 
 /// Compares what is printed of each of these faults.
 fn compare(rt: &(impl Abort + AllocGlobal), faults: &[(Fault, &str)]) {
     for (fault, name) in faults {
-        match fault {
-            Fault::Arrival(fault) => compare_one(rt, fault, name),
-            Fault::Words(fault) => compare_one(rt, fault, name),
-            Fault::Config(fault) => compare_one(rt, fault, name),
-            Fault::File(fault) => compare_one(rt, fault, name),
-            Fault::Script(fault) => compare_one(rt, fault, name),
-            Fault::PrintMigrated(fault) => compare_one(rt, fault, name),
-            Fault::Short(fault) => compare_one(rt, fault, name),
-            Fault::Toxics(fault) => compare_one(rt, fault, name),
-            Fault::Step(fault) => compare_one(rt, fault, name),
-            Fault::Dry(fault) => compare_one(rt, fault, name),
-            Fault::PrintPick(fault) => compare_one(rt, fault, name),
-            Fault::Pick(fault) => compare_one(rt, fault, name),
-            Fault::Serve(fault) => compare_one(rt, fault, name),
-            Fault::TooManyToxics(fault) => compare_one(rt, fault, name),
-            Fault::Write(fault) => compare_one(rt, fault, name),
-        }
+        compare_one(rt, fault, name);
     }
 }
 
+const ARRIVALS_AND_WORDS: &[(Fault, &str)] = &[
+    (Fault::Arrival(ArrivalFault::OutOfMemory), "A0 OutOfMemory"),
+    (
+        Fault::Arrival(ArrivalFault::TooManyBytes),
+        "A3 TooManyBytes",
+    ),
+    (Fault::Words(WordsFault::OutOfMemory), "W0 OutOfMemory"),
+    (Fault::Words(WordsFault::NoWords), "W1 NoWords"),
+    (Fault::Words(WordsFault::TooMany), "W2 TooMany"),
+    (Fault::Words(WordsFault::BadWord(4)), "W3 BadWord 4"),
+];
+
 #[test]
 fn faults_of_arrivals_and_words_print_their_names(rt: HostRuntime) {
-    compare(
-        &rt,
-        &[
-            (Fault::Arrival(ArrivalFault::OutOfMemory), "A0 OutOfMemory"),
-            (
-                Fault::Arrival(ArrivalFault::TooManyBytes),
-                "A3 TooManyBytes",
-            ),
-            (Fault::Words(WordsFault::OutOfMemory), "W0 OutOfMemory"),
-            (Fault::Words(WordsFault::NoWords), "W1 NoWords"),
-            (Fault::Words(WordsFault::TooMany), "W2 TooMany"),
-            (Fault::Words(WordsFault::BadWord(4)), "W3 BadWord 4"),
-        ],
-    );
+    compare(&rt, ARRIVALS_AND_WORDS);
 }
+
+const FILES: &[(Fault, &str)] = &[
+    (Fault::Config(ConfigFault::OutOfMemory), "C0 OutOfMemory"),
+    (Fault::Config(ConfigFault::TooMany(64)), "C8 TooMany 64"),
+    (Fault::File(FileFault::OutOfMemory), "P0 OutOfMemory"),
+    (Fault::File(FileFault::TooLong("a")), "P2 FileTooLong a"),
+];
 
 #[test]
 fn faults_of_files_print_their_names(rt: HostRuntime) {
-    compare(
-        &rt,
-        &[
-            (Fault::Config(ConfigFault::OutOfMemory), "C0 OutOfMemory"),
-            (Fault::Config(ConfigFault::TooMany(64)), "C8 TooMany 64"),
-            (Fault::File(FileFault::OutOfMemory), "P0 OutOfMemory"),
-            (Fault::File(FileFault::TooLong("a")), "P2 FileTooLong a"),
-        ],
-    );
+    compare(&rt, FILES);
 }
+
+const SCRIPTS: &[(Fault, &str)] = &[
+    (Fault::Script(ScriptFault::OutOfMemory), "S0 OutOfMemory"),
+    (
+        Fault::PrintMigrated(PrintMigratedFault::Script(ScriptFault::AlreadyVersion2)),
+        "M1 AlreadyVersion2",
+    ),
+    (
+        Fault::PrintMigrated(PrintMigratedFault::WriteFault),
+        "L4 WriteFault",
+    ),
+];
 
 #[test]
 fn faults_of_scripts_print_their_names(rt: HostRuntime) {
-    compare(
-        &rt,
-        &[
-            (Fault::Script(ScriptFault::OutOfMemory), "S0 OutOfMemory"),
-            (
-                Fault::PrintMigrated(PrintMigratedFault::Script(ScriptFault::AlreadyVersion2)),
-                "M1 AlreadyVersion2",
-            ),
-            (
-                Fault::PrintMigrated(PrintMigratedFault::WriteFault),
-                "L4 WriteFault",
-            ),
-        ],
-    );
+    compare(&rt, SCRIPTS);
 }
+
+const CHAINS: &[(Fault, &str)] = &[
+    (Fault::Short(ShortFault::DoubleKey), "Q2 DoubleKey"),
+    (Fault::TooManyToxics(TooManyToxics), "S9 TooManyToxics"),
+    (
+        Fault::Toxics(ToxicsFault::TooMany(17)),
+        "S9 TooManyToxics 17",
+    ),
+    (Fault::Step(StepFault::OutOfMemory), "N0 OutOfMemory"),
+    (Fault::Step(StepFault::NotPossible), "N1 NotPossible"),
+];
 
 #[test]
 fn faults_of_chains_print_their_names(rt: HostRuntime) {
-    compare(
-        &rt,
-        &[
-            (Fault::Short(ShortFault::DoubleKey), "Q2 DoubleKey"),
-            (Fault::TooManyToxics(TooManyToxics), "S9 TooManyToxics"),
-            (
-                Fault::Toxics(ToxicsFault::TooMany(17)),
-                "S9 TooManyToxics 17",
-            ),
-            (Fault::Step(StepFault::OutOfMemory), "N0 OutOfMemory"),
-            (Fault::Step(StepFault::NotPossible), "N1 NotPossible"),
-        ],
-    );
+    compare(&rt, CHAINS);
 }
+
+const RUNS: &[(Fault, &str)] = &[
+    (Fault::Dry(DryFault::OutOfMemory), "L0 OutOfMemory"),
+    (Fault::Dry(DryFault::TooLong), "L2 TooLong"),
+    (Fault::Dry(DryFault::ReadFault), "L3 ReadFault"),
+    (Fault::Dry(DryFault::WriteFault), "L4 WriteFault"),
+    (Fault::Write(WriteFault), "L4 WriteFault"),
+    (
+        Fault::PrintPick(PrintPickFault::OutOfMemory),
+        "W0 OutOfMemory",
+    ),
+    (
+        Fault::PrintPick(PrintPickFault::WriteFault),
+        "L4 WriteFault",
+    ),
+];
 
 #[test]
 fn faults_of_runs_print_their_names(rt: HostRuntime) {
-    compare(
-        &rt,
-        &[
-            (Fault::Dry(DryFault::OutOfMemory), "L0 OutOfMemory"),
-            (Fault::Dry(DryFault::TooLong), "L2 TooLong"),
-            (Fault::Dry(DryFault::ReadFault), "L3 ReadFault"),
-            (Fault::Dry(DryFault::WriteFault), "L4 WriteFault"),
-            (Fault::Write(WriteFault), "L4 WriteFault"),
-            (
-                Fault::PrintPick(PrintPickFault::OutOfMemory),
-                "W0 OutOfMemory",
-            ),
-            (
-                Fault::PrintPick(PrintPickFault::WriteFault),
-                "L4 WriteFault",
-            ),
-        ],
-    );
+    compare(&rt, RUNS);
 }
 
 /// A fault is one line, whatever it names.
+const LINES: &[(Fault, &str)] = &[
+    (
+        Fault::File(FileFault::Unreadable("a\n")),
+        "P1 FileFault a\\x0a",
+    ),
+    (
+        Fault::File(FileFault::TooLong("\x1b[31m")),
+        "P2 FileTooLong \\x1b[31m",
+    ),
+    (
+        Fault::Pick(PickFault::UnknownProxy("\x7fé\\")),
+        "P3 UnknownProxy \\x7fé\\",
+    ),
+    (
+        Fault::Serve(ServeFault::ListenRefused("the\nshop")),
+        "P4 ListenRefused the\\x0ashop",
+    ),
+];
+
 #[test]
 fn faults_keep_to_their_line(rt: HostRuntime) {
-    compare(
-        &rt,
-        &[
-            (
-                Fault::File(FileFault::Unreadable("a\n")),
-                "P1 FileFault a\\x0a",
-            ),
-            (
-                Fault::File(FileFault::TooLong("\x1b[31m")),
-                "P2 FileTooLong \\x1b[31m",
-            ),
-            (
-                Fault::Pick(PickFault::UnknownProxy("\x7fé\\")),
-                "P3 UnknownProxy \\x7fé\\",
-            ),
-            (
-                Fault::Serve(ServeFault::ListenRefused("the\nshop")),
-                "P4 ListenRefused the\\x0ashop",
-            ),
-        ],
-    );
+    compare(&rt, LINES);
 }

@@ -5,7 +5,6 @@ use crate::texts::written::{CONFIG, MET, ROOM, SCRIPT};
 use std::fs::File;
 use std::process::Abort;
 use std::rt::Files;
-use std::test::Fail;
 use std::{fs, process};
 use tox_proxy::{FileFault, MAX_INPUT, MemoryFiles, PickRequest, read_file};
 use tox_time::MemorySink;
@@ -74,13 +73,13 @@ fn compare(
 }
 
 #[test]
-fn a_file_has_a_longest_length(rt: HostRuntime) -> Result<(), Fail> {
-    let name = path_of(&rt, process::id(rt.process()), "long");
-    let file = File::create(&rt, name.as_str())?;
-    file.set_len(MAX_INPUT as u64)?;
-    compare(&rt, name.as_str(), &Ok(MAX_INPUT));
-    file.set_len(MAX_INPUT as u64 + 1)?;
-    compare(&rt, name.as_str(), &Err(FileFault::TooLong(name.as_str())));
-    fs::remove_file(&rt, name.as_str())?;
-    Ok(())
+fn a_file_has_a_longest_length(rt: HostRuntime) {
+    let path = path_of(&rt, process::id(rt.process()), "long");
+    let name = path.as_str();
+    let file = File::create(&rt, name).expect(&rt, "a file");
+    file.set_len(MAX_INPUT as u64).expect(&rt, "a length");
+    compare(&rt, name, &Ok(MAX_INPUT));
+    file.set_len(MAX_INPUT as u64 + 1).expect(&rt, "a length");
+    compare(&rt, name, &Err(FileFault::TooLong(name)));
+    fs::remove_file(&rt, name).expect(&rt, "a file");
 }
