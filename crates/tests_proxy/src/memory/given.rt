@@ -7,7 +7,7 @@ use tox_proxy::Setup;
 use tox_time::Arrivals;
 use tox_words::Words;
 
-/// A config and a script by which connections 1 on of its proxy meet a toxic.
+/// A proxy, each connection of which meets a toxic.
 const CONFIG: &str = "[{\"name\":\"a\",\"upstream\":\"h:1\"}]";
 
 pub const SCRIPT: &str = "\
@@ -47,7 +47,7 @@ pub struct Given {
     /// Three arrivals of two bytes, and the end.
     pub arrivals: Arrivals,
     pub setup: Setup,
-    /// A rule of it names no proxy, and another never applies first.
+    /// One rule names no proxy, and one applies to connection 1 only.
     pub mistyped: Setup,
 }
 

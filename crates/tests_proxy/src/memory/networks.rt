@@ -95,15 +95,6 @@ fn a_settled_network_is_refused_memory(rt: HostRuntime) {
     assert_refused(&rt, &[Call::Settle]);
 }
 
-#[test]
-fn a_step_is_refused_memory(rt: HostRuntime) {
-    let given = Given::new(&rt);
-    let chain = Chain::new();
-    let network = Network::new(rt.alloc(), &chain, &given.words, &given.arrivals, 2);
-    compare_refused_step(&rt, &mut network.expect(&rt, "memory"));
-    print_refused(&rt, 0, 1);
-}
-
 /// Compares what a network answers to its second step without memory, and then with ample memory.
 fn compare_refused_step(rt: &(impl Abort + AllocGlobal), network: &mut Network<'_>) {
     network.step(Move::Arrive).expect(rt, "a step");
@@ -113,4 +104,17 @@ fn compare_refused_step(rt: &(impl Abort + AllocGlobal), network: &mut Network<'
     assert_equal(rt, &answer, &Err(StepFault::OutOfMemory));
     assert_equal(rt, &network.steps(), &1);
     assert_equal(rt, &network.step(Move::Deliver), &Ok(()));
+}
+
+/// The same of a network without stages.
+fn refuse_step(rt: &(impl Abort + AllocGlobal), given: &Given) {
+    let chain = Chain::new();
+    let network = Network::new(rt.alloc(), &chain, &given.words, &given.arrivals, 2);
+    compare_refused_step(rt, &mut network.expect(rt, "memory"));
+}
+
+#[test]
+fn a_step_is_refused_memory(rt: HostRuntime) {
+    refuse_step(&rt, &Given::new(&rt));
+    print_refused(&rt, 0, 1);
 }

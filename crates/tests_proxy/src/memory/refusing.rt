@@ -86,13 +86,23 @@ fn times_refused(
     panic!(rt; "refused whatever is left")
 }
 
+/// Tries each of these calls, whose numbers are printed.
+fn follow(
+    rt: &(impl Abort + AllocGlobal + Eprint + Files),
+    given: &Given,
+    scarcity: &mut Scarcity,
+    calls: &[Call<'_>],
+) {
+    for (nth, call) in calls.iter().enumerate() {
+        let refused = times_refused(rt, given, scarcity, call);
+        print_refused(rt, nth, refused);
+        assert!(rt; 0 < refused);
+    }
+}
+
 /// Prints how often each of these calls is refused until it is answered, and asserts that it is.
 pub fn assert_refused(rt: &(impl Abort + AllocGlobal + Eprint + Files), calls: &[Call<'_>]) {
     let given = Given::new(rt);
     let mut scarcity = Scarcity::new(rt.alloc()).expect(rt, "memory");
-    for (nth, call) in calls.iter().enumerate() {
-        let refused = times_refused(rt, &given, &mut scarcity, call);
-        print_refused(rt, nth, refused);
-        assert!(rt; 0 < refused);
-    }
+    follow(rt, &given, &mut scarcity, calls);
 }

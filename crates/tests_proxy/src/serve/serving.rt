@@ -171,8 +171,8 @@ fn serve_link<
     })
 }
 
-/// Serves a link, on which a client sends five bytes, and compares what is printed behind the first line. With a stop the run is told to
-/// stop while the link lives.
+/// Serves a link, on which a client sends five bytes, and compares what is printed behind the first line. With a stop the run
+/// is told to stop while the link lives.
 fn compare_served<
     R: Net<Listener = TcpListener, Stream = TcpStream>
         + Threads

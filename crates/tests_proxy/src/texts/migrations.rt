@@ -1,7 +1,7 @@
 //! Migrated scripts, and what connections meet by them.
 use crate::comparing::assert_equal;
 use crate::setups::setup_of;
-use crate::texts::written::{CONFIG, MET, ROOM, SCRIPT, migrated, print_third};
+use crate::texts::written::{CONFIG, ROOM, SCRIPT, compare_third, migrated};
 use std::process::Abort;
 use tox_proxy::{PrintMigratedFault, print_migrated};
 use tox_script::ScriptFault;
@@ -9,10 +9,7 @@ use tox_time::MemorySink;
 
 /// Compares the pick text of connection 3 downstream.
 fn compare_pick(rt: &(impl Abort + AllocGlobal), script: &[u8]) {
-    let setup = setup_of(rt, CONFIG, script);
-    let mut writer = MemorySink::new(rt.alloc(), ROOM, ROOM, None).expect(rt, "memory");
-    print_third(rt, &mut writer, &setup).expect(rt, "a pick");
-    assert_equal(rt, &writer.bytes(), &MET.as_bytes());
+    compare_third(rt, &setup_of(rt, CONFIG, script), ROOM, None);
 }
 
 #[test]

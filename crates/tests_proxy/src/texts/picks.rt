@@ -42,6 +42,14 @@ fn answer_of(
     answer.expect(rt, "memory")
 }
 
+/// Compares what the files answer to each pick.
+fn compare_picks(rt: &(impl Abort + AllocGlobal), files: &MemoryFiles<'_>) {
+    for (config, script, want) in PICKS {
+        let answer = answer_of(rt, files, config, script);
+        assert_equal_at(rt, &answer.as_str(), want, &(*config, *script));
+    }
+}
+
 /// Two of the files aren't UTF-8.
 #[test]
 fn files_in_memory_answer_too(rt: HostRuntime) {
@@ -52,11 +60,7 @@ fn files_in_memory_answer_too(rt: HostRuntime) {
         ("json", b"[\"\xff\"]".as_slice()),
         ("toml", b"#\xff".as_slice()),
     ];
-    let memory = MemoryFiles { files: &files };
-    for (config, script, want) in PICKS {
-        let answer = answer_of(&rt, &memory, config, script);
-        assert_equal_at(&rt, &answer.as_str(), want, &(*config, *script));
-    }
+    compare_picks(&rt, &MemoryFiles { files: &files });
 }
 
 /// Compares the length of a file that is read, or why it is refused.

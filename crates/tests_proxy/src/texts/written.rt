@@ -47,7 +47,7 @@ pub fn assert_begins_at(rt: &impl Abort, text: &[u8], written: &[u8], call: u64)
 }
 
 /// What the printing of connection 3 downstream answers.
-pub fn print_third<W: Sink>(
+fn print_third<W: Sink>(
     rt: &(impl Abort + AllocGlobal),
     writer: &mut W,
     setup: &Setup,
@@ -64,6 +64,21 @@ pub fn print_third<W: Sink>(
         Stream::Downstream,
         1,
     )
+}
+
+/// Compares what is printed of connection 3 downstream to a writer that takes `most` bytes a call.
+pub fn compare_third(
+    rt: &(impl Abort + AllocGlobal),
+    setup: &Setup,
+    most: usize,
+    failing_call: Option<u64>,
+)
+    requires { 0 < most }
+{
+    let writer = MemorySink::new(rt.alloc(), ROOM, most, failing_call);
+    let mut writer = writer.expect(rt, "memory");
+    assert_equal(rt, &print_third(rt, &mut writer, setup), &Ok(()));
+    assert_equal(rt, &writer.bytes(), &MET.as_bytes());
 }
 
 /// What is printed of the script's migration.
@@ -139,10 +154,7 @@ fn each_write_of_a_pick_may_fail(rt: HostRuntime) {
 /// Call 20 is one too many to fail.
 #[test]
 fn a_pick_takes_nineteen_writes(rt: HostRuntime) {
-    let setup = setup_of(&rt, CONFIG, SCRIPT.as_bytes());
-    let mut writer = MemorySink::new(rt.alloc(), ROOM, 10, Some(20)).expect(&rt, "memory");
-    assert_equal(&rt, &print_third(&rt, &mut writer, &setup), &Ok(()));
-    assert_equal(&rt, &writer.bytes(), &MET.as_bytes());
+    compare_third(&rt, &setup_of(&rt, CONFIG, SCRIPT.as_bytes()), 10, Some(20));
 }
 
 #[test]
