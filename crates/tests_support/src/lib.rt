@@ -16,5 +16,5 @@ pub use meeting::{Meeting, comes_true};
 pub use scarcity::Scarcity;
 pub use stacks::{keep_stacks, with_stacks};
 pub use tables::table_of;
-pub use tries::{MAX_TRIES, Refusals, Tried, answer_of, times_refused, try_each};
+pub use tries::{MAX_TRIES, Refusals, Tried, answer_of, try_each};
 pub use values::{arrivals_of, at, bytes_at_zero, chain_of, slice};

@@ -1,6 +1,5 @@
 //! Trying a call with ever more memory.
 use crate::scarcity::Scarcity;
-use std::alloc::Global;
 use std::test::Fail;
 
 /// How often a call is tried at most.
@@ -88,25 +87,4 @@ pub fn try_each<Try: FnMut(&mut Scarcity, usize) -> Result<Tried, Fail>>(
         }
     }
     Ok(refusals)
-}
-
-/// Makes a call with no memory, then with 16 bytes more each time, until it isn't refused. Returns how often it was.
-pub fn times_refused<Call: Fn() -> Tried + Drop>(
-    scarcity: &mut Scarcity,
-    alloc: Global,
-    call: Call,
-) -> Result<usize, Fail>
-    requires { Call.IsAlwaysCallable call }
-{
-    let refusals = try_each(scarcity, MAX_TRIES, |scarcity, nth| {
-        scarcity.leave(alloc, nth)?;
-        let answer = call();
-        scarcity.end();
-        Ok(answer)
-    })?;
-    if refusals.is_answered {
-        Ok(refusals.memory)
-    } else {
-        Err("refused whatever is left".into())
-    }
 }

@@ -17,6 +17,9 @@ use tox_words::Words;
 /// More pages than a link needs.
 const PAGES: usize = 100;
 
+/// How often a link is tried with so many pages. A thread is refused too where the one before it still has the stack.
+const TIMES: usize = 4;
+
 /// A clock that stands still.
 #[derive(Drop)]
 struct StandingClock;
@@ -145,15 +148,8 @@ fn carry_all<R: Threads + Wait + Copy + Send + Sync + Abort + 'static>(
     alloc: Global,
     reads_refused: &AtomicU64,
 ) -> Refusals {
-    let mut threads_refused = 0usize;
-    let refusals = try_each(scarcity, PAGES, |scarcity, nth| {
-        // A refused thread tells nothing of so many pages, so they are left once more.
-        let pages = nth.saturating_sub(threads_refused);
-        let tried = link(rt, scarcity, alloc, pages, reads_refused);
-        if tried == Tried::NoThread {
-            threads_refused = threads_refused.saturating_add(1);
-        }
-        Ok(tried)
+    let refusals = try_each(scarcity, TIMES * PAGES, |scarcity, nth| {
+        Ok(link(rt, scarcity, alloc, nth / TIMES, reads_refused))
     });
     let Ok(refusals) = refusals else {
         panic!(rt; "another answer than with ample memory")
