@@ -5,7 +5,7 @@ ghost use Rattle.tox_book.specs.Links.{end_state, new_link, new_side, side_of, w
 use tox_time::{Ending, Stream};
 
 /// How a side of a link stands.
-#[derive(Clone, Copy, Debug, PartialEq, Eq)]
+#[derive(Clone, Copy, PartialEq, Eq)]
 pub enum SideState {
     /// Bytes may still pass.
     Running,
@@ -15,7 +15,7 @@ pub enum SideState {
 }
 
 /// One direction of a link.
-#[derive(Clone, Copy, Debug, PartialEq, Eq)]
+#[derive(Clone, Copy, PartialEq, Eq)]
 pub struct Side {
     /// The bytes that passed: at most 2^40.
     pub bytes: u64,
@@ -23,7 +23,7 @@ pub struct Side {
 }
 
 /// One accepted connection.
-#[derive(Clone, Copy, Debug, PartialEq, Eq)]
+#[derive(Clone, Copy, PartialEq, Eq)]
 pub struct Link {
     pub upstream: Side,
     pub downstream: Side,

@@ -13,7 +13,7 @@ use tox_script::Step;
 pub(crate) const LAST: u64 = 1_000_000;
 
 /// Consecutive connections that meet one rule. Rules are numbered from 1.
-#[derive(Clone, Copy, Debug, Default, Drop)]
+#[derive(Clone, Copy, Default, Drop)]
 pub(crate) struct Run {
     pub(crate) first: u64,
     pub(crate) last: u64,

@@ -11,7 +11,7 @@ use crate::tally::Tally;
 use std::alloc::{AllocError, Global};
 
 /// The connections of a rule, and the rule's number from 1.
-#[derive(Clone, Copy, Debug)]
+#[derive(Clone, Copy)]
 pub(crate) struct Range {
     pub(crate) rule: usize,
     pub(crate) first: u64,
@@ -19,7 +19,7 @@ pub(crate) struct Range {
 }
 
 /// What some runs have in common.
-#[derive(Clone, Copy, Debug, Drop)]
+#[derive(Clone, Copy, Drop)]
 pub(crate) struct Summary {
     /// A lower bound of the runs' first connections.
     pub(crate) first: u64,

@@ -15,7 +15,7 @@ use tox_text::Part::{Number, Word};
 use tox_time::{EndFault, Sink, Stream};
 
 /// A connection of a proxy, and the rule that it meets, by its number from 0.
-#[derive(Clone, Copy, Debug)]
+#[derive(Clone, Copy)]
 pub(crate) struct Met<'a> {
     pub(crate) proxy: &'a str,
     pub(crate) conn: u64,

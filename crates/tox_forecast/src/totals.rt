@@ -103,7 +103,7 @@ fn print_toxic<W: Sink>(
 }
 
 /// What a line tells of a toxic.
-#[derive(Clone, Copy, Debug)]
+#[derive(Clone, Copy)]
 pub(crate) struct Total<'a> {
     pub(crate) proxy: &'a str,
     /// The rule's number from 1.

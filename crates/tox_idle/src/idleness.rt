@@ -6,7 +6,7 @@ ghost use Rattle.tox_idle.specs.Idle.{ChangesNothing, cuts_last, does_nothing, d
 use tox_defs::{Chain, Entry, MAX_TOXICITY, Toxic};
 
 /// Why a toxic changes nothing.
-#[derive(Clone, Copy, Debug, PartialEq, Eq)]
+#[derive(Clone, Copy, PartialEq, Eq)]
 pub enum Idleness {
     /// It is a latency of 0 without jitter, or a slow_close of 0.
     DoesNothing,

@@ -10,14 +10,14 @@ use tox_runs::ToxicsFault;
 use tox_time::Stream;
 
 /// A toxic as it was typed: its stream, and its short form.
-#[derive(Clone, Copy, Debug)]
+#[derive(Clone, Copy)]
 pub struct InlineToxic<'a> {
     pub stream: Stream,
     pub short: &'a str,
 }
 
 /// A toxic that was read: its stream, its number there from 1, and the toxic with its toxicity.
-#[derive(Clone, Copy, Debug)]
+#[derive(Clone, Copy)]
 pub(crate) struct NumberedToxic {
     pub(crate) stream: Stream,
     pub(crate) number: usize,

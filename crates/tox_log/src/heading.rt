@@ -21,7 +21,7 @@ use tox_time::Stream;
 use tox_words::{Lanes, MAX_CONNECTIONS};
 
 /// What the first three lines of a log say.
-#[derive(Debug, Drop)]
+#[derive(Drop)]
 pub struct Heading {
     /// The proxy's name, as it is printed.
     pub proxy: String,
@@ -34,7 +34,7 @@ pub struct Heading {
 }
 
 /// The stream of a link, as the second line says it.
-#[derive(Clone, Copy, Debug)]
+#[derive(Clone, Copy)]
 pub(crate) struct LinkWords<'a> {
     pub(crate) proxy: &'a str,
     pub(crate) number: u64,

@@ -37,7 +37,7 @@ use tox_text::Buffer;
 use tox_time::{Ending, Micros, Sink, Slice, Source};
 
 /// What a log is.
-#[derive(Clone, Copy, Debug, PartialEq, Eq)]
+#[derive(Clone, Copy, PartialEq, Eq)]
 pub enum Verdict {
     /// A faithful log of a stream that ended so.
     Faithful(Ending),

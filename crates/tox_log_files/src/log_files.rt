@@ -17,7 +17,7 @@ pub trait LogFiles {
 }
 
 /// No log is kept.
-#[derive(Clone, Copy, Debug)]
+#[derive(Clone, Copy)]
 pub struct NoLogs;
 
 impl LogFiles for NoLogs {

@@ -1,7 +1,7 @@
 //! How far a log is.
 
 /// How far a log is.
-#[derive(Clone, Copy, Debug, PartialEq, Eq)]
+#[derive(Clone, Copy, PartialEq, Eq)]
 pub(crate) enum LogState {
     Goes,
     /// It has its last line, or its greatest length.

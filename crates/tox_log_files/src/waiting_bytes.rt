@@ -11,7 +11,6 @@ const MAX_WAITING_IN_ALL: u64 = 67_108_864;
 const MANY_IN_ALL: u64 = 16_777_216;
 
 /// What is true of the number of bytes that wait.
-#[derive(Debug)]
 struct WithinLimit;
 
 impl Rule for WithinLimit {

@@ -5,7 +5,7 @@ ghost use Rattle.tox_plan.specs.Phase.{phase_view};
 use tox_time::Ending;
 
 /// How far a runner is. Whoever has an ending keeps it.
-#[derive(Clone, Copy, Debug)]
+#[derive(Clone, Copy)]
 pub(crate) enum Phase {
     /// A further cut may be found in the offered piece.
     Cutting,

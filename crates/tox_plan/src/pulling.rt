@@ -12,7 +12,7 @@ use tox_time::{Slice, Span};
 use tox_words::Drawing;
 
 /// Counts the looks at cursors, and notes whether one found an ending.
-#[derive(Clone, Copy, Debug, PartialEq, Eq)]
+#[derive(Clone, Copy, PartialEq, Eq)]
 pub(crate) struct PullStats {
     /// How often a cursor was looked at.
     pub(crate) turns: u64,

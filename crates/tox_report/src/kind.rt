@@ -6,7 +6,7 @@ use crate::outcome::Outcome;
 use crate::row::{Row, Told};
 
 /// What the totals count.
-#[derive(Clone, Copy, Debug)]
+#[derive(Clone, Copy)]
 pub(crate) enum Kind {
     /// Logs that were judged.
     Judged,

@@ -13,7 +13,7 @@ use std::alloc::{AllocError, Global};
 use tox_log::{JudgedLog, ReplayFault, judge_log};
 
 /// The logs of a run, judged. Keeps a row for each.
-#[derive(Debug, Drop)]
+#[derive(Drop)]
 pub struct Report {
     /// The logs that can't be judged or aren't faithful, in the order given.
     marked: Vec<Row>,

@@ -8,7 +8,7 @@ use tox_log::Percentiles;
 use tox_time::Stream;
 
 /// A log, as its row tells it.
-#[derive(Debug, Drop)]
+#[derive(Drop)]
 pub(crate) struct Row {
     /// The name of its file.
     pub(crate) name: String,
@@ -16,7 +16,7 @@ pub(crate) struct Row {
 }
 
 /// What is told of a log.
-#[derive(Debug, Drop)]
+#[derive(Drop)]
 pub(crate) enum Told {
     Stream(StreamFacts),
     /// The log can't be judged: the text of the fault.
@@ -24,7 +24,7 @@ pub(crate) enum Told {
 }
 
 /// What a log says of its stream.
-#[derive(Debug, Drop)]
+#[derive(Drop)]
 pub(crate) struct StreamFacts {
     pub(crate) proxy: String,
     /// The link's number.

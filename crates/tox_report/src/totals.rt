@@ -12,7 +12,7 @@ use tox_draw::{push_number, push_word};
 use tox_log::Percentiles;
 
 /// The seed of a run.
-#[derive(Clone, Copy, Debug)]
+#[derive(Clone, Copy)]
 pub(crate) enum Seed {
     /// No log tells one.
     Unknown,

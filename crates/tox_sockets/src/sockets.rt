@@ -22,7 +22,7 @@ pub struct Sockets<'a> {
 }
 
 /// What is shut where a stream has ended.
-#[derive(Clone, Copy, Debug, PartialEq, Eq)]
+#[derive(Clone, Copy, PartialEq, Eq)]
 enum Shut {
     Nothing,
     /// The target's writing half.

@@ -14,7 +14,7 @@ use tox_time::{EndFault, Sink};
 const BYTES_AT_ONCE: usize = 64;
 
 /// Bytes that wait for a writer, at most `ROOM`. It takes no memory.
-#[derive(Debug, Drop)]
+#[derive(Drop)]
 pub struct SizedBuffer<const ROOM: usize> {
     bytes: ArrayVec<u8, ROOM>,
 }

@@ -1,7 +1,7 @@
 //! What a printed text is put together from.
 
 /// A part of a printed text.
-#[derive(Clone, Copy, Debug)]
+#[derive(Clone, Copy)]
 pub enum Part<'a> {
     /// A text as it stands.
     Word(&'a str),

@@ -8,7 +8,7 @@ use std::io::{Read, Write};
 
 /// A reader or writer of std. Keeps whether it has failed. As an end it tells no bytes; its clause `inner` passes on what
 /// the reader or writer in it tells.
-#[derive(Debug, Drop)]
+#[derive(Drop)]
 pub struct Real<E> {
     inner: E,
     failed: bool,

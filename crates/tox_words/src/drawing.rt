@@ -10,7 +10,7 @@ use crate::words::Words;
 use std::marker::Model;
 
 /// What the lanes of a link draw from its table.
-#[derive(Debug, Drop)]
+#[derive(Drop)]
 pub struct Drawing<'w> {
     lanes: Lanes,
     words: WordTable<'w>,

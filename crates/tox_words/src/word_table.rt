@@ -2,7 +2,7 @@
 ghost use Rattle.std.specs.Prelude.{◌≡◌};
 
 /// The words of a table.
-#[derive(Debug, Drop)]
+#[derive(Drop)]
 pub(crate) enum WordTable<'w> {
     Lent(&'w [u32]),
     Owned(Vec<u32>),

@@ -5,7 +5,7 @@ use rtrb::{Consumer, Producer, Protocol};
 use std::alloc::Global;
 
 /// Why a reading ended.
-#[derive(Clone, Copy, Debug, PartialEq, Eq)]
+#[derive(Clone, Copy, PartialEq, Eq)]
 pub enum ReadEnd {
     /// The reader had nothing left.
     Eof,

@@ -1,7 +1,7 @@
 //! How lines are written.
 
 /// How each line is written.
-#[derive(Clone, Copy, Debug, PartialEq, Eq)]
+#[derive(Clone, Copy, PartialEq, Eq)]
 pub enum LineForm {
     /// Words and numbers with spaces between them.
     Words,

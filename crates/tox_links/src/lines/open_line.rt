@@ -18,7 +18,7 @@ use tox_words::Drawing;
 pub(crate) type Names<'a> = ArrayVec<&'a str, MAX_TOXICS>;
 
 /// A stream of a link whose upstream is reached.
-#[derive(Clone, Copy, Debug)]
+#[derive(Clone, Copy)]
 pub(crate) struct OpenStream<'a> {
     pub(crate) proxy: &'a str,
     pub(crate) number: u64,

@@ -15,7 +15,7 @@ const MAX_LINE: usize = 6_144;
 const ROOM: usize = MAX_LINE + 1;
 
 /// The text of one line. It takes no memory.
-#[derive(Debug, Drop)]
+#[derive(Drop)]
 pub(crate) struct LineText {
     bytes: ArrayVec<u8, ROOM>,
     failed: bool,

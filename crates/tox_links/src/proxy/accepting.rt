@@ -17,7 +17,7 @@ const BROKE: [i32; 7] = [1, 64, 71, 92, 95, 110, 112];
 pub const ACCEPT_REST: u64 = 10;
 
 /// What to do after a failed `accept`.
-#[derive(Clone, Copy, Debug, PartialEq, Eq)]
+#[derive(Clone, Copy, PartialEq, Eq)]
 pub enum Next {
     TryAgain,
     Rest,

@@ -10,7 +10,7 @@ use tox_text::{DryFault, check_arrivals};
 use tox_time::Source;
 
 /// A text without faults, and room for each piece of it.
-#[derive(Debug, Drop)]
+#[derive(Drop)]
 pub(crate) struct CheckedInput {
     pub(crate) text: Vec<u8>,
     pub(crate) room: PieceRoom,

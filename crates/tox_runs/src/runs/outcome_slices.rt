@@ -8,7 +8,7 @@ use tox_text::{Buffer, print_lent};
 use tox_time::{EndFault, Ending, Micros, Outcome, Sink, Slice};
 
 /// The slices of an outcome that are left to print.
-#[derive(Debug, Drop)]
+#[derive(Drop)]
 pub(crate) struct OutcomeSlices<'a> {
     left: &'a [Slice],
     position: u64,

@@ -16,7 +16,7 @@ use tox_text::{Buffer, Event, decode_into, first_line, line_of, print_ending};
 use tox_time::{EndFault, Micros, Sink};
 
 /// Room for one piece at a time: a vector for its bytes, and a window that holds it.
-#[derive(Debug, Drop)]
+#[derive(Drop)]
 pub(crate) struct PieceRoom {
     spare: Vec<u8>,
     window: Window,

@@ -14,7 +14,7 @@ pub struct Slice {
 }
 
 /// Slices in the order in which they leave. Contracts see it as a list.
-#[derive(Debug, Drop)]
+#[derive(Drop)]
 pub struct SliceList {
     slices: Vec<Slice>,
 }
