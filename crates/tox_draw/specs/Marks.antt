@@ -20,13 +20,11 @@ area_path class first second end base =
 unfoldable pub base_line : ℕ → List ℕ
 base_line base = codes "<path class=\"axis\" d=\"M64 " ++ decimal base ++ codes "H814\"/>\n"
 
--- down to a y
-unfoldable pub down : ℕ → List ℕ
-down y = codes "V" ++ decimal y
-
 -- a vertical line
 unfoldable pub vertical : ℕ → ℕ → ℕ → List ℕ
-vertical x top base = path_start (codes "axis") ++ (move_to x top ++ (down base ++ path_end))
+vertical x top base =
+    codes "<path class=\"axis\" d=\"M"
+    ++ (decimal x ++ (codes " " ++ (decimal top ++ (codes "V" ++ (decimal base ++ codes "\"/>\n")))))
 
 -- the vertical line of an end at an instant
 abbrev pub end_line_at : Frame → ℕ → List ℕ

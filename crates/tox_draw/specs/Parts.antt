@@ -1,18 +1,11 @@
 -- The parts that the lines of a picture have in common.
 use Rattle.std.specs.Prelude.{ℕ, List, ◌++◌, codes, decimal}
 
--- the start of an element of a class
-unfoldable pub element : List ℕ → List ℕ → List ℕ
-element name class = codes "<" ++ name ++ codes " class=\"" ++ class ++ codes "\""
-
--- an attribute of an element
-unfoldable pub attribute : List ℕ → ℕ → List ℕ
-attribute name value = codes " " ++ name ++ codes "=\"" ++ decimal value ++ codes "\""
-
 -- the start of a line of text at a point
 unfoldable pub text_start : List ℕ → ℕ → ℕ → List ℕ
 text_start class x y =
-    element (codes "text") class ++ (attribute (codes "x") x ++ (attribute (codes "y") y ++ codes ">"))
+    codes "<text class=\""
+    ++ (class ++ (codes "\" x=\"" ++ (decimal x ++ (codes "\" y=\"" ++ (decimal y ++ codes "\">")))))
 
 -- its end
 unfoldable pub text_end : List ℕ
@@ -41,5 +34,6 @@ line_to x y = codes "L" ++ decimal x ++ codes " " ++ decimal y
 -- a circle about a point
 unfoldable pub circle : List ℕ → ℕ → ℕ → List ℕ
 circle class x y =
-    element (codes "circle") class
-    ++ (attribute (codes "cx") x ++ (attribute (codes "cy") y ++ codes " r=\"3\"/>\n"))
+    codes "<circle class=\""
+    ++ (class
+    ++ (codes "\" cx=\"" ++ (decimal x ++ (codes "\" cy=\"" ++ (decimal y ++ codes "\" r=\"3\"/>\n")))))

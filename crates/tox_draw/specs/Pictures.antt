@@ -27,24 +27,19 @@ abbrev pub shown_total : ℕ → Option Curve → ℕ
 shown_total planned None = planned
 shown_total planned (Some written) = written.total
 
--- the first line up to what the picture is labelled by
-unfoldable pub opening : ℕ → List ℕ
-opening high =
+-- the first line. The picture is labelled by its title and its sentences
+unfoldable pub opening : ℕ → Setting → List ℕ
+opening high setting =
     codes "<svg xmlns=\"http://www.w3.org/2000/svg\" class=\"toxi-draw\" width=\"960\" height=\""
     ++ (decimal high ++ (codes "\" viewBox=\"0 0 960 "
-    ++ (decimal high ++ codes "\" role=\"img\" aria-labelledby=\"")))
-
--- the ids of the title and of the sentences, which end the first line
-unfoldable pub labelled : Setting → List ℕ
-labelled setting =
-    codes "toxi-title"
-    ++ (id_end setting ++ (codes " toxi-desc" ++ (id_end setting ++ codes "\">\n")))
+    ++ (decimal high ++ (codes "\" role=\"img\" aria-labelledby=\"toxi-title"
+    ++ (id_end setting ++ (codes " toxi-desc" ++ (id_end setting ++ codes "\">\n")))))))
 
 -- the line of the title
 unfoldable pub title_element : Setting → List (List ℕ) → List ℕ
 title_element setting forms =
-    codes "<title id=\"toxi-title"
-    ++ (id_end setting ++ (codes "\">" ++ (title forms ++ codes "</title>\n")))
+    (codes "<title id=\"toxi-title" ++ (id_end setting ++ codes "\">"))
+    ++ (title forms ++ codes "</title>\n")
 
 -- what was due, and what was written
 unfoldable pub due_told : Curve → Curve → List ℕ
@@ -67,9 +62,8 @@ sentences picture =
 -- the line of the sentences
 unfoldable pub description : Picture → List ℕ
 description picture =
-    codes "<desc id=\"toxi-desc"
-    ++ (id_end picture.setting
-    ++ (codes "\">Bytes over time." ++ (sentences picture ++ codes "</desc>\n")))
+    (codes "<desc id=\"toxi-desc" ++ (id_end picture.setting ++ codes "\">Bytes over time."))
+    ++ (sentences picture ++ codes "</desc>\n")
 
 -- the background
 unfoldable pub paper : ℕ → List ℕ
@@ -78,11 +72,10 @@ paper high = codes "<rect class=\"paper\" width=\"960\" height=\"" ++ (decimal h
 -- all that stands before the heading
 unfoldable pub front : Picture → List ℕ
 front picture =
-    opening (picture.frame.base + 44)
-    ++ (labelled picture.setting
+    opening (picture.frame.base + 44) picture.setting
     ++ (title_element picture.setting (texts_of picture.forms.items)
     ++ (description picture
-    ++ (own_style picture.setting ++ paper (picture.frame.base + 44)))))
+    ++ (own_style picture.setting ++ paper (picture.frame.base + 44))))
 
 -- the heading and the axes
 unfoldable pub axes : Picture → List ℕ

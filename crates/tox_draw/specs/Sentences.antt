@@ -8,18 +8,11 @@ abbrev pub title : List (List ℕ) → List ℕ
 title [] = codes "no toxics"
 title (form ∷ forms) = form ++ flat_map (λ next. codes ", then " ++ next) forms
 
--- how many bytes passed
-unfoldable pub count : List ℕ → ℕ → List ℕ
-count word total = codes " " ++ word ++ codes " " ++ decimal total ++ codes " B"
-
--- when the last byte passed
-unfoldable pub last_byte_text : ℕ → List ℕ
-last_byte_text t = codes ", the last at " ++ decimal t ++ codes " us."
-
 -- bytes that passed a point of the link, the last at an instant
 unfoldable pub some_passed : List ℕ → ℕ → ℕ → List ℕ
 some_passed word total last =
-    count word total ++ last_byte_text last
+    codes " "
+    ++ (word ++ (codes " " ++ (decimal total ++ (codes " B, the last at " ++ (decimal last ++ codes " us.")))))
 
 -- what passed a point of the link
 abbrev pub passed : List ℕ → ℕ → ℕ → List ℕ

@@ -4,8 +4,8 @@ use Rattle.tox_draw.specs.declared.axis.Axis.{Axis}
 use Rattle.tox_draw.specs.declared.frame.Frame.{Frame}
 use Rattle.tox_draw.specs.declared.unit.Unit.{Unit}
 use Rattle.tox_draw.specs.Axes.{part_of}
-use Rattle.tox_draw.specs.Marks.{down}
-use Rattle.tox_draw.specs.Parts.{move_to, path_end, path_start, text_end, text_start}
+use Rattle.tox_draw.specs.Marks.{vertical}
+use Rattle.tox_draw.specs.Parts.{text_end, text_start}
 use Rattle.tox_draw.specs.Units.{byte_unit, figure_in_unit, time_unit, unit_name}
 
 -- the texts of the first so many numbers, in order
@@ -47,15 +47,10 @@ byte_ticks frame = firsts (byte_tick frame) (frame.bytes.count + 1)
 abbrev pub tick_x : Frame → ℕ → ℕ
 tick_x frame index = 64 + part_of index frame.time.count 750
 
--- a mark below the base
-unfoldable pub mark : ℕ → ℕ → List ℕ
-mark x base =
-    path_start (codes "axis") ++ (move_to x base ++ (down (base + 5) ++ path_end))
-
--- a value of the axis of time, and its mark
+-- a value of the axis of time, and its mark below the base
 unfoldable pub time_tick : Frame → ℕ → List ℕ
 time_tick frame index =
-    mark (tick_x frame index) frame.base
+    vertical (tick_x frame index) frame.base (frame.base + 5)
     ++ (text_start (codes "mid") (tick_x frame index) (frame.base + 22)
     ++ label frame.time index (time_unit frame.time.end))
 

@@ -3,13 +3,13 @@ ghost use Rattle.std.specs.Prelude.{◌≤◌, OnOk};
 ghost use Rattle.tox_draw.specs.Adding.{AddsText};
 ghost use Rattle.tox_draw.specs.Frames.{IsFrame};
 ghost use Rattle.tox_draw.specs.Headings.{texts_of};
-ghost use Rattle.tox_draw.specs.Pictures.{description, due_told, front, labelled, left_told, opening, paper, sentences, title_element};
+ghost use Rattle.tox_draw.specs.Pictures.{description, due_told, front, left_told, opening, paper, sentences, title_element};
 
 use crate::curve::Curve;
-use crate::parts::{push_number, push_word};
+use crate::parts::push_word;
 use crate::picture::Picture;
 use crate::sentences::{push_end, push_passed, push_source_end, push_title};
-use crate::setting::{Setting, push_id_end, push_own_style};
+use crate::setting::{IdEnd, Setting, push_own_style};
 use std::alloc::AllocError;
 
 /// Adds all that stands before the heading.
@@ -19,39 +19,24 @@ pub(crate) fn push_front(text: &mut String, picture: &Picture) -> Result<(), All
     ensures { OnOk result (AddsText text.old text.new (front picture.now)) }
 {
     let high = picture.frame.base + 44;
-    push_opening(text, high)?;
-    push_labelled(text, &picture.setting)?;
+    push_opening(text, high, &picture.setting)?;
     push_title_line(text, &picture.setting, &picture.forms)?;
     push_description(text, picture)?;
     push_own_style(text, &picture.setting)?;
     push_paper(text, high)
 }
 
-/// Adds the first line up to what the picture is labelled by.
-#[tactic(auto, using(crate::proofs::Growing::adds_then), unfolding(crate::specs::Pictures::opening))]
-fn push_opening(text: &mut String, high: u64) -> Result<(), AllocError>
-    ensures { OnOk result (AddsText text.old text.new (opening high)) }
+/// Adds the first line. The picture is labelled by its title and its sentences.
+#[tactic(auto, unfolding(crate::specs::Pictures::opening))]
+fn push_opening(text: &mut String, high: u64, setting: &Setting) -> Result<(), AllocError>
+    ensures { OnOk result (AddsText text.old text.new (opening high setting.now)) }
 {
-    push_word(
+    let end = IdEnd(*setting);
+    writeln!(
         text,
-        "<svg xmlns=\"http://www.w3.org/2000/svg\" class=\"toxi-draw\" width=\"960\" height=\"",
-    )?;
-    push_number(text, high)?;
-    push_word(text, "\" viewBox=\"0 0 960 ")?;
-    push_number(text, high)?;
-    push_word(text, "\" role=\"img\" aria-labelledby=\"")
-}
-
-/// Adds the ids of the title and of the sentences, and ends the first line.
-#[tactic(auto, using(crate::proofs::Growing::adds_then), unfolding(crate::specs::Pictures::labelled))]
-fn push_labelled(text: &mut String, setting: &Setting) -> Result<(), AllocError>
-    ensures { OnOk result (AddsText text.old text.new (labelled setting.now)) }
-{
-    push_word(text, "toxi-title")?;
-    push_id_end(text, setting)?;
-    push_word(text, " toxi-desc")?;
-    push_id_end(text, setting)?;
-    push_word(text, "\">\n")
+        "<svg xmlns=\"http://www.w3.org/2000/svg\" class=\"toxi-draw\" width=\"960\" height=\"{high}\" \
+         viewBox=\"0 0 960 {high}\" role=\"img\" aria-labelledby=\"toxi-title{end} toxi-desc{end}\">"
+    )
 }
 
 /// Adds the line of the title.
@@ -60,9 +45,8 @@ fn push_title_line(text: &mut String, setting: &Setting, forms: &[String]) -> Re
     ensures { OnOk result
         (AddsText text.old text.new (title_element setting.now (texts_of forms.now))) }
 {
-    push_word(text, "<title id=\"toxi-title")?;
-    push_id_end(text, setting)?;
-    push_word(text, "\">")?;
+    let end = IdEnd(*setting);
+    write!(text, "<title id=\"toxi-title{end}\">")?;
     push_title(text, forms)?;
     push_word(text, "</title>\n")
 }
@@ -72,9 +56,8 @@ fn push_title_line(text: &mut String, setting: &Setting, forms: &[String]) -> Re
 fn push_description(text: &mut String, picture: &Picture) -> Result<(), AllocError>
     ensures { OnOk result (AddsText text.old text.new (description picture.now)) }
 {
-    push_word(text, "<desc id=\"toxi-desc")?;
-    push_id_end(text, &picture.setting)?;
-    push_word(text, "\">Bytes over time.")?;
+    let end = IdEnd(picture.setting);
+    write!(text, "<desc id=\"toxi-desc{end}\">Bytes over time.")?;
     push_sentences(text, picture)?;
     push_word(text, "</desc>\n")
 }
@@ -115,11 +98,12 @@ fn push_due(text: &mut String, planned: &Curve, written: &Curve) -> Result<(), A
 }
 
 /// Adds the background.
-#[tactic(auto, using(crate::proofs::Growing::adds_then), unfolding(crate::specs::Pictures::paper))]
+#[tactic(auto, unfolding(crate::specs::Pictures::paper))]
 fn push_paper(text: &mut String, high: u64) -> Result<(), AllocError>
     ensures { OnOk result (AddsText text.old text.new (paper high)) }
 {
-    push_word(text, "<rect class=\"paper\" width=\"960\" height=\"")?;
-    push_number(text, high)?;
-    push_word(text, "\"/>\n")
+    writeln!(
+        text,
+        "<rect class=\"paper\" width=\"960\" height=\"{high}\"/>"
+    )
 }

@@ -2,7 +2,7 @@
 ghost use Rattle.std.specs.Prelude.{◌≤◌, ◌<◌, length, OnOk};
 ghost use Rattle.tox_draw.specs.Adding.{AddsText};
 ghost use Rattle.tox_draw.specs.Frames.{IsFrame};
-ghost use Rattle.tox_draw.specs.Marks.{arrow, area_path, base_line, cross, end_line, down, end_mark, line_path, source_mark, stroke, vertical};
+ghost use Rattle.tox_draw.specs.Marks.{arrow, area_path, base_line, cross, end_line, end_mark, line_path, source_mark, stroke, vertical};
 
 use crate::frame::Frame;
 use crate::link_end::LinkEnd;
@@ -71,21 +71,17 @@ pub(crate) fn push_end_line(
     push_vertical(text, frame.x_of(&end.instant()), frame.top, frame.base)
 }
 
-#[tactic(auto, using(crate::proofs::Growing::adds_then), unfolding(crate::specs::Marks::vertical))]
-fn push_vertical(text: &mut String, x: u64, top: u64, base: u64) -> Result<(), AllocError>
+#[tactic(auto, unfolding(crate::specs::Marks::vertical))]
+/// Adds a vertical line.
+pub(crate) fn push_vertical(
+    text: &mut String,
+    x: u64,
+    top: u64,
+    base: u64,
+) -> Result<(), AllocError>
     ensures { OnOk result (AddsText text.old text.new (vertical x top base)) }
 {
-    push_path_start(text, "axis")?;
-    push_move(text, x, top)?;
-    push_down(text, base)?;
-    push_path_end(text)
-}
-
-#[tactic(auto, unfolding(crate::specs::Marks::down))]
-pub(crate) fn push_down(text: &mut String, y: u64) -> Result<(), AllocError>
-    ensures { OnOk result (AddsText text.old text.new (down y)) }
-{
-    write!(text, "V{y}")
+    writeln!(text, "<path class=\"axis\" d=\"M{x} {top}V{base}\"/>")
 }
 
 /// Adds the mark of the source's end, if it ended.

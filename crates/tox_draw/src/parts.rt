@@ -1,7 +1,7 @@
 //! The parts that the lines of a picture have in common.
 ghost use Rattle.std.specs.Prelude.{◌≡◌, decimal, OnOk};
 ghost use Rattle.tox_draw.specs.Adding.{AddsText};
-ghost use Rattle.tox_draw.specs.Parts.{attribute, circle, element, line_to, move_to, path_end, path_start, text_end, text_line, text_start};
+ghost use Rattle.tox_draw.specs.Parts.{circle, line_to, move_to, path_end, path_start, text_end, text_line, text_start};
 
 use std::alloc::AllocError;
 
@@ -35,7 +35,7 @@ pub(crate) fn push_text(
     push_text_end(text)
 }
 
-#[tactic(auto, using(crate::proofs::Growing::adds_then), unfolding(crate::specs::Parts::text_start))]
+#[tactic(auto, unfolding(crate::specs::Parts::text_start))]
 /// Adds the start of a line of text at a point.
 pub(crate) fn push_text_start(
     text: &mut String,
@@ -45,26 +45,7 @@ pub(crate) fn push_text_start(
 ) -> Result<(), AllocError>
     ensures { OnOk result (AddsText text.old text.new (text_start class.now x y)) }
 {
-    push_element(text, "text", class)?;
-    push_attribute(text, "x", x)?;
-    push_attribute(text, "y", y)?;
-    push_word(text, ">")
-}
-
-#[tactic(auto, unfolding(crate::specs::Parts::element))]
-/// Adds the start of an element of a class.
-fn push_element(text: &mut String, name: &str, class: &str) -> Result<(), AllocError>
-    ensures { OnOk result (AddsText text.old text.new (element name.now class.now)) }
-{
-    write!(text, "<{name} class=\"{class}\"")
-}
-
-#[tactic(auto, unfolding(crate::specs::Parts::attribute))]
-/// Adds an attribute of an element.
-fn push_attribute(text: &mut String, name: &str, value: u64) -> Result<(), AllocError>
-    ensures { OnOk result (AddsText text.old text.new (attribute name.now value)) }
-{
-    write!(text, " {name}=\"{value}\"")
+    write!(text, "<text class=\"{class}\" x=\"{x}\" y=\"{y}\">")
 }
 
 #[tactic(auto, unfolding(crate::specs::Parts::text_end))]
@@ -107,13 +88,13 @@ pub(crate) fn push_line(text: &mut String, x: u64, y: u64) -> Result<(), AllocEr
     write!(text, "L{x} {y}")
 }
 
-#[tactic(auto, using(crate::proofs::Growing::adds_then), unfolding(crate::specs::Parts::circle))]
+#[tactic(auto, unfolding(crate::specs::Parts::circle))]
 /// Adds a circle about a point.
 pub(crate) fn push_circle(text: &mut String, class: &str, x: u64, y: u64) -> Result<(), AllocError>
     ensures { OnOk result (AddsText text.old text.new (circle class.now x y)) }
 {
-    push_element(text, "circle", class)?;
-    push_attribute(text, "cx", x)?;
-    push_attribute(text, "cy", y)?;
-    push_word(text, " r=\"3\"/>\n")
+    writeln!(
+        text,
+        "<circle class=\"{class}\" cx=\"{x}\" cy=\"{y}\" r=\"3\"/>"
+    )
 }

@@ -2,7 +2,7 @@
 ghost use Rattle.std.specs.Prelude.{◌≡◌, OnOk};
 ghost use Rattle.tox_draw.specs.Adding.{AddsText};
 ghost use Rattle.tox_draw.specs.Headings.{texts_of};
-ghost use Rattle.tox_draw.specs.Sentences.{count, ended, last_byte_text, passed, some_passed, source_ended, title};
+ghost use Rattle.tox_draw.specs.Sentences.{ended, passed, some_passed, source_ended, title};
 
 use crate::link_end::LinkEnd;
 use std::alloc::AllocError;
@@ -17,8 +17,7 @@ pub(crate) fn push_title(text: &mut String, forms: &[String]) -> Result<(), Allo
     };
     text.push_str(first.as_str())?;
     for form in others {
-        text.push_str(", then ")?;
-        text.push_str(form.as_str())?;
+        write!(text, ", then {form}")?;
     }
     Ok(())
 }
@@ -35,39 +34,16 @@ pub(crate) fn push_passed(
     if total == 0 {
         write!(text, " {word} 0 B.")
     } else {
-        push_some_passed(text, word, total, last)
+        push_some_passed(text, word, total, last.get())
     }
 }
 
-#[tactic(auto, using(crate::proofs::Growing::adds_then), unfolding(crate::specs::Sentences::some_passed))]
-/// Adds the sentence of bytes that passed a point of the link.
-fn push_some_passed(
-    text: &mut String,
-    word: &str,
-    total: u64,
-    last: &Micros,
-) -> Result<(), AllocError>
-    ensures { OnOk result (AddsText text.old text.new (some_passed word.now total last.now)) }
+#[tactic(auto, unfolding(crate::specs::Sentences::some_passed))]
+/// Adds the sentence of bytes that passed a point of the link, the last at an instant.
+fn push_some_passed(text: &mut String, word: &str, total: u64, last: u64) -> Result<(), AllocError>
+    ensures { OnOk result (AddsText text.old text.new (some_passed word.now total last)) }
 {
-    push_count(text, word, total)?;
-    push_last(text, last)
-}
-
-#[tactic(auto, unfolding(crate::specs::Sentences::last_byte_text))]
-/// Adds when the last byte passed.
-fn push_last(text: &mut String, last: &Micros) -> Result<(), AllocError>
-    ensures { OnOk result (AddsText text.old text.new (last_byte_text last.now)) }
-{
-    let last = last.get();
-    write!(text, ", the last at {last} us.")
-}
-
-#[tactic(auto, unfolding(crate::specs::Sentences::count))]
-/// Adds how many bytes passed.
-fn push_count(text: &mut String, word: &str, total: u64) -> Result<(), AllocError>
-    ensures { OnOk result (AddsText text.old text.new (count word.now total)) }
-{
-    write!(text, " {word} {total} B")
+    write!(text, " {word} {total} B, the last at {last} us.")
 }
 
 /// Adds the sentence of the source's end.

@@ -1,12 +1,13 @@
 //! Where a picture stands.
-ghost use Rattle.std.specs.Prelude.{OnOk};
+ghost use Rattle.std.specs.Prelude.{OnOk, Some};
 ghost use Rattle.tox_draw.specs.Adding.{AddsText};
 ghost use Rattle.tox_draw.specs.Settings.{id_end, number_end, own_style};
 ghost use Rattle.tox_draw.specs.Style.{style};
 
-use crate::parts::{push_number, push_word};
+use crate::parts::push_word;
 use crate::style::STYLE;
 use std::alloc::AllocError;
+use std::fmt;
 
 /// Where a picture stands.
 #[derive(Clone, Copy)]
@@ -17,22 +18,20 @@ pub(crate) enum Setting {
     OnPage(u64),
 }
 
-/// Adds what the ids of a picture end with: on a page its number, so that no two ids are alike.
-pub(crate) fn push_id_end(text: &mut String, setting: &Setting) -> Result<(), AllocError>
-    ensures { OnOk result (AddsText text.old text.new (id_end setting.now)) }
-{
-    match setting {
-        Setting::Alone => push_word(text, ""),
-        Setting::OnPage(number) => push_number_end(text, *number),
-    }
-}
+/// What the ids of a picture end with: on a page its number, so that no two ids are alike.
+#[derive(Clone, Copy)]
+pub(crate) struct IdEnd(pub(crate) Setting);
 
-#[tactic(auto, using(crate::proofs::Growing::adds_then), unfolding(crate::specs::Settings::number_end))]
-fn push_number_end(text: &mut String, number: u64) -> Result<(), AllocError>
-    ensures { OnOk result (AddsText text.old text.new (number_end number)) }
-{
-    push_word(text, "-")?;
-    push_number(text, number)
+impl fmt::Display for IdEnd {
+    ghost output = { λ end. Some (id_end end.0) };
+
+    #[tactic(auto, unfolding(crate::specs::Settings::number_end))]
+    fn fmt<W: fmt::Write>(&self, f: &mut fmt::Formatter<W>) -> fmt::Result {
+        match self.0 {
+            Setting::Alone => Ok(()),
+            Setting::OnPage(number) => write!(f, "-{number}"),
+        }
+    }
 }
 
 /// Adds the style of a picture that stands alone.

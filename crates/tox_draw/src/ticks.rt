@@ -3,12 +3,12 @@ ghost use Rattle.std.specs.Prelude.{◌≤◌, OnOk};
 ghost use Rattle.tox_draw.specs.Adding.{AddsText};
 ghost use Rattle.tox_draw.specs.Axes.{IsAxis};
 ghost use Rattle.tox_draw.specs.Frames.{IsFrame};
-ghost use Rattle.tox_draw.specs.Ticks.{byte_tick, byte_ticks, grid, label, mark, time_tick, time_ticks, unit_text};
+ghost use Rattle.tox_draw.specs.Ticks.{byte_tick, byte_ticks, grid, label, time_tick, time_ticks, unit_text};
 
 use crate::axis::{Axis, part_of};
 use crate::frame::Frame;
-use crate::marks::push_down;
-use crate::parts::{push_move, push_path_end, push_path_start, push_text_end, push_text_start};
+use crate::marks::push_vertical;
+use crate::parts::{push_text_end, push_text_start};
 use crate::path::LEFT;
 use crate::unit::{Unit, push_figure};
 use std::alloc::AllocError;
@@ -64,28 +64,16 @@ pub(crate) fn push_time_ticks(text: &mut String, frame: &Frame) -> Result<(), Al
 }
 
 #[tactic(auto, using(crate::proofs::Growing::adds_then), unfolding(crate::specs::Ticks::time_tick))]
-/// Adds a value of the axis of time, and its mark.
+/// Adds a value of the axis of time, and its mark below the base.
 fn push_time_tick(text: &mut String, frame: &Frame, index: u64) -> Result<(), AllocError>
     requires frame { IsFrame frame.now }
     requires within { index ≤ frame.now.time.count }
     ensures { OnOk result (AddsText text.old text.new (time_tick frame.now index)) }
 {
     let x = LEFT + part_of(index, frame.time.count, 750);
-    push_mark(text, x, frame.base)?;
+    push_vertical(text, x, frame.base, frame.base + 5)?;
     push_text_start(text, "mid", x, frame.base + 22)?;
     push_label(text, &frame.time, index, Unit::of_time(frame.time.end))
-}
-
-#[tactic(auto, using(crate::proofs::Growing::adds_then), unfolding(crate::specs::Ticks::mark))]
-/// Adds a mark below the base.
-fn push_mark(text: &mut String, x: u64, base: u64) -> Result<(), AllocError>
-    requires { base ≤ 436 }
-    ensures { OnOk result (AddsText text.old text.new (mark x base)) }
-{
-    push_path_start(text, "axis")?;
-    push_move(text, x, base)?;
-    push_down(text, base + 5)?;
-    push_path_end(text)
 }
 
 #[tactic(auto, using(crate::proofs::Growing::adds_then), unfolding(crate::specs::Ticks::label))]

@@ -10,9 +10,7 @@ use Rattle.tox_draw.proofs.front.push_title_line.Goals as goal
 pub returns : goal.returns
 unfolding title_element
 returns c =
-    let id : List ℕ = id_end c.args.setting.now in
+    let tag : List ℕ = codes "<title id=\"toxi-title" ++ (id_end c.args.setting.now ++ codes "\">") in
     let forms : List ℕ = title (texts_of c.args.forms.now) in
-    adds_then _ _ _ _ (codes "<title id=\"toxi-title") (id ++ (codes "\">" ++ (forms ++ codes "</title>\n"))) c.in_ok-push_word.ensures
-    (adds_then _ _ _ _ id (codes "\">" ++ (forms ++ codes "</title>\n")) c.in_ok-push_id_end.ensures
-    (adds_then _ _ _ _ (codes "\">") (forms ++ codes "</title>\n") c.in_ok-push_word-2.ensures
-    (adds_then _ _ _ _ forms (codes "</title>\n") c.in_ok-push_title.ensures c.push_word-3.ensures)))
+    adds_then _ _ _ _ tag (forms ++ codes "</title>\n") (record { added = c.in_ok-write.ensures.bytes })
+    (adds_then _ _ _ _ forms (codes "</title>\n") c.in_ok-push_title.ensures c.push_word.ensures)
