@@ -27,6 +27,6 @@ mod unit;
 
 pub use draw::draw_run;
 pub use form::applied_toxics;
-pub use parts::{push_number, push_word};
+pub use parts::push_word;
 pub use recorded::{draw_log, log_picture};
 pub use style::STYLE;

@@ -1,5 +1,5 @@
 //! The parts that the lines of a picture have in common.
-ghost use Rattle.std.specs.Prelude.{◌≡◌, decimal, OnOk};
+ghost use Rattle.std.specs.Prelude.{◌≡◌, OnOk};
 ghost use Rattle.tox_draw.specs.Adding.{AddsText};
 ghost use Rattle.tox_draw.specs.Parts.{circle, line_to, move_to, path_end, path_start, text_end, text_line, text_start};
 
@@ -10,13 +10,6 @@ pub fn push_word(text: &mut String, word: &str) -> Result<(), AllocError>
     ensures { OnOk result (AddsText text.old text.new word.now) }
 {
     text.push_str(word)
-}
-
-/// Adds a number in decimal.
-pub fn push_number(text: &mut String, number: u64) -> Result<(), AllocError>
-    ensures { OnOk result (AddsText text.old text.new (decimal number)) }
-{
-    write!(text, "{number}")
 }
 
 #[tactic(auto, using(crate::proofs::Growing::adds_then), unfolding(crate::specs::Parts::text_line))]

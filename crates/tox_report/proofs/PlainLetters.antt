@@ -1,12 +1,8 @@
 -- A letter that means nothing in HTML stands as it is.
-use Rattle.std.proofs.Common.{Result, Ok, Err, OnOk, is_ok, if◌then◌else◌, string_bytes, ◌≡◌, ℕ, suc, ◌<◌, ◌≤◌, ◌==◌, false, List, [], ◌∷◌, ◌++◌, length, get_or, inl, inr, refl, sym, ap, ap₂, ◌∙◌, arith, append-nil}
+use Rattle.std.proofs.Common.{◌≡◌, ℕ, suc, ◌<◌, ◌≤◌, ◌==◌, false, List, [], ◌∷◌, ◌++◌, length, get_or, inl, inr, refl, sym, ap, ap₂, ◌∙◌, arith, append-nil}
 use Rattle.std.proofs.lemmas.Bool.{cases_lt}
 use Rattle.std.proofs.lemmas.Str.{encode_ascii, inside_one}
 use Rattle.std.specs.Char.{encode_utf8}
-use Rattle.std.specs.declared.string.String.{String}
-use Rattle.std.specs.declared.alloc.Global.{Global}
-use Rattle.std.specs.declared.alloc.AllocError.{AllocError}
-use Rattle.tox_draw.specs.Adding.{AddsText}
 use Rattle.tox_report.specs.Escaping.{html, html_byte}
 
 -- a byte that means something is one of four
@@ -38,9 +34,3 @@ letter_unchanged letter is = elim (cases_lt letter 128) [
     | inr high ↦ high
   ])
 ]
-
--- such a letter was added
-pub adds_letter : (result : Result (Unit {0}) AllocError) (old new : String Global) (letter : ℕ) → IsPlain letter
-    → string_bytes new ≡ (if is_ok result then string_bytes old ++ encode_utf8 letter else string_bytes old) → OnOk result (AddsText old new (html (encode_utf8 letter)))
-adds_letter (Ok done) old new letter plain added = record { added = added ∙ ap (λ text. string_bytes old ++ text) (sym (letter_unchanged letter plain)) }
-adds_letter (Err error) old new letter plain added = tt

@@ -14,11 +14,15 @@ figure_head number =
     ++ (decimal number ++ (codes "\">\n<figcaption id=\"name-" ++ (decimal number ++ codes "\">")))
 
 -- which stream a picture shows, and the verdict
-unfoldable pub caption : StreamFacts → List ℕ
+unfoldable pub caption_of : List ℕ → ℕ → List ℕ → List ℕ → List ℕ
+caption_of proxy link stream verdict =
+    html proxy
+    ++ (codes " " ++ (decimal link ++ (codes " " ++ (stream
+    ++ (codes ", " ++ (verdict ++ codes "</figcaption>\n"))))))
+
+abbrev pub caption : StreamFacts → List ℕ
 caption facts =
-    html (string_bytes facts.proxy)
-    ++ (codes " " ++ (decimal facts.link ++ (codes " " ++ (stream_name facts.stream
-    ++ (codes ", " ++ outcome_verdict facts.outcome)))))
+    caption_of (string_bytes facts.proxy) facts.link (stream_name facts.stream) (outcome_verdict facts.outcome)
 
 -- a picture in a part of the page that scrolls
 unfoldable pub scrolled : ℕ → List ℕ → List ℕ
@@ -34,5 +38,4 @@ drawn number None = codes "<p>The log couldn't be read again.</p>\n"
 -- the picture of a log, with its caption
 unfoldable pub figure : StreamFacts → ℕ → Option (String Global) → List ℕ
 figure facts number picture =
-    figure_head number
-    ++ (caption facts ++ (codes "</figcaption>\n" ++ (drawn number picture ++ codes "</figure>\n")))
+    figure_head number ++ (caption facts ++ (drawn number picture ++ codes "</figure>\n"))

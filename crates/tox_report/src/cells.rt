@@ -3,33 +3,28 @@ ghost use Rattle.std.specs.Prelude.{◌≡◌, OnOk};
 ghost use Rattle.tox_draw.specs.Adding.{AddsText};
 ghost use Rattle.tox_report.specs.Cells.{counted_cell, number_cell, text_cell, word_cell};
 
-use crate::escaping::push_escaped;
+use crate::escaping::Escaped;
 use std::alloc::AllocError;
-use tox_draw::{push_number, push_word};
 
 /// Adds a cell of a text, behind its tag.
-#[tactic(auto, using(tox_draw::proofs::Growing::adds_then), unfolding(crate::specs::Cells::text_cell))]
+#[tactic(auto, unfolding(crate::specs::Cells::text_cell))]
 pub(crate) fn push_text_cell(text: &mut String, tag: &str, word: &str) -> Result<(), AllocError>
     ensures { OnOk result (AddsText text.old text.new (text_cell tag.now word.now)) }
 {
-    push_word(text, tag)?;
-    push_escaped(text, word)?;
-    push_word(text, "</td>")
+    let word = Escaped(word);
+    write!(text, "{tag}{word}</td>")
 }
 
 /// Adds a cell of a number behind a mark.
-#[tactic(auto, using(tox_draw::proofs::Growing::adds_then), unfolding(crate::specs::Cells::number_cell))]
+#[tactic(auto, unfolding(crate::specs::Cells::number_cell))]
 pub(crate) fn push_number_cell(text: &mut String, mark: &str, number: u64) -> Result<(), AllocError>
     ensures { OnOk result (AddsText text.old text.new (number_cell mark.now number)) }
 {
-    push_word(text, "<td class=\"number\">")?;
-    push_word(text, mark)?;
-    push_number(text, number)?;
-    push_word(text, "</td>")
+    write!(text, "<td class=\"number\">{mark}{number}</td>")
 }
 
 /// Adds a cell of a word and a number.
-#[tactic(auto, using(tox_draw::proofs::Growing::adds_then), unfolding(crate::specs::Cells::counted_cell))]
+#[tactic(auto, unfolding(crate::specs::Cells::counted_cell))]
 pub(crate) fn push_counted_cell(
     text: &mut String,
     word: &str,
@@ -37,18 +32,13 @@ pub(crate) fn push_counted_cell(
 ) -> Result<(), AllocError>
     ensures { OnOk result (AddsText text.old text.new (counted_cell word.now number)) }
 {
-    push_word(text, "<td>")?;
-    push_word(text, word)?;
-    push_number(text, number)?;
-    push_word(text, "</td>")
+    write!(text, "<td>{word}{number}</td>")
 }
 
 /// Adds a cell of a word.
-#[tactic(auto, using(tox_draw::proofs::Growing::adds_then), unfolding(crate::specs::Cells::word_cell))]
+#[tactic(auto, unfolding(crate::specs::Cells::word_cell))]
 pub(crate) fn push_word_cell(text: &mut String, word: &str) -> Result<(), AllocError>
     ensures { OnOk result (AddsText text.old text.new (word_cell word.now)) }
 {
-    push_word(text, "<td>")?;
-    push_word(text, word)?;
-    push_word(text, "</td>")
+    write!(text, "<td>{word}</td>")
 }

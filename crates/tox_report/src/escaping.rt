@@ -1,36 +1,41 @@
 //! Texts of others in a page.
-ghost use Rattle.std.specs.Prelude.{◌≡◌, OnOk};
+ghost use Rattle.std.specs.Prelude.{Some};
 ghost use Rattle.std.specs.Char.{encode_utf8};
-ghost use Rattle.tox_draw.specs.Adding.{AddsText};
+ghost use Rattle.std.specs.Fmt.{WritesOnOk};
 ghost use Rattle.tox_report.specs.Escaping.{html};
 
-use std::alloc::AllocError;
+use std::fmt;
 
-/// Adds a text with the characters escaped that mean something in HTML.
-pub(crate) fn push_escaped(text: &mut String, word: &str) -> Result<(), AllocError>
-    ensures { OnOk result (AddsText text.old text.new (html word.now)) }
-{
-    for letter in word.chars() {
-        push_letter(text, letter)?;
+/// A text with the characters escaped that mean something in HTML.
+#[derive(Clone, Copy)]
+pub(crate) struct Escaped<'a>(pub(crate) &'a str);
+
+impl fmt::Display for Escaped<'_> {
+    ghost output = { λ escaped. Some (html escaped.0.now) };
+
+    fn fmt<W: fmt::Write>(&self, f: &mut fmt::Formatter<W>) -> fmt::Result {
+        for letter in self.0.chars() {
+            write_letter(f, letter)?;
+        }
+        Ok(())
     }
-    Ok(())
 }
 
-/// Adds a letter.
-fn push_letter(text: &mut String, letter: char) -> Result<(), AllocError>
-    ensures { OnOk result (AddsText text.old text.new (html (encode_utf8 letter))) }
+/// Writes a letter.
+fn write_letter<W: fmt::Write>(f: &mut fmt::Formatter<W>, letter: char) -> fmt::Result
+    ensures { WritesOnOk W.write_str_gives f.old result (html (encode_utf8 letter)) f.new }
 {
     if letter == '&' {
-        return text.push_str("&amp;");
+        return f.write_str("&amp;");
     }
     if letter == '<' {
-        return text.push_str("&lt;");
+        return f.write_str("&lt;");
     }
     if letter == '>' {
-        return text.push_str("&gt;");
+        return f.write_str("&gt;");
     }
     if letter == '"' {
-        return text.push_str("&quot;");
+        return f.write_str("&quot;");
     }
-    text.push(letter)
+    f.write_char(letter)
 }

@@ -1,12 +1,12 @@
 //! The picture of a log, below the table.
 ghost use Rattle.std.specs.Prelude.{◌≡◌, OnOk};
 ghost use Rattle.tox_draw.specs.Adding.{AddsText};
-ghost use Rattle.tox_report.specs.Figures.{caption, drawn, figure, figure_head, scrolled};
+ghost use Rattle.tox_report.specs.Figures.{caption, caption_of, drawn, figure, figure_head, scrolled};
 
-use crate::escaping::push_escaped;
+use crate::escaping::Escaped;
 use crate::row::StreamFacts;
 use std::alloc::AllocError;
-use tox_draw::{push_number, push_word};
+use tox_draw::push_word;
 
 /// Adds the picture of a log, with its caption. Without a picture a sentence says that the log couldn't be read again.
 #[tactic(auto, using(tox_draw::proofs::Growing::adds_then), unfolding(crate::specs::Figures::figure))]
@@ -20,34 +20,42 @@ pub(crate) fn push_figure(
 {
     push_figure_head(text, number)?;
     push_caption(text, facts)?;
-    push_word(text, "</figcaption>\n")?;
     push_drawn(text, number, picture)?;
     push_word(text, "</figure>\n")
 }
 
-#[tactic(auto, using(tox_draw::proofs::Growing::adds_then), unfolding(crate::specs::Figures::figure_head))]
+#[tactic(auto, unfolding(crate::specs::Figures::figure_head))]
 fn push_figure_head(text: &mut String, number: u64) -> Result<(), AllocError>
     ensures { OnOk result (AddsText text.old text.new (figure_head number)) }
 {
-    push_word(text, "<figure id=\"log-")?;
-    push_number(text, number)?;
-    push_word(text, "\">\n<figcaption id=\"name-")?;
-    push_number(text, number)?;
-    push_word(text, "\">")
+    write!(
+        text,
+        "<figure id=\"log-{number}\">\n<figcaption id=\"name-{number}\">"
+    )
 }
 
 /// Adds which stream a picture shows, and the verdict.
-#[tactic(auto, using(tox_draw::proofs::Growing::adds_then), unfolding(crate::specs::Figures::caption))]
 fn push_caption(text: &mut String, facts: &StreamFacts) -> Result<(), AllocError>
     ensures { OnOk result (AddsText text.old text.new (caption facts.now)) }
 {
-    push_escaped(text, facts.proxy.as_str())?;
-    push_word(text, " ")?;
-    push_number(text, facts.link)?;
-    push_word(text, " ")?;
-    push_word(text, facts.stream.name())?;
-    push_word(text, ", ")?;
-    push_word(text, facts.outcome.verdict())
+    let proxy = facts.proxy.as_str();
+    let stream = facts.stream.name();
+    push_caption_of(text, proxy, facts.link, stream, facts.outcome.verdict())
+}
+
+#[tactic(auto, unfolding(crate::specs::Figures::caption_of))]
+fn push_caption_of(
+    text: &mut String,
+    proxy: &str,
+    link: u64,
+    stream: &str,
+    verdict: &str,
+) -> Result<(), AllocError>
+    ensures { OnOk result
+        (AddsText text.old text.new (caption_of proxy.now link stream.now verdict.now)) }
+{
+    let proxy = Escaped(proxy);
+    writeln!(text, "{proxy} {link} {stream}, {verdict}</figcaption>")
 }
 
 fn push_drawn(text: &mut String, number: u64, picture: &Option<String>) -> Result<(), AllocError>
@@ -60,16 +68,12 @@ fn push_drawn(text: &mut String, number: u64, picture: &Option<String>) -> Resul
 }
 
 /// Adds a picture in a part of the page that scrolls where it is narrow.
-#[tactic(auto, using(tox_draw::proofs::Growing::adds_then), unfolding(crate::specs::Figures::scrolled))]
+#[tactic(auto, unfolding(crate::specs::Figures::scrolled))]
 fn push_scrolled(text: &mut String, number: u64, picture: &str) -> Result<(), AllocError>
     ensures { OnOk result (AddsText text.old text.new (scrolled number picture.now)) }
 {
-    push_word(
+    writeln!(
         text,
-        "<div class=\"wide\" role=\"group\" tabindex=\"0\" aria-labelledby=\"name-",
-    )?;
-    push_number(text, number)?;
-    push_word(text, "\">\n")?;
-    push_word(text, picture)?;
-    push_word(text, "</div>\n")
+        "<div class=\"wide\" role=\"group\" tabindex=\"0\" aria-labelledby=\"name-{number}\">\n{picture}</div>"
+    )
 }

@@ -2,14 +2,14 @@
 ghost use Rattle.std.specs.Prelude.{◌≡◌, codes, OnOk};
 ghost use Rattle.tox_report.specs.Cells.{text_cell};
 ghost use Rattle.tox_draw.specs.Adding.{AddsText};
-ghost use Rattle.tox_report.specs.Rows.{bare_head, broken_cell, count_cells, ending_cell, exactness, fault_row, late_cells, link_cells, linked_head, percentile_cells, result_cells, row_head, row_of, row_tag, stream_row, sum_cells, timed_cells, unfaithful_cell, verdict_cell};
+ghost use Rattle.tox_report.specs.Rows.{broken_cell, count_cells, ending_cell, exactness, fault_row, late_cells, link_cells, percentile_cells, result_cells, row_head, row_of, row_tag, stream_row, sum_cells, timed_cells, verdict_cell};
 
 use crate::cells::{push_counted_cell, push_number_cell, push_text_cell, push_word_cell};
-use crate::escaping::push_escaped;
+use crate::escaping::Escaped;
 use crate::outcome::Outcome;
 use crate::row::{Row, StreamFacts, Told};
 use std::alloc::AllocError;
-use tox_draw::{push_number, push_word};
+use tox_draw::push_word;
 use tox_log::Percentiles;
 
 /// Adds the row of a log. A linked one leads to the picture of this number.
@@ -28,21 +28,16 @@ pub(crate) fn push_row(
 }
 
 /// Adds the row of a log that can't be judged.
-#[tactic(auto, using(tox_draw::proofs::Growing::adds_then), unfolding(crate::specs::Rows::fault_row))]
+#[tactic(auto, unfolding(crate::specs::Rows::fault_row))]
 fn push_fault_row(text: &mut String, name: &str, fault: &str) -> Result<(), AllocError>
     ensures { OnOk result (AddsText text.old text.new (fault_row name.now fault.now)) }
 {
-    push_word(
+    let name = Escaped(name);
+    let fault = Escaped(fault);
+    writeln!(
         text,
-        "<tr class=\"marked\"><th scope=\"row\" colspan=\"3\">",
-    )?;
-    push_escaped(text, name)?;
-    push_word(
-        text,
-        "</th><td class=\"verdict\" colspan=\"8\">not judged: ",
-    )?;
-    push_escaped(text, fault)?;
-    push_word(text, "</td></tr>\n")
+        "<tr class=\"marked\"><th scope=\"row\" colspan=\"3\">{name}</th><td class=\"verdict\" colspan=\"8\">not judged: {fault}</td></tr>"
+    )
 }
 
 /// Adds the row of a log that was judged.
@@ -106,6 +101,7 @@ fn push_row_tag(text: &mut String, outcome: &Outcome) -> Result<(), AllocError>
 }
 
 /// Adds the head of a row: the proxy's name, which leads to the picture of this number where there is one.
+#[tactic(auto, unfolding(crate::specs::Rows::bare_head, crate::specs::Rows::linked_head))]
 fn push_row_head(
     text: &mut String,
     proxy: &str,
@@ -114,31 +110,15 @@ fn push_row_head(
 ) -> Result<(), AllocError>
     ensures { OnOk result (AddsText text.old text.new (row_head proxy.now number linked)) }
 {
+    let proxy = Escaped(proxy);
     if linked {
-        push_linked_head(text, proxy, number)
+        write!(
+            text,
+            "<th scope=\"row\"><a href=\"#log-{number}\">{proxy}</a></th>"
+        )
     } else {
-        push_bare_head(text, proxy)
+        write!(text, "<th scope=\"row\">{proxy}</th>")
     }
-}
-
-#[tactic(auto, using(tox_draw::proofs::Growing::adds_then), unfolding(crate::specs::Rows::bare_head))]
-fn push_bare_head(text: &mut String, proxy: &str) -> Result<(), AllocError>
-    ensures { OnOk result (AddsText text.old text.new (bare_head proxy.now)) }
-{
-    push_word(text, "<th scope=\"row\">")?;
-    push_escaped(text, proxy)?;
-    push_word(text, "</th>")
-}
-
-#[tactic(auto, using(tox_draw::proofs::Growing::adds_then), unfolding(crate::specs::Rows::linked_head))]
-fn push_linked_head(text: &mut String, proxy: &str, number: u64) -> Result<(), AllocError>
-    ensures { OnOk result (AddsText text.old text.new (linked_head proxy.now number)) }
-{
-    push_word(text, "<th scope=\"row\"><a href=\"#log-")?;
-    push_number(text, number)?;
-    push_word(text, "\">")?;
-    push_escaped(text, proxy)?;
-    push_word(text, "</a></th>")
 }
 
 /// Adds the cells of what was heard and said. Of an unfaithful log they are empty.
@@ -175,32 +155,24 @@ fn push_ending(text: &mut String, outcome: &Outcome) -> Result<(), AllocError>
     }
 }
 
-#[tactic(auto, using(tox_draw::proofs::Growing::adds_then), unfolding(crate::specs::Rows::broken_cell))]
+#[tactic(auto, unfolding(crate::specs::Rows::broken_cell))]
 fn push_broken(text: &mut String, cause: &str) -> Result<(), AllocError>
     ensures { OnOk result (AddsText text.old text.new (broken_cell cause.now)) }
 {
-    push_word(text, "<td>broken ")?;
-    push_word(text, cause)?;
-    push_word(text, "</td>")
+    write!(text, "<td>broken {cause}</td>")
 }
 
 /// Adds the cell of the verdict.
+#[tactic(auto, unfolding(crate::specs::Rows::unfaithful_cell))]
 fn push_verdict(text: &mut String, outcome: &Outcome) -> Result<(), AllocError>
     ensures { OnOk result (AddsText text.old text.new (verdict_cell outcome.now)) }
 {
     match outcome {
-        Outcome::Unfaithful(line) => push_unfaithful(text, *line),
+        Outcome::Unfaithful(line) => {
+            write!(text, "<td class=\"verdict\">unfaithful, line {line}</td>")
+        }
         _ => push_word_cell(text, outcome.verdict()),
     }
-}
-
-#[tactic(auto, using(tox_draw::proofs::Growing::adds_then), unfolding(crate::specs::Rows::unfaithful_cell))]
-fn push_unfaithful(text: &mut String, line: u64) -> Result<(), AllocError>
-    ensures { OnOk result (AddsText text.old text.new (unfaithful_cell line)) }
-{
-    push_word(text, "<td class=\"verdict\">unfaithful, line ")?;
-    push_number(text, line)?;
-    push_word(text, "</td>")
 }
 
 /// Adds the cells of the lateness. They are empty of an unfaithful log, and where nothing was timed.

@@ -2,13 +2,12 @@
 ghost use Rattle.std.specs.Prelude.{◌≡◌, count_by, OnOk};
 ghost use Rattle.tox_report.specs.Kinds.{has};
 ghost use Rattle.tox_draw.specs.Adding.{AddsText};
-ghost use Rattle.tox_report.specs.Totals.{greater, latest_entry, latest_of, latest_with, number_entry, outcome_entries, row_totals_text, seed_entry, seed_of, seed_with, told_latest, told_seed, word_entry, worst_entry};
+ghost use Rattle.tox_report.specs.Totals.{greater, latest_entry, latest_of, latest_with, number_entry, outcome_entries, row_totals_text, seed_entry, seed_of, seed_with, told_latest, told_seed, word_entry};
 
 use crate::kind::{Kind, count_of};
 use crate::outcome::Outcome;
 use crate::row::{Row, StreamFacts, Told};
 use std::alloc::AllocError;
-use tox_draw::{push_number, push_word};
 use tox_log::Percentiles;
 
 /// The seed of a run.
@@ -54,26 +53,18 @@ fn push_count(text: &mut String, name: &str, rows: &[Row], kind: Kind) -> Result
     push_number_entry(text, name, count_of(rows, kind))
 }
 
-#[tactic(auto, using(tox_draw::proofs::Growing::adds_then), unfolding(crate::specs::Totals::number_entry))]
+#[tactic(auto, unfolding(crate::specs::Totals::number_entry))]
 fn push_number_entry(text: &mut String, name: &str, number: u64) -> Result<(), AllocError>
     ensures { OnOk result (AddsText text.old text.new (number_entry name.now number)) }
 {
-    push_word(text, "<div><dt>")?;
-    push_word(text, name)?;
-    push_word(text, "</dt><dd>")?;
-    push_number(text, number)?;
-    push_word(text, "</dd></div>\n")
+    writeln!(text, "<div><dt>{name}</dt><dd>{number}</dd></div>")
 }
 
-#[tactic(auto, using(tox_draw::proofs::Growing::adds_then), unfolding(crate::specs::Totals::word_entry))]
+#[tactic(auto, unfolding(crate::specs::Totals::word_entry))]
 fn push_word_entry(text: &mut String, name: &str, word: &str) -> Result<(), AllocError>
     ensures { OnOk result (AddsText text.old text.new (word_entry name.now word.now)) }
 {
-    push_word(text, "<div><dt>")?;
-    push_word(text, name)?;
-    push_word(text, "</dt><dd>")?;
-    push_word(text, word)?;
-    push_word(text, "</dd></div>\n")
+    writeln!(text, "<div><dt>{name}</dt><dd>{word}</dd></div>")
 }
 
 fn push_seed(text: &mut String, seed: &Seed) -> Result<(), AllocError>
@@ -86,22 +77,17 @@ fn push_seed(text: &mut String, seed: &Seed) -> Result<(), AllocError>
     }
 }
 
+#[tactic(auto, unfolding(crate::specs::Totals::worst_entry))]
 fn push_latest(text: &mut String, latest: &Option<u64>) -> Result<(), AllocError>
     ensures { OnOk result (AddsText text.old text.new (latest_entry latest.now)) }
 {
     match latest {
-        Some(latest) => push_worst(text, *latest),
+        Some(latest) => writeln!(
+            text,
+            "<div><dt>Worst lateness</dt><dd>{latest} us</dd></div>"
+        ),
         None => push_word_entry(text, "Worst lateness", "none timed"),
     }
-}
-
-#[tactic(auto, using(tox_draw::proofs::Growing::adds_then), unfolding(crate::specs::Totals::worst_entry))]
-fn push_worst(text: &mut String, latest: u64) -> Result<(), AllocError>
-    ensures { OnOk result (AddsText text.old text.new (worst_entry latest)) }
-{
-    push_word(text, "<div><dt>Worst lateness</dt><dd>")?;
-    push_number(text, latest)?;
-    push_word(text, " us</dd></div>\n")
 }
 
 /// The seed of the rows.
