@@ -10,7 +10,7 @@ use Rattle.tox_script.specs.Scopes.{RuleScope, scope_of}
 use Rattle.tox_script.specs.index.Numbered.{chains_numbered, order_numbered}
 use Rattle.tox_check.specs.Coverage.{last_of, within}
 use Rattle.tox_check.specs.Lines.{known_told, met_told, proxy_names, proxy_told, rule_told, toxics_told}
-use Rattle.tox_near.specs.Nearest.{nearest}
+use Rattle.tox_text.specs.Nearest.{nearest}
 use Rattle.tox_check.specs.Sentences.{unknown_text}
 use Rattle.tox_check.specs.Told.{runs_by}
 use Rattle.tox_check.specs.Trees.{AreTrees, runs_named}

@@ -10,7 +10,7 @@ use Rattle.tox_script.specs.chains.Chains.{on}
 use Rattle.tox_script.specs.declared.chains.Chains.{Chains}
 use Rattle.tox_forecast.specs.Totals.{PlacedToxic, placed_from}
 use Rattle.tox_forecast.specs.declared.totals.places.Places.{Places}
-use Rattle.tox_near.specs.Nearest.{nearest}
+use Rattle.tox_text.specs.Nearest.{nearest}
 use Rattle.tox_idle.specs.Idle.{idleness_at}
 use Rattle.tox_idle.specs.declared.idleness.Idleness.{Idleness}
 use Rattle.tox_check.specs.Coverage.{last_of, own_of, taken_of, within}

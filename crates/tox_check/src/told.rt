@@ -1,9 +1,9 @@
 //! What is told of a rule.
 ghost use Rattle.std.specs.Prelude.{◌≡◌, ◌+◌, ◌<◌, ◌^◌, ◌++◌, [], ◌∷◌, Some, length, map, position, slice_get, IfOk, OnOk};
-ghost use Rattle.tox_near.specs.Nearest.{nearest};
 ghost use Rattle.tox_config.specs.Populate.{is_named};
 ghost use Rattle.tox_script.specs.Rule.{Rule};
 ghost use Rattle.tox_script.specs.index.Numbered.{chains_numbered, order_numbered};
+ghost use Rattle.tox_text.specs.Nearest.{nearest};
 ghost use Rattle.tox_check.specs.Coverage.{last_of, within};
 ghost use Rattle.tox_check.specs.Lines.{met_told, proxy_names, proxy_told, rule_told, toxics_told};
 ghost use Rattle.tox_check.specs.Sentences.{told, unknown_text};
@@ -17,9 +17,9 @@ use crate::warning::Warning;
 use std::alloc::{AllocError, Global};
 use tox_config::ProxyDef;
 use tox_forecast::Places;
-use tox_near::nearest;
 use tox_runs::Setup;
 use tox_script::{Scope, Script};
+use tox_text::nearest;
 
 /// The warnings of a rule, by its number from 0.
 pub(crate) fn warnings_of<'a>(

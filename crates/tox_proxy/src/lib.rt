@@ -1,6 +1,6 @@
 //! What the program does, as library calls over readers, writers, files, sockets and values: runs, files and picks (tox_runs),
 //! one proxy on the command line (tox_inline), forecasts (tox_forecast), serving (tox_serve), logs (tox_log, tox_log_files), pictures
-//! (tox_draw), pages of runs (tox_report), and the texts that a command prints as they stand (tox_text).
+//! (tox_draw), pages of runs (tox_report), and of tox_text the texts that a command prints as they stand, and the nearest name.
 #![tactic(auto)]
 
 pub use tox_check::{CheckFault, CheckRequest, print_check};
@@ -24,6 +24,6 @@ pub use tox_serve::{
     tells_to_stop,
 };
 pub use tox_text::{
-    DryFault, JsonField, PrintMigratedFault, PrintPickFault, VisibleName, WriteFault,
+    DryFault, JsonField, PrintMigratedFault, PrintPickFault, VisibleName, WriteFault, nearest,
     print_migrated, print_pick, print_plan, write_object,
 };

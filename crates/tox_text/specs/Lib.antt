@@ -4,6 +4,7 @@ pub mod ResultText
 pub mod PlanText
 pub mod ShortForm
 pub mod Names
+pub mod Nearest
 pub mod Json
 pub mod JsonLine
 pub mod Parts

@@ -1,4 +1,4 @@
-//! Texts: what an arrivals text says, and result, plan and pick texts on their way to a writer.
+//! Texts: what an arrivals text says, result, plan and pick texts on their way to a writer, and the name that is nearest to a mistyped one.
 #![tactic(auto)]
 
 mod arrivals;
@@ -8,6 +8,7 @@ mod json;
 mod json_line;
 mod migrated_text;
 mod names;
+mod nearest_name;
 mod parts;
 mod pick_text;
 mod plan_text;
@@ -25,6 +26,7 @@ pub use json::{JsonItem, JsonValue, print_quoted};
 pub use json_line::{JsonField, print_event, print_fields, print_object, write_object};
 pub use migrated_text::{PrintMigratedFault, print_migrated};
 pub use names::VisibleName;
+pub use nearest_name::nearest;
 pub use parts::Part;
 pub use pick_text::{PrintPickFault, print_pick};
 pub use plan_text::print_plan;

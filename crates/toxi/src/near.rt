@@ -3,8 +3,7 @@ use std::rt::Files;
 use toml::Value;
 use tox_arguments::ToxicArgument;
 use tox_defs::{ShortFault, Toxic, ToxicFault};
-use tox_near::nearest;
-use tox_proxy::{InlineFault, SetupFault, ToxicsFault, VisibleName, read_file};
+use tox_proxy::{InlineFault, SetupFault, ToxicsFault, VisibleName, nearest, read_file};
 use tox_script::{Location, ScriptFault};
 
 /// Tells what a TOXIC of the command line may mean, if its fault is that there is no such type or attribute.

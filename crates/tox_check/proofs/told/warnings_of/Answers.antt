@@ -4,7 +4,7 @@ use Rattle.std.specs.Prelude.{IfOk, option_map}
 use Rattle.std.specs.List.{position}
 use Rattle.tox_config.specs.Populate.{is_named}
 use Rattle.tox_script.specs.Scopes.{scope_of, scope_view}
-use Rattle.tox_near.specs.Nearest.{nearest}
+use Rattle.tox_text.specs.Nearest.{nearest}
 use Rattle.tox_check.specs.Lines.{proxy_names}
 use Rattle.tox_check.specs.Sentences.{told, unknown_text}
 use Rattle.tox_check.specs.Told.{IsTreeOf, runs_by}

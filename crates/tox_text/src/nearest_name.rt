@@ -1,7 +1,7 @@
-//! The nearest of some names.
+//! The name that is nearest to a mistyped one.
 ghost use Rattle.std.specs.Prelude.{◌≡◌, IfOk, length, map, option_map};
 ghost use Rattle.std.specs.Str.{chars};
-ghost use Rattle.tox_near.specs.Nearest.{at_distance, distance, nearest};
+ghost use Rattle.tox_text.specs.Nearest.{at_distance, distance, nearest};
 
 use std::alloc::{AllocError, Global};
 use strsim::osa_distance;

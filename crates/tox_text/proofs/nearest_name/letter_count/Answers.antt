@@ -1,6 +1,6 @@
 use Rattle.std.proofs.Common.{rules}
 use Rattle.std.proofs.lemmas.Str.{chars_from_encodes}
-use Rattle.tox_near.proofs.letters.letter_count.Goals as goal
+use Rattle.tox_text.proofs.nearest_name.letter_count.Goals as goal
 
 pub returns : goal.returns
 returns c = search (rules, chars_from_encodes)

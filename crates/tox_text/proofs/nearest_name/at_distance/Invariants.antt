@@ -1,7 +1,7 @@
 -- The first name at the distance is not passed yet.
 use Rattle.std.proofs.Common.{◌≡◌, drop, map}
-use Rattle.tox_near.specs.Nearest.{at_distance}
-use Rattle.tox_near.proofs.letters.at_distance.Given as goal
+use Rattle.tox_text.specs.Nearest.{at_distance}
+use Rattle.tox_text.proofs.nearest_name.at_distance.Given as goal
 
 abbrev pub invariant-loop-other : goal.invariant-loop-other
 invariant-loop-other l =
