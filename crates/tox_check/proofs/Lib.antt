@@ -17,3 +17,7 @@ pub mod ProxyRuns
 pub mod RuleTold
 pub mod Checked
 pub mod TalliedTold
+pub mod Silencing
+pub mod SamePlan
+pub mod SlicedLast
+pub mod Unchanged

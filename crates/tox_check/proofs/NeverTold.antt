@@ -7,15 +7,15 @@ use Rattle.std.proofs.lemmas.List.Folds.{list_any-append}
 use Rattle.tox_config.specs.Populate.{is_named}
 use Rattle.tox_config.specs.Proxy.{Proxy}
 use Rattle.tox_forecast.specs.Totals.{PlacedToxic}
-use Rattle.tox_idle.specs.Idle.{idleness_at}
-use Rattle.tox_idle.specs.declared.idleness.Idleness.{Idleness}
 use Rattle.tox_script.specs.chains.Chains.{on}
 use Rattle.tox_script.specs.declared.chains.Chains.{Chains}
 use Rattle.tox_script.specs.Rule.{Rule, Rules}
 use Rattle.tox_check.specs.Checking.{AreRuns, NeverApplies, TellsNever, met}
 use Rattle.tox_check.specs.Coverage.{last_of, own_of, taken_of, within}
+use Rattle.tox_check.specs.Idle.{idleness_at}
 use Rattle.tox_check.specs.Lines.{coverage_told, idle_told, is_silent, known_told, met_told, partly_told, proxy_told, toxic_told, toxics_told}
 use Rattle.tox_check.specs.Sentences.{disabled_text, no_toxicity_text, tells_never}
+use Rattle.tox_check.specs.declared.idleness.Idleness.{Idleness}
 use Rattle.tox_check.specs.declared.run.Run.{Run}
 use Rattle.tox_check.proofs.CoveredBy.{covering_number-own, met-number}
 use Rattle.tox_check.proofs.NeverMet.{none_meets, none_own}

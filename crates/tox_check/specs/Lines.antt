@@ -11,11 +11,11 @@ use Rattle.tox_script.specs.declared.chains.Chains.{Chains}
 use Rattle.tox_forecast.specs.Totals.{PlacedToxic, placed_from}
 use Rattle.tox_forecast.specs.declared.totals.places.Places.{Places}
 use Rattle.tox_text.specs.Nearest.{nearest}
-use Rattle.tox_idle.specs.Idle.{idleness_at}
-use Rattle.tox_idle.specs.declared.idleness.Idleness.{Idleness}
 use Rattle.tox_check.specs.Coverage.{last_of, own_of, taken_of, within}
+use Rattle.tox_check.specs.Idle.{idleness_at}
 use Rattle.tox_check.specs.Sentences.{changes_nothing_text, covered_text, disabled_text, no_toxicity_text, partly_text, unknown_text}
 use Rattle.tox_check.specs.Summary.{greatest, least}
+use Rattle.tox_check.specs.declared.idleness.Idleness.{Idleness}
 use Rattle.tox_check.specs.declared.run.Run.{Run}
 
 -- some runs are a rule's own, and these are taken by others

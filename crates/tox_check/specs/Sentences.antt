@@ -2,8 +2,8 @@
 use Rattle.std.specs.Prelude.{ℕ, ◌==◌, Bool, List, [], ◌∷◌, ◌++◌, codes, decimal, nat_eq, nat_le, Option, None, Some, option_map, if◌then◌else◌}
 use Rattle.std.specs.List.{starts_with}
 use Rattle.tox_text.specs.Names.{visible_name}
-use Rattle.tox_idle.specs.declared.idleness.Idleness.{Idleness}
-use Rattle.tox_idle.specs.declared.idleness.Idleness.TheVariants.{DoesNothing, Lost, CutsLast}
+use Rattle.tox_check.specs.declared.idleness.Idleness.{Idleness}
+use Rattle.tox_check.specs.declared.idleness.Idleness.TheVariants.{DoesNothing, Lost, CutsLast}
 use Rattle.tox_check.specs.declared.run.Run.{Run}
 use Rattle.tox_check.specs.declared.warning.Warning.{Warning}
 use Rattle.tox_check.specs.declared.warning.Warning.TheVariants.{UnknownProxy, Covered, Partly, NoToxicity, ChangesNothing, Disabled}

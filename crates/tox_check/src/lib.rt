@@ -1,8 +1,9 @@
-//! What of a script has no effect: rules that no connection meets, or not all of theirs, and toxics that are never applied.
+//! What of a script has no effect: rules that no connection meets, or not all of theirs, and toxics that are never applied or change nothing.
 #![tactic(auto)]
 
 mod check;
 mod fault;
+mod idleness;
 mod lines;
 mod listed;
 mod request;
@@ -15,4 +16,5 @@ mod warning;
 
 pub use check::print_check;
 pub use fault::CheckFault;
+pub use idleness::{Idleness, idleness_at};
 pub use request::CheckRequest;

@@ -8,12 +8,12 @@ ghost use Rattle.tox_check.specs.Tallied.{TalliesRuns};
 ghost use Rattle.tox_check.specs.Told.{IsTreeOf, TellMore, runs_by, told_by};
 ghost use Rattle.tox_check.specs.declared.run.Run.{Run};
 
+use crate::idleness::idleness_at;
 use crate::tally::Tally;
 use crate::tree::{Range, RunTree};
 use crate::warning::Warning;
 use std::alloc::AllocError;
 use tox_forecast::Places;
-use tox_idle::idleness_at;
 use tox_script::Chains;
 use tox_time::Stream;
 

@@ -5,9 +5,9 @@ ghost use Rattle.tox_check.specs.Sentences.{changes_nothing_text, covered_text, 
 
 mod ranges;
 
+use crate::idleness::Idleness;
 use crate::listed::Listed;
 use crate::warning::ranges::{print_more, print_ranges, print_taken};
-use tox_idle::Idleness;
 use tox_text::Buffer;
 use tox_text::Part::{Name, Number, Word};
 use tox_time::{EndFault, Sink};

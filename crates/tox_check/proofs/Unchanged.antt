@@ -4,9 +4,9 @@ use Rattle.std.specs.Prelude.{IsSome}
 use Rattle.std.specs.List.{slice_get}
 use Rattle.tox_defs.specs.declared.chain.Entry.{Entry}
 use Rattle.tox_defs.specs.chain.Chain.{Toxics, IsChain}
-use Rattle.tox_idle.specs.Idle.{ChangesNothing, cuts_last, does_nothing, is_lost, reason}
-use Rattle.tox_idle.proofs.SamePlan.{flow-same}
-use Rattle.tox_idle.proofs.SlicedLast.{cuts_last-same}
+use Rattle.tox_check.specs.Idle.{ChangesNothing, cuts_last, does_nothing, is_lost, reason}
+use Rattle.tox_check.proofs.SamePlan.{flow-same}
+use Rattle.tox_check.proofs.SlicedLast.{cuts_last-same}
 
 pub unchanged : (chain : Toxics) (k : ℕ) (entry : Entry) → IsChain chain → slice_get chain.entries k ≡ Some entry → IsSome (reason k entry.toxic chain.entries) → ChangesNothing k chain
 unchanged chain k entry fits found some = by (does_nothing entry.toxic) (is_lost k entry.toxic chain.entries) (cuts_last k entry.toxic chain.entries) refl refl refl

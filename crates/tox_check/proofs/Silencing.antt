@@ -8,7 +8,7 @@ use Rattle.tox_defs.specs.declared.chain.Entry.{Entry}
 use Rattle.tox_defs.specs.declared.toxic.Toxic.{Toxic}
 use Rattle.tox_defs.specs.chain.Applied.{is_applied}
 use Rattle.tox_defs.specs.chain.Chain.{Toxics, IsChain, IsEntry}
-use Rattle.tox_idle.specs.Idle.{silenced}
+use Rattle.tox_check.specs.Idle.{silenced}
 
 -- a toxicity of 0 is never applied, and one of 1000 always
 pub never : (toxic : Toxic) (place : ℕ) (draws : Draws) → is_applied (record { toxic = toxic; toxicity = 0 }) place draws ≡ false

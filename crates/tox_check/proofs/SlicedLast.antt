@@ -31,8 +31,8 @@ use Rattle.tox_defs.proofs.Drawn.{varied-positive}
 use Rattle.tox_defs.proofs.InRange.{both_tests}
 use Rattle.tox_defs.proofs.OpenStates.{has_final-leave, open_state}
 use Rattle.tox_defs.proofs.ToxicStreams.{IsStream-toxic_flow}
-use Rattle.tox_idle.proofs.Silencing.{never}
-use Rattle.tox_idle.specs.Idle.{ChangesNothing, cuts_last, only_cuts, silenced}
+use Rattle.tox_check.proofs.Silencing.{never}
+use Rattle.tox_check.specs.Idle.{ChangesNothing, cuts_last, only_cuts, silenced}
 
 -- the pieces of a chunk, without a wait
 abbrev leaving : (ℕ → ℕ) → ℕ → ℕ → ℕ → ℕ → ℕ → ℕ → List Item

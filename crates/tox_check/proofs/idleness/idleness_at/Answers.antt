@@ -3,9 +3,9 @@ use Rattle.std.proofs.Common.{◌<◌, length, IsSome, List, arith, get_or, subs
 use Rattle.std.proofs.lemmas.Option.{slice_get-get_or}
 use Rattle.tox_defs.specs.declared.chain.Entry.{Entry}
 use Rattle.tox_defs.specs.declared.toxic.Toxic.TheVariants.{Latency}
-use Rattle.tox_idle.specs.Idle.{reason}
-use Rattle.tox_idle.proofs.Unchanged.{unchanged}
-use Rattle.tox_idle.proofs.idleness.idleness_at.Goals as goal
+use Rattle.tox_check.specs.Idle.{reason}
+use Rattle.tox_check.proofs.Unchanged.{unchanged}
+use Rattle.tox_check.proofs.idleness.idleness_at.Goals as goal
 
 pub returns-clause-unchanged : goal.returns-clause-unchanged
 returns-clause-unchanged c some =

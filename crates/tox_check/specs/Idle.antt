@@ -9,8 +9,8 @@ use Rattle.tox_defs.specs.declared.toxic.Toxic.{Toxic}
 use Rattle.tox_defs.specs.declared.toxic.Toxic.TheVariants.{Latency, Bandwidth, SlowClose, Timeout, Slicer}
 use Rattle.tox_defs.specs.chain.Chain.{Toxics}
 use Rattle.tox_defs.specs.Flow.{chain_flow}
-use Rattle.tox_idle.specs.declared.idleness.Idleness.{Idleness}
-use Rattle.tox_idle.specs.declared.idleness.Idleness.TheVariants.{DoesNothing, Lost, CutsLast}
+use Rattle.tox_check.specs.declared.idleness.Idleness.{Idleness}
+use Rattle.tox_check.specs.declared.idleness.Idleness.TheVariants.{DoesNothing, Lost, CutsLast}
 
 -- the entries with the toxicity 0 at a place
 abbrev pub silenced : ℕ → List Entry → List Entry

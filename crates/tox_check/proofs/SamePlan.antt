@@ -21,8 +21,8 @@ use Rattle.tox_compile.specs.Compiled.{op_of_placed}
 use Rattle.tox_compile.specs.Meaning.{means}
 use Rattle.tox_compile.specs.Normal.{after_mute, normal_form, vanishes, with_op}
 use Rattle.tox_compile.proofs.NormalForms.{means-normal_form}
-use Rattle.tox_idle.proofs.Silencing.{always, is_chain-without, never, without}
-use Rattle.tox_idle.specs.Idle.{ChangesNothing, does_nothing, drops_all, is_lost, is_timeout, needs_data, silenced}
+use Rattle.tox_check.proofs.Silencing.{always, is_chain-without, never, without}
+use Rattle.tox_check.specs.Idle.{ChangesNothing, does_nothing, drops_all, is_lost, is_timeout, needs_data, silenced}
 
 -- the operations so far with those of the applied ones of some entries
 abbrev folded : Draws → List Op → ℕ → List Entry → List Op

@@ -1,7 +1,7 @@
 //! Why a toxic of a chain changes nothing.
 ghost use Rattle.std.specs.Prelude.{◌≡◌, ◌<◌, length, IsSome};
 ghost use Rattle.std.specs.List.{list_any};
-ghost use Rattle.tox_idle.specs.Idle.{ChangesNothing, cuts_last, does_nothing, drops_all, idleness_at, is_lost, needs_data, only_cuts, reason};
+ghost use Rattle.tox_check.specs.Idle.{ChangesNothing, cuts_last, does_nothing, drops_all, idleness_at, is_lost, needs_data, only_cuts, reason};
 
 use tox_defs::{Chain, Entry, MAX_TOXICITY, Toxic};
 

@@ -1,4 +1,0 @@
-pub mod Silencing
-pub mod SamePlan
-pub mod SlicedLast
-pub mod Unchanged
