@@ -13,3 +13,4 @@ pub mod CarryLemmas
 pub mod FollowLemmas
 pub mod DriveLemmas
 pub mod PlainLemmas
+pub mod BookTotals

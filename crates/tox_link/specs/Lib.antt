@@ -7,3 +7,4 @@ pub mod Meaning
 pub mod Reports
 pub mod Hangups
 pub mod direction
+pub mod book

@@ -1,6 +1,7 @@
-//! One direction of a live link, and the book of a proxy's links (tox_book), whose calls it hands on.
+//! One direction of a live link, and the book of a proxy's links.
 #![tactic(auto)]
 
+mod book;
 mod carrying;
 mod clock;
 mod direction;
@@ -12,6 +13,7 @@ mod notes;
 mod ring;
 mod source_ending;
 
+pub use book::{Book, BookFault, OpenFault};
 pub use carrying::{carry, carry_timed};
 pub use clock::Clock;
 pub use direction::{PollSink, PollSource, PolledLink, Progress, drive, finish};
@@ -24,4 +26,3 @@ pub use notes::{LinkEvent, NoNotes, Notes};
 pub use ring::message::ReadEnd;
 pub use ring::reading::READ_SIZE;
 pub use source_ending::SourceEnding;
-pub use tox_book::{Book, BookFault, OpenFault};

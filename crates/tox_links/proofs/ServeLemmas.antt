@@ -2,9 +2,9 @@
 use Rattle.std.proofs.Common.{◌≡◌, true, List, Result, Ok, Err, sym}
 use Rattle.std.specs.List.{Contains}
 use Rattle.tox_config.specs.Proxy.{Proxy}
-use Rattle.tox_book.specs.Links.{MakesChange}
-use Rattle.tox_book.specs.declared.sides.Link.{Link}
-use Rattle.tox_book.specs.declared.book.BookFault.{BookFault}
+use Rattle.tox_link.specs.book.Links.{MakesChange}
+use Rattle.tox_link.specs.declared.book.sides.Link.{Link}
+use Rattle.tox_link.specs.declared.book.BookFault.{BookFault}
 use Rattle.tox_links.specs.link.LinkEnds.{left_by}
 use Rattle.tox_links.specs.Serving.{HasServeCause, IsListenFault}
 use Rattle.tox_links.specs.declared.fault.ServeFault.{ServeFault}

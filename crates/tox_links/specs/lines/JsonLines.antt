@@ -1,8 +1,8 @@
 -- The lines that serving prints, as objects of JSON.
 use Rattle.std.specs.Prelude.{ℕ, List, ◌++◌, codes, decimal, length}
 use Rattle.tox_time.specs.declared.streams.stream.Stream.TheVariants.{Upstream, Downstream}
-use Rattle.tox_book.specs.declared.sides.Link.{Link}
-use Rattle.tox_book.specs.Links.{total_of}
+use Rattle.tox_link.specs.declared.book.sides.Link.{Link}
+use Rattle.tox_link.specs.book.Links.{total_of}
 use Rattle.tox_text.specs.Json.{json_text}
 use Rattle.tox_text.specs.JsonLine.{event_text, number_field, text_field}
 use Rattle.tox_links.specs.declared.link.end.LinkEnd.{LinkEnd}

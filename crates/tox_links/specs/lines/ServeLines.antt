@@ -3,8 +3,8 @@ use Rattle.std.specs.Prelude.{ℕ, List, ◌++◌, length, Option, Some, None, c
 use Rattle.tox_time.specs.declared.streams.ending.Ending.{Ending}
 use Rattle.tox_time.specs.declared.streams.ending.Ending.TheVariants.{StillOpen, Closed, Reset}
 use Rattle.tox_time.specs.declared.streams.stream.Stream.TheVariants.{Upstream, Downstream}
-use Rattle.tox_book.specs.declared.sides.Link.{Link}
-use Rattle.tox_book.specs.Links.{total_of}
+use Rattle.tox_link.specs.declared.book.sides.Link.{Link}
+use Rattle.tox_link.specs.book.Links.{total_of}
 use Rattle.tox_text.specs.Names.{visible_name}
 use Rattle.tox_links.specs.declared.link.end.SideEnd.{SideEnd}
 use Rattle.tox_links.specs.declared.link.end.LinkEnd.{LinkEnd}

@@ -3,12 +3,12 @@ use Rattle.std.specs.Prelude.{ℕ, Bool, true, false, ◌||◌, List, Option, So
 use Rattle.tox_time.specs.declared.streams.ending.Ending.{Ending}
 use Rattle.tox_time.specs.declared.streams.stream.Stream.{Stream}
 use Rattle.tox_time.specs.declared.streams.stream.Stream.TheVariants.{Upstream, Downstream}
-use Rattle.tox_book.specs.declared.sides.Link.{Link}
-use Rattle.tox_book.specs.declared.sides.Side.{Side}
-use Rattle.tox_book.specs.declared.book.BookFault.{BookFault}
+use Rattle.tox_link.specs.declared.book.sides.Link.{Link}
+use Rattle.tox_link.specs.declared.book.sides.Side.{Side}
+use Rattle.tox_link.specs.declared.book.BookFault.{BookFault}
 use Rattle.tox_link.specs.declared.link_fault.LinkFault.{LinkFault}
 use Rattle.tox_link.specs.declared.link_fault.LinkFault.TheVariants.{OutOfMemory, SpawnRefused, WriteFault}
-use Rattle.tox_book.specs.Links.{changed, with_bytes, with_end}
+use Rattle.tox_link.specs.book.Links.{changed, with_bytes, with_end}
 use Rattle.tox_links.specs.declared.link.end.StreamEnd.{StreamEnd}
 use Rattle.tox_links.specs.declared.link.end.StreamEnd.TheVariants.{Ended, Broken}
 use Rattle.tox_log.specs.declared.last_line.BreakCause.{BreakCause}

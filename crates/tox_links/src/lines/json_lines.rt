@@ -5,7 +5,7 @@ ghost use Rattle.tox_links.specs.lines.JsonLines.{link_object, listening_object,
 use crate::lines::LineText;
 use crate::lines::serve_lines::end_word;
 use crate::link::end::LinkEnd;
-use tox_book::Book;
+use tox_link::Book;
 use tox_text::JsonField;
 use tox_time::Stream;
 

@@ -11,7 +11,7 @@ use crate::run::ServeRun;
 use std::alloc::AllocError;
 use std::net::TcpStream;
 use std::sync::Wait;
-use tox_book::Book;
+use tox_link::Book;
 use tox_words::Drawing;
 
 /// What stands for the address of a client that has gone.

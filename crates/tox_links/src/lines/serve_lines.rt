@@ -5,7 +5,7 @@ ghost use Rattle.tox_links.specs.lines.ServeLines.{end_word, link_end_line, list
 
 use crate::lines::LineText;
 use crate::link::end::LinkEnd;
-use tox_book::Book;
+use tox_link::Book;
 use tox_text::Part::{Name, Number, Word};
 use tox_time::{Ending, Stream};
 

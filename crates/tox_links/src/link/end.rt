@@ -3,8 +3,7 @@ ghost use Rattle.std.specs.Prelude.{◌≡◌};
 ghost use Rattle.tox_time.specs.declared.streams.stream.Stream.TheVariants as StreamOf;
 ghost use Rattle.tox_links.specs.link.LinkEnds.{broken_link, broken_side, carried_before, carried_link_end, end_before_stop, ending_of, is_refused, last_at, nothing_carried, settled, side_end};
 
-use tox_book::Book;
-use tox_link::{LinkFault, LinkReport};
+use tox_link::{Book, LinkFault, LinkReport};
 use tox_log::{BreakCause, LastLine};
 use tox_time::{Ending, Micros, Stream};
 

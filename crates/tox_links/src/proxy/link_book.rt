@@ -1,11 +1,11 @@
 //! The book of a proxy's links while they end: which have ended, and whether the totals are told.
 ghost use Rattle.std.specs.Prelude.{◌≡◌, ◌≤◌, [], ◌∷◌, ◌++◌, true, false, not, length, IfSome, IfNone};
-ghost use Rattle.tox_book.specs.Links.{new_link};
+ghost use Rattle.tox_link.specs.book.Links.{new_link};
 ghost use Rattle.tox_links.specs.proxy.LinkBook.{after_end, have_ended};
 
 use crate::link::end::LinkEnd;
 use std::alloc::Global;
-use tox_book::Book;
+use tox_link::Book;
 
 /// The book of a proxy's links. Once it is closed, its totals are told, and no link is settled any more.
 #[derive(Drop)]

@@ -1,11 +1,11 @@
 //! The connections that a proxy takes, and the numbers of their links.
 ghost use Rattle.std.specs.Prelude.{◌≡◌, ◌≤◌, [], ◌∷◌, ◌++◌, length, IfSome, IfNone};
-ghost use Rattle.tox_book.specs.Links.{new_link};
+ghost use Rattle.tox_link.specs.book.Links.{new_link};
 ghost use Rattle.tox_links.specs.Serving.{is_enough};
 
 use crate::proxy::link_book::LinkBook;
 use std::net::TcpStream;
-use tox_book::Book;
+use tox_link::Book;
 use tox_words::MAX_CONNECTIONS;
 
 /// A connection that was taken, and the number of its link.

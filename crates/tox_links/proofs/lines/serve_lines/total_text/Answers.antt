@@ -1,8 +1,8 @@
 -- The parts are the name and the three numbers of the book.
 use Rattle.std.proofs.Common.{◌≡◌, List, ◌++◌, ℕ, codes, decimal, length, append_assoc, subst}
 use Rattle.tox_time.specs.declared.streams.stream.Stream.TheVariants.{Upstream, Downstream}
-use Rattle.tox_book.specs.declared.sides.Link.{Link}
-use Rattle.tox_book.specs.Links.{total_of}
+use Rattle.tox_link.specs.declared.book.sides.Link.{Link}
+use Rattle.tox_link.specs.book.Links.{total_of}
 use Rattle.tox_text.specs.Names.{visible_name}
 use Rattle.tox_links.specs.lines.ServeLines.{proxy_total_line}
 use Rattle.tox_links.specs.lines.LineText.{IsLine}

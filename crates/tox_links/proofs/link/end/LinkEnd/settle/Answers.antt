@@ -1,7 +1,7 @@
 -- Each of the four calls leaves the links as its change does.
 use Rattle.std.proofs.Common.{ap, ◌∙◌}
 use Rattle.tox_time.specs.declared.streams.stream.Stream.TheVariants.{Upstream, Downstream}
-use Rattle.tox_book.specs.Links.{changed, with_bytes, with_end}
+use Rattle.tox_link.specs.book.Links.{changed, with_bytes, with_end}
 use Rattle.tox_links.specs.link.LinkEnds.{after_change}
 use Rattle.tox_links.proofs.ServeLemmas.{left}
 use Rattle.tox_links.proofs.link.end.LinkEnd.settle.Goals as goal

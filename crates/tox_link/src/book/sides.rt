@@ -1,6 +1,6 @@
 //! One accepted connection, as the book keeps it: two sides, each with its bytes and how it stands.
 ghost use Rattle.std.specs.Prelude.{◌≡◌};
-ghost use Rattle.tox_book.specs.Links.{end_state, new_link, new_side, side_of, with_side};
+ghost use Rattle.tox_link.specs.book.Links.{end_state, new_link, new_side, side_of, with_side};
 
 use tox_time::{Ending, Stream};
 

@@ -2,10 +2,10 @@
 use Rattle.std.proofs.Common.{◌≡◌, ◌<◌, slice_index_or, length, ap, sym, ◌∙◌, rules}
 use Rattle.std.proofs.Math.ListN.{length-set}
 use Rattle.tox_time.specs.declared.streams.stream.Stream.TheVariants.{Upstream, Downstream}
-use Rattle.tox_book.specs.declared.sides.Side.{Side}
-use Rattle.tox_book.specs.Links.{side_of}
-use Rattle.tox_book.proofs.BookTotals.{total_kept, bounds_kept}
-use Rattle.tox_book.proofs.book.Book.ended.Goals as goal
+use Rattle.tox_link.specs.declared.book.sides.Side.{Side}
+use Rattle.tox_link.specs.book.Links.{side_of}
+use Rattle.tox_link.proofs.BookTotals.{total_kept, bounds_kept}
+use Rattle.tox_link.proofs.book.Book.ended.Goals as goal
 
 pub invariant_of-self : goal.invariant_of-self
 invariant_of-self c =

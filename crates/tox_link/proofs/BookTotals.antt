@@ -5,9 +5,9 @@ use Rattle.std.proofs.lemmas.List.Sums.{sum_by-le, sum_by-set}
 use Rattle.std.proofs.lemmas.List.Elements.{All-set}
 use Rattle.tox_time.specs.declared.streams.stream.Stream.{Stream}
 use Rattle.tox_time.specs.declared.streams.stream.Stream.TheVariants.{Upstream, Downstream}
-use Rattle.tox_book.specs.declared.sides.Link.{Link}
-use Rattle.tox_book.specs.declared.sides.Side.{Side}
-use Rattle.tox_book.specs.Links.{side_of, with_side, total_of, IsBounded}
+use Rattle.tox_link.specs.declared.book.sides.Link.{Link}
+use Rattle.tox_link.specs.declared.book.sides.Side.{Side}
+use Rattle.tox_link.specs.book.Links.{side_of, with_side, total_of, IsBounded}
 
 -- the total of a stream is within the room of all links
 pub total_bound : (stream : Stream) (links : List Link) → All IsBounded links → total_of stream links ≤ length links * 1099511627776

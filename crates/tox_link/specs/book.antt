@@ -1,2 +1,3 @@
+-- The book of a proxy's links.
 pub mod Links
 pub mod BookInside

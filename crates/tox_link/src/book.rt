@@ -1,9 +1,11 @@
 //! The book of a proxy's links: which were opened, the bytes that passed on each side, and how each side ended.
 ghost use Rattle.std.specs.Prelude.{◌≡◌, ◌+◌, ◌<◌, ◌≤◌, ◌↔◌, [], ◌∷◌, ◌++◌, length, All, MatchResult, slice_index_or, IfOk, OnErr, OnOk, Ok, Err};
-ghost use Rattle.tox_book.specs.Links.{IsBounded, MakesChange, changed, new_link, running_link, total_of, with_bytes, with_end};
-ghost use Rattle.tox_book.specs.declared.book.OpenFault.TheVariants.{BookFull};
+ghost use Rattle.tox_link.specs.book.Links.{IsBounded, MakesChange, changed, new_link, running_link, total_of, with_bytes, with_end};
+ghost use Rattle.tox_link.specs.declared.book.OpenFault.TheVariants.{BookFull};
 
-use crate::sides::{Link, Side, SideState};
+pub(crate) mod sides;
+
+use crate::book::sides::{Link, Side, SideState};
 use std::alloc::Global;
 use std::marker::Model;
 use thiserror::Error;
@@ -44,11 +46,11 @@ pub struct Book {
 
 impl Model for Book {
     ghost use Rattle.std.specs.Prelude.{List};
-    ghost use Rattle.tox_book.specs.declared.sides.Link.{Link as OneLink};
+    ghost use Rattle.tox_link.specs.declared.book.sides.Link.{Link as OneLink};
 
     ghost Value = { List OneLink };
 
-    ghost use Rattle.tox_book.specs.BookInside.{IsTotalled};
+    ghost use Rattle.tox_link.specs.book.BookInside.{IsTotalled};
 
     ghost view = { λ b. b.links.items };
 

@@ -4,12 +4,12 @@ use Rattle.std.specs.List.{sum_by}
 use Rattle.tox_time.specs.declared.streams.stream.Stream.{Stream}
 use Rattle.tox_time.specs.declared.streams.stream.Stream.TheVariants.{Upstream, Downstream}
 use Rattle.tox_time.specs.declared.streams.ending.Ending.{Ending}
-use Rattle.tox_book.specs.declared.sides.SideState.{SideState}
-use Rattle.tox_book.specs.declared.sides.SideState.TheVariants.{Running, Ended, Broken}
-use Rattle.tox_book.specs.declared.sides.Side.{Side}
-use Rattle.tox_book.specs.declared.sides.Link.{Link}
-use Rattle.tox_book.specs.declared.book.BookFault.{BookFault}
-use Rattle.tox_book.specs.declared.book.BookFault.TheVariants.{UnknownLink, AlreadyEnded, TooManyBytes}
+use Rattle.tox_link.specs.declared.book.sides.SideState.{SideState}
+use Rattle.tox_link.specs.declared.book.sides.SideState.TheVariants.{Running, Ended, Broken}
+use Rattle.tox_link.specs.declared.book.sides.Side.{Side}
+use Rattle.tox_link.specs.declared.book.sides.Link.{Link}
+use Rattle.tox_link.specs.declared.book.BookFault.{BookFault}
+use Rattle.tox_link.specs.declared.book.BookFault.TheVariants.{UnknownLink, AlreadyEnded, TooManyBytes}
 
 -- a side that has passed no byte
 abbrev pub new_side : Side
