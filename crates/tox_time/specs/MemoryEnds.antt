@@ -30,24 +30,30 @@ one_more calls = record { made = min (calls.made + 1) (2 ^ 64 - 1); failing = ca
 abbrev pub FailsNext : Calls → Type 0
 FailsNext calls = calls.failing ≡ Some (min (calls.made + 1) (2 ^ 64 - 1))
 
+-- a source without so many bytes, which it gave
+abbrev pub source_without : SourceView → ℕ → SourceView
+source_without source n = record source { bytes = drop n source.bytes; failed = false }
+
 -- a source after a call that gave so many bytes
 abbrev pub source_after : SourceView → ℕ → SourceView
-source_after source n =
-    record source { bytes = drop n source.bytes; calls = one_more source.calls; failed = false }
+source_after source n = record (source_without source n) { calls = one_more source.calls }
 
 -- a source after the call that failed
 abbrev pub failed_source : SourceView → SourceView
 failed_source source = record source { calls = one_more source.calls; failed = true }
 
--- a sink after a call that took the first n of these bytes
-abbrev pub sink_after : SinkView → ℕ → List ℕ → SinkView
-sink_after sink n bytes =
+-- a sink with the first n of these bytes
+abbrev pub sink_with : SinkView → ℕ → List ℕ → SinkView
+sink_with sink n bytes =
     record sink {
       bytes = sink.bytes ++ take n bytes;
       room = sink.room - n;
-      calls = one_more sink.calls;
       failed = takes_nothing n bytes;
     }
+
+-- a sink after a call that took the first n of these bytes
+abbrev pub sink_after : SinkView → ℕ → List ℕ → SinkView
+sink_after sink n bytes = record (sink_with sink n bytes) { calls = one_more sink.calls }
 
 -- a sink after the call that failed
 abbrev pub failed_sink : SinkView → SinkView

@@ -1,6 +1,6 @@
 //! A writer into memory that can fail at a set call.
 ghost use Rattle.std.specs.Prelude.{◌≡◌, ◌<◌, ◌↔◌, [], false, Some, min, length, IsErr, IfOk, OnErr};
-ghost use Rattle.tox_time.specs.MemoryEnds.{FailsNext, failed_sink, sink_after};
+ghost use Rattle.tox_time.specs.MemoryEnds.{FailsNext, failed_sink, sink_after, sink_with};
 
 use crate::ends::{EndFault, Sink};
 use std::alloc::{AllocError, Global};
@@ -68,6 +68,20 @@ impl MemorySink {
     {
         &self.room[..self.filled]
     }
+
+    /// Takes the first of these bytes, as many as fit into a call, and returns how many.
+    fn take(&mut self, bytes: &[u8]) -> usize
+        ensures count { result ≡ min (min self.old.room self.old.most) (length bytes.now) }
+        ensures took { self.new ≡ sink_with self.old result bytes.now }
+    {
+        let free = self.room.len() - self.filled;
+        let count = free.min(self.most).min(bytes.len());
+        let end = self.filled + count;
+        self.room[self.filled..end].copy_from_slice(&bytes[..count]);
+        self.filled = end;
+        self.failed = count == 0 && !bytes.is_empty();
+        count
+    }
 }
 
 impl Sink for MemorySink {
@@ -87,12 +101,6 @@ impl Sink for MemorySink {
             self.failed = true;
             return Err(EndFault);
         }
-        let free = self.room.len() - self.filled;
-        let count = free.min(self.most).min(bytes.len());
-        let end = self.filled + count;
-        self.room[self.filled..end].copy_from_slice(&bytes[..count]);
-        self.filled = end;
-        self.failed = count == 0 && !bytes.is_empty();
-        Ok(count)
+        Ok(self.take(bytes))
     }
 }

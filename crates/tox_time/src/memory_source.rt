@@ -1,7 +1,7 @@
 //! A reader of bytes in memory that can fail at a set call.
 ghost use Rattle.std.specs.Prelude.{◌≡◌, ◌<◌, ◌↔◌, [], ◌++◌, false, Some, min, length, take, drop, IsErr, IfOk, OnErr};
 ghost use Rattle.std.specs.Io.KnownBytes.{prepend_known, IsAtEnd};
-ghost use Rattle.tox_time.specs.MemoryEnds.{FailsNext, failed_source, source_after};
+ghost use Rattle.tox_time.specs.MemoryEnds.{FailsNext, failed_source, source_after, source_without};
 
 use crate::ends::{EndFault, Source};
 use std::marker::Model;
@@ -53,6 +53,20 @@ impl MemorySource {
             failed: false,
         }
     }
+
+    /// Gives the next bytes, as many as fit into a call, and returns how many.
+    fn give(&mut self, buffer: &mut [u8]) -> usize
+        ensures count { result ≡ min (min (length self.old.bytes) self.old.most) (length buffer.new) }
+        ensures gave { self.new ≡ source_without self.old result }
+        ensures buffer { buffer.new ≡ take result self.old.bytes ++ drop result buffer.old }
+    {
+        let left = self.bytes.len() - self.next;
+        let count = left.min(self.most).min(buffer.len());
+        buffer[..count].copy_from_slice(&self.bytes[self.next..self.next + count]);
+        self.next += count;
+        self.failed = false;
+        count
+    }
 }
 
 impl Source for MemorySource {
@@ -76,11 +90,6 @@ impl Source for MemorySource {
             self.failed = true;
             return Err(EndFault);
         }
-        let left = self.bytes.len() - self.next;
-        let count = left.min(self.most).min(buffer.len());
-        buffer[..count].copy_from_slice(&self.bytes[self.next..self.next + count]);
-        self.next += count;
-        self.failed = false;
-        Ok(count)
+        Ok(self.give(buffer))
     }
 }
