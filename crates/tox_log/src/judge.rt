@@ -175,6 +175,16 @@ pub(crate) fn hear_end(judge: &mut Judge, instant: &Micros)
     judge.latest = *instant;
 }
 
+/// Whether a slice may be said next at a reading: it begins where the last one stopped, has bytes, and is due.
+fn may_be_said(said: u64, slice: &Slice, reading: &Micros) -> bool
+    ensures fits { IsTrue result → (slice.now.span.start ≡ said)
+        × (slice.now.span.start < slice.now.span.stop) × (slice.now.instant ≤ reading.now) }
+    ensures takes { slice.now.span.start ≡ said → slice.now.span.start < slice.now.span.stop
+        → slice.now.instant ≤ reading.now → IsTrue result }
+{
+    slice.span.start == said && slice.span.start < slice.span.stop && slice.instant <= *reading
+}
+
 /// A slice was said at a reading. False if the plan doesn't mean it: the judge then stands within that slice.
 pub(crate) fn hear_wrote(judge: &mut Judge, slice: &Slice, reading: &Micros) -> bool
     requires held { KeepsUp judge.old }
@@ -186,10 +196,7 @@ pub(crate) fn hear_wrote(judge: &mut Judge, slice: &Slice, reading: &Micros) -> 
         → Hears judge.old (OneEvent.Wrote slice.now reading.now) judge.new }
     ensures refuses { result ≡ false → Refuses judge.old (OneEvent.Wrote slice.now reading.now) }
 {
-    if slice.span.start != judge.said
-        || slice.span.stop <= slice.span.start
-        || slice.instant > *reading
-    {
+    if !may_be_said(judge.said, slice, reading) {
         return false;
     }
     judge.latest = *reading;

@@ -1,5 +1,5 @@
 -- Part by part, and then the whole slice.
-use Rattle.std.proofs.Common.{◌≡◌, ◌+◌, ◌-◌, ◌≤◌, ◌<◌, ℕ, replicate, true, subst, ◌∙◌, rules, refl, arith}
+use Rattle.std.proofs.Common.{◌≡◌, ◌+◌, ◌-◌, ℕ, replicate, true, subst, ◌∙◌, rules, refl, arith}
 use Rattle.tox_log.specs.Judging.{Expects, rest_table}
 use Rattle.tox_log.proofs.Refusing.{faithful-next}
 use Rattle.tox_log.proofs.Judging.{begins-saying, goes-saying, said-all, begins-held}
@@ -9,15 +9,16 @@ pub parts-init : goal.parts-init
 parts-init c =
     let judge = c.args.judge.now in
     let slice = c.args.slice.now in
+    let fits = c.may_be_said.ensures.fits (search rules) in
     record {
       held = begins-held judge c.args.reading.now c.requires.later c.requires.held;
       heard = refl;
       latest = refl;
       ended = refl;
-      from = omega arith;
-      to = omega arith;
-      due = first_of (omega arith, search rules);
-      follows = λ means told log follows. begins-saying means told judge.core judge.heard judge.ended slice.span.start log slice.instant (rest_table judge.rest) judge.latest c.args.reading.now judge.said c.requires.later (omega arith) follows;
+      from = omega (arith, fits);
+      to = omega (arith, fits);
+      due = fits.2;
+      follows = λ means told log follows. begins-saying means told judge.core judge.heard judge.ended slice.span.start log slice.instant (rest_table judge.rest) judge.latest c.args.reading.now judge.said c.requires.later (omega (arith, fits)) follows;
       expects = λ expects. subst (λ at. Expects judge (slice.span.stop - at) slice.instant) (search rules) expects;
     }
 
@@ -49,17 +50,14 @@ parts-preserved c =
 pub returns-clause-hears : goal.returns-clause-hears
 returns-clause-hears c = λ _ means told log says follows.
     let slice = c.args.slice.now in
-    let due : slice.instant ≤ c.args.reading.now = first_of (omega arith, search rules) in
-    let some : slice.span.start < slice.span.stop = first_of (omega arith, search rules) in
+    let fits = c.may_be_said.ensures.fits (search rules) in
     let all : c.parts.judge.said ≡ slice.span.stop = omega (arith, c.parts.invariant.to, c.parts-test.false) in
-    said-all means told c.parts.judge slice c.args.reading.now log c.parts.invariant.latest all says due some (c.parts.invariant.follows means told log follows)
+    said-all means told c.parts.judge slice c.args.reading.now log c.parts.invariant.latest all says fits.2 fits.1 (c.parts.invariant.follows means told log follows)
 
-pub returns-then-slice-judge-clause-refuses : goal.returns-then-slice-judge-clause-refuses
-returns-then-slice-judge-clause-refuses c = λ _ means told log judged faithful.
+pub returns-then-not-may_be_said-clause-refuses : goal.returns-then-not-may_be_said-clause-refuses
+returns-then-not-may_be_said-clause-refuses c = λ _ means told log judged faithful.
     let next = faithful-next means told c.args.judge.now log c.args.slice.now c.args.reading.now judged faithful in
-    let starts = next.starts in
-    let some = next.some in
-    let due = next.due in
+    let takes : c.may_be_said.result ≡ true = c.may_be_said.ensures.takes next.starts next.some next.due in
     search rules
 
 pub returns-then-not-say_part-clause-refuses : goal.returns-then-not-say_part-clause-refuses
