@@ -27,12 +27,27 @@ pub fn print_meant<R: Source, W: Sink>(
     ensures { OnOk result (W.failed writer.new ≡ false) }
 {
     let words = log.words(alloc)?;
-    let plan = match chain {
-        Some(chain) => compile(chain, &words),
-        None => compile(log.chain(), &words),
-    };
-    let mut runner = Runner::new(plan, &words);
+    let chain = chain.unwrap_or(log.chain());
+    let mut runner = Runner::new(compile(chain, &words), &words);
     let mut buffer = Buffer::new();
+    print_lines(&mut buffer, writer, &mut runner, log, reader)?;
+    buffer.flush(writer)?;
+    Ok(())
+}
+
+/// Prints what leaves of the pieces that are left of a log, and the ending.
+fn print_lines<R: Source, W: Sink>(
+    buffer: &mut Buffer,
+    writer: &mut W,
+    runner: &mut Runner<'_>,
+    log: &mut OpenLog,
+    reader: &mut R,
+) -> Result<(), HeardFault>
+    requires reads { R.failed reader.old ≡ false }
+    requires works { W.failed writer.old ≡ false }
+    requires idle { runner.old.idle ≡ true }
+    ensures { OnOk result (W.failed writer.new ≡ false) }
+{
     let mut ending = None;
     for _ in 0..u64::MAX {
         let Some(line) = log.next_line(reader)? else {
@@ -40,17 +55,16 @@ pub fn print_meant<R: Source, W: Sink>(
         };
         match &line {
             LogLine::Event(LinkEvent::Piece(len, instant)) => {
-                print_cuts(&mut buffer, writer, &mut runner, *len, instant)?;
+                print_cuts(buffer, writer, runner, *len, instant)?;
             }
             LogLine::Event(LinkEvent::SourceEnd(instant)) => {
-                ending = Some(finish(&mut runner, instant));
+                ending = Some(finish(runner, instant));
             }
             _ => {}
         }
     }
     let ending = ending.unwrap_or(runner.quiet());
-    print_ending(&mut buffer, writer, &ending)?;
-    buffer.flush(writer)?;
+    print_ending(buffer, writer, &ending)?;
     Ok(())
 }
 
