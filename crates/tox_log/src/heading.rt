@@ -61,16 +61,26 @@ pub(crate) fn read_link(line: &[u8]) -> Option<LinkWords<'_>>
     let (rest, stream) = cut_at_last(rest, b' ')?;
     let (name, number) = cut_at_last(rest, b' ')?;
     let proxy = name_of(name)?;
-    let number = number_of(number, MAX_CONNECTIONS)?;
-    if number == 0 {
-        return None;
-    }
+    let number = link_number(number)?;
     let stream = stream_of(stream)?;
     Some(LinkWords {
         proxy,
         number,
         stream,
     })
+}
+
+/// The number of a link that a text is.
+fn link_number(text: &[u8]) -> Option<u64>
+    ensures { MatchOption result
+        ((number : ℕ) → 1 ≤ number → number ≤ 1_000_000 → text.now ≢ decimal number)
+        (λ number. (1 ≤ number) × (number ≤ 1_000_000) × (text.now ≡ decimal number)) }
+{
+    let number = number_of(text, MAX_CONNECTIONS)?;
+    if number == 0 {
+        return None;
+    }
+    Some(number)
 }
 
 fn stream_of(name: &[u8]) -> Option<Stream>

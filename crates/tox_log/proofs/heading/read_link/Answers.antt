@@ -25,13 +25,7 @@ returns-in_err-proxy-clause-back c = λ name number direction prints.
 pub returns-in_err-number-clause-back : goal.returns-in_err-number-clause-back
 returns-in_err-number-clause-back c = λ name number direction prints.
     let parts = link-whole c.args.line.now c.in_ok-rest.rest.now c.in_ok-rest-2.rest.now c.in_ok-rest-2.stream.now c.in_ok-name.name.now c.in_ok-name.number.now name number direction prints c.in_ok-rest.ensures.cases.1 c.in_ok-rest-2.ensures.cut c.in_ok-name.ensures.cut in
-    absurd (c.in_err-number.ensures number prints.numbered.1 parts.1)
-
-pub returns-then-number-eq0-clause-back : goal.returns-then-number-eq0-clause-back
-returns-then-number-eq0-clause-back c = λ name number direction prints.
-    let parts = link-whole c.args.line.now c.in_ok-rest.rest.now c.in_ok-rest-2.rest.now c.in_ok-rest-2.stream.now c.in_ok-name.name.now c.in_ok-name.number.now name number direction prints c.in_ok-rest.ensures.cases.1 c.in_ok-rest-2.ensures.cut c.in_ok-name.ensures.cut in
-    let same = decimal_injective c.in_ok-number.number number (omega (arith, c.in_ok-number.ensures.0)) (omega (arith, prints.numbered.1)) (sym c.in_ok-number.ensures.1 ∙ parts.1) in
-    omega (arith, same, c.if-number-eq0.true, prints.numbered.0)
+    absurd (c.in_err-number.ensures number prints.numbered.0 prints.numbered.1 parts.1)
 
 pub returns-in_err-stream-clause-back : goal.returns-in_err-stream-clause-back
 returns-in_err-stream-clause-back c = λ name number direction prints.
@@ -42,6 +36,6 @@ pub returns-clause-back : goal.returns-clause-back
 returns-clause-back c = λ name number direction prints.
     let parts = link-whole c.args.line.now c.in_ok-rest.rest.now c.in_ok-rest-2.rest.now c.in_ok-rest-2.stream.now c.in_ok-name.name.now c.in_ok-name.number.now name number direction prints c.in_ok-rest.ensures.cases.1 c.in_ok-rest-2.ensures.cut c.in_ok-name.ensures.cut in record {
       its_name = c.in_ok-proxy.ensures.0 ∙ parts.0;
-      its_number = decimal_injective c.in_ok-number.number number (omega (arith, c.in_ok-number.ensures.0)) (omega (arith, prints.numbered.1)) (sym c.in_ok-number.ensures.1 ∙ parts.1);
+      its_number = decimal_injective c.in_ok-number.number number (omega (arith, c.in_ok-number.ensures.1)) (omega (arith, prints.numbered.1)) (sym c.in_ok-number.ensures.2 ∙ parts.1);
       its_stream = same-stream c.in_ok-stream.stream direction (sym c.in_ok-stream.ensures ∙ parts.2);
     }
