@@ -1,13 +1,14 @@
 -- A link that is carried: its log beside its core.
-use Rattle.std.specs.Prelude.{◌≡◌, ℕ, ◌≤◌, ◌^◌, ◌⊎◌, true, false, List, [], ◌∷◌, ◌++◌, None}
+use Rattle.std.specs.Prelude.{◌≡◌, ℕ, ◌≤◌, ◌^◌, ◌⊎◌, true, false, List, [], ◌∷◌, ◌++◌, Option, Some, None}
 use Rattle.std.specs.List.{sum}
+use Rattle.tox_time.specs.declared.streams.ending.Ending.{Ending}
 use Rattle.tox_time.specs.declared.streams.item.Item.{Item}
 use Rattle.tox_time.specs.streams.Stream.{IsStream, IsStreamFrom}
 use Rattle.tox_time.specs.streams.Table.{table, slices_table, ending}
 use Rattle.tox_link.specs.declared.link_core.act.Act.{Act}
 use Rattle.tox_link.specs.declared.link_core.act.Act.TheVariants.{Write, WaitUntil, WaitForInput, End}
 use Rattle.tox_link.specs.declared.notes.LinkEvent.{LinkEvent}
-use Rattle.tox_link.specs.declared.notes.LinkEvent.TheVariants.{Wrote}
+use Rattle.tox_link.specs.declared.notes.LinkEvent.TheVariants.{SourceEnd, Wrote}
 use Rattle.tox_link.specs.link_core.Core.{CoreView, core_ending, core_position, kept_lens, kept_start, remaining_output}
 use Rattle.tox_link.specs.log.Log.{heard_from, heard_bytes, heard_lens, has_source_end, said, reading_of, IsFaithful, IsGapless, IsShallowBehind}
 
@@ -55,3 +56,8 @@ noted_of (Write slice) now = Wrote slice now ∷ []
 noted_of (WaitUntil instant) now = []
 noted_of WaitForInput now = []
 noted_of (End last) now = []
+
+-- what is noted of the source's end: nothing once the ending of the link is known
+abbrev pub noted_end : Option Ending → ℕ → List LinkEvent
+noted_end (Some last) now = []
+noted_end None now = SourceEnd now ∷ []

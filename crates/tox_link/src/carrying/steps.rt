@@ -3,7 +3,8 @@ ghost use Rattle.std.specs.Prelude.{◌≡◌, ◌+◌, ◌<◌, ◌≤◌, ◌^
 ghost use Rattle.tox_link.specs.carrying.Held.{MayTake, with_held_piece};
 ghost use Rattle.tox_link.specs.link_core.Core.{core_ending, kept_count};
 ghost use Rattle.tox_link.specs.link_core.Acts.{Answered};
-ghost use Rattle.tox_link.specs.log.Carried.{KeepsCarried, ReadsOn, noted_of};
+ghost use Rattle.tox_link.specs.log.Carried.{KeepsCarried, ReadsOn, noted_end, noted_of};
+ghost use Rattle.tox_link.specs.log.Events.{with_events};
 ghost use Rattle.tox_link.specs.carrying.Steps.{CarriesOn, TakesIn};
 
 use crate::clock::{Clock, reading};
@@ -12,7 +13,7 @@ use crate::link_core::direction_core::DirectionCore;
 use crate::notes::{LinkEvent, Notes};
 use std::alloc::AllocError;
 use tox_lend::{Piece, Window};
-use tox_time::Micros;
+use tox_time::{Ending, Micros};
 
 /// Whether input may be taken. A piece that comes once the ending is known is dropped, so it needs no room in the window.
 pub(crate) fn may_take(core: &DirectionCore<'_>, window: &Window, ended: bool) -> bool
@@ -63,6 +64,23 @@ pub(crate) fn take_piece<C: Clock, N: Notes>(
     Ok(())
 }
 
+/// Notes the source's end, unless the link's ending is known.
+fn note_end<N: Notes>(
+    notes: &mut N,
+    ending: &Option<Ending>,
+    now: &Micros,
+) -> Result<(), AllocError>
+    ensures noted { OnOk result (N.events notes.new
+        ≡ with_events (N.events notes.old) (noted_end ending.now now.now)) }
+    ensures known { IsSome ending.now → N.events notes.new ≡ N.events notes.old }
+    ensures err { OnErr result (N.events notes.new ≡ N.events notes.old) }
+{
+    match ending {
+        Some(_) => Ok(()),
+        None => notes.note(LinkEvent::SourceEnd(*now)),
+    }
+}
+
 /// The source's end arrives. It is noted unless the ending is known. A refused note leaves the core as it was.
 pub(crate) fn take_end<C: Clock, N: Notes>(
     core: &mut DirectionCore<'_>,
@@ -81,17 +99,10 @@ pub(crate) fn take_end<C: Clock, N: Notes>(
         ((N.events notes.new ≡ N.events notes.old) × (core.new ≡ core.old)) }
 {
     let now = reading(clock, core.latest());
-    match core.ending() {
-        Some(_) => {
-            core.on_end(now);
-            Ok(())
-        }
-        None => {
-            notes.note(LinkEvent::SourceEnd(now))?;
-            core.on_end(now);
-            Ok(())
-        }
-    }
+    let ending = core.ending();
+    note_end(notes, &ending, &now)?;
+    core.on_end(now);
+    Ok(())
 }
 
 /// Asks the core at the greatest reading so far. Returns its answer and that reading.
