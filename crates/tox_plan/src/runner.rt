@@ -1,5 +1,5 @@
 //! The runner of a plan: pieces in, slices out, one at a time.
-ghost use Rattle.std.specs.Prelude.{◌≡◌, ◌≢◌, ℕ, ◌+◌, ◌*◌, ◌^◌, ◌<◌, ◌≤◌, ◌↔◌, ◌⊎◌, List, [], ◌∷◌, length, true, false, None, Some, IsSome, IsNone, IfSome, IfNone, OnOk, OnErr};
+ghost use Rattle.std.specs.Prelude.{◌≡◌, ◌≢◌, ℕ, ◌+◌, ◌*◌, ◌^◌, ◌≤◌, ◌↔◌, ◌⊎◌, List, [], ◌∷◌, length, true, false, None, Some, IsSome, IsNone, IfSome, IfNone, OnOk, OnErr};
 ghost use Rattle.tox_time.specs.declared.streams.item.Item.{Item as OneItem};
 ghost use Rattle.tox_time.specs.declared.streams.item.Item.TheVariants.{Closed, Quiet};
 ghost use Rattle.tox_time.specs.streams.Table.{final_of};
@@ -11,6 +11,8 @@ ghost use Rattle.tox_plan.specs.Cuts.{IsOneCut, GivesCut, GivesNoCut, GivesNoMor
 ghost use Rattle.tox_plan.specs.Given.{GoesOn, GivesMeaning};
 ghost use Rattle.tox_plan.specs.NewRunner.{IsNewRunner};
 ghost use Rattle.tox_plan.specs.Unended.{IsBeforeDeadline, IsUnended, LeavesPastDeadline};
+
+mod counts;
 
 use crate::cursor_endings::{ending_of_read, last_of};
 use crate::phase::Phase;
@@ -297,35 +299,5 @@ impl<'w> Runner<'w> {
         } else {
             None
         }
-    }
-
-    /// How often `next_cut` looked at an operation: at most once for each operation, for each cut and each piece.
-    pub fn turns(&self) -> u64
-        ensures value { result ≡ self.now.turns }
-        ensures most { result ≤ length self.now.cursors * (self.now.cuts + self.now.pieces) }
-        ensures least { 0 < length self.now.cursors → self.now.cuts ≤ result }
-    {
-        self.looks.turns
-    }
-
-    /// How many cuts were given.
-    pub fn cuts(&self) -> u64
-        ensures { result ≡ self.now.cuts }
-    {
-        self.cuts
-    }
-
-    /// How many pieces were accepted.
-    pub fn pieces(&self) -> u64
-        ensures { result ≡ self.now.pieces }
-    {
-        self.pieces
-    }
-
-    /// The last instant: that of the last accepted piece or of the source's end, 0 at first.
-    pub fn latest(&self) -> Micros
-        ensures { result ≡ self.now.latest }
-    {
-        self.latest
     }
 }
