@@ -73,11 +73,11 @@ pub(crate) fn end_source<C: Clock, N: Notes>(
         link.new (ends_view left written (N.events notes.new)) }
 {
     link.ended = true;
-    let None = link.core.ending() else {
-        take_end(&mut link.core, clock, notes)?;
+    let ending = link.core.ending();
+    take_end(&mut link.core, clock, notes)?;
+    let None = ending else {
         return Ok(());
     };
-    take_end(&mut link.core, clock, notes)?;
     link.source = source;
     Ok(())
 }
