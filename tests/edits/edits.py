@@ -51,18 +51,24 @@ class BadEdit(Exception):
 
 @dataclass
 class Edit:
-    """`changes` are (file, old, new) in order. `functions` are those in which the changes stand, or that name a changed constant. An edit is `wide` if
-    a change stands outside of functions: then goals of others may fail too.
+    """`changes` are (file, old, new) in order, and `places` the function or the name of the constant in which each stands, or None. `functions` are
+    those in which the changes stand, or that name a changed constant. `in_types` where a change, or a name of a changed constant, stands elsewhere, as in
+    a type.
     """
 
     name: str
     changes: list
+    places: list = field(default_factory=list)
     functions: list = field(default_factory=list)
-    wide: bool = False
+    in_types: bool = False
+
+    def is_wide(self):
+        """Whether a change stands outside of functions: then goals of others may fail too."""
+        return any(not isinstance(place, Function) for place in self.places)
 
     def fits_copy(self):
-        """Whether a copy of its function can be changed in place of the function."""
-        return not self.wide and len(self.functions) == 1 and not self.functions[0].of_trait
+        """Whether copies of its functions can be changed in place of these, with copies of the constants that they name."""
+        return not self.in_types and bool(self.functions) and not any(it.of_trait for it in self.functions)
 
     def apply(self, folder):
         """Changes the files below the folder, or raises BadEdit."""
@@ -71,8 +77,10 @@ class Edit:
             write_text(folder, file, replaced(text_of(folder, file), change))
 
     def meets(self, other):
-        """Whether the two can't share a check: one is wide, or they clash and neither can change a copy."""
-        return self.wide or other.wide or self.clashes(other) and not self.fits_copy() and not other.fits_copy()
+        """Whether the two can't share a check: they clash, or one is wide, and no copy can be changed in its place."""
+        if any(it.is_wide() and not it.fits_copy() for it in (self, other)):
+            return True
+        return self.clashes(other) and not self.fits_copy() and not other.fits_copy()
 
     def clashes(self, other):
         """Whether the two change one function, or one writes a text that the other changes."""
@@ -133,8 +141,9 @@ def functions_of(folder, file):
     for number, line in enumerate(lines):
         block, begins = BLOCK.match(line), FUNCTION.match(line)
         if block:
-            owner = block["type"] + "".join(re.findall(r"(?<!')\b\w+", block["trait"] or ""))
-            of_trait = bool(block["trait"]) or block[0].startswith(("trait", "pub trait"))
+            trait = re.sub(r"\w+::", "", block["trait"] or "")
+            owner = block["type"] + "".join(re.findall(r"(?<!')\b\w+", trait))
+            of_trait = bool(trait) or block[0].startswith(("trait", "pub trait"))
         if begins:
             body, last = body_of(lines, number, begins[1])
             first = number
@@ -155,31 +164,39 @@ def changed_function(folder, file, line):
     return max(found, key=lambda it: it.first, default=None)
 
 
+def item_at(text, at):
+    """The item of a source file's text that holds this place. A blank line stands between two items."""
+    end = text.find("\n\n", at)
+    return text[text.rfind("\n\n", 0, at) + 1 : end if end >= 0 else len(text)].strip("\n")
+
+
 def changed_constant(text, at):
-    """The name of the constant whose item holds this place of a text, or None. A blank line stands between two items."""
-    item = text[text.rfind("\n\n", 0, at) + 1 : text.find("\n\n", at)]
-    constant = CONSTANT.search(item)
+    """The name of the constant whose item holds this place of a text, or None."""
+    constant = CONSTANT.search(item_at(text, at))
     return constant and constant[1]
 
 
-def functions_naming(folder, words):
-    """The functions of the crate in the folder that name one of these constants."""
+def places_naming(folder, words):
+    """The functions of the crate in the folder that name one of these constants, and None where a line outside of them does, but for those that define or
+    import it."""
     for file in files_in(folder, "src"):
-        lines = text_of(folder, file).split("\n")
-        for function in functions_of(folder, file):
-            if words & set(re.findall(r"\w+", "\n".join(lines[function.first - 1 : function.last]))):
-                yield function
+        functions = list(functions_of(folder, file))
+        for number, line in enumerate(text_of(folder, file).split("\n"), 1):
+            named = words & set(re.findall(r"\w+", line))
+            constant = CONSTANT.match(line)
+            if named - {constant and constant[1]} and not line.startswith(("use ", "pub use ", "ghost use ", "//")):
+                yield next((it for it in functions if it.first <= number <= it.last), None)
 
 
 def places_of(folder, changes):
-    """For each change the function in which it stands, and the constant whose item it stands in. A later change may find its text only where an earlier one
-    has changed another place of that text. Lines stay where they are."""
+    """For each change the function in which it stands, or the name of the constant whose item it stands in, or None. A later change may find its text
+    only where an earlier one has changed another place of that text. Lines stay where they are."""
     texts = {}
     for file, old, new in changes:
         text = texts.get(file) or text_of(folder, file)
         at = place_of(text, old)
         texts[file] = text.replace(old, new)
-        yield changed_function(folder, file, text.count("\n", 0, at) + 1), changed_constant(text, at)
+        yield changed_function(folder, file, text.count("\n", 0, at) + 1) or changed_constant(text, at)
 
 
 def read_edit(folder, path):
@@ -195,10 +212,9 @@ def read_edit(folder, path):
             elif word == "new":
                 changes.append((file, old, rest[1:]))
     places = list(places_of(folder, changes))
-    constants = {constant for function, constant in places if not function and constant}
-    functions = {*(function for function, _ in places if function), *functions_naming(folder, constants)}
-    wide = any(function is None for function, _ in places)
-    return Edit(os.path.basename(path), changes, sorted(functions, key=Function.path), wide)
+    constants = {it for it in places if isinstance(it, str)}
+    found = {*places, *places_naming(folder, constants)} - constants
+    return Edit(os.path.basename(path), changes, places, sorted(found - {None}, key=Function.path), None in found)
 
 
 def edits_of(folder):
@@ -209,9 +225,10 @@ def edits_of(folder):
 
 
 def in_groups(edits):
-    """Groups of edits that can share one check. A wide edit has a group of its own, behind the others: it makes anew what a check has kept."""
+    """Groups of edits that can share one check. A wide edit that can't change copies has a group of its own, behind the others: it makes anew what a check
+    has kept."""
     groups = []
-    for edit in sorted(edits, key=lambda it: it.wide):
+    for edit in sorted(edits, key=Edit.is_wide):
         fitting = (group for group in groups if not any(edit.meets(other) for other in group))
         group = next(fitting, None)
         if group is None:
