@@ -13,7 +13,7 @@ use tox_link::LinkEvent;
 use tox_time::{Ending, MAX_BYTES, Micros, Slice, Span};
 
 /// A line behind the header.
-#[derive(Clone, Copy, PartialEq, Eq)]
+#[derive(Clone, Copy)]
 pub enum LogLine {
     Event(LinkEvent),
     Last(LastLine),

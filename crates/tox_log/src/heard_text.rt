@@ -11,7 +11,7 @@ use tox_text::Part::{Number, Word};
 use tox_time::{EndFault, Micros, Sink, Source};
 
 /// Why a text of a log was not printed whole.
-#[derive(Clone, Copy, PartialEq, Eq)]
+#[derive(Clone, Copy)]
 pub enum HeardFault {
     Log(LogFault),
     /// A write failed, or took nothing.

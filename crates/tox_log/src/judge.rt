@@ -19,7 +19,7 @@ use tox_time::{Ending, MAX_BYTES, Micros, Slice};
 use tox_words::Words;
 
 /// A piece came while 1024 pieces wait.
-#[derive(Clone, Copy, PartialEq, Eq)]
+#[derive(Clone, Copy)]
 pub(crate) struct TooDeep;
 
 /// What the plan of a log still has to say for what was heard.

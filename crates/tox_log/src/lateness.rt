@@ -27,7 +27,7 @@ pub(crate) struct Lateness {
 }
 
 /// The median, the 99th percentile and the maximum of some values.
-#[derive(Clone, Copy, PartialEq, Eq)]
+#[derive(Clone, Copy)]
 pub struct Percentiles {
     pub median: u64,
     pub p99: u64,

@@ -16,7 +16,7 @@ use tox_defs::Chain;
 use tox_log::LoggedLink;
 
 /// How much is logged.
-#[derive(Clone, Copy, PartialEq, Eq)]
+#[derive(Clone, Copy)]
 pub struct LogLimits {
     /// How many links of each proxy are logged, the first ones.
     pub links: u64,

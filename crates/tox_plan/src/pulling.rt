@@ -12,7 +12,7 @@ use tox_time::{Slice, Span};
 use tox_words::Drawing;
 
 /// Counts the looks at cursors, and notes whether one found an ending.
-#[derive(Clone, Copy, PartialEq, Eq)]
+#[derive(Clone, Copy)]
 pub(crate) struct PullStats {
     /// How often a cursor was looked at.
     pub(crate) turns: u64,

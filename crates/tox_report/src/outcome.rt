@@ -6,7 +6,7 @@ use tox_log::{BreakCause, JudgedLog, Verdict};
 use tox_time::{Ending, Micros};
 
 /// What came of a stream, by its log.
-#[derive(Clone, Copy, PartialEq, Eq)]
+#[derive(Clone, Copy)]
 pub(crate) enum Outcome {
     Open,
     Closed(Micros),

@@ -17,7 +17,7 @@ const NUMBER_LEN: u32 = 4;
 
 /// When a silent peer is asked whether it still lives: how many seconds of silence come before the first question, how many
 /// lie between two, and after how many without an answer the connection ends.
-#[derive(Clone, Copy, PartialEq, Eq)]
+#[derive(Clone, Copy)]
 pub struct KeepAlive {
     pub idle: u32,
     pub interval: u32,

@@ -10,7 +10,7 @@ use std::fmt;
 use tox_time::{EndFault, Sink};
 
 /// A name that keeps to its line where it is displayed, as [`Part::Name`](crate::Part) is printed.
-#[derive(Clone, Copy, PartialEq, Eq)]
+#[derive(Clone, Copy)]
 pub struct VisibleName<'a>(pub &'a str);
 
 impl<'a> fmt::Display for VisibleName<'a> {

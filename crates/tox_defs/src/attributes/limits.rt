@@ -3,7 +3,7 @@ ghost use Rattle.std.specs.Prelude.{◌≡◌};
 ghost use Rattle.tox_defs.specs.toxics.Ranges.{are_in, is_in};
 
 /// The values that an attribute may have: `least..=most`.
-#[derive(Clone, Copy, PartialEq, Eq)]
+#[derive(Clone, Copy)]
 pub(crate) struct Limits {
     pub(crate) least: u64,
     pub(crate) most: u64,

@@ -13,7 +13,7 @@ use tox_time::{Ending, Slice};
 use tox_words::Drawing;
 
 /// What a look at the rest of a chunk finds.
-#[derive(Clone, Copy, PartialEq, Eq)]
+#[derive(Clone, Copy)]
 pub(crate) enum Look {
     /// The next piece. The bytes behind it stay unread.
     Piece(Slice),

@@ -12,7 +12,7 @@ use tox_words::Drawing;
 
 /// An operation at work: its state, where its present chunk stops and that chunk's instant, and the ending that
 /// it found, if any. A last piece may still leave before that ending.
-#[derive(Clone, Copy, Default, PartialEq, Eq)]
+#[derive(Clone, Copy, Default)]
 pub struct OpCursor {
     pub op: Op,
     pub state: State,
@@ -22,7 +22,7 @@ pub struct OpCursor {
 }
 
 /// What an operation gives next for its present chunk.
-#[derive(Clone, Copy, PartialEq, Eq)]
+#[derive(Clone, Copy)]
 pub enum Emission {
     /// The next piece.
     Piece(Slice),

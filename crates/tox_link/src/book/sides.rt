@@ -5,7 +5,7 @@ ghost use Rattle.tox_link.specs.book.Links.{end_state, new_link, new_side, side_
 use tox_time::{Ending, Stream};
 
 /// How a side of a link stands.
-#[derive(Clone, Copy, PartialEq, Eq)]
+#[derive(Clone, Copy)]
 pub enum SideState {
     /// Bytes may still pass.
     Running,
@@ -15,7 +15,7 @@ pub enum SideState {
 }
 
 /// One direction of a link.
-#[derive(Clone, Copy, PartialEq, Eq)]
+#[derive(Clone, Copy)]
 pub struct Side {
     /// The bytes that passed: at most 2^40.
     pub bytes: u64,
@@ -23,7 +23,7 @@ pub struct Side {
 }
 
 /// One accepted connection.
-#[derive(Clone, Copy, PartialEq, Eq)]
+#[derive(Clone, Copy)]
 pub struct Link {
     pub upstream: Side,
     pub downstream: Side,

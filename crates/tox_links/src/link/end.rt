@@ -8,14 +8,14 @@ use tox_log::{BreakCause, LastLine};
 use tox_time::{Ending, Micros, Stream};
 
 /// How one direction ended.
-#[derive(Clone, Copy, PartialEq, Eq)]
+#[derive(Clone, Copy)]
 pub enum StreamEnd {
     Ended(Ending),
     Broken(BreakCause),
 }
 
 /// What one direction carried.
-#[derive(Clone, Copy, PartialEq, Eq)]
+#[derive(Clone, Copy)]
 pub struct Carried {
     pub stream: Stream,
     pub bytes: u64,
@@ -23,14 +23,14 @@ pub struct Carried {
 }
 
 /// What is told of one side of a link: the bytes written, and how it ended, or None if it is broken.
-#[derive(Clone, Copy, PartialEq, Eq)]
+#[derive(Clone, Copy)]
 pub struct SideEnd {
     pub bytes: u64,
     pub ending: Option<Ending>,
 }
 
 /// What is told of a link.
-#[derive(Clone, Copy, PartialEq, Eq)]
+#[derive(Clone, Copy)]
 pub struct LinkEnd {
     pub number: u64,
     pub upstream: SideEnd,
