@@ -4,8 +4,12 @@
 #[cfg(test)]
 mod comparing;
 #[cfg(test)]
+mod end;
+#[cfg(test)]
 mod link;
 #[cfg(test)]
 mod network;
 #[cfg(test)]
 mod plan;
+#[cfg(test)]
+mod planning;

@@ -10,7 +10,6 @@ mod drives_one_by_one;
 mod driving;
 mod link_ends;
 mod plain_drives;
-mod planning;
 mod polled_ends;
 mod scarce_links;
 mod schedules;

@@ -1,6 +1,6 @@
 //! The book of a proxy's links, call by call.
 use crate::comparing::assert_equal_at;
-use crate::link::table_values::End;
+use crate::end::End;
 use std::process::Abort;
 use tox_link::{Book, BookFault};
 use tox_time::Stream;

@@ -1,7 +1,8 @@
 //! One direction of a link, carried between ends in memory.
+use crate::end::End;
 use crate::link::carrying::{AT_ONCE, CarryCase, follow};
 use crate::link::case_notes::Kept;
-use crate::link::table_values::{End, Event};
+use crate::link::table_values::Event;
 use tox_link::{LinkFault, SourceEnding};
 
 /// How many reads of one byte a long link takes.

@@ -2,10 +2,11 @@
 ghost use Rattle.std.specs.Prelude.{◌≡◌, false};
 
 use crate::comparing::assert_equal;
+use crate::end::End;
 use crate::link::case_notes::{CaseNotes, Kept};
 use crate::link::link_ends::{HungUp, RestingClock, TickingGate, WaitingSource, WatchingSink};
-use crate::link::planning::{one_word, plan_of};
-use crate::link::table_values::{End, Event, events_of};
+use crate::link::table_values::{Event, events_of};
+use crate::planning::{one_word, plan_of};
 use std::process::Abort;
 use std::sync::atomic::{AtomicBool, AtomicU64, Ordering};
 use std::sync::{Arc, Wait};

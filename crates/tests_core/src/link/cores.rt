@@ -1,8 +1,8 @@
 //! A link core, call by call.
 use crate::comparing::assert_equal_at;
+use crate::end::End;
 use crate::link::core_case::CoreCase;
-use crate::link::planning::{one_word, plan_of};
-use crate::link::table_values::End;
+use crate::planning::{one_word, plan_of};
 use std::process::Abort;
 use tests_support::{at, slice};
 use tox_link::{Act, LinkCore};

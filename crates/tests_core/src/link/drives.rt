@@ -64,7 +64,7 @@ fn go_on(generator: &mut Lcg64Xsh32, clock: &RestingClock, until: Option<Micros>
 }
 
 /// The words that a seed draws.
-fn words_of(rt: &(impl Abort + AllocGlobal), seed: u64) -> Words {
+fn words_drawn_by(rt: &(impl Abort + AllocGlobal), seed: u64) -> Words {
     drawn_words(rt.alloc(), &mut Lcg64Xsh32::new(seed, 4)).expect(rt, "words")
 }
 
@@ -73,7 +73,7 @@ fn link_of(rt: &(impl Abort + AllocGlobal), chain: &Chain, seed: u64) -> PolledL
     ensures fresh { IsNew result }
     ensures held { IsHeld result }
 {
-    let words = words_of(rt, seed);
+    let words = words_drawn_by(rt, seed);
     let plan = compile(chain, &words);
     let link = if plan.draws() {
         PolledLink::new(rt.alloc(), plan, words)
@@ -245,7 +245,7 @@ fn comparison_of(
 
 /// What is delivered of these arrivals, under the words of a seed.
 fn due(rt: &(impl Abort + AllocGlobal), chain: &Chain, seed: u64, arrivals: &Arrivals) -> Outcome {
-    let words = words_of(rt, seed);
+    let words = words_drawn_by(rt, seed);
     deliver(rt.alloc(), chain, &words, arrivals).expect(rt, "an outcome")
 }
 

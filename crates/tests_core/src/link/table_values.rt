@@ -2,25 +2,6 @@
 use std::process::Abort;
 use tests_support::{at, slice};
 use tox_link::LinkEvent;
-use tox_time::Ending;
-
-/// How a link ends.
-#[derive(Clone, Copy)]
-pub enum End {
-    StillOpen,
-    Closed(u64),
-    Reset(u64),
-}
-
-impl End {
-    pub fn ending(self) -> Ending {
-        match self {
-            End::StillOpen => Ending::StillOpen,
-            End::Closed(micros) => Ending::Closed(at(micros)),
-            End::Reset(micros) => Ending::Reset(at(micros)),
-        }
-    }
-}
 
 /// An event of a link.
 pub enum Event {

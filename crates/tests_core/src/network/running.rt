@@ -3,6 +3,7 @@ ghost use Rattle.std.specs.Prelude.{◌≡◌, ◌≤◌, false};
 
 use crate::comparing::assert_equal;
 use crate::plan::settings::Setting;
+use crate::planning::one_word;
 use std::process::Abort;
 use std::sync::Wait;
 use std::thread::Threads;
@@ -11,7 +12,6 @@ use tox_defs::Chain;
 use tox_runs::{StagesFault, stages_run};
 use tox_stages::run_stages;
 use tox_time::{Ending, Gate, MemorySink, MemorySource, Outcome};
-use tox_words::Words;
 
 pub const TWO_LATENCIES: &str = "latency:latency=1 latency:latency=2";
 
@@ -84,7 +84,7 @@ fn run_into<R: Threads + Wait + Sync + AllocGlobal + Abort>(
     requires room { (1 ≤ cap) × (cap ≤ 1024) }
     requires works { writer.old.failed ≡ false }
 {
-    let words = Words::from_list(rt.alloc(), &[0]).expect(rt, "memory");
+    let words = one_word(rt);
     let bytes = read.as_bytes().to_vec(rt.alloc()).expect(rt, "memory");
     let mut reader = MemorySource::new(bytes, 7, None);
     stages_run(

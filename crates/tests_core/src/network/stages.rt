@@ -2,11 +2,12 @@
 use crate::comparing::assert_equal_at;
 use crate::plan::demands::demand;
 use crate::plan::staged::stage_of;
+use crate::planning::one_word;
 use std::process::Abort;
 use tests_support::at;
 use tox_defs::{Stage, Toxic};
 use tox_time::{Item, Span};
-use tox_words::{Lanes, Words};
+use tox_words::Lanes;
 
 /// Start and stop of a chunk, its instant in microseconds, and whether a new stage may take it.
 const CHUNKS: &[(u64, u64, u64, bool)] = &[
@@ -31,7 +32,7 @@ fn compare(rt: &impl Abort, stage: &Stage<'_>) {
 
 #[test]
 fn a_new_stage_takes_what_begins_a_stream(rt: HostRuntime) {
-    let words = Words::from_list(rt.alloc(), &[0]).expect(&rt, "memory");
+    let words = one_word(&rt);
     let toxic = Toxic::SlowClose { delay: 0 };
     let stage = stage_of(&rt, toxic, Lanes::ThirtyTwo, 31, &words);
     compare(&rt, &stage);

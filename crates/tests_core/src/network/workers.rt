@@ -5,6 +5,7 @@ use crate::comparing::assert_equal_at;
 use crate::network::gates::Log;
 use crate::network::running::{TWO_LATENCIES, compare_singles, outcome_at};
 use crate::plan::settings::Setting;
+use crate::planning::one_word;
 use std::process::Abort;
 use std::sync::Wait;
 use std::thread::Threads;
@@ -12,13 +13,12 @@ use tests_support::{Meeting, bytes_at_zero};
 use tox_defs::Lanes;
 use tox_runs::read_chain;
 use tox_time::{OpenGate, Outcome};
-use tox_words::Words;
 
 /// A chain of so many latencies of a millisecond as there can be toxics, which one byte meets.
 fn thirty_two_latencies(rt: &(impl Abort + AllocGlobal)) -> Setting {
     let toxics = ["latency:latency=1"; 32];
     Setting {
-        words: Words::from_list(rt.alloc(), &[0]).expect(rt, "memory"),
+        words: one_word(rt),
         chain: read_chain(Lanes::ThirtyTwo, &toxics).expect(rt, "room"),
         arrivals: bytes_at_zero(rt.alloc(), 1).expect(rt, "memory"),
     }

@@ -1,10 +1,10 @@
 //! What chains are compiled into. What `plan` prints of them is in `tests/rows`.
 use crate::comparing::assert_equal;
+use crate::planning::{one_word, plan_of};
 use std::process::Abort;
-use tests_support::{at, chain_of};
-use tox_compile::{Op, compile};
+use tests_support::at;
+use tox_compile::Op;
 use tox_time::{Ending, Micros};
-use tox_words::Words;
 
 /// The operations of the toxics below, in order.
 fn operations() -> [Op; 7] {
@@ -41,9 +41,8 @@ fn operations() -> [Op; 7] {
 
 /// Compares the operations and the deadline of the plan of these toxics.
 fn compare(rt: &(impl Abort + AllocGlobal), toxics: &str, operations: &[Op], deadline: Micros) {
-    let words = Words::from_list(rt.alloc(), &[0]).expect(rt, "memory");
-    let chain = chain_of(toxics).expect(rt, "short forms");
-    let plan = compile(&chain, &words);
+    let words = one_word(rt);
+    let plan = plan_of(rt, toxics, &words);
     assert_equal(rt, &plan.ops(), &operations);
     assert_equal(rt, &plan.deadline(), &Some(deadline));
 }

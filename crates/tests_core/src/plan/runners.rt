@@ -2,11 +2,11 @@
 ghost use Rattle.std.specs.Prelude.{◌≡◌};
 
 use crate::comparing::assert_equal_at;
-use crate::plan::cases::Final;
+use crate::end::End;
 use crate::plan::demands::demand;
+use crate::planning::{plan_of, words_of};
 use std::process::Abort;
-use tests_support::{at, chain_of, slice};
-use tox_compile::compile;
+use tests_support::{at, slice};
 use tox_plan::Runner;
 use tox_time::{ArrivalFault, Ending, Slice};
 use tox_words::Words;
@@ -21,9 +21,9 @@ pub enum Step {
     /// Whether it is idle.
     Idle(bool),
     /// How it ends, where it is known.
-    Ending(Option<Final>),
+    Ending(Option<End>),
     /// The source of an idle runner ends at an instant, and the link in this way.
-    Finish(u64, Final),
+    Finish(u64, End),
     /// The source of an idle runner stays quiet. The link stays open.
     Quiet,
     Counts(Count, u64),
@@ -37,17 +37,11 @@ pub enum Count {
     Latest,
 }
 
-/// A table of these words.
-pub fn words_of(rt: &(impl Abort + AllocGlobal), words: &[u32]) -> Words {
-    Words::from_list(rt.alloc(), words).expect(rt, "words")
-}
-
 /// A runner of these toxics that was offered nothing yet.
 pub fn runner_of<'w>(rt: &impl Abort, toxics: &str, words: &'w Words) -> Runner<'w>
     ensures { result.piece.span.stop ≡ 0 }
 {
-    let chain = chain_of(toxics).expect(rt, "short forms");
-    Runner::new(compile(&chain, words), words)
+    Runner::new(plan_of(rt, toxics, words), words)
 }
 
 /// Compares how an idle runner answers an offer.
@@ -69,20 +63,20 @@ fn gives(rt: &impl Abort, runner: &mut Runner<'_>, slice: Option<Slice>, number:
 }
 
 /// Compares how it ends, where it is known.
-fn compare_ending(rt: &impl Abort, runner: &Runner<'_>, last: &Option<Final>, number: u64) {
+fn compare_ending(rt: &impl Abort, runner: &Runner<'_>, last: &Option<End>, number: u64) {
     let ending = match last {
-        Some(last) => Some(last.to_ending()),
+        Some(last) => Some(last.ending()),
         None => None,
     };
     assert_equal_at(rt, &runner.ending(), &ending, number);
 }
 
 /// Compares the ending of an idle runner whose source ends.
-fn finishes(rt: &impl Abort, runner: &mut Runner<'_>, micros: u64, last: &Final, number: u64) {
+fn finishes(rt: &impl Abort, runner: &mut Runner<'_>, micros: u64, last: &End, number: u64) {
     let end = at(micros);
     demand(rt, runner.is_idle());
     demand(rt, runner.latest() <= end);
-    assert_equal_at(rt, &runner.finish(end), &last.to_ending(), number);
+    assert_equal_at(rt, &runner.finish(end), &last.ending(), number);
 }
 
 /// Compares the ending of an idle runner whose source stays quiet.
@@ -135,7 +129,7 @@ const LIMIT: &[Step] = &[
     Step::Gives(0, 1, 5),
     Step::Ending(None),
     Step::GivesNothing,
-    Step::Ending(Some(Final::Closed(5))),
+    Step::Ending(Some(End::Closed(5))),
     Step::Offer(1, 5, Err(ArrivalFault::AfterEnd)),
     Step::Counts(Count::Cuts, 1),
     Step::Counts(Count::Pieces, 1),
@@ -152,8 +146,8 @@ const LATENCY: &[Step] = &[
     Step::Gives(0, 2, 1005),
     Step::GivesNothing,
     Step::Offer(2, 4, Err(ArrivalFault::TimeBack)),
-    Step::Finish(9, Final::Closed(1005)),
-    Step::Ending(Some(Final::Closed(1005))),
+    Step::Finish(9, End::Closed(1005)),
+    Step::Ending(Some(End::Closed(1005))),
     Step::Offer(1, 8, Err(ArrivalFault::TimeBack)),
     Step::Counts(Count::Turns, 1),
 ];
@@ -179,7 +173,7 @@ fn neighbours_of_one_instant_are_one_slice(rt: HostRuntime) {
 const CUTOFF: &[Step] = &[
     Step::Offer(1, 20000, Ok(())),
     Step::GivesNothing,
-    Step::Ending(Some(Final::Reset(20000))),
+    Step::Ending(Some(End::Reset(20000))),
     Step::Offer(1, 20001, Err(ArrivalFault::AfterEnd)),
 ];
 
@@ -192,7 +186,7 @@ const CUTOFF_AT_THE_START: &[Step] = &[
     Step::Ending(None),
     Step::Offer(1, 0, Ok(())),
     Step::GivesNothing,
-    Step::Ending(Some(Final::Reset(0))),
+    Step::Ending(Some(End::Reset(0))),
 ];
 
 #[test]

@@ -4,7 +4,8 @@ ghost use Rattle.tox_plan.specs.Slices.{CanLend, IsOffered};
 
 use crate::comparing::assert_equal_at;
 use crate::plan::demands::demand;
-use crate::plan::runners::{Step, make_steps, runner_of, words_of};
+use crate::plan::runners::{Step, make_steps, runner_of};
+use crate::planning::{one_word, words_of};
 use std::process::Abort;
 use tests_support::at;
 use tox_lend::{Lent, Piece};
@@ -121,7 +122,7 @@ const REST: &[Step] = &[
 /// A runner that is taken back before its slices are all given goes on with the rest of the piece.
 #[test]
 fn a_runner_taken_back_early_keeps_the_piece(rt: HostRuntime) {
-    let words = words_of(&rt, &[0]);
+    let words = one_word(&rt);
     let runner = runner_of(&rt, "slicer:average_size=2,delay=10", &words);
     let mut runner = lend(&rt, runner, 0, b"abc", 0, &[Some((0, 10, b"ab"))]);
     make_steps(&rt, &mut runner, REST);

@@ -13,7 +13,7 @@ fn expected_items(rt: &(impl Abort + AllocGlobal), case: &Case) -> Vec<Item> {
     let chunks = arrivals_of(rt.alloc(), case.chunks).expect(rt, "chunks");
     let mut items = chunks.items().to_vec(rt.alloc()).expect(rt, "memory");
     items
-        .push(case.last.to_ending().to_item())
+        .push(case.last.ending().to_item())
         .expect(rt, "memory");
     items
 }
