@@ -11,7 +11,7 @@ from .errors import ToxiError
 
 # The program looks for these signals itself when they are blocked, and then ends with its totals.
 STOPPING = {signal.SIGTERM, signal.SIGINT}
-# `serve` ends within 2 seconds of SIGTERM. A busy machine gets more, in seconds.
+# `serve` ends within 2 seconds of SIGTERM, or some more with thousands of links. A busy machine gets more, in seconds.
 STOP_LIMIT = 10
 
 

@@ -185,6 +185,20 @@ def interrupted_with_many_links(program, folder):
 
 
 @start
+def a_slow_end_goes_on_while_lines_are_written(program, folder):
+    """The process stands still for longer than the program waits for what hangs. Some of the lines had been written by then."""
+    with Stopped(program, folder) as toxi:
+        links = [toxi.link() for _ in range(1_000)]
+        since = time.monotonic()
+        toxi.process.terminate()
+        first = toxi.line()
+        toxi.process.send_signal(signal.SIGSTOP)
+        time.sleep(ALWAYS)
+        toxi.process.send_signal(signal.SIGCONT)
+        told_of_all([first, *toxi.ends(since, 2 * ALWAYS)], len(links))
+
+
+@start
 def without_links_it_ends(program, folder):
     with Stopped(program, folder) as toxi:
         check(toxi.tell() == ["total shop 0 up 0 down 0"], "the lines of no link")

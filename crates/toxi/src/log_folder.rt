@@ -2,6 +2,7 @@
 ghost use Rattle.std.specs.Prelude.{◌≤◌, length, take};
 ghost use Rattle.std.specs.Io.KnownBytes.{Appends};
 
+use crate::shutdown::Shutdown;
 use std::fs::OpenOptions;
 use std::io::Write;
 use std::rt::Files;
@@ -46,6 +47,7 @@ pub struct LogFolder<'a, R> {
     pub folder: Option<&'a str>,
     /// The room of standard error.
     pub room: Room<'a, R>,
+    pub shutdown: &'a Shutdown,
 }
 
 impl<'a, R: Files + AllocGlobal + Eprint + Wait> LogFolder<'a, R> {
@@ -65,7 +67,11 @@ impl<'a, R: Files + AllocGlobal + Eprint + Wait> LogFiles for LogFolder<'a, R> {
         match self.open(name) {
             Ok(file) => {
                 let mut file = file;
-                write_counted(&mut file, bytes)
+                let taken = write_counted(&mut file, bytes);
+                if taken > 0 {
+                    self.shutdown.note_write();
+                }
+                taken
             }
             Err(_) => 0,
         }

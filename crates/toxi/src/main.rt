@@ -20,6 +20,7 @@ mod replay;
 mod replay_texts;
 mod report;
 mod serve;
+mod shutdown;
 mod signals;
 mod stages;
 mod warnings;

@@ -1,8 +1,9 @@
 //! Standard output, which may not be read.
+use crate::shutdown::Shutdown;
 use std::io;
 use std::io::{ErrorKind, Write};
 use std::sync::Wait;
-use tox_proxy::{Room, Stop};
+use tox_proxy::Room;
 
 /// The descriptor of standard output.
 const OUTPUT: i32 = 1;
@@ -15,13 +16,15 @@ const PIPE_ROOM: usize = 4_096;
 pub struct PatientOutput<'a, R> {
     rt: &'a R,
     room: Room<'a, R>,
+    shutdown: &'a Shutdown,
 }
 
 impl<'a, R: Print + Wait> PatientOutput<'a, R> {
-    pub fn new(rt: &'a R, stop: &'a Stop) -> PatientOutput<'a, R> {
+    pub fn new(rt: &'a R, shutdown: &'a Shutdown) -> PatientOutput<'a, R> {
         PatientOutput {
             rt,
-            room: Room::new(rt, stop, OUTPUT),
+            room: Room::new(rt, &shutdown.stop, OUTPUT),
+            shutdown,
         }
     }
 }
@@ -32,7 +35,9 @@ impl<'a, R: Print + Wait> Write for PatientOutput<'a, R> {
             return Err(ErrorKind::TimedOut.into());
         }
         let count = buf.len().min(PIPE_ROOM);
-        io::writer(self.rt).write(&buf[..count])
+        let taken = io::writer(self.rt).write(&buf[..count])?;
+        self.shutdown.note_write();
+        Ok(taken)
     }
 
     fn flush(&mut self) -> io::Result<()> {

@@ -4,6 +4,7 @@ use crate::inline::set_up_inline;
 use crate::log_folder::{LogFolder, make_folder};
 use crate::near::tell_near_scripted;
 use crate::output::PatientOutput;
+use crate::shutdown::Shutdown;
 use crate::warnings::print_warnings;
 use std::alloc::Global;
 use std::fmt::Display;
@@ -13,7 +14,7 @@ use std::sync::{Mutex, Wait};
 use tox_arguments::{LogArguments, ServeArguments, ServeSource};
 use tox_proxy::{
     Gaps, InlineFault, LineForm, LogLimits, RealFiles, Room, ServeFault, ServeOptions,
-    ServeRuntime, Setup, SetupFault, Stop, read_setup, serve_with,
+    ServeRuntime, Setup, SetupFault, read_setup, serve_with,
 };
 
 /// A file that gives and takes nothing.
@@ -122,21 +123,21 @@ fn limits_of(logs: &Option<LogArguments<'_>>) -> Option<LogLimits> {
 pub fn serve_job<R: Print + Eprint + Files + AllocGlobal + ServeRuntime>(
     rt: &R,
     job: &ServeJob,
-    stop: &Stop,
+    shutdown: &Shutdown,
 ) -> u8
 where
     R::File: Send + 'static,
     R::Dir: Send + 'static,
 {
     match &job.source {
-        Source::Inline(setup) => serve_setup(rt, job, setup, stop),
+        Source::Inline(setup) => serve_setup(rt, job, setup, shutdown),
         Source::Files { config, script } => match read_setup(
             &RealFiles::new(rt),
             rt.alloc(),
             config.as_str(),
             script.as_str(),
         ) {
-            Ok(setup) => serve_setup(rt, job, &setup, stop),
+            Ok(setup) => serve_setup(rt, job, &setup, shutdown),
             Err(fault) => refused(rt, script.as_str(), &fault, job.options.verbose),
         },
     }
@@ -161,7 +162,7 @@ fn serve_setup<R: Print + Eprint + Files + AllocGlobal + ServeRuntime>(
     rt: &R,
     job: &ServeJob,
     setup: &Setup,
-    stop: &Stop,
+    shutdown: &Shutdown,
 ) -> u8
 where
     R::File: Send + 'static,
@@ -174,9 +175,9 @@ where
     }
     if job.options.verbose {
         // A warning that can't be printed is no reason not to serve.
-        let _ = print_warnings(rt, setup, job.options.form, stop);
+        let _ = print_warnings(rt, setup, job.options.form, shutdown);
     }
-    status_of(rt, serve_proxies(rt, setup, job, stop))
+    status_of(rt, serve_proxies(rt, setup, job, shutdown))
 }
 
 fn status_of<F: Display + Drop>(rt: &impl Eprint, done: Result<(), F>) -> u8 {
@@ -212,13 +213,14 @@ fn serve_proxies<'a, R: Print + Eprint + Files + AllocGlobal + ServeRuntime>(
     rt: &R,
     setup: &'a Setup,
     job: &ServeJob,
-    stop: &Stop,
+    shutdown: &Shutdown,
 ) -> Result<(), ServeFault<'a>>
 where
     R::File: Send + 'static,
     R::Dir: Send + 'static,
 {
-    let out = Mutex::new(PatientOutput::new(rt, stop));
+    let stop = &shutdown.stop;
+    let out = Mutex::new(PatientOutput::new(rt, shutdown));
     let gaps = ToldGaps {
         rt,
         room: Room::new(rt, stop, ERRORS),
@@ -227,6 +229,7 @@ where
         rt,
         folder: job.folder(),
         room: Room::new(rt, stop, ERRORS),
+        shutdown,
     };
     serve_with(
         rt,

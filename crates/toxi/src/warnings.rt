@@ -2,10 +2,9 @@
 ghost use Rattle.std.specs.Prelude.{◌≡◌, false};
 
 use crate::output::PatientOutput;
+use crate::shutdown::Shutdown;
 use std::sync::Wait;
-use tox_proxy::{
-    JsonField, LineForm, LogBytes, PrintPickFault, Setup, Stop, print_check, write_object,
-};
+use tox_proxy::{JsonField, LineForm, LogBytes, PrintPickFault, Setup, print_check, write_object};
 use tox_time::{EndFault, Real, Sink};
 
 /// Prints each warning of what is set up as a line.
@@ -13,9 +12,9 @@ pub fn print_warnings<R: Print + AllocGlobal + Wait>(
     rt: &R,
     setup: &Setup,
     form: LineForm,
-    stop: &Stop,
+    shutdown: &Shutdown,
 ) -> Result<(), PrintPickFault> {
-    let mut writer = Real::new(PatientOutput::new(rt, stop));
+    let mut writer = Real::new(PatientOutput::new(rt, shutdown));
     match form {
         LineForm::Words => {
             print_check(rt.alloc(), &mut writer, setup, false)?;

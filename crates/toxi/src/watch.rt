@@ -3,6 +3,7 @@
 use crate::fail;
 use crate::near::tell_near_short;
 use crate::serve::{ServeJob, hold_descriptor, serve_job};
+use crate::shutdown::Shutdown;
 use crate::signals::Signals;
 use std::alloc::Global;
 use std::io::{Read, Seek};
@@ -12,18 +13,18 @@ use std::sync::{Arc, Condvar, Mutex, Wait};
 use std::thread;
 use std::time::{Clock, Duration};
 use tox_arguments::{ServeArguments, ServeSource};
-use tox_proxy::{InlineFault, ServeFault, ServeRuntime, Stop};
+use tox_proxy::{InlineFault, ServeFault, ServeRuntime};
 
 /// How long the end of serving is waited for before signals are looked at, in milliseconds.
 const LOOK: u64 = 50;
 
-/// How long a program that is told to end waits for the end of serving, in milliseconds.
+/// How long a program that is told to end waits for the end of serving while nothing is written, in milliseconds.
 const STOP_LIMIT: u64 = 1_500;
 
 /// What the two threads share.
 #[derive(Drop)]
 struct Serving {
-    stop: Stop,
+    shutdown: Shutdown,
     /// The status of the program, once serving has ended.
     status: Mutex<Option<u8>>,
     ended: Condvar,
@@ -32,7 +33,7 @@ struct Serving {
 impl Serving {
     fn new() -> Serving {
         Serving {
-            stop: Stop::new(),
+            shutdown: Shutdown::new(),
             status: Mutex::new(None),
             ended: Condvar::new(),
         }
@@ -52,6 +53,21 @@ impl Serving {
             .ended
             .wait_timeout_while(rt, status, limit, |status| status.is_none());
         *status
+    }
+
+    /// Tells serving to end. The status, if it does. None once nothing was written for as long as the limit.
+    fn stop<R: Wait + Clock>(&self, rt: &R) -> Option<u8> {
+        let mut before = self.shutdown.writes();
+        self.shutdown.stop.tell(rt);
+        for _ in rt.forever() {
+            let status = self.wait(rt, STOP_LIMIT);
+            let writes = self.shutdown.writes();
+            if status.is_some() || writes == before {
+                return status;
+            }
+            before = writes;
+        }
+        unreachable!()
     }
 }
 
@@ -113,7 +129,7 @@ where
 {
     let there = *rt;
     let started = thread::spawn(rt, move || {
-        let status = serve_job(&there, &job, &serving.stop);
+        let status = serve_job(&there, &job, &serving.shutdown);
         serving.end(&there, status);
     });
     started.is_ok()
@@ -134,7 +150,7 @@ fn refused<R: Eprint + AllocGlobal>(
     status
 }
 
-/// Waits for the end of serving. Told to end by a signal, it waits no longer than the limit, and the status is 0 then.
+/// Waits for the end of serving. Told to end by a signal, it waits on only while lines or logs are written, and the status is 0 then.
 fn watch<R: Wait + Clock, F: Read + Seek + Drop>(
     rt: &R,
     serving: &Serving,
@@ -148,6 +164,5 @@ fn watch<R: Wait + Clock, F: Read + Seek + Drop>(
             break;
         }
     }
-    serving.stop.tell(rt);
-    serving.wait(rt, STOP_LIMIT).unwrap_or(0)
+    serving.stop(rt).unwrap_or(0)
 }
