@@ -195,7 +195,7 @@ def a_slow_end_goes_on_while_lines_are_written(program, folder):
         toxi.process.send_signal(signal.SIGSTOP)
         time.sleep(ALWAYS)
         toxi.process.send_signal(signal.SIGCONT)
-        told_of_all([first, *toxi.ends(since, 2 * ALWAYS)], len(links))
+        told_of_all([first, *toxi.ends(since, LIMIT)], len(links))
 
 
 @start
