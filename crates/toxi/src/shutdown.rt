@@ -2,7 +2,7 @@
 use std::sync::atomic::{AtomicU64, Ordering};
 use tox_proxy::Stop;
 
-/// What the thread that serves shares with the one that waits for its end.
+/// What tells serving to end, and counts what is written.
 #[derive(Drop)]
 pub struct Shutdown {
     pub stop: Stop,
