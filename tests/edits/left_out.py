@@ -2,17 +2,11 @@
 import os
 import re
 
-from edits import files_in, functions_of, text_of, write_text
+from answers import Answers
+from edits import files_in, functions_of, text_of
 
 # What a body that is left out says. It is not proved.
 NO_BODY = "unreachable!()"
-# The answer to its one goal. It is wrong, which is known at once, where a search takes seconds to find nothing.
-WRONG_ANSWER = """use Rattle.{}.Goals as goal
-
-pub unreachable-requires : goal.unreachable-requires
-unreachable-requires = tt
-"""
-TYPE = re.compile(r"(?:pub(?:\([a-z]+\))? )?(?:struct|enum) (\w+)", re.MULTILINE)
 # A constant's value may come from a body.
 CONSTANT_FUNCTION = re.compile(r"\bconst fn\b")
 
@@ -26,21 +20,10 @@ def leave_out_bodies(folder, crate, tried):
         if any(it.holds(file, 0) for it in left):
             # What is said of a proof may not fit the function without its body, as where that called itself.
             os.remove(os.path.join(folder, file))
-    types = {name: file for file in files for name in TYPE.findall(text_of(folder, file))}
+    answers = Answers(folder, crate)
     for function in left:
-        answer_wrongly(folder, crate, function, types)
+        answers.answer_wrongly(function)
     return left
-
-
-def answer_wrongly(folder, crate, function, types):
-    """Writes the answer of a function without its body where the prover looks for it: beside the module of a method's type. Nothing is written for a type of
-    another crate."""
-    name = max((it for it in types if function.owner.startswith(it)), key=len, default=None)
-    if function.owner and not name:
-        return
-    place = function.place(types[name] if function.owner else function.file)
-    os.makedirs(os.path.join(folder, place), exist_ok=True)
-    write_text(folder, f"{place}/Answers.antt", WRONG_ANSWER.format(f"{crate}/{place}".replace("/", ".")))
 
 
 def leave_out_of(folder, file, tried):

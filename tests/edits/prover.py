@@ -6,6 +6,7 @@ import subprocess
 import sys
 import tempfile
 
+from answers import Answers
 from copies import apply_all
 from left_out import leave_out_bodies
 
@@ -26,9 +27,11 @@ NOT_COMPILED = re.compile(r".*\berror\[[\w-]+\]")
 
 
 class Report:
-    """What a check said. `changed` has the functions that each edit changed, by its name. `left_out` are those that were checked without their bodies."""
+    """What a check said. `changed` has the functions that each edit changed, by its name. `left_out` are those that were checked without their bodies.
+    `errors` are the files of proofs that were given an error at their end, each with its line, which says nothing.
+    """
 
-    def __init__(self, status, text, changed, left_out):
+    def __init__(self, status, text, changed, left_out, errors):
         self.status = status
         self.changed = changed
         self.left_out = left_out
@@ -40,8 +43,9 @@ class Report:
         # A line of an edited text that can't be read, or isn't compiled.
         self.unread = next((line for line in self.lines if bad.match(line)), None)
         found = (NOT_PROVED.match(line) for line in self.lines)
+        places = ((it[1] or it[3], int(it[2] or it[4])) for it in found if it)
         # The files and lines at which a goal isn't proved.
-        self.places = [(it[1] or it[3], int(it[2] or it[4])) for it in found if it]
+        self.places = [(file, line) for file, line in places if file not in errors or line < errors[file]]
 
     def refuses(self, edit):
         """Whether a goal of a function that the edit changed isn't proved."""
@@ -66,13 +70,13 @@ class Prover:
     def __exit__(self, *_):
         shutil.rmtree(self.kept, ignore_errors=True)
 
-    def check(self, edits, every=False, whole=True):
+    def check(self, edits, every=False, whole=True, offers=True):
         """Checks a copy of the crate with the edits in it: every function, or those that are changed and those that they call. Where it isn't whole, the
-        bodies of the others are left out."""
-        report = self.checked(edits, every, whole)
-        return self.checked(edits, True, True) if report.status == NO_FUNCTION and not every else report
+        bodies of the others are left out. Without offers no changed function is proved, but what it says of goals stands."""
+        report = self.checked(edits, every, whole, offers)
+        return self.checked(edits, True, True, offers) if report.status == NO_FUNCTION and not every else report
 
-    def checked(self, edits, every, whole):
+    def checked(self, edits, every, whole, offers):
         with tempfile.TemporaryDirectory(prefix="toxi-edited-") as copy:
             for part in rtlib.PARTS:
                 if os.path.isdir(f"{self.crate.folder}/{part}"):
@@ -80,6 +84,7 @@ class Prover:
             changed = apply_all(edits, copy, self.crate.folder)
             tried = {it for functions in changed.values() for it in functions}
             left_out = [] if whole else leave_out_bodies(copy, self.crate.name, tried)
+            errors = {} if offers else Answers(copy, self.crate.name).add_errors(tried)
             words = [*self.crate.words(["--jobs", "1"], keeps=False), "--incremental", self.kept]
             if not every:
                 words += [word for path in sorted({it.path() for it in tried}) for word in ("--only", path)]
@@ -92,4 +97,4 @@ class Prover:
                 errors="replace",
                 check=False,
             )
-        return Report(ran.returncode, ran.stdout, changed, left_out)
+        return Report(ran.returncode, ran.stdout, changed, left_out, errors)
