@@ -71,10 +71,10 @@ def copy_function(edit, function, constants, folder, source, number):
 
 
 def head_of_block(lines, number):
-    """The lines that open the block in which a line, from 1, stands."""
+    """The lines that open the block in which a line, from 1, stands, and those that name what its clauses use."""
     first = max(at for at in range(number) if BLOCK.match(lines[at]))
     last = next(at for at in range(first, number) if lines[at].endswith("{"))
-    return lines[first : last + 1]
+    return [*lines[first : last + 1], *(it for it in lines[last:number] if it.startswith("    ghost use "))]
 
 
 def copy_proof(function, name, folder, source):

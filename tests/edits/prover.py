@@ -22,6 +22,8 @@ NOT_PROVED = re.compile(r"note: (?:\./)?(src/[^:]+):(\d+):\d+: |\./(proofs/[^:]+
 # The status of a check that is asked for a function that it can't find.
 NO_FUNCTION = 2
 LIMIT = re.compile(r"ran out of (stack|the (steps|memory))|(outgrew the memory limit|stopped at the step limit) \(")
+# An error in the code, as in a clause: what rests on it says nothing of an edit.
+IN_CODE = re.compile(r"(?:\./)?src/\S+:\d+:\d+: error: ")
 UNREAD = re.compile(r"(?:\./)?(?:src|specs)/\S+:\d+:\d+: error: (?!`)")
 NOT_COMPILED = re.compile(r".*\berror\[[\w-]+\]")
 
@@ -42,6 +44,7 @@ class Report:
         bad = UNREAD if self.refused else NOT_COMPILED
         # A line of an edited text that can't be read, or isn't compiled.
         self.unread = next((line for line in self.lines if bad.match(line)), None)
+        self.has_errors = any(IN_CODE.match(line) for line in self.lines)
         found = (NOT_PROVED.match(line) for line in self.lines)
         places = ((it[1] or it[3], int(it[2] or it[4])) for it in found if it)
         # The files and lines at which a goal isn't proved.
