@@ -1,7 +1,7 @@
 """An edit of `must-fail/`, and the functions that it changes."""
 import os
 import re
-from dataclasses import dataclass, field
+from dataclasses import dataclass, field, replace
 
 FUNCTION = re.compile(r"( *)(?:pub(?:\([a-z]+\))? )?(?:const )?(?:unsafe )?fn (\w+)")
 CONSTANT = re.compile(r"(?:pub(?:\([a-z]+\))? )?const (\w+):", re.MULTILINE)
@@ -75,6 +75,10 @@ class Edit:
         for change in self.changes:
             file = change[0]
             write_text(folder, file, replaced(text_of(folder, file), change))
+
+    def unchanged(self):
+        """The edit without its changes."""
+        return replace(self, changes=[])
 
     def meets(self, other):
         """Whether the two can't share a check: they clash, or one is wide, and no copy can be changed in its place."""
