@@ -2,7 +2,6 @@
 import os
 import re
 
-from answers import Answers
 from edits import files_in, functions_of, text_of
 
 # What a body that is left out says. It is not proved.
@@ -11,7 +10,7 @@ NO_BODY = "unreachable!()"
 CONSTANT_FUNCTION = re.compile(r"\bconst fn\b")
 
 
-def leave_out_bodies(folder, crate, tried):
+def leave_out_bodies(folder, answers, tried):
     """Leaves out the bodies of the crate in the folder, but for those of the tried functions: what these call is known to them by its clauses alone.
     Each line keeps its number. Returns the functions that are left out."""
     files = files_in(folder, "src")
@@ -20,7 +19,6 @@ def leave_out_bodies(folder, crate, tried):
         if any(it.holds(file, 0) for it in left):
             # What is said of a proof may not fit the function without its body, as where that called itself.
             os.remove(os.path.join(folder, file))
-    answers = Answers(folder, crate)
     for function in left:
         answers.answer_wrongly(function)
     return left

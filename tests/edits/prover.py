@@ -22,9 +22,9 @@ NOT_PROVED = re.compile(r"note: (?:\./)?(src/[^:]+):(\d+):\d+: |\./(proofs/[^:]+
 # The status of a check that is asked for a function that it can't find.
 NO_FUNCTION = 2
 LIMIT = re.compile(r"ran out of (stack|the (steps|memory))|(outgrew the memory limit|stopped at the step limit) \(")
-# An error in the code, as in a clause: what rests on it says nothing of an edit.
-IN_CODE = re.compile(r"(?:\./)?src/\S+:\d+:\d+: error: ")
-UNREAD = re.compile(r"(?:\./)?(?:src|specs)/\S+:\d+:\d+: error: (?!`)")
+# An error in the code or its specs, as in a clause that lacks a name.
+MISSTATED = re.compile(r"(?:\./)?(?:src|specs)/\S+:\d+:\d+: error: ")
+UNREAD = re.compile(MISSTATED.pattern + "(?!`)")
 NOT_COMPILED = re.compile(r".*\berror\[[\w-]+\]")
 
 
@@ -44,7 +44,6 @@ class Report:
         bad = UNREAD if self.refused else NOT_COMPILED
         # A line of an edited text that can't be read, or isn't compiled.
         self.unread = next((line for line in self.lines if bad.match(line)), None)
-        self.has_errors = any(IN_CODE.match(line) for line in self.lines)
         found = (NOT_PROVED.match(line) for line in self.lines)
         places = ((it[1] or it[3], int(it[2] or it[4])) for it in found if it)
         # The files and lines at which a goal isn't proved.
@@ -53,6 +52,12 @@ class Report:
     def refuses(self, edit):
         """Whether a goal of a function that the edit changed isn't proved."""
         return any(it.holds(file, line) for it in self.changed[edit.name] for file, line in self.places)
+
+    def tells_of_edits(self):
+        """Whether each goal that isn't proved tells of the edit of its function: the check has ended, what it checked is stated well, and no goal elsewhere is
+        left."""
+        has_ended = self.refused or self.proved
+        return has_ended and not any(MISSTATED.match(line) for line in self.lines) and not self.names_others()
 
     def names_others(self):
         """Whether a goal isn't proved outside of the changed functions and those without their bodies."""
@@ -86,8 +91,9 @@ class Prover:
                     shutil.copytree(f"{self.crate.folder}/{part}", f"{copy}/{part}")
             changed = apply_all(edits, copy, self.crate.folder)
             tried = {it for functions in changed.values() for it in functions}
-            left_out = [] if whole else leave_out_bodies(copy, self.crate.name, tried)
-            errors = {} if offers else Answers(copy, self.crate.name).add_errors(tried)
+            answers = Answers(copy, self.crate.name)
+            left_out = [] if whole else leave_out_bodies(copy, answers, tried)
+            errors = {} if offers else answers.add_errors(tried)
             words = [*self.crate.words(["--jobs", "1"], keeps=False), "--incremental", self.kept]
             if not every:
                 words += [word for path in sorted({it.path() for it in tried}) for word in ("--only", path)]
