@@ -217,7 +217,7 @@ def read_edit(folder, path):
                 changes.append((file, old, rest[1:]))
     places = list(places_of(folder, changes))
     constants = {it for it in places if isinstance(it, str)}
-    found = {*places, *places_naming(folder, constants)} - constants
+    found = {*places, *(places_naming(folder, constants) if constants else ())} - constants
     return Edit(os.path.basename(path), changes, places, sorted(found - {None}, key=Function.path), None in found)
 
 
