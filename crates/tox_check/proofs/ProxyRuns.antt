@@ -5,7 +5,7 @@ use Rattle.tox_script.specs.Rule.{Rules}
 use Rattle.tox_script.specs.declared.index.step.Step.{Step}
 use Rattle.tox_script.specs.index.Numbered.{IsIndex}
 use Rattle.tox_script.specs.index.Steps.{rule_at}
-use Rattle.tox_forecast.proofs.LinkTexts.{met_fits}
+use Rattle.tox_check.proofs.forecast.LinkTexts.{met_fits}
 use Rattle.tox_check.specs.Checking.{met}
 use Rattle.tox_check.specs.Runs.{AreNumbered, IsRuns, number_at}
 use Rattle.tox_check.specs.Told.{runs_by}

@@ -1,3 +1,4 @@
+pub mod forecast
 pub mod Idle
 pub mod Runs
 pub mod Listed

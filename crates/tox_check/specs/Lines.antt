@@ -8,8 +8,8 @@ use Rattle.tox_config.specs.Proxy.{Proxy}
 use Rattle.tox_script.specs.Rule.{Rule, Rules}
 use Rattle.tox_script.specs.chains.Chains.{on}
 use Rattle.tox_script.specs.declared.chains.Chains.{Chains}
-use Rattle.tox_forecast.specs.Totals.{PlacedToxic, placed_from}
-use Rattle.tox_forecast.specs.declared.totals.places.Places.{Places}
+use Rattle.tox_check.specs.forecast.Totals.{PlacedToxic, placed_from}
+use Rattle.tox_check.specs.declared.forecast.totals.places.Places.{Places}
 use Rattle.tox_text.specs.Nearest.{nearest}
 use Rattle.tox_check.specs.Coverage.{last_of, own_of, taken_of, within}
 use Rattle.tox_check.specs.Idle.{idleness_at}

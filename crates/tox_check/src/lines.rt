@@ -1,19 +1,19 @@
 //! The warnings of a rule.
 ghost use Rattle.std.specs.Prelude.{◌≡◌, ◌+◌, ◌<◌, ◌≤◌, ◌^◌, List, length, slice_get, OnOk};
 ghost use Rattle.tox_script.specs.chains.Chains.{on};
-ghost use Rattle.tox_forecast.specs.Totals.{place_on};
+ghost use Rattle.tox_check.specs.forecast.Totals.{place_on};
 ghost use Rattle.tox_check.specs.Coverage.{within};
 ghost use Rattle.tox_check.specs.Lines.{is_silent, met_told, silent_told, toxic_told};
 ghost use Rattle.tox_check.specs.Tallied.{TalliesRuns};
 ghost use Rattle.tox_check.specs.Told.{IsTreeOf, TellMore, runs_by, told_by};
 ghost use Rattle.tox_check.specs.declared.run.Run.{Run};
 
+use crate::forecast::Places;
 use crate::idleness::idleness_at;
 use crate::tally::Tally;
 use crate::tree::{Range, RunTree};
 use crate::warning::Warning;
 use std::alloc::AllocError;
-use tox_forecast::Places;
 use tox_script::Chains;
 use tox_time::Stream;
 

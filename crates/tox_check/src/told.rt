@@ -10,13 +10,13 @@ ghost use Rattle.tox_check.specs.Sentences.{told, unknown_text};
 ghost use Rattle.tox_check.specs.Told.{IsTreeOf, TellMore, runs_by};
 ghost use Rattle.tox_check.specs.Trees.{AreTrees, runs_named};
 
+use crate::forecast::Places;
 use crate::lines::{coverage, put_silent};
 use crate::run::LAST;
 use crate::tree::{Range, RunTree};
 use crate::warning::Warning;
 use std::alloc::{AllocError, Global};
 use tox_config::ProxyDef;
-use tox_forecast::Places;
 use tox_runs::Setup;
 use tox_script::{Scope, Script};
 use tox_text::nearest;

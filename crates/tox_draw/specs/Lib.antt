@@ -1,3 +1,4 @@
+pub mod pages
 pub mod Adding
 pub mod Axes
 pub mod Units

@@ -38,7 +38,11 @@ pub(crate) fn forms_of(
 }
 
 /// The short forms of the toxics of a chain that are applied under these words, in order, separated by spaces.
-pub fn applied_toxics(alloc: Global, chain: &Chain, words: &Words) -> Result<String, AllocError>
+pub(crate) fn applied_toxics(
+    alloc: Global,
+    chain: &Chain,
+    words: &Words,
+) -> Result<String, AllocError>
     ensures { IfOk result (λ text. string_bytes text
         ≡ applied_forms (chain_draws chain.now words.now) (codes "") 0 chain.now.entries) }
 {

@@ -1,4 +1,4 @@
-//! The picture of a link: what arrived, what left and what was held between, as SVG.
+//! The picture of a link: what arrived, what left and what was held between, as SVG. `pages` has the page of a run: its logs with their pictures.
 #![tactic(auto)]
 
 mod axis;
@@ -13,6 +13,7 @@ mod labels;
 mod line;
 mod link_end;
 mod marks;
+mod pages;
 mod parts;
 mod path;
 mod picture;
@@ -26,7 +27,5 @@ mod ticks;
 mod unit;
 
 pub use draw::draw_run;
-pub use form::applied_toxics;
-pub use parts::push_word;
-pub use recorded::{draw_log, log_picture};
-pub use style::STYLE;
+pub use pages::{LogStore, PageFault, Report};
+pub use recorded::draw_log;

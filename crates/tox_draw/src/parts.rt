@@ -6,7 +6,7 @@ ghost use Rattle.tox_draw.specs.Parts.{circle, line_to, move_to, path_end, path_
 use std::alloc::AllocError;
 
 /// Adds a text as it stands.
-pub fn push_word(text: &mut String, word: &str) -> Result<(), AllocError>
+pub(crate) fn push_word(text: &mut String, word: &str) -> Result<(), AllocError>
     ensures { OnOk result (AddsText text.old text.new word.now) }
 {
     text.push_str(word)

@@ -76,7 +76,7 @@ pub fn draw_log<'a, R: Source, W: Sink>(
 }
 
 /// The picture of a log, to stand on a page under a number. Both readers give that log, as [`draw_log`] has them.
-pub fn log_picture<R: Source>(
+pub(crate) fn log_picture<R: Source>(
     alloc: Global,
     first: &mut R,
     second: &mut R,

@@ -1,7 +1,7 @@
 //! The style of a picture.
 
 /// The lines of the style.
-pub const STYLE: &str = "\
+pub(crate) const STYLE: &str = "\
 <style>
 .toxi-draw{font:12px system-ui,-apple-system,\"Segoe UI\",Roboto,Helvetica,Arial,sans-serif}
 .toxi-draw .paper{fill:#fff}

@@ -1,11 +1,12 @@
 //! What the program does, as library calls over readers, writers, files, sockets and values: runs, files and picks (tox_runs),
-//! one proxy on the command line (tox_inline), forecasts (tox_forecast), serving (tox_serve), logs (tox_log, tox_log_files), pictures
-//! (tox_draw), pages of runs (tox_report), and of tox_text the texts that a command prints as they stand, and the nearest name.
+//! one proxy on the command line (tox_inline), forecasts and checks (tox_check), serving (tox_serve), logs (tox_log, tox_log_files), pictures
+//! and pages of runs (tox_draw), and of tox_text the texts that a command prints as they stand, and the nearest name.
 #![tactic(auto)]
 
-pub use tox_check::{CheckFault, CheckRequest, print_check};
-pub use tox_draw::{draw_log, draw_run};
-pub use tox_forecast::{ForecastRequest, Question, print_forecast};
+pub use tox_check::{
+    CheckFault, CheckRequest, ForecastRequest, Question, print_check, print_forecast,
+};
+pub use tox_draw::{LogStore, PageFault, Report, draw_log, draw_run};
 pub use tox_inline::{Inline, InlineFault, InlineSetup, InlineToxic, inline_setup};
 pub use tox_log::{
     HeardFault, JudgedLog, LogBytes, LogFault, OpenLog, ReplayFault, Verdict, judge_log,
@@ -13,7 +14,6 @@ pub use tox_log::{
     write_judged_json,
 };
 pub use tox_log_files::{LogFiles, LogLimits, NoLogs};
-pub use tox_report::{LogStore, PageFault, Report};
 pub use tox_runs::{
     FileFault, MAX_INPUT, MemoryFiles, NamedFiles, PickFault, PickRequest, RealFiles, Setup,
     SetupFault, StagesFault, ToxicsFault, dry_run, find_proxy, read_chain, read_file, read_setup,

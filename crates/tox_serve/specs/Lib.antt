@@ -1,1 +1,2 @@
+pub mod workers
 pub mod Told

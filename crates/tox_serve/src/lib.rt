@@ -3,6 +3,7 @@
 
 mod serving;
 mod threads;
+mod workers;
 
 pub use serving::{serve, serve_with};
 pub use tox_links::{

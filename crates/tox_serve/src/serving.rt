@@ -4,6 +4,7 @@ ghost use Rattle.tox_links.specs.lines.LineQueue.{no_lines};
 ghost use Rattle.tox_links.specs.Serving.{HasServeCause};
 
 use crate::threads::proxy::serve_proxy;
+use crate::workers::{Workers, start_workers};
 use std::alloc::Global;
 use std::io::Write;
 use std::net::{Net, TcpListener, TcpStream};
@@ -21,7 +22,6 @@ use tox_log_files::{LogFiles, NoLogs, RunLogs, write_logs};
 use tox_script::Script;
 use tox_sockets::LiveSockets;
 use tox_time::OpenGate;
-use tox_workers::{Workers, start_workers};
 
 /// [`serve_with`], with this limit of links and no other option. Dropped lines are told to nobody.
 pub fn serve<

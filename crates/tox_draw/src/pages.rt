@@ -1,0 +1,22 @@
+//! The page of a run: what its logs are, in one HTML text with their pictures.
+
+mod cells;
+mod escaping;
+mod fault;
+mod figure;
+mod front;
+mod judging;
+mod kind;
+mod links;
+mod log_store;
+mod outcome;
+mod page;
+mod report;
+mod row;
+mod style;
+mod table;
+mod totals;
+
+pub use fault::PageFault;
+pub use log_store::LogStore;
+pub use report::Report;

@@ -1,0 +1,44 @@
+//! The cells of a row.
+ghost use Rattle.std.specs.Prelude.{◌≡◌, OnOk};
+ghost use Rattle.tox_draw.specs.Adding.{AddsText};
+ghost use Rattle.tox_draw.specs.pages.Cells.{counted_cell, number_cell, text_cell, word_cell};
+
+use crate::pages::escaping::Escaped;
+use std::alloc::AllocError;
+
+/// Adds a cell of a text, behind its tag.
+#[tactic(auto, unfolding(crate::specs::pages::Cells::text_cell))]
+pub(crate) fn push_text_cell(text: &mut String, tag: &str, word: &str) -> Result<(), AllocError>
+    ensures { OnOk result (AddsText text.old text.new (text_cell tag.now word.now)) }
+{
+    let word = Escaped(word);
+    write!(text, "{tag}{word}</td>")
+}
+
+/// Adds a cell of a number behind a mark.
+#[tactic(auto, unfolding(crate::specs::pages::Cells::number_cell))]
+pub(crate) fn push_number_cell(text: &mut String, mark: &str, number: u64) -> Result<(), AllocError>
+    ensures { OnOk result (AddsText text.old text.new (number_cell mark.now number)) }
+{
+    write!(text, "<td class=\"number\">{mark}{number}</td>")
+}
+
+/// Adds a cell of a word and a number.
+#[tactic(auto, unfolding(crate::specs::pages::Cells::counted_cell))]
+pub(crate) fn push_counted_cell(
+    text: &mut String,
+    word: &str,
+    number: u64,
+) -> Result<(), AllocError>
+    ensures { OnOk result (AddsText text.old text.new (counted_cell word.now number)) }
+{
+    write!(text, "<td>{word}{number}</td>")
+}
+
+/// Adds a cell of a word.
+#[tactic(auto, unfolding(crate::specs::pages::Cells::word_cell))]
+pub(crate) fn push_word_cell(text: &mut String, word: &str) -> Result<(), AllocError>
+    ensures { OnOk result (AddsText text.old text.new (word_cell word.now)) }
+{
+    write!(text, "<td>{word}</td>")
+}

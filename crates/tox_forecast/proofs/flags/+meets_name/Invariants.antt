@@ -1,5 +1,0 @@
-use Rattle.std.proofs.Common.{length}
-use Rattle.tox_forecast.proofs.flags.+meets_name.Given as goal
-
-abbrev pub decreases-meets_name : goal.decreases-meets_name
-decreases-meets_name l = length l.names.now

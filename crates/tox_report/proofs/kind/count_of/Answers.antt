@@ -1,6 +1,0 @@
--- There are no more rows than fit.
-use Rattle.std.proofs.Common.{arith}
-use Rattle.tox_report.proofs.kind.count_of.Goals as goal
-
-pub overflow_add-count : goal.overflow_add-count
-overflow_add-count c = omega (arith, c.loop-row.invariant.few, c.loop-row-test.true)

@@ -1,7 +1,0 @@
--- That of the first rows.
-use Rattle.std.proofs.Common.{◌≡◌, fold, take, None}
-use Rattle.tox_report.specs.Totals.{told_latest}
-use Rattle.tox_report.proofs.totals.latest_of.Given as goal
-
-abbrev pub invariant-loop-row : goal.invariant-loop-row
-invariant-loop-row l = l.latest ≡ fold (λ latest row. told_latest latest row.told) None (take l.row-index l.rows)

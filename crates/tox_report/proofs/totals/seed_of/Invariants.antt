@@ -1,8 +1,0 @@
--- That of the first rows.
-use Rattle.std.proofs.Common.{◌≡◌, fold, take}
-use Rattle.tox_report.specs.declared.totals.Seed.TheVariants.{Unknown}
-use Rattle.tox_report.specs.Totals.{told_seed}
-use Rattle.tox_report.proofs.totals.seed_of.Given as goal
-
-abbrev pub invariant-loop-row : goal.invariant-loop-row
-invariant-loop-row l = l.seed ≡ fold (λ seed row. told_seed seed row.told) Unknown (take l.row-index l.rows)

@@ -1,0 +1,28 @@
+-- A link whose upstream is connected: its directions, and its end.
+use Rattle.std.specs.Prelude.{◌≡◌, ℕ, Option, Some, None}
+use Rattle.tox_time.specs.declared.streams.stream.Stream.{Stream}
+use Rattle.tox_time.specs.declared.streams.stream.Stream.TheVariants.{Upstream, Downstream}
+use Rattle.tox_links.specs.declared.link.end.Carried.{Carried}
+use Rattle.tox_links.specs.declared.link.end.LinkEnd.{LinkEnd}
+use Rattle.tox_links.specs.link.LinkEnds.{carried_link_end}
+use Rattle.tox_serve.specs.declared.workers.open_direction.OpenDirection.{OpenDirection}
+use Rattle.tox_serve.specs.declared.workers.open_link.OpenLink.{OpenLink}
+
+-- the direction of a stream
+abbrev pub direction_of : {R : Type 0} → Stream → OpenLink R → OpenDirection R
+direction_of Upstream link = link.up
+direction_of Downstream link = link.down
+
+-- what is known of a link besides its directions stays
+pub record IsSameLink {R : Type 0} (old new : OpenLink R) : Type 0 where
+  pub number : new.number ≡ old.number
+  pub proxy : new.proxy ≡ old.proxy
+  pub sockets : new.sockets ≡ old.sockets
+  pub live : new.live ≡ old.live
+  pub since : new.since ≡ old.since
+
+-- how a link ended whose directions carried this, once both have ended
+abbrev pub end_of_both : ℕ → Option Carried → Option Carried → Option LinkEnd
+end_of_both number (Some up) (Some down) = Some (carried_link_end number up down)
+end_of_both number (Some up) None = None
+end_of_both number None down = None

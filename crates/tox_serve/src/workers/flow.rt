@@ -1,0 +1,221 @@
+//! One direction of a link while it goes on: the step machine and its two ends.
+ghost use Rattle.std.specs.Prelude.{◌≡◌, Bool, true, false, List, IfSome};
+ghost use Rattle.tox_time.specs.Time.{IsInstant};
+ghost use Rattle.tox_link.specs.direction.Driven.{IsAtEnd};
+ghost use Rattle.tox_link.specs.direction.Follows.{IsHeld, IsNew};
+ghost use Rattle.tox_link.specs.declared.source_ending.SourceEnding.TheVariants.{ReadFault as AtFault, ReadsUsedUp as AtLastRead};
+ghost use Rattle.std.proofs.Props.{props};
+ghost use Rattle.tox_serve.specs.workers.Ready.{IsHeld-prop};
+ghost use Rattle.tox_link.specs.Meaning.{MeansPlan};
+ghost use Rattle.tox_links.specs.link.LinkEnds.{carried_before, end_before_stop};
+
+use crate::workers::socket_event::SocketEvent;
+use std::alloc::Global;
+use std::boxed::Box;
+use std::sync::{Arc, Wait};
+use std::time::Clock;
+use tox_compile::Plan;
+use tox_link::{
+    Hangup, LinkFault, PollSink, PollSource, PolledLink, Progress, READ_SIZE, drive, finish,
+};
+use tox_links::{Carried, Course, StreamEnd};
+use tox_log_files::StreamNotes;
+use tox_sockets::{LinkSockets, LinkStart, ReadySink, ReadySource, SinceStart};
+use tox_time::{Ending, Micros, Stream};
+use tox_words::Words;
+
+/// One direction of a link that goes on.
+#[derive(Drop)]
+pub(crate) struct Flow<'r, R> {
+    pub(crate) stream: Stream,
+    pub(crate) link: Box<PolledLink>,
+    pub(crate) source: ReadySource,
+    pub(crate) sink: ReadySink<'r, R>,
+    pub(crate) notes: StreamNotes<'r, R>,
+    pub(crate) ghost held: { IsHeld link.value } by { IsHeld-prop link.value },
+    pub(crate) ghost read: { IsInstant link.value.core.latest },
+    pub(crate) ghost readable: { link.value.ended ≡ false → source.failed ≡ false },
+    pub(crate) ghost failed: { link.value.source ≡ AtFault → source.failed ≡ true } by { Prim.hlevel props },
+    pub(crate) ghost unlimited: { ¬ (link.value.source ≡ AtLastRead) },
+    pub(crate) ghost writable: { sink.failed ≡ false },
+}
+
+/// What a direction does next, once it was driven.
+#[derive(Drop)]
+pub(crate) enum Driven<'r, R> {
+    /// It waits for an event of its sockets, at most until this instant of its link's clock if there is one.
+    Waits(Flow<'r, R>, Option<Micros>),
+    /// It may go on at once.
+    Again(Flow<'r, R>),
+    Ended(Carried),
+}
+
+impl<'r, R: Clock + Wait> Flow<'r, R> {
+    ghost use Rattle.tox_serve.specs.workers.Begun.{BeginsCourse};
+    ghost use Rattle.tox_serve.specs.workers.Driven.{IsDrivenOf};
+
+    /// A direction of a course, at which nothing has come and which isn't logged. `closing` tells whether the source's peer was reported to send no
+    /// more. None if out of memory.
+    pub(crate) fn new(
+        rt: &'r R,
+        alloc: Global,
+        sockets: &Arc<LinkSockets, Global>,
+        start: LinkStart,
+        course: Course,
+        closing: bool,
+    ) -> Option<Flow<'r, R>>
+        ensures { IfSome result (BeginsCourse course closing) }
+    {
+        let Course {
+            stream,
+            words,
+            plan,
+        } = course;
+        let source = ReadySource::new(sockets, stream, closing)?;
+        let sink = ReadySink::new(rt, sockets, stream, start, plan.ops())?;
+        let link = link_of(alloc, plan, words)?;
+        let link = Box::new(alloc, link).ok()?;
+        Some(Flow {
+            stream,
+            link,
+            source,
+            sink,
+            notes: StreamNotes::none(rt),
+        })
+    }
+
+    /// Takes as many steps as the sockets allow, and no more than 32. Where the direction ends it is hung up, and after a fault
+    /// both sockets are reset.
+    pub(crate) fn drive(
+        self,
+        alloc: Global,
+        clock: &SinceStart<'_, R>,
+        sockets: &LinkSockets,
+        scratch: &mut [u8; READ_SIZE],
+    ) -> Driven<'r, R>
+        ensures { IsDrivenOf self.entry result }
+    {
+        let Flow {
+            stream,
+            mut link,
+            mut source,
+            mut sink,
+            mut notes,
+        } = self;
+        match drive(
+            &mut link,
+            alloc,
+            clock,
+            &mut notes,
+            &mut source,
+            &mut sink,
+            scratch,
+        ) {
+            Ok(Progress::Waits(until)) => {
+                let flow = Flow {
+                    stream,
+                    link,
+                    source,
+                    sink,
+                    notes,
+                };
+                Driven::Waits(flow, until)
+            }
+            Ok(Progress::Again) => Driven::Again(Flow {
+                stream,
+                link,
+                source,
+                sink,
+                notes,
+            }),
+            Ok(Progress::Ended(ending)) => {
+                Driven::Ended(end(link, clock, sockets, stream, &ending, &notes))
+            }
+            Err(fault) => Driven::Ended(fail(sockets, stream, &fault, &notes)),
+        }
+    }
+}
+
+/// The step machine of a plan. It keeps its words where the plan draws.
+fn link_of(alloc: Global, plan: Plan, words: Words) -> Option<PolledLink>
+    ensures meaning { IfSome result (λ link. MeansPlan plan words link.core) }
+    ensures fresh { IfSome result IsNew }
+    ensures held { IfSome result IsHeld }
+{
+    if plan.draws() {
+        PolledLink::new(alloc, plan, words).ok()
+    } else {
+        PolledLink::without_words(alloc, plan).ok()
+    }
+}
+
+/// Resets both sockets after a fault, and tells what the direction carried before it.
+fn fail<R: Wait>(
+    sockets: &LinkSockets,
+    stream: Stream,
+    fault: &LinkFault,
+    notes: &StreamNotes<'_, R>,
+) -> Carried
+    ensures { result ≡ carried_before stream fault.now }
+{
+    sockets.ends_of(stream).reset();
+    break_off(stream, fault, notes)
+}
+
+/// Tells what a direction carried before a fault, in its log too.
+pub(crate) fn break_off<R: Wait>(
+    stream: Stream,
+    fault: &LinkFault,
+    notes: &StreamNotes<'_, R>,
+) -> Carried
+    ensures { result ≡ carried_before stream fault.now }
+{
+    let carried = Carried::until_fault(stream, fault);
+    notes.end(&carried.last_line(Micros::ZERO));
+    carried
+}
+
+/// Hangs a direction up that has ended, and tells what it carried, in its log too.
+fn end<R: Clock + Wait>(
+    link: Box<PolledLink>,
+    clock: &SinceStart<'_, R>,
+    sockets: &LinkSockets,
+    stream: Stream,
+    ending: &Ending,
+    notes: &StreamNotes<'_, R>,
+) -> Carried
+    requires held { IsHeld link.value }
+    requires ended { IsAtEnd (λ t. IsInstant t) link.value ending.now }
+    ensures { (was_stopped : Bool) × (result ≡ record {
+      stream = stream;
+      bytes = link.value.written;
+      end = end_before_stop was_stopped ending.now;
+    }) }
+{
+    let mut ends = sockets.ends_of(stream);
+    ends.hang_up(*ending, link.has_read_all());
+    let carried = Carried {
+        stream,
+        bytes: link.written(),
+        end: StreamEnd::before_stop(ends.was_stopped, *ending),
+    };
+    notes.end(&carried.last_line(last_reading(link, clock, *ending)));
+    carried
+}
+
+/// The reading of its clock at which a direction ended.
+fn last_reading<R: Clock + Wait>(
+    link: Box<PolledLink>,
+    clock: &SinceStart<'_, R>,
+    ending: Ending,
+) -> Micros
+    requires held { IsHeld link.value }
+    requires ended { IsAtEnd (λ t. IsInstant t) link.value ending }
+{
+    let link = Box::into_inner(link);
+    let driven = Ok(ending);
+    match finish(link, clock, driven, ()) {
+        Ok(timed) => timed.reading,
+        Err(_) => Micros::ZERO,
+    }
+}

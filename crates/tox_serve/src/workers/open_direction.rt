@@ -1,0 +1,195 @@
+//! One direction of a link whose upstream is connected.
+ghost use Rattle.std.specs.Prelude.{◌≡◌, None, Some, IfSome, option_copied};
+ghost use Rattle.tox_serve.specs.workers.Directions.{IsOf, IsOf-prop};
+
+use crate::workers::flow::{Driven, Flow, break_off};
+use crate::workers::socket_event::SocketEvent;
+use crate::workers::taken_at::TakenAt;
+use std::alloc::Global;
+use std::mem;
+use std::sync::Wait;
+use std::time::Clock;
+use tox_link::{LinkFault, READ_SIZE};
+use tox_links::Carried;
+use tox_log_files::StreamNotes;
+use tox_sockets::{LinkSockets, SinceStart};
+use tox_time::Stream;
+
+/// How far a direction is.
+#[derive(Drop)]
+pub(crate) enum DirectionState<'r, R> {
+    Going(Flow<'r, R>),
+    Ended(Carried),
+    /// It is being driven.
+    Driven,
+}
+
+/// What a direction that was driven does next.
+#[derive(Clone, Copy)]
+pub(crate) enum DirectionProgress {
+    /// It waits for an event, or for a timer that is set.
+    Waits,
+    /// It waits for an event, at most until this instant of the worker's clock, for which no timer is set.
+    WaitsUntil(u64),
+    /// It may go on at once.
+    Again,
+    /// It has just ended.
+    Ended,
+}
+
+/// One direction of a link.
+#[derive(Drop)]
+pub(crate) struct OpenDirection<'r, R> {
+    pub(crate) stream: Stream,
+    pub(crate) state: DirectionState<'r, R>,
+    /// When its earliest timer is due, by the worker's clock.
+    armed: Option<u64>,
+    ghost of_stream: { IsOf stream state } by { IsOf-prop stream state },
+}
+
+impl<'r, R: Clock + Wait> OpenDirection<'r, R> {
+    ghost use Rattle.tox_serve.specs.declared.workers.open_direction.DirectionState.TheVariants.{Going as GoesOn};
+    ghost use Rattle.tox_serve.specs.workers.Directions.{broken_off, carried_of, disarmed, is_armed};
+    ghost use Rattle.tox_serve.specs.workers.Reports.{IsAfterSource, IsAfterTarget, IsNotedSo};
+    ghost use Rattle.tox_serve.specs.workers.Steps.{DrivesFrom, wait_until};
+    ghost use Rattle.tox_serve.specs.workers.Waits.{earlier_of};
+
+    /// A direction that goes on.
+    pub(crate) fn new(flow: Flow<'r, R>) -> OpenDirection<'r, R>
+        ensures stream { result.stream ≡ flow.entry.stream }
+        ensures state { result.state ≡ GoesOn flow.entry }
+        ensures armed { result.armed ≡ None }
+    {
+        OpenDirection {
+            stream: flow.stream,
+            state: DirectionState::Going(flow),
+            armed: None,
+        }
+    }
+
+    /// From now on it is noted so, unless it has ended.
+    pub(crate) fn log(&mut self, notes: StreamNotes<'r, R>)
+        ensures state { IsNotedSo notes.entry self.old.state self.new.state }
+        ensures same { (self.new.stream ≡ self.old.stream) × (self.new.armed ≡ self.old.armed) }
+    {
+        if let DirectionState::Going(flow) = &mut self.state {
+            flow.notes = notes;
+        }
+    }
+
+    /// The system reported something of its source. Whether it is to be driven.
+    pub(crate) fn note_source(&mut self, event: &SocketEvent) -> bool
+        ensures stream { self.new.stream ≡ self.old.stream }
+        ensures after { IsAfterSource event.now self.old self.new result }
+    {
+        match &mut self.state {
+            DirectionState::Going(flow) if event.readable => {
+                flow.source.note(event.closing);
+                true
+            }
+            _ => false,
+        }
+    }
+
+    /// The system reported something of its target. Whether it is to be driven.
+    pub(crate) fn note_target(&mut self, event: &SocketEvent) -> bool
+        ensures stream { self.new.stream ≡ self.old.stream }
+        ensures after { IsAfterTarget event.now self.old self.new result }
+    {
+        match &mut self.state {
+            DirectionState::Going(flow) if event.writable => flow.sink.note() || event.gone,
+            _ => false,
+        }
+    }
+
+    /// Whether it waits for a timer that is due at an instant.
+    pub(crate) fn is_armed(&self, due: u64) -> bool
+        ensures { result ≡ is_armed due self.now.armed }
+    {
+        self.armed == Some(due)
+    }
+
+    /// A timer of it is over.
+    pub(crate) fn disarm(&mut self, due: u64)
+        ensures armed { self.new.armed ≡ disarmed due self.old.armed }
+        ensures same { (self.new.stream ≡ self.old.stream) × (self.new.state ≡ self.old.state) }
+    {
+        if self.armed == Some(due) {
+            self.armed = None;
+        }
+    }
+
+    /// Drives it, unless it has ended before.
+    pub(crate) fn drive(
+        &mut self,
+        rt: &'r R,
+        alloc: Global,
+        sockets: &LinkSockets,
+        since: TakenAt,
+        scratch: &mut [u8; READ_SIZE],
+    ) -> DirectionProgress
+        ensures stream { self.new.stream ≡ self.old.stream }
+        ensures drives { DrivesFrom since.worker self.old.state self.old self.new result }
+    {
+        let flow = match mem::replace(&mut self.state, DirectionState::Driven) {
+            DirectionState::Going(flow) => flow,
+            other => {
+                self.state = other;
+                return DirectionProgress::Waits;
+            }
+        };
+        let clock = SinceStart::new(rt, sockets, since.start);
+        match flow.drive(alloc, &clock, sockets, scratch) {
+            Driven::Waits(flow, until) => {
+                self.state = DirectionState::Going(flow);
+                match until {
+                    Some(until) => self.arm(since.worker.saturating_add(until.get())),
+                    None => DirectionProgress::Waits,
+                }
+            }
+            Driven::Again(flow) => {
+                self.state = DirectionState::Going(flow);
+                DirectionProgress::Again
+            }
+            Driven::Ended(carried) => {
+                self.state = DirectionState::Ended(carried);
+                DirectionProgress::Ended
+            }
+        }
+    }
+
+    /// It waits until an instant. A timer that is due before serves too: it drives it once more.
+    fn arm(&mut self, due: u64) -> DirectionProgress
+        ensures armed { self.new.armed ≡ earlier_of self.old.armed (Some due) }
+        ensures same { (self.new.stream ≡ self.old.stream) × (self.new.state ≡ self.old.state) }
+        ensures waits { result ≡ wait_until self.old.armed due }
+    {
+        if self.armed.is_some_and(|armed| armed <= due) {
+            return DirectionProgress::Waits;
+        }
+        self.armed = Some(due);
+        DirectionProgress::WaitsUntil(due)
+    }
+
+    /// Breaks it off, out of memory.
+    pub(crate) fn break_off(&mut self)
+        ensures state { self.new.state ≡ broken_off self.old.stream self.old.state }
+        ensures same { (self.new.stream ≡ self.old.stream) × (self.new.armed ≡ self.old.armed) }
+    {
+        if let DirectionState::Going(flow) = &self.state {
+            let fault = LinkFault::OutOfMemory(flow.link.written());
+            self.state = DirectionState::Ended(break_off(self.stream, &fault, &flow.notes));
+        }
+    }
+
+    /// What it carried, if it has ended.
+    pub(crate) fn carried(&self) -> Option<&Carried>
+        ensures stream { IfSome result (λ carried. carried.now.stream ≡ self.now.stream) }
+        ensures carried { option_copied result ≡ carried_of self.now.state }
+    {
+        match &self.state {
+            DirectionState::Ended(carried) => Some(carried),
+            _ => None,
+        }
+    }
+}

@@ -1,0 +1,203 @@
+//! A link whose upstream is connected: its sockets and its two directions.
+ghost use Rattle.std.specs.Prelude.{◌≡◌, false, IfSome};
+ghost use Rattle.tox_time.specs.declared.streams.stream.Stream.TheVariants as StreamOf;
+
+use crate::workers::flow::Flow;
+use crate::workers::link_name::LinkName;
+use crate::workers::open_direction::{DirectionProgress, OpenDirection};
+use crate::workers::peer::Peer;
+use crate::workers::socket_event::SocketEvent;
+use crate::workers::taken_at::TakenAt;
+use std::alloc::Global;
+use std::boxed::Box;
+use std::sync::{Arc, Wait};
+use std::time::Clock;
+use tox_link::READ_SIZE;
+use tox_links::{Courses, LinkEnd};
+use tox_log_files::StreamNotes;
+use tox_sockets::LinkSockets;
+use tox_time::Stream;
+
+/// A link whose upstream is connected.
+#[derive(Drop)]
+pub(crate) struct OpenLink<'r, R> {
+    pub(crate) number: u64,
+    /// The place of its proxy.
+    pub(crate) proxy: usize,
+    sockets: Arc<LinkSockets, Global>,
+    /// Its key among the live sockets.
+    pub(crate) live: usize,
+    since: TakenAt,
+    up: OpenDirection<'r, R>,
+    down: OpenDirection<'r, R>,
+    ghost upstream: { up.stream ≡ StreamOf.Upstream },
+    ghost downstream: { down.stream ≡ StreamOf.Downstream },
+}
+
+/// What an open link is made of besides its courses.
+#[derive(Drop)]
+pub(crate) struct Opening {
+    pub(crate) number: u64,
+    pub(crate) proxy: usize,
+    pub(crate) sockets: Arc<LinkSockets, Global>,
+    pub(crate) live: usize,
+    pub(crate) since: TakenAt,
+    /// Whether its client was reported to send no more.
+    pub(crate) closing: bool,
+}
+
+impl<'r, R: Clock + Wait> OpenLink<'r, R> {
+    ghost use Rattle.tox_serve.specs.workers.Begun.{IsMadeOf, IsNewDirection};
+    ghost use Rattle.tox_serve.specs.workers.Directions.{broken_off, carried_of, disarmed, is_armed};
+    ghost use Rattle.tox_serve.specs.workers.OpenLinks.{IsSameLink, direction_of, end_of_both};
+    ghost use Rattle.tox_serve.specs.workers.Peers.{other_stream, stream_from};
+    ghost use Rattle.tox_serve.specs.workers.Reports.{IsAfterSource, IsAfterTarget, IsNotedSo};
+    ghost use Rattle.tox_serve.specs.workers.Steps.{DrivesFrom};
+
+    /// A link of these courses, at which nothing has come and which isn't logged. None if out of memory.
+    pub(crate) fn new(
+        rt: &'r R,
+        alloc: Global,
+        opening: Opening,
+        courses: Courses,
+    ) -> Option<Box<OpenLink<'r, R>>>
+        requires up { courses.up.stream ≡ StreamOf.Upstream }
+        requires down { courses.down.stream ≡ StreamOf.Downstream }
+        ensures parts { IfSome result (λ link. IsMadeOf opening link.value) }
+        ensures up { IfSome result
+            (λ link. IsNewDirection courses.up opening.closing link.value.up) }
+        ensures down { IfSome result (λ link. IsNewDirection courses.down false link.value.down) }
+    {
+        let Opening {
+            number,
+            proxy,
+            sockets,
+            live,
+            since,
+            closing,
+        } = opening;
+        let Courses { up, down } = courses;
+        let up = Flow::new(rt, alloc, &sockets, since.start, up, closing)?;
+        let down = Flow::new(rt, alloc, &sockets, since.start, down, false)?;
+        let link = OpenLink {
+            number,
+            proxy,
+            sockets,
+            live,
+            since,
+            up: OpenDirection::new(up),
+            down: OpenDirection::new(down),
+        };
+        match Box::new(alloc, link) {
+            Ok(link) => Some(link),
+            Err(_) => None,
+        }
+    }
+
+    /// Which link it is.
+    pub(crate) fn name(&self) -> LinkName
+        ensures { result ≡ record { place = self.now.proxy; number = self.now.number } }
+    {
+        LinkName {
+            place: self.proxy,
+            number: self.number,
+        }
+    }
+
+    /// From now on its streams are noted so.
+    pub(crate) fn log(&mut self, up: StreamNotes<'r, R>, down: StreamNotes<'r, R>)
+        ensures up { IsNotedSo up.entry self.old.up.state self.new.up.state }
+        ensures down { IsNotedSo down.entry self.old.down.state self.new.down.state }
+        ensures armed { (self.new.up.armed ≡ self.old.up.armed)
+            × (self.new.down.armed ≡ self.old.down.armed) }
+        ensures same { IsSameLink self.old self.new }
+    {
+        self.up.log(up);
+        self.down.log(down);
+    }
+
+    /// The system reported something of a socket. Tells whether the direction that reads from it and the one that writes to it are
+    /// to be driven.
+    pub(crate) fn note(&mut self, peer: Peer, event: &SocketEvent) -> (bool, bool)
+        ensures source { IsAfterSource event.now (direction_of (stream_from peer) self.old)
+            (direction_of (stream_from peer) self.new) result.0 }
+        ensures target { IsAfterTarget event.now
+            (direction_of (other_stream (stream_from peer)) self.old)
+            (direction_of (other_stream (stream_from peer)) self.new) result.1 }
+        ensures same { IsSameLink self.old self.new }
+    {
+        match peer {
+            Peer::Client => (self.up.note_source(event), self.down.note_target(event)),
+            Peer::Server => (self.down.note_source(event), self.up.note_target(event)),
+        }
+    }
+
+    /// Whether a direction waits for a timer that is due at an instant.
+    pub(crate) fn is_armed(&self, stream: Stream, due: u64) -> bool
+        ensures { result ≡ is_armed due (direction_of stream self.now).armed }
+    {
+        match stream {
+            Stream::Upstream => self.up.is_armed(due),
+            Stream::Downstream => self.down.is_armed(due),
+        }
+    }
+
+    /// A timer of a direction is over.
+    pub(crate) fn disarm(&mut self, stream: Stream, due: u64)
+        ensures armed { (direction_of stream self.new).armed
+            ≡ disarmed due (direction_of stream self.old).armed }
+        ensures state { (direction_of stream self.new).state
+            ≡ (direction_of stream self.old).state }
+        ensures other { direction_of (other_stream stream) self.new
+            ≡ direction_of (other_stream stream) self.old }
+        ensures same { IsSameLink self.old self.new }
+    {
+        match stream {
+            Stream::Upstream => self.up.disarm(due),
+            Stream::Downstream => self.down.disarm(due),
+        }
+    }
+
+    /// Drives a direction, unless it has ended before.
+    pub(crate) fn drive(
+        &mut self,
+        rt: &'r R,
+        alloc: Global,
+        stream: Stream,
+        scratch: &mut [u8; READ_SIZE],
+    ) -> DirectionProgress
+        ensures drives { DrivesFrom self.old.since.worker (direction_of stream self.old).state
+            (direction_of stream self.old) (direction_of stream self.new) result }
+        ensures other { direction_of (other_stream stream) self.new
+            ≡ direction_of (other_stream stream) self.old }
+        ensures same { IsSameLink self.old self.new }
+    {
+        let since = self.since;
+        match stream {
+            Stream::Upstream => self.up.drive(rt, alloc, &self.sockets, since, scratch),
+            Stream::Downstream => self.down.drive(rt, alloc, &self.sockets, since, scratch),
+        }
+    }
+
+    /// Breaks the link off, out of memory.
+    pub(crate) fn break_off(&mut self)
+        ensures up { self.new.up.state ≡ broken_off StreamOf.Upstream self.old.up.state }
+        ensures down { self.new.down.state ≡ broken_off StreamOf.Downstream self.old.down.state }
+        ensures same { IsSameLink self.old self.new }
+    {
+        self.sockets.ends_of(Stream::Upstream).reset();
+        self.up.break_off();
+        self.down.break_off();
+    }
+
+    /// How the link ended, if both its directions have.
+    pub(crate) fn end(&self) -> Option<LinkEnd>
+        ensures number { IfSome result (λ end. end.number ≡ self.now.number) }
+        ensures both { result ≡ end_of_both self.now.number (carried_of self.now.up.state)
+            (carried_of self.now.down.state) }
+    {
+        let up = self.up.carried()?;
+        let down = self.down.carried()?;
+        Some(LinkEnd::of(self.number, up, down))
+    }
+}
