@@ -64,6 +64,7 @@ compile() {
     seen=
     while [ -z "$seen" ] && kill -0 "$try" 2>/dev/null; do
         tick
+        spare_check
         for found in "$scratch"/*/*/program; do
             [ ! -x "$found" ] || ! copied "$found" || seen="$found"
         done
@@ -78,6 +79,7 @@ compile() {
 start_try() {
     # It ends with this shell, even if that is killed.
     tied=
+    spared=
     ! command -v setpriv >/dev/null || tied="setpriv --pdeathsig HUP --"
     (
         cd "$root/crates/toxi" || exit
@@ -85,6 +87,11 @@ start_try() {
         exec $tied rt try -- migrate --script "$scratch/script"
     ) </dev/null >"$scratch/said" 2>&1 9>&- &
     try=$!
+}
+
+# Ends what `rt try` runs beside the compile: a check of names for hints that nobody reads here, which takes as much of a processor as the compile.
+spare_check() {
+    [ -n "$spared" ] || ! pkill -KILL -x -P "$try" rattle 2>/dev/null || spared=yes
 }
 
 # copied PROGRAM: copies it, if it runs. The kit may still be writing or moving it.
