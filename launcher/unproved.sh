@@ -64,7 +64,7 @@ compile() {
     seen=
     while [ -z "$seen" ] && kill -0 "$try" 2>/dev/null; do
         tick
-        spare_check
+        end_hints
         for found in "$scratch"/*/*/program; do
             [ ! -x "$found" ] || ! copied "$found" || seen="$found"
         done
@@ -79,7 +79,7 @@ compile() {
 start_try() {
     # It ends with this shell, even if that is killed.
     tied=
-    spared=
+    hints_ended=
     ! command -v setpriv >/dev/null || tied="setpriv --pdeathsig HUP --"
     (
         cd "$root/crates/toxi" || exit
@@ -90,8 +90,8 @@ start_try() {
 }
 
 # Ends what `rt try` runs beside the compile: a check of names for hints that nobody reads here, which takes as much of a processor as the compile.
-spare_check() {
-    [ -n "$spared" ] || ! pkill -KILL -x -P "$try" rattle 2>/dev/null || spared=yes
+end_hints() {
+    [ -n "$hints_ended" ] || ! pkill -KILL -x -P "$try" rattle 2>/dev/null || hints_ended=yes
 }
 
 # copied PROGRAM: copies it, if it runs. The kit may still be writing or moving it.
