@@ -17,3 +17,4 @@ pub mod WrittenLog
 pub mod Left
 pub mod LinkLog
 pub mod NotedLines
+pub mod files

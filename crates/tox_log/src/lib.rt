@@ -1,9 +1,10 @@
-//! The log of a link's stream as a text: printed, read back, and judged.
+//! The log of a link's stream: written to files while links are served, printed, read back, and judged.
 #![tactic(auto)]
 
 mod event_line;
 mod event_text;
 mod fault;
+mod files;
 mod header_text;
 mod heading;
 mod heard_text;
@@ -23,6 +24,7 @@ mod replay;
 pub use event_line::{LogLine, read_line};
 pub use event_text::print_event;
 pub use fault::{LogFault, ReplayFault};
+pub use files::{LogFiles, LogLimits, NoLogs, RunLogs, StreamNotes, write_logs};
 pub use header_text::{LoggedLink, print_header};
 pub use heading::Heading;
 pub use heard_text::{HeardFault, print_heard, print_words};

@@ -1,6 +1,6 @@
 //! What the program does, as library calls over readers, writers, files, sockets and values: runs, files and picks (tox_runs),
-//! one proxy on the command line (tox_inline), forecasts and checks (tox_check), serving (tox_serve), logs (tox_log, tox_log_files), pictures
-//! and pages of runs (tox_draw), and of tox_text the texts that a command prints as they stand, and the nearest name.
+//! one proxy on the command line (tox_inline), forecasts and checks (tox_check), serving (tox_serve), logs (tox_log), pictures and
+//! pages of runs (tox_draw), and of tox_text the texts that a command prints as they stand, and the nearest name.
 #![tactic(auto)]
 
 pub use tox_check::{
@@ -9,11 +9,10 @@ pub use tox_check::{
 pub use tox_draw::{LogStore, PageFault, Report, draw_log, draw_run};
 pub use tox_inline::{Inline, InlineFault, InlineSetup, InlineToxic, inline_setup};
 pub use tox_log::{
-    HeardFault, JudgedLog, LogBytes, LogFault, OpenLog, ReplayFault, Verdict, judge_log,
-    print_heard, print_judged, print_judged_json, print_meant, print_words, write_judged,
-    write_judged_json,
+    HeardFault, JudgedLog, LogBytes, LogFault, LogFiles, LogLimits, NoLogs, OpenLog, ReplayFault,
+    Verdict, judge_log, print_heard, print_judged, print_judged_json, print_meant, print_words,
+    write_judged, write_judged_json,
 };
-pub use tox_log_files::{LogFiles, LogLimits, NoLogs};
 pub use tox_runs::{
     FileFault, MAX_INPUT, MemoryFiles, NamedFiles, PickFault, PickRequest, RealFiles, Setup,
     SetupFault, StagesFault, ToxicsFault, dry_run, find_proxy, read_chain, read_file, read_setup,

@@ -1,1 +1,4 @@
 pub mod ToldLemmas
+pub mod ServeLemmas
+pub mod JsonParts
+pub mod OpenNames

@@ -7,7 +7,7 @@ use Rattle.tox_link.specs.declared.link_fault.LinkFault.TheVariants.{OutOfMemory
 use Rattle.tox_link.specs.declared.link_report.TimedReport.{TimedReport}
 use Rattle.tox_link.specs.carrying.Results.{BreaksAt, Carries, FarEnd, NearEnd}
 use Rattle.tox_link.specs.Sources.{read_end_of}
-use Rattle.tox_links.specs.declared.link.course.Course.{Course}
+use Rattle.tox_serve.specs.declared.link.course.Course.{Course}
 use Rattle.tox_serve.specs.Told.{IsToldOf, carried_after}
 
 pub told_of : {S : Type 0} (course : Course) (was_stopped : Bool) (done : Result (TimedReport S) LinkFault)

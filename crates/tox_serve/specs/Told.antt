@@ -13,11 +13,11 @@ use Rattle.tox_link.specs.Reports.{ReportsAt}
 use Rattle.tox_link.specs.log.Logged.{IsCutOff}
 use Rattle.tox_log.specs.declared.last_line.BreakCause.{BreakCause}
 use Rattle.tox_log.specs.declared.last_line.BreakCause.TheVariants as CauseOf
-use Rattle.tox_links.specs.declared.link.course.Course.{Course}
-use Rattle.tox_links.specs.declared.link.end.Carried.{Carried}
-use Rattle.tox_links.specs.declared.link.end.StreamEnd.{StreamEnd}
-use Rattle.tox_links.specs.declared.link.end.StreamEnd.TheVariants as EndOf
-use Rattle.tox_links.specs.link.LinkEnds.{carried_before, end_before_stop}
+use Rattle.tox_serve.specs.declared.link.course.Course.{Course}
+use Rattle.tox_serve.specs.declared.link.end.Carried.{Carried}
+use Rattle.tox_serve.specs.declared.link.end.StreamEnd.{StreamEnd}
+use Rattle.tox_serve.specs.declared.link.end.StreamEnd.TheVariants as EndOf
+use Rattle.tox_serve.specs.link.LinkEnds.{carried_before, end_before_stop}
 
 -- what a stream carried, by what its link reports or by its fault
 abbrev pub carried_after : {S : Type 0} → Stream → Bool → Result (TimedReport S) LinkFault → Carried

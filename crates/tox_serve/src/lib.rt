@@ -1,11 +1,27 @@
-//! Serving: sockets under the plans of a script. Threads of its own drive each link, or a few workers drive all of them.
+//! Serving: sockets under the plans of a script. Threads of its own drive each link (`threads`), or a few workers drive all of them (`workers`).
+//! What both share stands beside these: what a stream meets, how a link ended, the book of a proxy's links, and the lines.
 #![tactic(auto)]
 
+mod addresses;
+mod fault;
+mod lines;
+mod link;
+mod options;
+mod proxy;
+mod room;
+mod run;
+mod runtime;
 mod serving;
+mod signals;
+mod stop;
 mod threads;
 mod workers;
 
+pub use fault::ServeFault;
+pub use lines::{Gaps, LineForm, NoGaps};
+pub use options::ServeOptions;
+pub use room::Room;
+pub use runtime::ServeRuntime;
 pub use serving::{serve, serve_with};
-pub use tox_links::{
-    Gaps, LineForm, NoGaps, Room, ServeFault, ServeOptions, ServeRuntime, Stop, tells_to_stop,
-};
+pub use signals::tells_to_stop;
+pub use stop::Stop;

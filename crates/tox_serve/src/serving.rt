@@ -1,8 +1,15 @@
 //! Serving proxies: sockets under the plans of a script.
 ghost use Rattle.std.specs.Prelude.{◌≡◌, All, false, IfErr, Ok};
-ghost use Rattle.tox_links.specs.lines.LineQueue.{no_lines};
-ghost use Rattle.tox_links.specs.Serving.{HasServeCause};
+ghost use Rattle.tox_serve.specs.lines.LineQueue.{no_lines};
+ghost use Rattle.tox_serve.specs.Serving.{HasServeCause};
 
+use crate::fault::ServeFault;
+use crate::lines::{Gaps, LineChannel, LineForm, LineQueue, NoGaps, print_listening, write_lines};
+use crate::options::ServeOptions;
+use crate::proxy::listening::{Listening, listen_all};
+use crate::run::ServeRun;
+use crate::runtime::ServeRuntime;
+use crate::stop::Stop;
 use crate::threads::proxy::serve_proxy;
 use crate::workers::{Workers, start_workers};
 use std::alloc::Global;
@@ -14,11 +21,7 @@ use std::thread;
 use std::thread::{Scope, Threads};
 use std::time::Clock;
 use tox_config::ProxyDef;
-use tox_links::{
-    Gaps, LineChannel, LineForm, LineQueue, Listening, NoGaps, ServeFault, ServeOptions, ServeRun,
-    ServeRuntime, Stop, listen_all, print_listening, write_lines,
-};
-use tox_log_files::{LogFiles, NoLogs, RunLogs, write_logs};
+use tox_log::{LogFiles, NoLogs, RunLogs, write_logs};
 use tox_script::Script;
 use tox_sockets::LiveSockets;
 use tox_time::OpenGate;

@@ -1,6 +1,6 @@
 -- Directions that begin, and that a report changes.
 use Rattle.std.proofs.Common.{◌≡◌, ℕ, Bool, List, Option, None, refl, not, ◌&&◌, ◌||◌}
-use Rattle.tox_links.specs.declared.link.course.Course.{Course}
+use Rattle.tox_serve.specs.declared.link.course.Course.{Course}
 use Rattle.tox_serve.specs.workers.Begun.{BeginsCourse, IsNewDirection}
 use Rattle.tox_serve.specs.workers.Reports.{GoesOnWithEnds, HasSourceAfter, HasTargetAfter, IsNotedSo, drives_source, drives_target, reported_sink, reported_source}
 use Rattle.tox_serve.specs.declared.workers.flow.Flow.{Flow}

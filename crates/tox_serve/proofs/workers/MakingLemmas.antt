@@ -1,8 +1,8 @@
 -- A new direction that is noted in a log is still new.
 use Rattle.std.proofs.Common.{◌≡◌, ℕ, Bool, List, Option}
-use Rattle.tox_links.specs.declared.link.course.Course.{Course}
-use Rattle.tox_links.specs.declared.run.ServeRun.{ServeRun}
-use Rattle.tox_links.specs.link.Courses.{IsCourse}
+use Rattle.tox_serve.specs.declared.link.course.Course.{Course}
+use Rattle.tox_serve.specs.declared.run.ServeRun.{ServeRun}
+use Rattle.tox_serve.specs.link.Courses.{IsCourse}
 use Rattle.tox_time.specs.declared.streams.stream.Stream.{Stream}
 use Rattle.tox_serve.specs.workers.Begun.{BeginsCourse, HasCourse, IsNewDirection}
 use Rattle.tox_serve.specs.workers.Reports.{GoesOnWithEnds, IsNotedSo}

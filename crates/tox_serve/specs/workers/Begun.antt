@@ -4,9 +4,9 @@ use Rattle.tox_time.specs.declared.streams.stream.Stream.{Stream}
 use Rattle.tox_link.specs.Meaning.{MeansPlan}
 use Rattle.tox_link.specs.direction.Follows.{IsNew}
 use Rattle.tox_sockets.specs.ResetDue.{after_op}
-use Rattle.tox_links.specs.declared.link.course.Course.{Course}
-use Rattle.tox_links.specs.declared.run.ServeRun.{ServeRun}
-use Rattle.tox_links.specs.link.Courses.{IsCourse}
+use Rattle.tox_serve.specs.declared.link.course.Course.{Course}
+use Rattle.tox_serve.specs.declared.run.ServeRun.{ServeRun}
+use Rattle.tox_serve.specs.link.Courses.{IsCourse}
 use Rattle.tox_serve.specs.declared.workers.connecting.Client.{Client}
 use Rattle.tox_serve.specs.declared.workers.flow.Flow.{Flow}
 use Rattle.tox_serve.specs.declared.workers.open_direction.DirectionState.TheVariants.{Going}

@@ -3,8 +3,8 @@ use Rattle.std.specs.Prelude.{◌≡◌, ℕ, nat_eq, Bool, false, Option, Some,
 use Rattle.std.proofs.Props.{props}
 use Rattle.tox_time.specs.declared.streams.stream.Stream.{Stream}
 use Rattle.tox_link.specs.declared.link_fault.LinkFault.TheVariants.{OutOfMemory}
-use Rattle.tox_links.specs.declared.link.end.Carried.{Carried}
-use Rattle.tox_links.specs.link.LinkEnds.{carried_before}
+use Rattle.tox_serve.specs.declared.link.end.Carried.{Carried}
+use Rattle.tox_serve.specs.link.LinkEnds.{carried_before}
 use Rattle.tox_serve.specs.declared.workers.open_direction.DirectionState.{DirectionState}
 use Rattle.tox_serve.specs.declared.workers.open_direction.DirectionState.TheVariants.{Going, Ended, Driven}
 

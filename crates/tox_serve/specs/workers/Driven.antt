@@ -6,9 +6,9 @@ use Rattle.tox_log.specs.declared.last_line.BreakCause.{BreakCause}
 use Rattle.tox_log.specs.declared.last_line.BreakCause.TheVariants as CauseOf
 use Rattle.tox_link.specs.declared.direction.polled_link.PolledLink.{PolledLink}
 use Rattle.tox_link.specs.direction.Driven.{Drove, IsAtEnd, WaitsFor, ends_view}
-use Rattle.tox_links.specs.declared.link.end.Carried.{Carried}
-use Rattle.tox_links.specs.declared.link.end.StreamEnd.{StreamEnd}
-use Rattle.tox_links.specs.declared.link.end.StreamEnd.TheVariants as EndOf
+use Rattle.tox_serve.specs.declared.link.end.Carried.{Carried}
+use Rattle.tox_serve.specs.declared.link.end.StreamEnd.{StreamEnd}
+use Rattle.tox_serve.specs.declared.link.end.StreamEnd.TheVariants as EndOf
 use Rattle.tox_serve.specs.declared.workers.flow.Driven.{Driven}
 use Rattle.tox_serve.specs.declared.workers.flow.Driven.TheVariants.{Waits, Again, Ended}
 use Rattle.tox_serve.specs.declared.workers.flow.Flow.{Flow}

@@ -2,9 +2,9 @@
 use Rattle.std.specs.Prelude.{◌≡◌, ℕ, Option, Some, None}
 use Rattle.tox_time.specs.declared.streams.stream.Stream.{Stream}
 use Rattle.tox_time.specs.declared.streams.stream.Stream.TheVariants.{Upstream, Downstream}
-use Rattle.tox_links.specs.declared.link.end.Carried.{Carried}
-use Rattle.tox_links.specs.declared.link.end.LinkEnd.{LinkEnd}
-use Rattle.tox_links.specs.link.LinkEnds.{carried_link_end}
+use Rattle.tox_serve.specs.declared.link.end.Carried.{Carried}
+use Rattle.tox_serve.specs.declared.link.end.LinkEnd.{LinkEnd}
+use Rattle.tox_serve.specs.link.LinkEnds.{carried_link_end}
 use Rattle.tox_serve.specs.declared.workers.open_direction.OpenDirection.{OpenDirection}
 use Rattle.tox_serve.specs.declared.workers.open_link.OpenLink.{OpenLink}
 

@@ -1,9 +1,9 @@
 //! Waiting for the next connection of a listener.
+use crate::proxy::accepting::{ACCEPT_REST, Next, after};
 use std::net::{TcpListener, TcpStream};
 use std::sync::Wait;
 use std::thread;
 use std::time::{Clock, Duration};
-use tox_links::{ACCEPT_REST, Next, after};
 
 /// The next connection. None where the listener fails for good.
 pub(crate) fn next_client<R: Wait + Clock>(rt: &R, listener: &TcpListener) -> Option<TcpStream> {

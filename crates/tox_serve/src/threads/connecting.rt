@@ -1,9 +1,11 @@
 //! Connecting the upstream of a link. The connect doesn't wait in the system, so that a run that is stopping gives it up.
+use crate::addresses::connect_address;
+use crate::run::ServeRun;
+use crate::runtime::ServeRuntime;
 use mio::net::TcpStream as BegunStream;
 use std::net::{Net, SocketAddr, TcpStream, ToSocketAddrs};
 use std::os::fd::AsRawFd;
 use std::sync::Wait;
-use tox_links::{ServeRun, ServeRuntime, connect_address};
 use tox_sockets::can_write;
 
 /// How long an answer is waited for at a time, in milliseconds.

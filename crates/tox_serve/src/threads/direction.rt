@@ -5,10 +5,15 @@ ghost use Rattle.tox_sockets.specs.ResetDue.{after_op};
 ghost use Rattle.tox_sockets.specs.Streams.{target_of};
 ghost use Rattle.tox_serve.specs.Told.{IsToldOf, carried_after};
 
+use crate::link::course::Course;
+use crate::link::end::Carried;
+use crate::link::logs::notes_of;
+use crate::proxy::links::ProxyLinks;
+use crate::run::ServeRun;
+use crate::runtime::ServeRuntime;
 use std::alloc::Global;
 use std::sync::Arc;
 use tox_link::{Ends, LinkFault, TimedReport, carry_timed};
-use tox_links::{Carried, Course, ProxyLinks, ServeRun, ServeRuntime, notes_of};
 use tox_sockets::{LinkSockets, LinkStart, SinceStart, UntilCut, UntilDue};
 use tox_time::{MAX_BYTES, Micros, Real, Stream};
 

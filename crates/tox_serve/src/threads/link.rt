@@ -1,17 +1,21 @@
 //! One served link: both its directions, what the book keeps of it, and its line.
 ghost use Rattle.std.specs.Prelude.{◌≡◌, IfOk};
 ghost use Rattle.tox_time.specs.declared.streams.stream.Stream.TheVariants as StreamOf;
-ghost use Rattle.tox_links.specs.link.LinkEnds.{carried_link_end};
+ghost use Rattle.tox_serve.specs.link.LinkEnds.{carried_link_end};
 
+use crate::lines::print_open;
+use crate::link::course::{Courses, courses_of};
+use crate::link::end::{Carried, LinkEnd};
+use crate::link::logs::{broken_link, unless_stopped};
+use crate::proxy::links::ProxyLinks;
+use crate::proxy::taking::Taken;
+use crate::run::ServeRun;
+use crate::runtime::ServeRuntime;
 use crate::threads::connecting::connect;
 use crate::threads::direction::{Direction, carry_stream};
 use std::alloc::Global;
 use std::sync::Arc;
 use std::thread;
-use tox_links::{
-    Carried, Courses, LinkEnd, ProxyLinks, ServeRun, ServeRuntime, Taken, broken_link, courses_of,
-    print_open, unless_stopped,
-};
 use tox_log::BreakCause;
 use tox_sockets::{LinkSockets, LinkStart, LiveSocket};
 

@@ -1,12 +1,15 @@
 //! One served proxy: takes connections, starts a thread for each, and prints the totals at the end.
+use crate::link::logs::broken_link;
+use crate::proxy::links::ProxyLinks;
+use crate::proxy::listening::Listening;
+use crate::proxy::taking::{Taken, is_enough, number_link};
+use crate::run::ServeRun;
+use crate::runtime::ServeRuntime;
 use crate::threads::accepting::next_client;
 use crate::threads::link::serve_link;
 use std::net::TcpListener;
 use std::thread;
 use std::thread::Scope;
-use tox_links::{
-    Listening, ProxyLinks, ServeRun, ServeRuntime, Taken, broken_link, is_enough, number_link,
-};
 use tox_log::BreakCause;
 
 /// Serves a proxy until it stops listening and all its links have ended.

@@ -1,6 +1,7 @@
 //! A link whose upstream isn't connected yet.
 ghost use Rattle.std.specs.Prelude.{◌≡◌, ◌||◌};
 
+use crate::proxy::taking::Taken;
 use crate::workers::link_name::LinkName;
 use crate::workers::socket_event::SocketEvent;
 use crate::workers::taken_at::TakenAt;
@@ -8,7 +9,6 @@ use std::alloc::Global;
 use std::io::ErrorKind;
 use std::net::{SocketAddr, TcpStream};
 use std::sync::Arc;
-use tox_links::Taken;
 
 /// The client of a link that isn't connected yet.
 #[derive(Drop)]

@@ -7,8 +7,10 @@ ghost use Rattle.tox_link.specs.declared.source_ending.SourceEnding.TheVariants.
 ghost use Rattle.std.proofs.Props.{props};
 ghost use Rattle.tox_serve.specs.workers.Ready.{IsHeld-prop};
 ghost use Rattle.tox_link.specs.Meaning.{MeansPlan};
-ghost use Rattle.tox_links.specs.link.LinkEnds.{carried_before, end_before_stop};
+ghost use Rattle.tox_serve.specs.link.LinkEnds.{carried_before, end_before_stop};
 
+use crate::link::course::Course;
+use crate::link::end::{Carried, StreamEnd};
 use crate::workers::socket_event::SocketEvent;
 use std::alloc::Global;
 use std::boxed::Box;
@@ -18,8 +20,7 @@ use tox_compile::Plan;
 use tox_link::{
     Hangup, LinkFault, PollSink, PollSource, PolledLink, Progress, READ_SIZE, drive, finish,
 };
-use tox_links::{Carried, Course, StreamEnd};
-use tox_log_files::StreamNotes;
+use tox_log::StreamNotes;
 use tox_sockets::{LinkSockets, LinkStart, ReadySink, ReadySource, SinceStart};
 use tox_time::{Ending, Micros, Stream};
 use tox_words::Words;

@@ -2,6 +2,7 @@
 ghost use Rattle.std.specs.Prelude.{◌≡◌, None, Some, IfSome, option_copied};
 ghost use Rattle.tox_serve.specs.workers.Directions.{IsOf, IsOf-prop};
 
+use crate::link::end::Carried;
 use crate::workers::flow::{Driven, Flow, break_off};
 use crate::workers::socket_event::SocketEvent;
 use crate::workers::taken_at::TakenAt;
@@ -10,8 +11,7 @@ use std::mem;
 use std::sync::Wait;
 use std::time::Clock;
 use tox_link::{LinkFault, READ_SIZE};
-use tox_links::Carried;
-use tox_log_files::StreamNotes;
+use tox_log::StreamNotes;
 use tox_sockets::{LinkSockets, SinceStart};
 use tox_time::Stream;
 

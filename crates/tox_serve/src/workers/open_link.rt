@@ -2,6 +2,8 @@
 ghost use Rattle.std.specs.Prelude.{◌≡◌, false, IfSome};
 ghost use Rattle.tox_time.specs.declared.streams.stream.Stream.TheVariants as StreamOf;
 
+use crate::link::course::Courses;
+use crate::link::end::LinkEnd;
 use crate::workers::flow::Flow;
 use crate::workers::link_name::LinkName;
 use crate::workers::open_direction::{DirectionProgress, OpenDirection};
@@ -13,8 +15,7 @@ use std::boxed::Box;
 use std::sync::{Arc, Wait};
 use std::time::Clock;
 use tox_link::READ_SIZE;
-use tox_links::{Courses, LinkEnd};
-use tox_log_files::StreamNotes;
+use tox_log::StreamNotes;
 use tox_sockets::LinkSockets;
 use tox_time::Stream;
 

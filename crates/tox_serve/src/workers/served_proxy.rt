@@ -1,8 +1,9 @@
 //! A proxy that workers serve: what all of them share of it.
+use crate::proxy::links::ProxyLinks;
+use crate::proxy::listening::Listening;
 use crate::workers::shared_listener::SharedListener;
 use crate::workers::upstream::Upstream;
 use std::alloc::Global;
-use tox_links::{Listening, ProxyLinks};
 
 /// A proxy that workers serve.
 #[derive(Drop)]

@@ -1,4 +1,5 @@
 //! The workers of a run and its proxies.
+use crate::proxy::listening::Listening;
 use crate::workers::served_proxy::ServedProxy;
 use crate::workers::subject::{Subject, token_of};
 use crate::workers::worker::accepting::Accepting;
@@ -6,7 +7,6 @@ use mio::{Events, Poll, Registry, Waker};
 use std::alloc::Global;
 use std::net::{Net, TcpListener, TcpStream};
 use std::sync::Wait;
-use tox_links::Listening;
 
 /// How many events a wait gives at most.
 const EVENTS: usize = 512;

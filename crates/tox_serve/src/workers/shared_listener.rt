@@ -1,6 +1,10 @@
 //! Where the connections of a proxy come from, which all workers share.
 ghost use Rattle.std.specs.Prelude.{◌≡◌, ◌+◌, ◌-◌, ◌^◌, min};
 
+use crate::proxy::accepting::{Next, after};
+use crate::proxy::links::ProxyLinks;
+use crate::proxy::taking::{Taken, is_enough, number_link};
+use crate::run::ServeRun;
 use mio::unix::SourceFd;
 use mio::{Interest, Registry, Token};
 use std::alloc::Global;
@@ -9,7 +13,6 @@ use std::io::ErrorKind;
 use std::net::TcpListener;
 use std::os::fd::AsRawFd;
 use std::sync::{Arc, Mutex, Wait};
-use tox_links::{Next, ProxyLinks, ServeRun, Taken, after, is_enough, number_link};
 
 /// What the lock keeps.
 #[derive(Drop)]

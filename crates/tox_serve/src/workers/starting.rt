@@ -1,11 +1,12 @@
 //! Starting the threads of a run: one for each worker, and one for each proxy.
+use crate::run::ServeRun;
+use crate::runtime::ServeRuntime;
 use crate::workers::served_proxy::ServedProxy;
 use crate::workers::shared::{WorkerPoll, Workers};
 use crate::workers::upstream::Job;
 use crate::workers::worker::work;
 use std::sync::Mutex;
 use std::thread::Scope;
-use tox_links::{ServeRun, ServeRuntime};
 
 /// Starts the workers and the threads of the proxies, all of which wait until they may go. False if one is refused.
 pub(crate) fn start_workers<'s, E: 's, R: ServeRuntime>(

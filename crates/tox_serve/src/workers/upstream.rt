@@ -1,9 +1,9 @@
 //! The addresses of a proxy's upstream. A name is resolved by the proxy's thread, not by a worker, and kept for a second.
+use crate::addresses::connect_address;
 use std::alloc::Global;
 use std::net::{Net, SocketAddr, TcpListener, TcpStream, ToSocketAddrs};
 use std::sync::{Arc, Condvar, Mutex, Wait};
 use std::time::{Clock, Duration, Instant};
-use tox_links::connect_address;
 
 /// How long the addresses of a name are kept, in milliseconds.
 const KEPT: u64 = 1_000;

@@ -4,6 +4,8 @@ mod driving;
 mod making;
 mod opening;
 
+use crate::run::ServeRun;
+use crate::runtime::ServeRuntime;
 use crate::workers::link_key::LinkKey;
 use crate::workers::links::Links;
 use crate::workers::peer::Peer;
@@ -18,7 +20,6 @@ use mio::event::Event;
 use std::thread;
 use std::time::Duration;
 use tox_link::READ_SIZE;
-use tox_links::{ServeRun, ServeRuntime};
 use tox_sockets::LinkStart;
 
 /// How long a worker rests that can't wait for events, in milliseconds.

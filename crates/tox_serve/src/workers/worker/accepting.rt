@@ -1,8 +1,9 @@
 //! Taking connections.
+use crate::proxy::accepting::ACCEPT_REST;
+use crate::runtime::ServeRuntime;
 use crate::workers::shared_listener::Accepted;
 use crate::workers::waits::{MILLI, earlier};
 use crate::workers::worker::Worker;
-use tox_links::{ACCEPT_REST, ServeRuntime};
 
 /// How many connections are taken before the links have their turns.
 const ACCEPTS: usize = 16;

@@ -5,6 +5,7 @@ ghost use Rattle.tox_serve.specs.workers.Peers.{other_stream};
 ghost use Rattle.tox_serve.specs.workers.Timers.{timers_of};
 ghost use Rattle.tox_serve.specs.workers.Turns.{DrivesTurn, HasTurns};
 
+use crate::runtime::ServeRuntime;
 use crate::workers::link_key::LinkKey;
 use crate::workers::link_state::LinkState;
 use crate::workers::open_direction::DirectionProgress;
@@ -16,7 +17,6 @@ use crate::workers::worker::Worker;
 use std::boxed::Box;
 use std::mem;
 use tox_link::READ_SIZE;
-use tox_links::ServeRuntime;
 use tox_time::Stream;
 
 /// The other stream of a link.

@@ -3,13 +3,17 @@ ghost use Rattle.std.specs.Prelude.{◌≡◌, false, IfSome};
 ghost use Rattle.tox_time.specs.declared.streams.stream.Stream.TheVariants as StreamOf;
 ghost use Rattle.tox_serve.specs.workers.Begun.{HasCourse, IsLinkOf, IsNewDirection};
 
+use crate::lines::print_open;
+use crate::link::course::{Courses, courses_of};
+use crate::link::logs::notes_of;
+use crate::proxy::links::ProxyLinks;
+use crate::proxy::taking::Taken;
+use crate::run::ServeRun;
+use crate::runtime::ServeRuntime;
 use crate::workers::connecting::Client;
 use crate::workers::open_link::{OpenLink, Opening};
 use std::boxed::Box;
 use std::net::TcpStream;
-use tox_links::{
-    Courses, ProxyLinks, ServeRun, ServeRuntime, Taken, courses_of, notes_of, print_open,
-};
 use tox_sockets::{LinkSockets, LiveSocket};
 use tox_time::Stream;
 

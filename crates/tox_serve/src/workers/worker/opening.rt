@@ -2,6 +2,10 @@
 ghost use Rattle.std.specs.Prelude.{◌≡◌, ◌||◌, ◌↔◌, false, IfSome, IsSome};
 ghost use Rattle.tox_serve.specs.workers.Begun.{IsLinkOf};
 
+use crate::link::end::LinkEnd;
+use crate::link::logs::{broken_link, unless_stopped};
+use crate::proxy::taking::Taken;
+use crate::runtime::ServeRuntime;
 use crate::workers::connecting::{Client, Connecting, Connection, connection_of};
 use crate::workers::link_key::LinkKey;
 use crate::workers::link_name::LinkName;
@@ -26,7 +30,6 @@ use std::mem;
 use std::net::{SocketAddr, TcpStream};
 use std::os::fd::AsRawFd;
 use std::sync::Arc;
-use tox_links::{LinkEnd, ServeRuntime, Taken, broken_link, unless_stopped};
 use tox_log::BreakCause;
 use tox_sockets::LinkStart;
 use tox_time::Stream;

@@ -1,3 +1,0 @@
-pub mod ServeLemmas
-pub mod JsonParts
-pub mod OpenNames

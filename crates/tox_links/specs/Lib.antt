@@ -1,6 +1,0 @@
-pub mod Addresses
-pub mod Serving
-pub mod proxy
-pub mod link
-pub mod lines
-pub mod Signals

@@ -1,9 +1,0 @@
-use Rattle.std.proofs.Common.{ap, ◌∙◌, arith}
-use Rattle.tox_log_files.specs.FileName.{names_file}
-use Rattle.tox_log_files.proofs.FileNames.{names-log}
-use Rattle.tox_log_files.proofs.run_logs.RunLogs.log_of.Goals as goal
-
-pub new-requires : goal.new-requires
-new-requires c =
-    ap names_file c.in-Ok.ensures
-    ∙ names-log c.args.link.now.proxy.now c.args.place c.args.link.now.number c.args.link.now.stream (omega arith) (omega arith)

@@ -1,6 +1,0 @@
--- No events are told.
-use Rattle.std.proofs.Common.{rules}
-use Rattle.tox_log_files.proofs.stream_notes.StreamNotesNotes.TheImpl.Goals as goal
-
-pub note-tells : goal.note-tells
-note-tells g c = rw c.ensures.goes_on (search rules)

@@ -1,0 +1,30 @@
+-- Which proxies are served and for how many connections, and why nothing is served.
+use Rattle.std.specs.Prelude.{◌≡◌, ℕ, Bool, true, ◌||◌, nat_le, List, Option}
+use Rattle.std.specs.List.{Contains}
+use Rattle.tox_config.specs.Proxy.{Proxy}
+use Rattle.tox_sockets.specs.Bound.{is_reached}
+use Rattle.tox_serve.specs.declared.fault.ServeFault.{ServeFault}
+use Rattle.tox_serve.specs.declared.fault.ServeFault.TheVariants.{ListenRefused, SpawnRefused, OutOfMemory}
+
+-- an enabled proxy has this name
+pub record HasEnabled (proxies : List Proxy) (name : List ℕ) : Type 0 where
+  pub proxy : Proxy
+  pub listed : Contains proxies proxy
+  pub enabled : proxy.enabled ≡ true
+  pub named : proxy.name ≡ name
+
+-- why an address of a proxy wasn't bound
+abbrev pub IsListenFault : Proxy → ServeFault → Type 0
+IsListenFault proxy (ListenRefused name) = name.now ≡ proxy.name
+IsListenFault proxy SpawnRefused = ⊥
+IsListenFault proxy OutOfMemory = Unit {0}
+
+-- why nothing is served: an address that couldn't be listened at is that of an enabled proxy
+abbrev pub HasServeCause : List Proxy → ServeFault → Type 0
+HasServeCause proxies (ListenRefused name) = HasEnabled proxies name.now
+HasServeCause proxies SpawnRefused = Unit {0}
+HasServeCause proxies OutOfMemory = Unit {0}
+
+-- whether a proxy stops listening: after as many connections as it was told, or as many links as a book holds
+abbrev pub is_enough : Option ℕ → ℕ → ℕ → Bool
+is_enough links connections opened = is_reached links connections || nat_le 1000000 opened

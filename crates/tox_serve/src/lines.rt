@@ -1,0 +1,18 @@
+//! Lines on their way to the output: written by one thread, so that an output that nobody reads holds up no link.
+mod channel;
+mod form;
+mod json_lines;
+mod open_line;
+mod printing;
+mod queue;
+mod serve_lines;
+mod text;
+mod writer;
+
+pub(crate) use channel::LineChannel;
+pub use form::LineForm;
+pub(crate) use printing::{print_link, print_listening, print_open, print_total};
+pub(crate) use queue::LineQueue;
+pub(crate) use text::LineText;
+pub(crate) use writer::write_lines;
+pub use writer::{Gaps, NoGaps};

@@ -1,0 +1,4 @@
+//! One link: what its streams meet, and how it ended.
+pub(crate) mod course;
+pub(crate) mod end;
+pub(crate) mod logs;

@@ -1,0 +1,186 @@
+//! How a served link ended, and what the book keeps of it.
+ghost use Rattle.std.specs.Prelude.{◌≡◌};
+ghost use Rattle.tox_time.specs.declared.streams.stream.Stream.TheVariants as StreamOf;
+ghost use Rattle.tox_serve.specs.link.LinkEnds.{broken_link, broken_side, carried_before, carried_link_end, end_before_stop, ending_of, is_refused, last_at, nothing_carried, settled, side_end};
+
+use tox_link::{Book, LinkFault, LinkReport};
+use tox_log::{BreakCause, LastLine};
+use tox_time::{Ending, Micros, Stream};
+
+/// How one direction ended.
+#[derive(Clone, Copy)]
+pub(crate) enum StreamEnd {
+    Ended(Ending),
+    Broken(BreakCause),
+}
+
+/// What one direction carried.
+#[derive(Clone, Copy)]
+pub(crate) struct Carried {
+    pub(crate) stream: Stream,
+    pub(crate) bytes: u64,
+    pub(crate) end: StreamEnd,
+}
+
+/// What is told of one side of a link: the bytes written, and how it ended, or None if it is broken.
+#[derive(Clone, Copy)]
+pub(crate) struct SideEnd {
+    pub(crate) bytes: u64,
+    pub(crate) ending: Option<Ending>,
+}
+
+/// What is told of a link.
+#[derive(Clone, Copy)]
+pub(crate) struct LinkEnd {
+    pub(crate) number: u64,
+    pub(crate) upstream: SideEnd,
+    pub(crate) downstream: SideEnd,
+}
+
+impl StreamEnd {
+    /// How a stream ended that ended so by its plan: a stop of its link before that breaks it.
+    pub(crate) fn before_stop(was_stopped: bool, ending: Ending) -> StreamEnd
+        ensures { result ≡ end_before_stop was_stopped ending }
+    {
+        if was_stopped {
+            StreamEnd::Broken(BreakCause::Stopped)
+        } else {
+            StreamEnd::Ended(ending)
+        }
+    }
+}
+
+impl Carried {
+    /// What a stream carried that ended, by its plan or once its link was stopped.
+    pub(crate) fn until_end<S>(stream: Stream, report: &LinkReport<S>, was_stopped: bool) -> Carried
+        ensures { result ≡ record {
+          stream = stream;
+          bytes = report.now.written;
+          end = end_before_stop was_stopped report.now.ending;
+        } }
+    {
+        Carried {
+            stream,
+            bytes: report.written,
+            end: StreamEnd::before_stop(was_stopped, report.ending),
+        }
+    }
+
+    /// What a stream carried before a fault.
+    pub(crate) fn until_fault(stream: Stream, fault: &LinkFault) -> Carried
+        ensures { result ≡ carried_before stream fault.now }
+    {
+        let cause = match fault {
+            LinkFault::WriteFault(_) => BreakCause::Write,
+            LinkFault::SpawnRefused(_) => BreakCause::Thread,
+            LinkFault::OutOfMemory(_) => BreakCause::Memory,
+        };
+        Carried {
+            stream,
+            bytes: fault.written(),
+            end: StreamEnd::Broken(cause),
+        }
+    }
+
+    fn is_refused(&self) -> bool
+        ensures { result ≡ is_refused self.now.end }
+    {
+        match self.end {
+            StreamEnd::Broken(BreakCause::Memory | BreakCause::Thread) => true,
+            StreamEnd::Ended(_) | StreamEnd::Broken(_) => false,
+        }
+    }
+
+    fn ending(&self) -> Option<Ending>
+        ensures { result ≡ ending_of self.now.end }
+    {
+        match self.end {
+            StreamEnd::Ended(ending) => Some(ending),
+            StreamEnd::Broken(_) => None,
+        }
+    }
+
+    /// The last line of the stream's log: at this reading of its clock it ended, or else it broke off.
+    pub(crate) fn last_line(&self, reading: Micros) -> LastLine
+        ensures { result ≡ last_at reading self.now.bytes self.now.end }
+    {
+        match self.end {
+            StreamEnd::Ended(ending) => LastLine::Ended(reading, ending),
+            StreamEnd::Broken(cause) => LastLine::Broken(cause, self.bytes),
+        }
+    }
+
+    fn broken(&self) -> SideEnd
+        ensures { result ≡ broken_side self.now }
+    {
+        SideEnd {
+            bytes: self.bytes,
+            ending: None,
+        }
+    }
+
+    fn side_end(&self) -> SideEnd
+        ensures { result ≡ side_end self.now }
+    {
+        SideEnd {
+            bytes: self.bytes,
+            ending: self.ending(),
+        }
+    }
+}
+
+impl SideEnd {
+    /// A broken side that carried nothing.
+    fn nothing_carried() -> SideEnd
+        ensures { result ≡ nothing_carried }
+    {
+        SideEnd {
+            bytes: 0,
+            ending: None,
+        }
+    }
+}
+
+impl LinkEnd {
+    /// A link of which nothing was carried: its upstream wasn't reached, or memory or a thread was refused.
+    pub(crate) fn broken(number: u64) -> LinkEnd
+        ensures { result ≡ broken_link number }
+    {
+        LinkEnd {
+            number,
+            upstream: SideEnd::nothing_carried(),
+            downstream: SideEnd::nothing_carried(),
+        }
+    }
+
+    /// The end of a numbered link whose directions carried this. If either was refused memory or a thread, both are broken.
+    pub(crate) fn of(number: u64, upstream: &Carried, downstream: &Carried) -> LinkEnd
+        requires up { upstream.now.stream ≡ StreamOf.Upstream }
+        requires down { downstream.now.stream ≡ StreamOf.Downstream }
+        ensures { result ≡ carried_link_end number upstream.now downstream.now }
+    {
+        if upstream.is_refused() || downstream.is_refused() {
+            return LinkEnd {
+                number,
+                upstream: upstream.broken(),
+                downstream: downstream.broken(),
+            };
+        }
+        LinkEnd {
+            number,
+            upstream: upstream.side_end(),
+            downstream: downstream.side_end(),
+        }
+    }
+
+    /// Counts the bytes of a link in the book, and then notes how both its sides ended.
+    pub(crate) fn settle(&self, book: &mut Book)
+        ensures { book.new ≡ settled self.now book.old }
+    {
+        let number = self.number;
+        let _ = book.add_bytes(number, Stream::Upstream, self.upstream.bytes);
+        let _ = book.add_bytes(number, Stream::Downstream, self.downstream.bytes);
+        let _ = book.ended(number, Stream::Upstream, self.upstream.ending);
+        let _ = book.ended(number, Stream::Downstream, self.downstream.ending);
+    }
+}

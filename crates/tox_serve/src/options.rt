@@ -1,0 +1,20 @@
+//! What `serve_with` may be told beyond what it serves.
+use crate::lines::LineForm;
+use tox_log::LogLimits;
+
+/// Options of [`serve_with`](crate::serve_with). Without any, `serve` does as it always did.
+#[derive(Clone, Copy, Default)]
+pub struct ServeOptions {
+    /// After how many connections each proxy stops listening, 1 to 1,000,000. None: it goes on.
+    pub links: Option<u64>,
+    /// How many milliseconds a connect to an address of an upstream may take, 1 to 600,000. None: as many as the system lets it.
+    pub connect_timeout: Option<u32>,
+    /// How many threads drive all links, 1 to 64. None: each link has threads of its own.
+    pub workers: Option<u32>,
+    /// How much of the links is logged. None: nothing is.
+    pub logs: Option<LogLimits>,
+    /// Whether a line tells what each stream of a link meets, once its upstream is reached.
+    pub verbose: bool,
+    /// How each line is written.
+    pub form: LineForm,
+}

@@ -1,0 +1,30 @@
+//! What all links of a run of `serve` share.
+use crate::lines::LineChannel;
+use crate::options::ServeOptions;
+use crate::stop::Stop;
+use std::alloc::Global;
+use std::sync::Arc;
+use std::sync::atomic::AtomicU64;
+use tox_log::RunLogs;
+use tox_script::Script;
+use tox_sockets::LiveSockets;
+use tox_time::OpenGate;
+
+/// What all links of a run share.
+#[derive(Drop)]
+pub(crate) struct ServeRun<'a> {
+    pub(crate) alloc: Global,
+    pub(crate) script: &'a Script,
+    pub(crate) seed: u64,
+    pub(crate) options: ServeOptions,
+    /// Where logs go, if any are kept.
+    pub(crate) logs: &'a Option<RunLogs>,
+    /// Where lines go.
+    pub(crate) lines: &'a LineChannel,
+    pub(crate) gate: Arc<OpenGate, Global>,
+    pub(crate) stop: &'a Stop,
+    /// What is stopped once the run is told to end.
+    pub(crate) live: &'a LiveSockets,
+    /// How many proxies are served.
+    pub(crate) proxies: AtomicU64,
+}
