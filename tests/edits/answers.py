@@ -43,13 +43,17 @@ class Answers:
 
     def add_errors(self, functions):
         """Adds an error behind the answers of functions. Returns the line at which it begins in each file."""
-        places = (self.place(it) for it in functions if not self.has_cycle_attribute(it))
-        return dict(self.add_error(f"{it}/Answers.antt") for it in places if it and not self.is_recursive(it))
+        places = (self.place_with_sign(it) for it in functions if not self.has_cycle_attribute(it))
+        return dict(self.add_error(f"{it}/Answers.antt") for it in places if it)
 
-    def is_recursive(self, place):
-        """Whether the function with this place calls itself: its proof stands beside it, and it has no answers of its own."""
+    def place_with_sign(self, function):
+        """The folder of the function's proof: that of one which calls itself has a plus sign before its name."""
+        place = self.place(function)
+        if not place:
+            return None
         above, name = os.path.split(place)
-        return os.path.isdir(os.path.join(self.folder, above, f"+{name}"))
+        signed = f"{above}/+{name}"
+        return signed if os.path.isdir(os.path.join(self.folder, signed)) else place
 
     def has_cycle_attribute(self, function):
         lines = text_of(self.folder, function.file).split("\n")

@@ -1,4 +1,4 @@
-"""An edit of `must-fail/`, and the functions that it changes."""
+"""An edit of `must-fail/` or `must-fail-further/`, and the functions that it changes."""
 import os
 import re
 from dataclasses import dataclass, field, replace
@@ -6,6 +6,8 @@ from dataclasses import dataclass, field, replace
 FUNCTION = re.compile(r"( *)(?:pub(?:\([a-z]+\))? )?(?:const )?(?:unsafe )?fn (\w+)")
 CONSTANT = re.compile(r"(?:pub(?:\([a-z]+\))? )?const (\w+):", re.MULTILINE)
 BLOCK = re.compile(r"(?:pub )?(?:impl|trait)\b(?:<.*?>)? (?:(?P<trait>.*) for )?&?(?P<type>\w+)")
+# The folders of a crate that have edits: those that stand for a public call, and further ones.
+FIRST, FURTHER = "must-fail", "must-fail-further"
 
 
 @dataclass(frozen=True)
@@ -53,7 +55,7 @@ class BadEdit(Exception):
 class Edit:
     """`changes` are (file, old, new) in order, and `places` the function or the name of the constant in which each stands, or None. `functions` are
     those in which the changes stand, or that name a changed constant. `in_types` where a change, or a name of a changed constant, stands elsewhere, as in
-    a type.
+    a type. `is_further` tells those of must-fail-further/.
     """
 
     name: str
@@ -61,6 +63,7 @@ class Edit:
     places: list = field(default_factory=list)
     functions: list = field(default_factory=list)
     in_types: bool = False
+    is_further: bool = False
 
     def is_wide(self):
         """Whether a change stands outside of functions: then goals of others may fail too."""
@@ -199,7 +202,7 @@ def places_of(folder, changes):
     for file, old, new in changes:
         text = texts.get(file) or text_of(folder, file)
         at = place_of(text, old)
-        texts[file] = text.replace(old, new)
+        texts[file] = replaced(text, (file, old, new))
         yield changed_function(folder, file, text.count("\n", 0, at) + 1) or changed_constant(text, at)
 
 
@@ -215,17 +218,21 @@ def read_edit(folder, path):
                 old = rest[1:]
             elif word == "new":
                 changes.append((file, old, rest[1:]))
-    places = list(places_of(folder, changes))
+    try:
+        places = list(places_of(folder, changes))
+    except BadEdit as fault:
+        raise BadEdit(f"{path}: {fault}") from fault
     constants = {it for it in places if isinstance(it, str)}
     found = {*places, *(places_naming(folder, constants) if constants else ())} - constants
-    return Edit(os.path.basename(path), changes, places, sorted(found - {None}, key=Function.path), None in found)
+    functions = sorted(found - {None}, key=Function.path)
+    is_further = os.path.basename(os.path.dirname(path)) == FURTHER
+    return Edit(os.path.basename(path), changes, places, functions, None in found, is_further)
 
 
 def edits_of(folder):
-    """The edits of the crate in the folder, by name."""
-    place = os.path.join(folder, "must-fail")
-    names = sorted(os.listdir(place)) if os.path.isdir(place) else []
-    return [read_edit(folder, os.path.join(place, name)) for name in names if name.endswith(".edit")]
+    """The edits of the crate in the folder, by name. All are read, so that each fits the crate's files, or BadEdit is raised."""
+    paths = [os.path.join(folder, file) for part in (FIRST, FURTHER) for file in files_in(folder, part) if file.endswith(".edit")]
+    return [read_edit(folder, path) for path in sorted(paths, key=os.path.basename)]
 
 
 def in_groups(edits):
