@@ -94,9 +94,13 @@ end_hints() {
     [ -n "$hints_ended" ] || ! pkill -KILL -x -P "$try" rattle 2>/dev/null || hints_ended=yes
 }
 
-# copied PROGRAM: copies it, if it runs. The kit may still be writing or moving it.
+# copied PROGRAM: copies it, if it is whole and runs. The kit may still be writing or moving it, and a shell runs an empty file with success.
 copied() {
-    cp "$1" "$scratch/toxi" 2>/dev/null && "$scratch/toxi" --version </dev/null >/dev/null 2>&1
+    {
+        cp "$1" "$scratch/toxi" &&
+            version="$("$scratch/toxi" --version </dev/null)" && [ -n "$version" ] &&
+            [ "$(sha256sum <"$1")" = "$(sha256sum <"$scratch/toxi")" ]
+    } 2>/dev/null
 }
 
 # take PROGRAM: keeps the copy of it in place of earlier ones. If the source has changed meanwhile, it is to be compiled again.
