@@ -1,8 +1,8 @@
-pub mod Tallies
+pub mod TakenRuns
 pub mod Cuts
 pub mod Joined
 pub mod Stepped
-pub mod TallySteps
+pub mod TakenSteps
 pub mod RangeParts
 pub mod SentenceParts
 pub mod AllRuns
@@ -16,7 +16,7 @@ pub mod NumberedRules
 pub mod ProxyRuns
 pub mod RuleTold
 pub mod Checked
-pub mod TalliedTold
+pub mod RuleRunsTold
 pub mod Silencing
 pub mod SamePlan
 pub mod SlicedLast

@@ -4,7 +4,7 @@ pub mod Runs
 pub mod Listed
 pub mod Coverage
 pub mod Summary
-pub mod Tallied
+pub mod RuleRuns
 pub mod Tree
 pub mod Sentences
 pub mod Lines

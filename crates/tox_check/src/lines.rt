@@ -4,13 +4,13 @@ ghost use Rattle.tox_script.specs.chains.Chains.{on};
 ghost use Rattle.tox_check.specs.forecast.Totals.{place_on};
 ghost use Rattle.tox_check.specs.Coverage.{within};
 ghost use Rattle.tox_check.specs.Lines.{is_silent, met_told, silent_told, toxic_told};
-ghost use Rattle.tox_check.specs.Tallied.{TalliesRuns};
+ghost use Rattle.tox_check.specs.RuleRuns.{HasRuns};
 ghost use Rattle.tox_check.specs.Told.{IsTreeOf, TellMore, runs_by, told_by};
 ghost use Rattle.tox_check.specs.declared.run.Run.{Run};
 
 use crate::forecast::Places;
 use crate::idleness::idleness_at;
-use crate::tally::Tally;
+use crate::rule_runs::RuleRuns;
 use crate::tree::{Range, RunTree};
 use crate::warning::Warning;
 use std::alloc::AllocError;
@@ -24,25 +24,25 @@ pub(crate) fn coverage<'a>(tree: &Option<RunTree>, range: Range) -> Option<Warni
     ensures { told_by result
         ≡ met_told range.rule (within range.first range.last (runs_by tree.now)) }
 {
-    let mut tally = Tally::new(range.rule);
+    let mut found = RuleRuns::new(range.rule);
     let Some(tree) = tree else {
-        return warning_of(tally);
+        return warning_of(found);
     };
-    tree.tally(range, &mut tally);
-    warning_of(tally)
+    tree.append_to(range, &mut found);
+    warning_of(found)
 }
 
-/// What is told of a tally.
-fn warning_of<'a>(tally: Tally) -> Option<Warning<'a>>
-    ensures { (runs : List Run) → TalliesRuns tally.rule runs tally
-        → told_by result ≡ met_told tally.rule runs }
+/// What is told of the runs of a rule.
+fn warning_of<'a>(found: RuleRuns) -> Option<Warning<'a>>
+    ensures { (runs : List Run) → HasRuns found.rule runs found
+        → told_by result ≡ met_told found.rule runs }
 {
-    if tally.own.is_empty() {
-        Some(Warning::Covered(tally.low, tally.high))
-    } else if tally.taken.is_empty() {
+    if found.own.is_empty() {
+        Some(Warning::Covered(found.low, found.high))
+    } else if found.taken.is_empty() {
         None
     } else {
-        Some(Warning::Partly(tally.own, tally.taken))
+        Some(Warning::Partly(found.own, found.taken))
     }
 }
 

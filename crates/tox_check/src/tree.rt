@@ -1,13 +1,13 @@
-//! A tree over the runs of a proxy. Each fork has a summary of its runs, so that a range of connections is tallied quickly.
+//! A tree over the runs of a proxy. Each fork has a summary of its runs, so that the runs of a range of connections are found quickly.
 ghost use Rattle.std.specs.Prelude.{◌≡◌, ◌+◌, ◌<◌, ◌≤◌, ◌^◌, ◌↔◌, ◌⊎◌, ◌++◌, ◌∷◌, [], IsTrue, List, length, IfOk};
 ghost use Rattle.tox_check.specs.Coverage.{cut_to_range, reaches, within};
 ghost use Rattle.tox_check.specs.declared.run.Run.{Run as SomeRun};
 ghost use Rattle.tox_check.specs.Summary.{Orders, Sums};
-ghost use Rattle.tox_check.specs.Tallied.{TalliesMore, unshown_count};
+ghost use Rattle.tox_check.specs.RuleRuns.{HasMoreRuns, unshown_count};
 ghost use Rattle.tox_check.specs.Tree.{IsTree, runs_in};
 
+use crate::rule_runs::RuleRuns;
 use crate::run::Run;
-use crate::tally::Tally;
 use std::alloc::{AllocError, Global};
 
 /// The connections of a rule, and the rule's number from 1.
@@ -118,42 +118,42 @@ impl RunTree {
 
     /// Appends the runs that intersect a range, cut to it, in order.
     #[cycle(tree)]
-    pub(crate) fn tally(&self, range: Range, tally: &mut Tally)
+    pub(crate) fn append_to(&self, range: Range, found: &mut RuleRuns)
         requires tree { IsTree self.now }
-        requires rule { tally.old.rule ≡ range.rule }
-        requires few { unshown_count tally.old + length (runs_in self.now) < 2 ^ 64 }
-        ensures tallied { TalliesMore range.rule
-            (within range.first range.last (runs_in self.now)) tally.old tally.new }
-        ensures few { unshown_count tally.new
-            ≤ unshown_count tally.old + length (runs_in self.now) }
-        ensures rule { tally.new.rule ≡ range.rule }
+        requires rule { found.old.rule ≡ range.rule }
+        requires few { unshown_count found.old + length (runs_in self.now) < 2 ^ 64 }
+        ensures runs { HasMoreRuns range.rule
+            (within range.first range.last (runs_in self.now)) found.old found.new }
+        ensures few { unshown_count found.new
+            ≤ unshown_count found.old + length (runs_in self.now) }
+        ensures rule { found.new.rule ≡ range.rule }
     {
         match self {
-            RunTree::Leaf(run) => tally_run(run, range, tally),
+            RunTree::Leaf(run) => append_cut(run, range, found),
             RunTree::Fork(summary, _, _) if summary.is_outside(range) => {}
             RunTree::Fork(summary, _, _)
-                if summary.is_inside(range) && tally.only_counts(summary) => {
-                tally.count(summary);
+                if summary.is_inside(range) && found.only_counts(summary) => {
+                found.count(summary);
             }
             RunTree::Fork(_, left, right) => {
-                left.tally(range, tally);
-                right.tally(range, tally);
+                left.append_to(range, found);
+                right.append_to(range, found);
             }
         }
     }
 }
 
 /// Appends a run that intersects a range, cut to it.
-fn tally_run(run: &Run, range: Range, tally: &mut Tally)
-    requires rule { tally.old.rule ≡ range.rule }
-    requires few { unshown_count tally.old + 1 < 2 ^ 64 }
-    ensures tallied { TalliesMore range.rule
-        (within range.first range.last (run.now ∷ [])) tally.old tally.new }
-    ensures few { unshown_count tally.new ≤ unshown_count tally.old + 1 }
-    ensures rule { tally.new.rule ≡ range.rule }
+fn append_cut(run: &Run, range: Range, found: &mut RuleRuns)
+    requires rule { found.old.rule ≡ range.rule }
+    requires few { unshown_count found.old + 1 < 2 ^ 64 }
+    ensures runs { HasMoreRuns range.rule
+        (within range.first range.last (run.now ∷ [])) found.old found.new }
+    ensures few { unshown_count found.new ≤ unshown_count found.old + 1 }
+    ensures rule { found.new.rule ≡ range.rule }
 {
     if range.first <= run.last && run.first <= range.last {
-        tally.push(Run {
+        found.push(Run {
             first: run.first.max(range.first),
             last: run.last.min(range.last),
             rule: run.rule,

@@ -2,7 +2,7 @@
 ghost use Rattle.std.specs.Prelude.{◌≡◌, ◌+◌, ◌<◌, ◌≤◌, ◌^◌, ◌↔◌, [], ◌∷◌, IsTrue, List, length};
 ghost use Rattle.tox_check.specs.declared.run.Run.{Run as SomeRun};
 ghost use Rattle.tox_check.specs.Summary.{Sums};
-ghost use Rattle.tox_check.specs.Tallied.{TalliesRuns, TalliesMore, unshown_count};
+ghost use Rattle.tox_check.specs.RuleRuns.{HasRuns, HasMoreRuns, unshown_count};
 
 use crate::listed::Listed;
 use crate::run::Run;
@@ -10,7 +10,7 @@ use crate::tree::Summary;
 
 /// Which runs of a rule's connections meet the rule itself, and which meet others.
 #[derive(Drop)]
-pub(crate) struct Tally {
+pub(crate) struct RuleRuns {
     /// The number of the rule, from 1.
     pub(crate) rule: usize,
     pub(crate) own: Listed,
@@ -21,14 +21,14 @@ pub(crate) struct Tally {
     pub(crate) high: usize,
 }
 
-impl Tally {
-    /// The tally of no runs.
-    pub(crate) fn new(rule: usize) -> Tally
-        ensures tallied { TalliesRuns rule [] result }
+impl RuleRuns {
+    /// No runs.
+    pub(crate) fn new(rule: usize) -> RuleRuns
+        ensures runs { HasRuns rule [] result }
         ensures few { unshown_count result ≡ 0 }
         ensures rule { result.rule ≡ rule }
     {
-        Tally {
+        RuleRuns {
             rule,
             own: Listed::new(),
             taken: Listed::new(),
@@ -40,7 +40,7 @@ impl Tally {
     /// Appends a run.
     pub(crate) fn push(&mut self, run: Run)
         requires { unshown_count self.old + 1 < 2 ^ 64 }
-        ensures tallied { TalliesMore self.old.rule (run ∷ []) self.old self.new }
+        ensures runs { HasMoreRuns self.old.rule (run ∷ []) self.old self.new }
         ensures few { unshown_count self.new ≤ unshown_count self.old + 1 }
         ensures rule { self.new.rule ≡ self.old.rule }
     {
@@ -66,8 +66,8 @@ impl Tally {
         requires few { unshown_count self.old + summary.now.count < 2 ^ 64 }
         requires full { length self.old.taken.shown.items ≡ 8 }
         requires others { summary.now.high < self.old.rule }
-        ensures tallied { (more : List SomeRun) → Sums more summary.now
-            → TalliesMore self.old.rule more self.old self.new }
+        ensures runs { (more : List SomeRun) → Sums more summary.now
+            → HasMoreRuns self.old.rule more self.old self.new }
         ensures few { unshown_count self.new ≤ unshown_count self.old + summary.now.count }
         ensures rule { self.new.rule ≡ self.old.rule }
     {

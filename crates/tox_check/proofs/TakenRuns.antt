@@ -1,4 +1,4 @@
--- Runs of other rules in a tally.
+-- Runs of other rules.
 use Rattle.std.proofs.Common.{◌≡◌, ℕ, ◌<◌, ◌≤◌, false, cond, not, List, [], ◌∷◌, max, arith, refl, ap, ◌∙◌}
 use Rattle.tox_check.specs.Coverage.{meets_rule, own_of, taken_of}
 use Rattle.tox_check.specs.Summary.{greatest}

@@ -1,4 +1,4 @@
--- More runs in a tally, of which none is the rule's own and none is shown.
+-- More runs, of which none is the rule's own and none is shown.
 use Rattle.std.proofs.Common.{◌≡◌, ℕ, ◌+◌, ◌<◌, ◌≤◌, not, List, ◌++◌, append-nil, length, length-append, length-take, take, max, min, arith, sym, ap, ◌∙◌}
 use Rattle.std.proofs.lemmas.List.{take-append-le}
 use Rattle.std.proofs.lemmas.List.Elements.{filter-append}
@@ -6,12 +6,12 @@ use Rattle.std.proofs.lemmas.List.Sums.{fold-append}
 use Rattle.tox_check.specs.Coverage.{meets_rule, own_of, taken_of}
 use Rattle.tox_check.specs.Listed.{IsListed}
 use Rattle.tox_check.specs.Summary.{Sums, greatest, least}
-use Rattle.tox_check.specs.Tallied.{TalliesRuns}
+use Rattle.tox_check.specs.RuleRuns.{HasRuns}
 use Rattle.tox_check.specs.declared.listed.Listed.{Listed}
 use Rattle.tox_check.specs.declared.run.Run.{Run}
-use Rattle.tox_check.specs.declared.tally.Tally.{Tally}
+use Rattle.tox_check.specs.declared.rule_runs.RuleRuns.{RuleRuns}
 use Rattle.tox_check.specs.declared.tree.Summary.{Summary}
-use Rattle.tox_check.proofs.Tallies.{all_taken, none_own}
+use Rattle.tox_check.proofs.TakenRuns.{all_taken, none_own}
 
 -- many more runs behind eight or more
 IsListed-skip : (xs ys : List Run) (old new : Listed) → 8 ≤ length old.shown.items → new.shown.items ≡ old.shown.items → new.more ≡ old.more + length ys
@@ -36,10 +36,10 @@ least-append rule xs ys = fold-append (λ low (run : Run). min low run.rule) rul
 greatest-append : (rule : ℕ) (xs ys : List Run) → greatest rule (xs ++ ys) ≡ greatest (greatest rule xs) ys
 greatest-append rule xs ys = fold-append (λ high (run : Run). max high run.rule) rule xs ys
 
-pub TalliesRuns-count : (rule : ℕ) (runs more : List Run) (old new : Tally) (s : Summary) → s.high < rule → 8 ≤ length old.taken.shown.items
+pub HasRuns-count : (rule : ℕ) (runs more : List Run) (old new : RuleRuns) (s : Summary) → s.high < rule → 8 ≤ length old.taken.shown.items
     → new.own ≡ old.own → new.taken.shown.items ≡ old.taken.shown.items → new.taken.more ≡ old.taken.more + s.count → new.low ≡ min old.low s.low → new.high ≡ max old.high s.high
-    → TalliesRuns rule runs old → Sums more s → TalliesRuns rule (runs ++ more) new
-TalliesRuns-count rule runs more old new s others full own shown count low high is sums =
+    → HasRuns rule runs old → Sums more s → HasRuns rule (runs ++ more) new
+HasRuns-count rule runs more old new s others full own shown count low high is sums =
     let top : greatest 0 more < rule = let h = sums.high 0 in omega arith in
     let same : own_of rule (runs ++ more) ≡ own_of rule runs =
     own_of-append rule runs more ∙ ap (λ xs. own_of rule runs ++ xs) (none_own rule 0 more top) ∙ append-nil (own_of rule runs) in
