@@ -1,4 +1,5 @@
 pub mod Blocks
+pub mod Causes
 pub mod Cuts
 pub mod Decimals
 pub mod Faults

@@ -1,11 +1,10 @@
 //! A line behind the header: an event, or the last line.
-ghost use Rattle.std.specs.Prelude.{◌≡◌, ◌≢◌, ◌++◌, ◌∷◌, [], codes, decimal, MatchOption, Some};
+ghost use Rattle.std.specs.Prelude.{◌≡◌, ◌≢◌, ◌++◌, ◌∷◌, codes, decimal, Some};
 ghost use Rattle.tox_time.specs.Time.{IsInstant};
 ghost use Rattle.tox_log.specs.declared.event_line.LogLine.{LogLine as OneLine};
-ghost use Rattle.tox_log.specs.declared.last_line.BreakCause.{BreakCause as OneCause};
 ghost use Rattle.tox_log.specs.Lines.{IsWritable, ReadsLine, ReadsSpan, line_words};
-ghost use Rattle.tox_log.specs.LastText.{cause_name};
 ghost use Rattle.tox_log.specs.Numbers.{Lacks};
+ghost use Rattle.tox_log.specs.Reading.{is_last};
 
 use crate::last_line::{BreakCause, LastLine};
 use crate::numbers::{cut_at, instant_of, number_of};
@@ -17,6 +16,18 @@ use tox_time::{Ending, MAX_BYTES, Micros, Slice, Span};
 pub enum LogLine {
     Event(LinkEvent),
     Last(LastLine),
+}
+
+impl LogLine {
+    /// Whether it is the last line of a log.
+    pub(crate) fn is_last(&self) -> bool
+        ensures { result ≡ is_last self.now }
+    {
+        match self {
+            LogLine::Event(_) => false,
+            LogLine::Last(_) => true,
+        }
+    }
 }
 
 /// What a line behind the header says, without its line feed. None if it isn't of the form.
@@ -114,30 +125,7 @@ fn broken_of(words: &[u8]) -> Option<LogLine>
     ensures { ReadsLine result (codes "broken " ++ words.now) }
 {
     let (name, bytes) = cut_at(words, b' ')?;
-    let cause = cause_of(name)?;
+    let cause = BreakCause::of_name(name)?;
     let bytes = number_of(bytes, MAX_BYTES)?;
     Some(LogLine::Last(LastLine::Broken(cause, bytes)))
-}
-
-/// The cause of this name.
-fn cause_of(name: &[u8]) -> Option<BreakCause>
-    ensures { MatchOption result ((cause : OneCause) → name.now ≢ cause_name cause)
-        (λ cause. name.now ≡ cause_name cause) }
-{
-    if name == b"write".as_slice() {
-        return Some(BreakCause::Write);
-    }
-    if name == b"memory".as_slice() {
-        return Some(BreakCause::Memory);
-    }
-    if name == b"thread".as_slice() {
-        return Some(BreakCause::Thread);
-    }
-    if name == b"upstream".as_slice() {
-        return Some(BreakCause::Upstream);
-    }
-    if name == b"stopped".as_slice() {
-        return Some(BreakCause::Stopped);
-    }
-    None
 }

@@ -1,5 +1,6 @@
 //! The last line of a log: how the stream ended, or why it broke off.
-ghost use Rattle.std.specs.Prelude.{◌≡◌, false};
+ghost use Rattle.std.specs.Prelude.{◌≡◌, ◌≢◌, false, MatchOption};
+ghost use Rattle.tox_log.specs.declared.last_line.BreakCause.{BreakCause as OneCause};
 ghost use Rattle.tox_text.specs.Writing.{Prints};
 ghost use Rattle.tox_log.specs.LastText.{cause_name, last_line};
 
@@ -23,6 +24,14 @@ pub enum BreakCause {
 }
 
 impl BreakCause {
+    const ALL: [BreakCause; 5] = [
+        BreakCause::Write,
+        BreakCause::Memory,
+        BreakCause::Thread,
+        BreakCause::Upstream,
+        BreakCause::Stopped,
+    ];
+
     /// The name of the cause.
     pub fn name(self) -> &'static str
         ensures { result.now ≡ cause_name self }
@@ -34,6 +43,17 @@ impl BreakCause {
             BreakCause::Upstream => "upstream",
             BreakCause::Stopped => "stopped",
         }
+    }
+
+    /// The cause of this name.
+    pub(crate) fn of_name(name: &[u8]) -> Option<BreakCause>
+        ensures { MatchOption result ((cause : OneCause) → name.now ≢ cause_name cause)
+            (λ cause. name.now ≡ cause_name cause) }
+    {
+        BreakCause::ALL
+            .iter()
+            .copied()
+            .find(|cause| cause.name().as_bytes() == name)
     }
 }
 

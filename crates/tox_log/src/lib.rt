@@ -19,6 +19,7 @@ mod meant_text;
 mod noted_lines;
 mod numbers;
 mod open_log;
+mod order;
 mod replay;
 
 pub use event_line::{LogLine, read_line};

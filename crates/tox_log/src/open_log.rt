@@ -1,13 +1,11 @@
 //! A log that is being read: its header, and then line by line.
-ghost use Rattle.std.specs.Prelude.{◌≡◌, ℕ, ◌≤◌, ◌+◌, ◌++◌, ◌∷◌, [], List, true, false, OnOk, OnSome, IfErr, IfOk, IfSome, IfNone, IsFalse, IsTrue, length, MatchOption, MatchResult, Some, string_bytes, ◌↔◌};
+ghost use Rattle.std.specs.Prelude.{◌≡◌, ℕ, ◌≤◌, ◌+◌, ◌++◌, ◌∷◌, [], List, true, false, OnOk, OnSome, IfErr, IfOk, IfSome, IfNone, IsFalse, IsTrue, length, MatchOption, MatchResult, Some, string_bytes};
 ghost use Rattle.tox_log.specs.Lines.{IsWritable, line_words};
 ghost use Rattle.std.specs.Io.KnownBytes.{prepend_known};
 ghost use Rattle.tox_words.specs.Seeded.{seeded_words};
 ghost use Rattle.tox_log.specs.HeaderText.{heading_lines, link_line, seed_line, title_line};
 ghost use Rattle.tox_log.specs.Opening.{AddsToxic, Opens, ReadsToxics, SameHeading};
-ghost use Rattle.tox_log.specs.Order.{ComesNext, GoesOnWith};
-ghost use Rattle.tox_log.specs.declared.event_line.LogLine.TheVariants as OneLine;
-ghost use Rattle.tox_link.specs.declared.notes.LinkEvent.TheVariants as OneEvent;
+ghost use Rattle.tox_log.specs.Order.{GoesOnWith};
 ghost use Rattle.tox_log.specs.Reading.{CountsOn, Hands, IsLineNumber, IsLineRead, LacksLine, TakesLine, TakesRest, is_last, next_number, to_hand, to_take};
 ghost use Rattle.tox_log.specs.Left.{BlamesNoLine, HandsFirst, HasLinesLeft, HasToxicsLeft, IsNextLine, IsNextToxic, OpensWritten, ReadsChain, ReadsHeading, ReadsLinkLine, ReadsSeedLine};
 ghost use Rattle.tox_log.specs.WrittenLog.{IsWritableLog, IsWrittenText, WrittenLog};
@@ -17,12 +15,11 @@ ghost use Rattle.tox_defs.specs.declared.chain.Entry.{Entry as OneEntry};
 use crate::event_line::{LogLine, read_line};
 use crate::fault::LogFault;
 use crate::heading::{Heading, is_title, is_toxic, read_link, read_seed, read_toxic};
-use crate::last_line::LastLine;
 use crate::line_reader::LineReader;
+use crate::order::comes_next;
 use std::alloc::Global;
 use tox_defs::Chain;
-use tox_link::LinkEvent;
-use tox_time::{Micros, Source, Stream, StreamPosition};
+use tox_time::{Source, Stream, StreamPosition};
 use tox_words::{Lanes, Words};
 
 /// A log that is being read. Its header is read.
@@ -236,72 +233,9 @@ impl OpenLog {
         if self.over || !comes_next(&mut self.heard, &line) {
             return None;
         }
-        self.over = is_last(&line);
+        self.over = line.is_last();
         Some(line)
     }
-}
-
-fn is_last(line: &LogLine) -> bool
-    ensures { result ≡ is_last line.now }
-{
-    match line {
-        LogLine::Event(_) => false,
-        LogLine::Last(_) => true,
-    }
-}
-
-/// Whether a line may come next, behind what was heard: readings never fall, positions stay within 2^40, and nothing comes behind
-/// the source's end.
-fn comes_next(heard: &mut StreamPosition, line: &LogLine) -> bool
-    ensures goes { IsTrue result → GoesOnWith heard.old line.now heard.new }
-    ensures takes { ComesNext heard.old line.now → IsTrue result }
-{
-    match line {
-        LogLine::Event(LinkEvent::Piece(len, instant)) => hear_piece(heard, *len, instant),
-        LogLine::Event(LinkEvent::SourceEnd(instant)) => hear_end(heard, instant),
-        LogLine::Event(LinkEvent::Wrote(_, reading)) | LogLine::Last(LastLine::Ended(reading, _)) =>
-            read_at(heard, reading),
-        LogLine::Last(LastLine::Broken(_, _)) => true,
-    }
-}
-
-fn hear_piece(heard: &mut StreamPosition, len: u64, instant: &Micros) -> bool
-    ensures goes { IsTrue result
-        → GoesOnWith heard.old (OneLine.Event (OneEvent.Piece len instant.now)) heard.new }
-    ensures takes { ComesNext heard.old (OneLine.Event (OneEvent.Piece len instant.now))
-        → IsTrue result }
-{
-    if heard.with_piece(len, *instant).is_err() {
-        return false;
-    }
-    heard.position += len;
-    read_at(heard, instant)
-}
-
-fn hear_end(heard: &mut StreamPosition, instant: &Micros) -> bool
-    ensures goes { IsTrue result
-        → GoesOnWith heard.old (OneLine.Event (OneEvent.SourceEnd instant.now)) heard.new }
-    ensures takes { ComesNext heard.old (OneLine.Event (OneEvent.SourceEnd instant.now))
-        → IsTrue result }
-{
-    let Ok(next) = heard.with_end(*instant) else {
-        return false;
-    };
-    *heard = next;
-    true
-}
-
-/// The clock was read. Readings never fall.
-fn read_at(heard: &mut StreamPosition, reading: &Micros) -> bool
-    ensures goes { IsTrue result → (heard.old.latest ≤ reading.now)
-        × (heard.new ≡ record heard.old { latest = reading.now }) }
-    ensures takes { heard.old.latest ≤ reading.now → IsTrue result }
-{
-    if *reading < heard.latest {
-        return false;
-    }
-    heard.latest = *reading;
-    true
 }
 
 /// Reads the first three lines.
