@@ -39,8 +39,14 @@ def lives(process):
 class EndingTests(unittest.TestCase):
     def ends_with(self, act, to_parent=None):
         """Runs what is put in, and checks that no proxy is left."""
+        # What a killed run leaves behind.
+        left = tempfile.TemporaryDirectory()
+        self.addCleanup(left.cleanup)
         run = subprocess.Popen(
-            [sys.executable, "-c", RUN.replace("ACT", act)], stdout=subprocess.PIPE, stderr=subprocess.DEVNULL
+            [sys.executable, "-c", RUN.replace("ACT", act)],
+            stdout=subprocess.PIPE,
+            stderr=subprocess.DEVNULL,
+            env={**os.environ, "TMPDIR": left.name},
         )
         with run:
             proxy = int(run.stdout.readline())

@@ -105,7 +105,9 @@ class WithToxiTests(unittest.TestCase):
 
     def test_kill_takes_the_proxy_along(self):
         self.proxies(["a"])
-        with subprocess.Popen(self.command("cat"), cwd=self.folder, stdin=subprocess.PIPE) as ran:
+        # What it leaves behind goes away with the folder.
+        environment = {**os.environ, "TMPDIR": self.folder}
+        with subprocess.Popen(self.command("cat"), cwd=self.folder, env=environment, stdin=subprocess.PIPE) as ran:
             end = time.monotonic() + PATIENCE
             while len(children(ran.pid)) < 2:
                 self.assertLess(time.monotonic(), end)
