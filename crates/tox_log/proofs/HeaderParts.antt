@@ -1,11 +1,7 @@
 -- Lines of the header, in the parts in which they are printed.
-use Rattle.std.proofs.Common.{◌≡◌, ℕ, ◌<◌, List, [], ◌∷◌, ◌++◌, codes, decimal, length, map, get_or, ap, sym, ◌∙◌, append-nil, append_assoc, arith}
-use Rattle.std.specs.List.{zip}
-use Rattle.std.proofs.lemmas.List.{get_or-map, length-map}
-use Rattle.std.proofs.lemmas.Slice.Zip.{get_or-zip, length-zip}
+use Rattle.std.proofs.Common.{◌≡◌, ℕ, List, [], ◌∷◌, ◌++◌, codes, decimal, append-nil, append_assoc}
 use Rattle.tox_defs.specs.short.Printed.{printed_short}
 use Rattle.tox_defs.specs.declared.chain.Entry.{Entry}
-use Rattle.tox_text.proofs.Listed.{IsAt}
 use Rattle.tox_time.specs.declared.streams.stream.Stream.{Stream}
 use Rattle.tox_time.specs.streams.StreamName.{stream_name}
 use Rattle.tox_words.specs.declared.lanes.Lanes.{Lanes}
@@ -27,18 +23,6 @@ heading-parts name number direction lanes seed word count is_name is_count =
 pub toxic_line-parts : (entry : Entry) (name : List ℕ)
     → codes "toxic " ++ (printed_short entry.toxic entry.toxicity ++ (codes " " ++ (name ++ codes "\n"))) ≡ toxic_line entry name
 toxic_line-parts entry name = simp append_assoc
-
--- an element, and the text of its name, stand at their index
-pub IsAt-named : {X N : Type 0} (text : N → List ℕ) (xs : List X) (names : List N) (i : ℕ) (x : X) (name : N) → length names ≡ length xs → i < length xs → name ≡ get_or names i name
-    → IsAt (zip xs (map text names)) i (get_or xs i x, text name)
-IsAt-named text xs names i x name one_each below is =
-    let named : i < length (map text names) = omega (arith, length-map names text, one_each, below) in
-    let same = get_or-map text names i name (text name) (omega (arith, one_each, below)) ∙ ap text (sym is) in
-    record {
-      below = omega (arith, length-zip xs (map text names), below, named);
-      default = (x, text name);
-      is = sym (get_or-zip xs (map text names) i (x, text name) below named ∙ ap (λ t. (get_or xs i x, t)) same);
-    }
 
 seed-words : (lanes count seed digits feed : List ℕ) → (lanes ++ (count ++ 32 ∷ (seed ++ digits))) ++ feed ≡ lanes ++ count ++ (32 ∷ seed) ++ digits ++ feed
 seed-words lanes count seed digits feed = simp append_assoc

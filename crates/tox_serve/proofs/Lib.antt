@@ -1,4 +1,3 @@
 pub mod ToldLemmas
 pub mod ServeLemmas
 pub mod JsonParts
-pub mod OpenNames

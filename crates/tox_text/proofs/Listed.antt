@@ -21,7 +21,7 @@ pub IsAt-read : {X : Type 0} (xs : List X) (i : ℕ) (default : X) → i < lengt
 IsAt-read xs i default below = record { below = below; default = default; is = refl }
 
 -- the first elements and one more
-flat_map-more : {X : Type 0} (f : X → List ℕ) (xs : List X) (i : ℕ) (x : X) → IsAt xs i x
+pub flat_map-more : {X Y : Type 0} (f : X → List Y) (xs : List X) (i : ℕ) (x : X) → IsAt xs i x
     → flat_map f (take i xs) ++ f x ≡ flat_map f (take (i + 1) xs)
 flat_map-more f xs i x here =
     sym (
@@ -85,11 +85,16 @@ IsAt-enumerate {X} xs i x here = record {
       ∙ sym (get_or-enumerate_from 0 xs i (0, here.default) here.below ∙ ap (λ (n : ℕ). (n, get_or xs i here.default)) (zero-add i));
 }
 
--- an element, and the text of the one beside it, stand at their index
+-- an element, and the text of its name, stand at their index
+pub IsAt-named : {X N : Type 0} (text : N → List ℕ) (xs : List X) (names : List N) (i : ℕ) (x : X) (name : N) → length names ≡ length xs → i < length xs → name ≡ get_or names i name
+    → IsAt (zip xs (map text names)) i (get_or xs i x, text name)
+IsAt-named text xs names i x name one_each below is =
+    let named : i < length (map text names) = omega (arith, length-map names text, one_each, below) in
+    let same = get_or-map text names i name (text name) (omega (arith, one_each, below)) ∙ ap text (sym is) in
+    subst (λ t. IsAt (zip xs (map text names)) i (get_or xs i x, t)) same (IsAt-zip xs (map text names) i x (text name) below named)
+
+-- and with their index
 pub IsAt-placed : {X N : Type 0} (text : N → List ℕ) (xs : List X) (names : List N) (i : ℕ) (x : X) (name : N) → length names ≡ length xs → i < length xs → name ≡ get_or names i name
     → IsAt (enumerate_from 0 (zip xs (map text names))) i (i, (get_or xs i x, text name))
 IsAt-placed text xs names i x name one_each below is =
-    let named : i < length (map text names) = omega (arith, length-map names text, one_each, below) in
-    let same = get_or-map text names i name (text name) (omega (arith, one_each, below)) ∙ ap text (sym is) in
-    let beside = subst (λ t. IsAt (zip xs (map text names)) i (get_or xs i x, t)) same (IsAt-zip xs (map text names) i x (text name) below named) in
-    IsAt-enumerate (zip xs (map text names)) i (get_or xs i x, text name) beside
+    IsAt-enumerate (zip xs (map text names)) i (get_or xs i x, text name) (IsAt-named text xs names i x name one_each below is)

@@ -6,9 +6,8 @@ use Rattle.std.proofs.lemmas.List.{length-map}
 use Rattle.std.proofs.lemmas.Slice.Zip.{length-zip}
 use Rattle.tox_defs.specs.declared.toxic.Toxic.TheVariants.{Latency}
 use Rattle.tox_log.specs.HeaderText.{toxic_line}
-use Rattle.tox_text.proofs.Listed.{Passes-all, Passes-more, Prints-stopped}
+use Rattle.tox_text.proofs.Listed.{IsAt-named, Passes-all, Passes-more, Prints-stopped}
 use Rattle.tox_text.proofs.Writes.{Passes-none}
-use Rattle.tox_log.proofs.HeaderParts.{IsAt-named}
 use Rattle.tox_log.proofs.header_text.print_toxics.Goals as goal
 
 pub loop-place-init : goal.loop-place-init

@@ -6,9 +6,8 @@ use Rattle.std.proofs.lemmas.List.FromFn.{length-enumerate_from}
 use Rattle.std.proofs.lemmas.Slice.Zip.{length-zip}
 use Rattle.tox_defs.specs.declared.toxic.Toxic.TheVariants.{Latency}
 use Rattle.tox_words.specs.Draw.{draws_of}
-use Rattle.tox_text.proofs.Listed.{IsAt-placed}
+use Rattle.tox_text.proofs.Listed.{IsAt-placed, flat_map-more}
 use Rattle.tox_serve.specs.lines.OpenLine.{applied_name, name_if}
-use Rattle.tox_serve.proofs.OpenNames.{flat-one_more}
 use Rattle.tox_serve.proofs.lines.open_line.applied_names.Goals as goal
 
 pub loop-place-preserved : goal.loop-place-preserved
@@ -22,7 +21,7 @@ loop-place-preserved c =
       inside = omega (arith, c.loop-place-test.true);
       made = c.add_if.ensures.names ∙ ap (λ (ns : List (List ℕ)). ns ++ name_if c.is_applied.result c.deref.result.now) turn.invariant.made
           ∙ ap (λ (ns : List (List ℕ)). flat_map (applied_name draws) (take turn.place placed) ++ ns) (rw (c.is_applied.ensures, c.deref.ensures) refl)
-          ∙ flat-one_more (applied_name draws) placed turn.place _ here;
+          ∙ flat_map-more (applied_name draws) placed turn.place _ here;
     }
 
 pub returns : goal.returns
