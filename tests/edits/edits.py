@@ -1,4 +1,4 @@
-"""An edit of `must-fail/` or `must-fail-further/`, and the functions that it changes."""
+"""An edit of `must-fail/`, and the functions that it changes."""
 import os
 import re
 from dataclasses import dataclass, field, replace
@@ -6,8 +6,6 @@ from dataclasses import dataclass, field, replace
 FUNCTION = re.compile(r"( *)(?:pub(?:\([a-z]+\))? )?(?:const )?(?:unsafe )?fn (\w+)")
 CONSTANT = re.compile(r"(?:pub(?:\([a-z]+\))? )?const (\w+):", re.MULTILINE)
 BLOCK = re.compile(r"(?:pub )?(?:impl|trait)\b(?:<.*?>)? (?:(?P<trait>.*) for )?&?(?P<type>\w+)")
-# The folders of a crate that have edits: those that stand for a public call, and further ones.
-FIRST, FURTHER = "must-fail", "must-fail-further"
 
 
 @dataclass(frozen=True)
@@ -55,7 +53,7 @@ class BadEdit(Exception):
 class Edit:
     """`changes` are (file, old, new) in order, and `places` the function or the name of the constant in which each stands, or None. `functions` are
     those in which the changes stand, or that name a changed constant. `in_types` where a change, or a name of a changed constant, stands elsewhere, as in
-    a type. `is_further` tells those of must-fail-further/.
+    a type.
     """
 
     name: str
@@ -63,7 +61,6 @@ class Edit:
     places: list = field(default_factory=list)
     functions: list = field(default_factory=list)
     in_types: bool = False
-    is_further: bool = False
 
     def is_wide(self):
         """Whether a change stands outside of functions: then goals of others may fail too."""
@@ -225,14 +222,13 @@ def read_edit(folder, path):
     constants = {it for it in places if isinstance(it, str)}
     found = {*places, *(places_naming(folder, constants) if constants else ())} - constants
     functions = sorted(found - {None}, key=Function.path)
-    is_further = os.path.basename(os.path.dirname(path)) == FURTHER
-    return Edit(os.path.basename(path), changes, places, functions, None in found, is_further)
+    return Edit(os.path.basename(path), changes, places, functions, None in found)
 
 
 def edits_of(folder):
     """The edits of the crate in the folder, by name. All are read, so that each fits the crate's files, or BadEdit is raised."""
-    paths = [os.path.join(folder, file) for part in (FIRST, FURTHER) for file in files_in(folder, part) if file.endswith(".edit")]
-    return [read_edit(folder, path) for path in sorted(paths, key=os.path.basename)]
+    names = sorted(file for file in files_in(folder, "must-fail") if file.endswith(".edit"))
+    return [read_edit(folder, os.path.join(folder, name)) for name in names]
 
 
 def in_groups(edits):
