@@ -8,7 +8,7 @@ use clap::{ArgMatches, Error};
 use std::alloc::Global;
 
 /// What `check` is given.
-#[derive(Clone, Copy)]
+#[derive(Clone, Copy, Debug)]
 pub struct CheckArguments<'a> {
     /// The name of the populate file.
     pub config: &'a str,

@@ -16,7 +16,7 @@ use std::convert::AsStr;
 use tox_time::Cap;
 
 /// What the command line asks for.
-#[derive(Drop)]
+#[derive(Debug, Drop)]
 pub enum Task<'a> {
     Dry(LinkArguments<'a>),
     Draw(DrawArguments<'a>),

@@ -54,20 +54,20 @@ P6 LogRefused <the folder's name>: the folder of logs can't be made, or isn't em
 P7 FilesRefused <the folder's name>: the folder of `--print-files` can't be made, isn't empty, or doesn't take the files; name a fresh folder";
 
 const FAULTS_Q: &str = "\
-Q1 BadForm <TOXIC>: it is no short form; write `type` or `type:key=value,key=value`, with no space
-Q2 DoubleKey <TOXIC>: a key stands twice; keep one of them";
+Q1 BadForm <the TOXIC's number>: it is no short form; write `type` or `type:key=value,key=value`, with no space
+Q2 DoubleKey <the TOXIC's number>: a key stands twice; keep one of them";
 
 const FAULTS_S: &str = "\
 S0 OutOfMemory: memory was refused while the script was read; free memory and run it again
 S1 NotToml: the script is no TOML document, or no UTF-8; look for a missing quote, or a key that stands twice
 S2 Field <rule, toxic, field>: the field is missing, of the wrong kind or out of its range; mend that field; `unknown` is a key that doesn't belong there; rule 0 is the document, toxic 0 the rule
-S3 UnknownType <TOXIC, or rule, toxic>: there is no such type; take one of the seven in `toxi help toxics`
-S4 UnknownAttribute <TOXIC, or rule, toxic>: the type has no such attribute; see the type's attributes in `toxi help toxics`
-S5 OutOfRange <TOXIC, or rule, toxic>: an attribute is no whole number in its range; see its range in `toxi help toxics`; `rate` and `average_size` have no default
-S6 Variation <TOXIC, or rule, toxic>: `size_variation` isn't below `average_size`; lower it
-S7 ToxicityNotThousandths <TOXIC, or rule, toxic>: the toxicity is neither whole thousandths, 0 to 1000, nor in a script of version 2 a text such as `\"0.25\"`; give thousandths
+S3 UnknownType <the TOXIC's number, or rule, toxic>: there is no such type; take one of the seven in `toxi help toxics`
+S4 UnknownAttribute <the TOXIC's number, or rule, toxic>: the type has no such attribute; see the type's attributes in `toxi help toxics`
+S5 OutOfRange <the TOXIC's number, or rule, toxic>: an attribute is no whole number in its range; see its range in `toxi help toxics`; `rate` and `average_size` have no default
+S6 Variation <the TOXIC's number, or rule, toxic>: `size_variation` isn't below `average_size`; lower it
+S7 ToxicityNotThousandths <the TOXIC's number, or rule, toxic>: the toxicity is neither whole thousandths, 0 to 1000, nor in a script of version 2 a text such as `\"0.25\"`; give thousandths
 S8 DoubleName <rule, toxic>: an earlier toxic of the rule has the same name; give it a `name` of its own: two toxics of a type and stream have one default name
-S9 TooManyToxics <TOXIC, or rule, toxic>: its chain has a toxic for each lane already: it is the 17th, or the 33rd with 32 lanes; take toxics out, or give 32 lanes";
+S9 TooManyToxics <the TOXIC's number, or rule, toxic>: its chain has a toxic for each lane already: it is the 17th, or the 33rd with 32 lanes; take toxics out, or give 32 lanes";
 
 const FAULTS_V: &str = "\
 V1 Warned <how many lines>: `check --strict` printed so many warnings; see the lines, and what they mean";

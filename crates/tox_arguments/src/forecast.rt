@@ -10,7 +10,7 @@ use clap::{ArgMatches, Error};
 use std::alloc::Global;
 
 /// What `forecast` is given.
-#[derive(Clone, Copy)]
+#[derive(Clone, Copy, Debug)]
 pub struct ForecastArguments<'a> {
     /// The name of the populate file.
     pub config: &'a str,

@@ -14,7 +14,7 @@ use tox_words::Lanes;
 const DEFAULT_CAP: usize = 4;
 
 /// What `dry`, `plan` and `stages` are given.
-#[derive(Drop)]
+#[derive(Debug, Drop)]
 pub struct LinkArguments<'a> {
     pub lanes: Lanes,
     pub words: Option<&'a str>,
@@ -22,7 +22,7 @@ pub struct LinkArguments<'a> {
 }
 
 /// What `draw` is given.
-#[derive(Drop)]
+#[derive(Debug, Drop)]
 pub enum DrawArguments<'a> {
     /// A link whose arrivals are on standard input.
     Link(LinkArguments<'a>),

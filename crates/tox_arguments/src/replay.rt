@@ -9,7 +9,7 @@ use clap::{ArgMatches, Error};
 use std::alloc::{AllocError, Global};
 
 /// What `replay` prints.
-#[derive(Drop)]
+#[derive(Debug, Drop)]
 pub enum ReplayMode<'a> {
     /// A line for each log: its verdict.
     Verdicts,
@@ -22,7 +22,7 @@ pub enum ReplayMode<'a> {
 }
 
 /// What `replay` is given.
-#[derive(Drop)]
+#[derive(Debug, Drop)]
 pub struct ReplayArguments<'a> {
     pub mode: ReplayMode<'a>,
     /// The names of the logs, or `-` for names on standard input.

@@ -15,7 +15,7 @@ const DEFAULT_PICTURES: usize = 100;
 const MAX_PICTURES: u64 = 1_000_000;
 
 /// What `report` is given.
-#[derive(Drop)]
+#[derive(Debug, Drop)]
 pub struct ReportArguments<'a> {
     /// How many of the first rows have pictures.
     pub pictures: usize,

@@ -25,7 +25,7 @@ const DEFAULT_LOG_LINKS: u64 = 10_000;
 const DEFAULT_LOG_BYTES: u64 = 67_108_864;
 
 /// What `serve` is given.
-#[derive(Drop)]
+#[derive(Debug, Drop)]
 pub struct ServeArguments<'a> {
     pub source: ServeSource<'a>,
     pub seed: u64,
@@ -44,7 +44,7 @@ pub struct ServeArguments<'a> {
 }
 
 /// What is served.
-#[derive(Drop)]
+#[derive(Debug, Drop)]
 pub enum ServeSource<'a> {
     /// The names of a populate file and of a script file.
     Files { config: &'a str, script: &'a str },
@@ -53,7 +53,7 @@ pub enum ServeSource<'a> {
 }
 
 /// One proxy and its toxics, on the command line.
-#[derive(Drop)]
+#[derive(Debug, Drop)]
 pub struct InlineArguments<'a> {
     /// Where the proxy listens.
     pub listen: &'a str,
@@ -64,7 +64,7 @@ pub struct InlineArguments<'a> {
 }
 
 /// A toxic on the command line.
-#[derive(Clone, Copy)]
+#[derive(Clone, Copy, Debug)]
 pub struct ToxicArgument<'a> {
     /// The number of its word on the command line.
     place: usize,
@@ -74,7 +74,7 @@ pub struct ToxicArgument<'a> {
 }
 
 /// What `serve` logs.
-#[derive(Clone, Copy)]
+#[derive(Clone, Copy, Debug)]
 pub struct LogArguments<'a> {
     /// The folder of the logs.
     pub folder: &'a str,

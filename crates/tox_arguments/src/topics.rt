@@ -8,7 +8,7 @@ use clap::{ArgMatches, Error};
 use std::alloc::Global;
 
 /// A text of help.
-#[derive(Clone, Copy)]
+#[derive(Clone, Copy, Debug, PartialEq, Eq)]
 pub enum HelpText {
     /// This text.
     One(&'static str),

@@ -6,7 +6,7 @@ ghost use Rattle.tox_check.specs.Idle.{ChangesNothing, cuts_last, does_nothing, 
 use tox_defs::{Chain, Entry, MAX_TOXICITY, Toxic};
 
 /// Why a toxic changes nothing.
-#[derive(Clone, Copy, PartialEq, Eq)]
+#[derive(Clone, Copy, Debug, PartialEq, Eq)]
 pub enum Idleness {
     /// It is a latency of 0 without jitter, or a slow_close of 0.
     DoesNothing,

@@ -9,7 +9,7 @@ use tox_text::PrintPickFault;
 use tox_time::Sink;
 
 /// A question: what has no effect of the script of these files?
-#[derive(Clone, Copy)]
+#[derive(Clone, Copy, Debug)]
 pub struct CheckRequest<'a> {
     /// The name of the populate file.
     pub config: &'a str,

@@ -2,7 +2,7 @@
 use std::marker::Model;
 
 /// One proxy: its name, the addresses that it listens at and connects to, and whether it is enabled. Contracts see its texts as bytes.
-#[derive(Drop)]
+#[derive(Debug, Drop)]
 pub struct ProxyDef {
     /// 1 to 255 bytes.
     pub name: String,

@@ -15,7 +15,7 @@ use tox_runs::Setup;
 use tox_script::read_script;
 
 /// One proxy and its toxics, as they were typed.
-#[derive(Clone, Copy)]
+#[derive(Clone, Copy, Debug)]
 pub struct Inline<'a> {
     /// Where the proxy listens.
     pub listen: &'a str,

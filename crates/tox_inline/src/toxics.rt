@@ -10,7 +10,7 @@ use tox_runs::ToxicsFault;
 use tox_time::Stream;
 
 /// A toxic as it was typed: its stream, and its short form.
-#[derive(Clone, Copy)]
+#[derive(Clone, Copy, Debug)]
 pub struct InlineToxic<'a> {
     pub stream: Stream,
     pub short: &'a str,

@@ -2,7 +2,7 @@
 use tox_time::Micros;
 
 /// Bytes of one piece, from position `start` on, that leave the link at `instant`.
-#[derive(Clone, Copy)]
+#[derive(Clone, Copy, Debug)]
 pub struct Lent<'a> {
     pub start: u64,
     pub instant: Micros,

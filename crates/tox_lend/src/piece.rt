@@ -4,7 +4,7 @@ use std::marker::Model;
 use tox_time::{Micros, Span};
 
 /// Bytes that arrived together at `instant`, the first of them at position `start` of the link.
-#[derive(Drop)]
+#[derive(Debug, Drop)]
 pub struct Piece {
     pub start: u64,
     pub bytes: Vec<u8>,

@@ -13,7 +13,7 @@ use std::marker::Model;
 /// At most a set number of nonempty pieces, each of which starts where the one before it stops.
 ///
 /// Its room is reserved when it is made: no later call takes memory. Dropping the first piece moves no other one.
-#[derive(Drop)]
+#[derive(Debug, Drop)]
 pub struct Window {
     held: VecDeque<Piece>,
     room: usize,

@@ -1,7 +1,7 @@
 //! The moves of a network.
 
 /// One move of a network. Stages count from 0; queue k stands before stage k, and one behind the last.
-#[derive(Clone, Copy, Debug, PartialEq, Eq)]
+#[derive(Clone, Copy, Debug, PartialEq, Eq, Hash)]
 pub enum Move {
     /// The next arrival enters queue 0.
     Arrive,

@@ -7,7 +7,7 @@ use std::marker::Model;
 pub const MAX_CAP: usize = 1024;
 
 /// The room of each ring, 1 to 1024 items. Contracts see it as a number.
-#[derive(Drop)]
+#[derive(Debug, Drop)]
 pub struct Cap {
     items: usize,
 }

@@ -8,7 +8,7 @@ use std::marker::Model;
 
 /// A sink into memory. Its room is reserved when it is made. It takes at most a set number of bytes a call, none once it
 /// is full, and fails at a set call.
-#[derive(Drop)]
+#[derive(Debug, Drop)]
 pub struct MemorySink {
     room: Vec<u8>,
     filled: usize,

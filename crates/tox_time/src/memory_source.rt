@@ -7,7 +7,7 @@ use crate::ends::{EndFault, Source};
 use std::marker::Model;
 
 /// A source over bytes in memory. It gives at most a set number of them a call, and fails at a set call.
-#[derive(Drop)]
+#[derive(Debug, Drop)]
 pub struct MemorySource {
     bytes: Vec<u8>,
     next: usize,

@@ -9,7 +9,7 @@ use std::marker::Model;
 pub const HORIZON: u64 = 1_000_000_000_000_000;
 
 /// An instant, or a length of time, in whole microseconds from a link's start: 0 to [`HORIZON`].
-#[derive(Clone, Copy, Debug, Default, PartialEq, Eq, PartialOrd, Ord)]
+#[derive(Clone, Copy, Debug, Default, PartialEq, Eq, PartialOrd, Ord, Hash)]
 pub struct Micros {
     micros: u64,
 }

@@ -8,7 +8,7 @@ use std::io::{Read, Write};
 
 /// A reader or writer of std. Keeps whether it has failed. As an end it tells no bytes; its clause `inner` passes on what
 /// the reader or writer in it tells.
-#[derive(Drop)]
+#[derive(Debug, Drop)]
 pub struct Real<E> {
     inner: E,
     failed: bool,

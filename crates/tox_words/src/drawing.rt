@@ -10,7 +10,7 @@ use crate::words::Words;
 use std::marker::Model;
 
 /// What the lanes of a link draw from its table.
-#[derive(Drop)]
+#[derive(Debug, Drop)]
 pub struct Drawing<'w> {
     lanes: Lanes,
     words: WordTable<'w>,

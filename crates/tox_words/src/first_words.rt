@@ -10,7 +10,7 @@ use std::marker::Model;
 use tox_time::Stream;
 
 /// The first words of a connection's stream: one for each lane that there may be. It takes no memory.
-#[derive(Drop)]
+#[derive(Debug, Drop)]
 pub struct FirstWords {
     words: [u32; MAX_LANES],
 }

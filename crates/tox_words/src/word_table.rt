@@ -2,7 +2,7 @@
 ghost use Rattle.std.specs.Prelude.{◌≡◌};
 
 /// The words of a table.
-#[derive(Drop)]
+#[derive(Debug, Drop)]
 pub(crate) enum WordTable<'w> {
     Lent(&'w [u32]),
     Owned(Vec<u32>),

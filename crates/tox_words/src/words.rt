@@ -23,7 +23,7 @@ pub const MAX_WORDS: usize = 4096;
 pub const MAX_CONNECTIONS: u64 = 1_000_000;
 
 /// A table of 1 to [`MAX_WORDS`] words of 32 bits.
-#[derive(Drop)]
+#[derive(Debug, Drop)]
 pub struct Words {
     words: Vec<u32>,
 }

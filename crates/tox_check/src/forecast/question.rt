@@ -2,7 +2,7 @@
 use tox_time::Stream;
 
 /// How many connections are looked at, under which seed, and which of their lines are wanted.
-#[derive(Clone, Copy)]
+#[derive(Clone, Copy, Debug)]
 pub struct Question<'a> {
     /// The number of connections, 1 to 1,000,000.
     pub links: u64,

@@ -10,7 +10,7 @@ use tox_runs::{NamedFiles, PickFault, find_proxy, read_setup};
 use tox_time::{Sink, Stream};
 
 /// A question: what do the first connections of a proxy meet, by these files and this seed?
-#[derive(Clone, Copy)]
+#[derive(Clone, Copy, Debug)]
 pub struct ForecastRequest<'a> {
     /// The name of the populate file.
     pub config: &'a str,

@@ -9,7 +9,7 @@ use arrayvec::ArrayVec;
 use tox_words::{Drawing, Words};
 
 /// A toxic that a link meets, with its place in the chain as written.
-#[derive(Clone, Copy)]
+#[derive(Clone, Copy, Debug, PartialEq, Eq)]
 pub struct Placed {
     pub place: usize,
     pub toxic: Toxic,

@@ -12,7 +12,7 @@ use tox_words::Drawing;
 
 /// An operation at work: its state, where its present chunk stops and that chunk's instant, and the ending that
 /// it found, if any. A last piece may still leave before that ending.
-#[derive(Clone, Copy, Default)]
+#[derive(Clone, Copy, Debug, Default, PartialEq, Eq)]
 pub struct OpCursor {
     pub op: Op,
     pub state: State,
@@ -22,7 +22,7 @@ pub struct OpCursor {
 }
 
 /// What an operation gives next for its present chunk.
-#[derive(Clone, Copy)]
+#[derive(Clone, Copy, Debug, PartialEq, Eq)]
 pub enum Emission {
     /// The next piece.
     Piece(Slice),

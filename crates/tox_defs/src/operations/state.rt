@@ -4,7 +4,7 @@ ghost use Rattle.std.specs.Prelude.{◌≡◌, ◌+◌, ◌-◌, ◌<◌, ◌≤
 use tox_time::{Ending, Micros, Slice};
 
 /// What a toxic remembers of the items that it took and gave.
-#[derive(Clone, Copy, Default)]
+#[derive(Clone, Copy, Debug, Default, PartialEq, Eq)]
 pub struct State {
     /// The instant of the last item that it gave, 0 at the start.
     pub previous: Micros,

@@ -11,7 +11,7 @@ use tox_text::{PrintPickFault, VisibleName, print_pick};
 use tox_time::{Sink, Stream};
 
 /// A question: what does this connection of a proxy meet on a stream, by these files and this seed?
-#[derive(Clone, Copy)]
+#[derive(Clone, Copy, Debug)]
 pub struct PickRequest<'a> {
     /// The name of the populate file.
     pub config: &'a str,

@@ -12,7 +12,7 @@ pub const MAX_INPUT: usize = 16_777_216;
 const BLOCK: usize = 65_536;
 
 /// Why an input was not read whole.
-#[derive(Clone, Copy, PartialEq, Eq)]
+#[derive(Clone, Copy, Debug, PartialEq, Eq)]
 pub enum InputFault {
     OutOfMemory,
     /// It has more than [`MAX_INPUT`] bytes.

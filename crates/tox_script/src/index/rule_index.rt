@@ -14,7 +14,7 @@ use std::alloc::{AllocError, Global};
 use std::marker::Model;
 
 /// Which rule each connection of a proxy meets: its number from 0, by halving.
-#[derive(Drop)]
+#[derive(Debug, Drop)]
 pub struct RuleIndex {
     steps: Vec<Step>,
 }

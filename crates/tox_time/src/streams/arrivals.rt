@@ -30,7 +30,7 @@ pub enum ArrivalFault {
 }
 
 /// What arrived on a link, piece by piece, and whether its source ended: always an arrival list.
-#[derive(Drop)]
+#[derive(Debug, Drop)]
 pub struct Arrivals {
     items: Vec<Item>,
     so_far: StreamPosition,

@@ -5,7 +5,7 @@ use crate::micros::Micros;
 use crate::streams::item::Item;
 
 /// How a link ends.
-#[derive(Clone, Copy, Debug, PartialEq, Eq)]
+#[derive(Clone, Copy, Debug, PartialEq, Eq, Hash)]
 pub enum Ending {
     /// It stays open: the last item is `Quiet`.
     StillOpen,

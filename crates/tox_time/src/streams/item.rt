@@ -5,7 +5,7 @@ use crate::micros::Micros;
 use crate::streams::span::Span;
 
 /// What passes over a link: chunks of bytes, then one of the three finals.
-#[derive(Clone, Copy, Debug, PartialEq, Eq)]
+#[derive(Clone, Copy, Debug, PartialEq, Eq, Hash)]
 pub enum Item {
     /// A nonempty range of bytes, and its instant.
     Chunk(Span, Micros),

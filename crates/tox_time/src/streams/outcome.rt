@@ -3,7 +3,7 @@ use crate::streams::ending::Ending;
 use crate::streams::slice::SliceList;
 
 /// What a link delivered: its slices, and how it ended.
-#[derive(Drop)]
+#[derive(Debug, Drop)]
 pub struct Outcome {
     pub slices: SliceList,
     pub ending: Ending,

@@ -7,7 +7,7 @@ use crate::streams::item::Item;
 use crate::streams::span::MAX_BYTES;
 
 /// How far a stream has come: where its next chunk starts, its latest instant, and whether it is over.
-#[derive(Clone, Copy)]
+#[derive(Clone, Copy, Debug, PartialEq, Eq)]
 pub struct StreamPosition {
     pub position: u64,
     pub latest: Micros,

@@ -7,14 +7,14 @@ use std::alloc::{AllocError, Global};
 use std::marker::Model;
 
 /// A range of bytes, and the instant at which they leave the link.
-#[derive(Clone, Copy, Debug, PartialEq, Eq)]
+#[derive(Clone, Copy, Debug, Default, PartialEq, Eq, Hash)]
 pub struct Slice {
     pub span: Span,
     pub instant: Micros,
 }
 
 /// Slices in the order in which they leave. Contracts see it as a list.
-#[derive(Drop)]
+#[derive(Debug, Drop)]
 pub struct SliceList {
     slices: Vec<Slice>,
 }

@@ -4,7 +4,7 @@ ghost use Rattle.std.specs.Prelude.{◌≡◌, ◌+◌, ◌<◌, ◌^◌};
 use tox_time::Stream;
 
 /// A toxic's number in its rule, from 1, and the next place of each stream.
-#[derive(Clone, Copy)]
+#[derive(Clone, Copy, Debug)]
 pub struct Places {
     pub number: usize,
     pub upstream: usize,
