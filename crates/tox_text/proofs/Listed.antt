@@ -45,17 +45,25 @@ pub Passes-more : {X : Type 0} (f : X → List ℕ) (xs : List X) (i : ℕ) (x :
 Passes-more f xs i x first old new waited y z here before passed =
     subst (Passes first waited new z) (flat_map-more f xs i x here) (Passes-then first old new waited y z (flat_map f (take i xs)) (f x) before passed)
 
+-- the first part passed, and the next broke off
+pub Prints-broken : (done text rest whole : List ℕ) (first old new : Option (List ℕ)) (waited y z : List ℕ) (failed : Bool)
+    (result : Result (Unit {0}) EndFault) (fault : EndFault) → done ++ (text ++ rest) ≡ whole → result ≡ Err fault
+    → Passes first waited old y done → AppendsFront old new (y ++ text) × (failed ≡ true) → Prints result first waited new z failed whole
+Prints-broken done text rest whole first old new waited y z failed result fault parts is before front =
+    let longer : AppendsFront old new (y ++ (text ++ rest)) =
+    subst (AppendsFront old new) (append_assoc y text rest) (AppendsFront-more old new (y ++ text) rest front.0) in
+    let all : AppendsFront first new (waited ++ whole) =
+    subst (λ printed. AppendsFront first new (waited ++ printed)) parts
+    (AppendsFront-then first old new waited y done (text ++ rest) before longer) in
+    subst (λ r. Prints r first waited new z failed whole) (sym is) (all, front.1)
+
 -- the first elements passed, and the next broke off
 pub Prints-stopped : {X : Type 0} (f : X → List ℕ) (xs : List X) (i : ℕ) (x : X) (first old new : Option (List ℕ)) (waited y z : List ℕ) (failed : Bool)
     (result : Result (Unit {0}) EndFault) (fault : EndFault) → IsAt xs i x → result ≡ Err fault
     → Passes first waited old y (flat_map f (take i xs)) → AppendsFront old new (y ++ f x) × (failed ≡ true) → Prints result first waited new z failed (flat_map f xs)
 Prints-stopped f xs i x first old new waited y z failed result fault here is before front =
-    let longer : AppendsFront old new (y ++ (f x ++ flat_map f (drop (i + 1) xs))) =
-    subst (AppendsFront old new) (append_assoc y (f x) (flat_map f (drop (i + 1) xs))) (AppendsFront-more old new (y ++ f x) (flat_map f (drop (i + 1) xs)) front.0) in
-    let whole : AppendsFront first new (waited ++ flat_map f xs) =
-    subst (λ text. AppendsFront first new (waited ++ text)) (flat_map-parts f xs i x here)
-    (AppendsFront-then first old new waited y (flat_map f (take i xs)) (f x ++ flat_map f (drop (i + 1) xs)) before longer) in
-    subst (λ r. Prints r first waited new z failed (flat_map f xs)) (sym is) (whole, front.1)
+    Prints-broken (flat_map f (take i xs)) (f x) (flat_map f (drop (i + 1) xs)) (flat_map f xs) first old new waited y z failed result fault
+    (flat_map-parts f xs i x here) is before front
 
 -- all elements passed
 pub Passes-all : {X : Type 0} (f : X → List ℕ) (xs : List X) (i : ℕ) (first new : Option (List ℕ)) (waited z : List ℕ) → length xs ≤ i

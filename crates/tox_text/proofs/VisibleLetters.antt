@@ -1,36 +1,22 @@
--- A letter of a name is displayed as its bytes are printed.
-use Rattle.std.proofs.Common.{◌≡◌, ℕ, suc, ◌<◌, ◌≤◌, Bool, false, true, ◌&&◌, nat_lt, ltb-true, List, [], ◌∷◌, ◌++◌, length, get_or, if◌then◌else◌, inl, inr, refl, sym, ap, ap₂, ◌∙◌, arith, append-nil}
-use Rattle.std.proofs.lemmas.Bool.{and_parts, cases_lt}
-use Rattle.std.proofs.lemmas.Str.{encode_ascii, inside_one}
+-- The characters of a name, printed one after the other.
+use Rattle.std.proofs.Common.{◌≡◌, ℕ, ◌<◌, Bool, false, true, ◌&&◌, nat_lt, ltb-true, List, [], ◌∷◌, ◌++◌, flat_map, refl, sym, ap, ◌∙◌, append-nil}
+use Rattle.std.proofs.lemmas.Bool.{and_parts}
+use Rattle.std.proofs.lemmas.Grind.{flat_map-append}
 use Rattle.std.proofs.lemmas.Str.Ascii.{IsAscii-cons, IsAscii-nil}
-use Rattle.std.specs.Char.{encode_utf8, IsNotAsciiControl}
 use Rattle.std.specs.Str.{IsAscii}
 use Rattle.hex.proofs.HexLemmas.{IsAscii-encode_with}
 use Rattle.hex.specs.Hex.{encode_lower, lower_digits}
-use Rattle.tox_text.specs.Names.{escaped, is_control, visible, visible_name}
+use Rattle.tox_text.specs.Names.{visible}
 
--- a byte that is no control character
-plain : (byte : ℕ) → is_control byte ≡ false → visible byte ≡ byte ∷ []
-plain byte is = ap (λ b. if b then escaped byte else byte ∷ []) is
+-- one character more
+pub shown_more : (done : List ℕ) (letter : ℕ) → flat_map visible done ++ visible letter ≡ flat_map visible (done ++ letter ∷ [])
+shown_more done letter =
+    sym (flat_map-append visible done (letter ∷ []) ∙ ap (λ (text : List ℕ). flat_map visible done ++ text) (append-nil (visible letter)))
 
--- bytes past ASCII
-past_ascii : (bytes : List ℕ) → ((k : ℕ) → k < length bytes → 128 ≤ get_or bytes k 0) → visible_name bytes ≡ bytes
-past_ascii [] high = refl
-past_ascii (byte ∷ bytes) high =
-    let past : 128 ≤ byte = high 0 (omega arith) in
-    ap₂ (λ (a b : List ℕ). a ++ b) (plain byte (grind (arith, past))) (past_ascii bytes (λ k below. high (suc k) (omega arith)))
-
-pub other_unchanged : (letter : ℕ) → is_control letter ≡ false → visible_name (encode_utf8 letter) ≡ encode_utf8 letter
-other_unchanged letter is = elim (cases_lt letter 128) [
-  | inl small ↦ ap visible_name (encode_ascii letter small) ∙ append-nil (visible letter) ∙ plain letter is ∙ sym (encode_ascii letter small)
-  | inr big ↦ past_ascii (encode_utf8 letter) (λ k below. elim (cases_lt (get_or (encode_utf8 letter) k 0) 128) [
-    | inl low ↦ absurd (omega (arith, inside_one letter [] (encode_utf8 letter) k (sym (append-nil _)) below low))
-    | inr high ↦ high
-  ])
-]
-
-pub no_control : (letter : ℕ) → IsNotAsciiControl letter → is_control letter ≡ false
-no_control letter out = grind (arith, out.0, out.1)
+-- one character more, and the others
+pub shown_parts : (done : List ℕ) (letter : ℕ) (rest all : List ℕ) → all ≡ done ++ letter ∷ rest
+    → flat_map visible done ++ (visible letter ++ flat_map visible rest) ≡ flat_map visible all
+shown_parts done letter rest all is = sym (ap (flat_map visible) is ∙ flat_map-append visible done (letter ∷ rest))
 
 -- whether all bytes are ASCII
 abbrev are_ascii : List ℕ → Bool

@@ -14,7 +14,7 @@ use tox_time::{EndFault, Sink};
 const BYTES_AT_ONCE: usize = 64;
 
 /// Bytes that wait for a writer, at most `ROOM`. It takes no memory.
-#[derive(Drop)]
+#[derive(Debug, Drop)]
 pub struct SizedBuffer<const ROOM: usize> {
     bytes: ArrayVec<u8, ROOM>,
 }
@@ -75,7 +75,7 @@ impl<const ROOM: usize> SizedBuffer<ROOM> {
         match part {
             Part::Word(text) => self.put(writer, text.as_bytes()),
             Part::Number(number) => self.put_number(writer, *number),
-            Part::Name(name) => print_name(self, writer, name.as_bytes()),
+            Part::Name(name) => print_name(self, writer, name),
             Part::Hex(bytes) => self.put_hex(writer, bytes),
         }
     }

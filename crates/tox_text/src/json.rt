@@ -7,7 +7,7 @@ use crate::buffer::Buffer;
 use tox_time::{EndFault, Sink};
 
 /// A text, a number or a truth value.
-#[derive(Clone, Copy)]
+#[derive(Clone, Copy, Debug)]
 pub enum JsonItem<'a> {
     Text(&'a str),
     Number(u64),
@@ -21,7 +21,7 @@ impl<'a> Default for JsonItem<'a> {
 }
 
 /// One item, or an array of them.
-#[derive(Clone, Copy)]
+#[derive(Clone, Copy, Debug)]
 pub enum JsonValue<'a> {
     One(JsonItem<'a>),
     Array(&'a [JsonItem<'a>]),

@@ -9,7 +9,7 @@ use crate::parts::Part::Word;
 use tox_time::{EndFault, Sink};
 
 /// A field of a line: its key, which needs no escape, and its value.
-#[derive(Clone, Copy)]
+#[derive(Clone, Copy, Debug)]
 pub struct JsonField<'a> {
     pub key: &'a str,
     pub value: JsonValue<'a>,

@@ -1,16 +1,22 @@
 //! Names on one line.
-ghost use Rattle.std.specs.Prelude.{◌≡◌, false, Some};
+ghost use Rattle.std.specs.Prelude.{◌≡◌, ◌∷◌, [], false, Some, IfNone, IfSome};
 ghost use Rattle.std.specs.Char.{encode_utf8};
 ghost use Rattle.std.specs.Fmt.{WritesOnOk};
-ghost use Rattle.tox_text.specs.Names.{escaped, is_control, visible, visible_name};
+ghost use Rattle.tox_text.specs.Names.{escaped, is_bidi_control, visible, visible_name};
 ghost use Rattle.tox_text.specs.Writing.{Prints};
 
 use crate::buffer::SizedBuffer;
 use std::fmt;
 use tox_time::{EndFault, Sink};
 
+/// The first character of Unicode's block "General Punctuation", in which those stand that order text.
+const GENERAL_PUNCTUATION: u32 = 0x2000;
+
+/// How many bytes a character takes in UTF-8, at most.
+const MAX_LEN_UTF8: usize = 4;
+
 /// A name that keeps to its line where it is displayed, as [`Part::Name`](crate::Part) is printed.
-#[derive(Clone, Copy)]
+#[derive(Clone, Copy, Debug, PartialEq, Eq)]
 pub struct VisibleName<'a>(pub &'a str);
 
 impl<'a> fmt::Display for VisibleName<'a> {
@@ -24,27 +30,57 @@ impl<'a> fmt::Display for VisibleName<'a> {
     }
 }
 
-/// Displays a letter of a name.
-fn display_letter<W: fmt::Write>(letter: char, f: &mut fmt::Formatter<W>) -> fmt::Result
-    ensures { WritesOnOk W.write_str_gives f.old result (visible_name (encode_utf8 letter)) f.new }
+/// What stands for a character that would break a line or order its text anew.
+#[derive(Clone, Copy)]
+struct Escape {
+    sign: &'static str,
+    byte: u8,
+}
+
+/// The escape of a character of a name. The others are printed as they stand.
+fn escape_of(letter: char) -> Option<Escape>
+    ensures escape { IfSome result (λ escape. visible letter ≡ escaped escape.sign.now escape.byte) }
+    ensures plain { IfNone result (visible letter ≡ encode_utf8 letter) }
 {
-    if letter.is_ascii_control() {
-        display_code(letter as u8, f)
+    if letter.is_control() {
+        Some(Escape {
+            sign: "\\x",
+            byte: letter as u8,
+        })
+    } else if is_bidi_control(letter) {
+        Some(Escape {
+            sign: "\\u20",
+            byte: (letter as u32 - GENERAL_PUNCTUATION) as u8,
+        })
     } else {
-        f.write_char(letter)
+        None
     }
 }
 
-/// Displays the code of a control character.
-fn display_code<W: fmt::Write>(byte: u8, f: &mut fmt::Formatter<W>) -> fmt::Result
-    ensures { WritesOnOk W.write_str_gives f.old result (escaped byte) f.new }
+fn is_bidi_control(letter: char) -> bool
+    ensures { result ≡ is_bidi_control letter }
+{
+    matches!(letter, '\u{202a}'..='\u{202e}' | '\u{2066}'..='\u{2069}')
+}
+
+fn display_letter<W: fmt::Write>(letter: char, f: &mut fmt::Formatter<W>) -> fmt::Result
+    ensures { WritesOnOk W.write_str_gives f.old result (visible letter) f.new }
+{
+    match escape_of(letter) {
+        Some(escape) => display_escape(escape, f),
+        None => f.write_char(letter),
+    }
+}
+
+fn display_escape<W: fmt::Write>(escape: Escape, f: &mut fmt::Formatter<W>) -> fmt::Result
+    ensures { WritesOnOk W.write_str_gives f.old result (escaped escape.sign.now escape.byte) f.new }
 {
     let mut digits = [0; 2];
-    hex::encode_to_slice([byte], &mut digits).unwrap();
+    hex::encode_to_slice([escape.byte], &mut digits).unwrap();
     let Ok(text) = str::from_utf8(&digits) else {
         unreachable!();
     };
-    f.write_str("\\x")?;
+    f.write_str(escape.sign)?;
     f.write_str(text)
 }
 
@@ -52,49 +88,45 @@ fn display_code<W: fmt::Write>(byte: u8, f: &mut fmt::Formatter<W>) -> fmt::Resu
 pub(crate) fn print_name<W: Sink, const ROOM: usize>(
     buffer: &mut SizedBuffer<ROOM>,
     writer: &mut W,
-    name: &[u8],
+    name: &str,
 ) -> Result<(), EndFault>
     requires { W.failed writer.old ≡ false }
     ensures { Prints result (W.written writer.old) buffer.old (W.written writer.new) buffer.new
         (W.failed writer.new) (visible_name name.now) }
 {
-    for byte in name {
-        print_byte(buffer, writer, *byte)?;
+    for letter in name.chars() {
+        print_letter(buffer, writer, letter)?;
     }
     Ok(())
 }
 
-fn print_byte<W: Sink, const ROOM: usize>(
+fn print_letter<W: Sink, const ROOM: usize>(
     buffer: &mut SizedBuffer<ROOM>,
     writer: &mut W,
-    byte: u8,
+    letter: char,
 ) -> Result<(), EndFault>
     requires { W.failed writer.old ≡ false }
     ensures { Prints result (W.written writer.old) buffer.old (W.written writer.new) buffer.new
-        (W.failed writer.new) (visible byte) }
+        (W.failed writer.new) (visible letter) }
 {
-    if is_control(byte) {
-        print_code(buffer, writer, byte)
-    } else {
-        buffer.put(writer, &[byte])
+    match escape_of(letter) {
+        Some(escape) => print_escape(buffer, writer, escape),
+        None => {
+            let mut room = [0; MAX_LEN_UTF8];
+            buffer.put(writer, letter.encode_utf8(&mut room).as_bytes())
+        }
     }
 }
 
-fn is_control(byte: u8) -> bool
-    ensures { result ≡ is_control byte }
-{
-    byte < 32 || byte == 127
-}
-
-fn print_code<W: Sink, const ROOM: usize>(
+fn print_escape<W: Sink, const ROOM: usize>(
     buffer: &mut SizedBuffer<ROOM>,
     writer: &mut W,
-    byte: u8,
+    escape: Escape,
 ) -> Result<(), EndFault>
     requires { W.failed writer.old ≡ false }
     ensures { Prints result (W.written writer.old) buffer.old (W.written writer.new) buffer.new
-        (W.failed writer.new) (escaped byte) }
+        (W.failed writer.new) (escaped escape.sign.now escape.byte) }
 {
-    buffer.put(writer, b"\\x")?;
-    buffer.put_hex(writer, &[byte])
+    buffer.put(writer, escape.sign.as_bytes())?;
+    buffer.put_hex(writer, &[escape.byte])
 }

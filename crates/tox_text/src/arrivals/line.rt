@@ -9,13 +9,13 @@ use tox_time::{HORIZON, Micros, parse_decimal};
 const MAX_DIGITS: usize = 16;
 
 /// What happened at an instant.
-#[derive(Clone, Copy)]
+#[derive(Clone, Copy, Debug)]
 pub struct Line<'a> {
     pub instant: Micros,
     pub event: Event<'a>,
 }
 
-#[derive(Clone, Copy)]
+#[derive(Clone, Copy, Debug)]
 pub enum Event<'a> {
     /// The bytes that these hexadecimal digits write arrived. Whether they are digits, in pairs, is not known yet.
     Data(&'a [u8]),
