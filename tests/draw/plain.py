@@ -124,20 +124,21 @@ def told(word, pieces):
     return f"{word} {total} B, the last at {pieces[-1][0]} us." if total else f"{word} 0 B."
 
 
-def picture(forms, arrivals, eof, due, ending, written=None, real=None):
+def picture(forms, arrivals, eof, due, ending, written=None, real=None, was_reset=False):
     """The text of a picture. Lists hold instants with counts, endings are a word with an instant or None."""
     real = ending if written is None else real
     shown = due if written is None else written
     arrived, left = (sum(count for _, count in one) for one in (arrivals, shown))
     instants = [instant for one in (arrivals, due, shown) for instant, _ in one]
-    latest = max([0, *instants, *(instant for instant in (eof, ending[1], real[1]) if instant is not None)])
+    instants += [instant for instant in (eof, ending[1], real[1]) if instant is not None]
+    latest = max([0, *(instant for instant in instants if written is None or instant < logs.HORIZON)])
     time, amount = Axis(latest), Axis(arrived)
     lines = heading(forms)
     top = 56 + 20 * len(lines)
     base = top + HIGH
 
     def column(instant):
-        return WIDE if instant is None else instant * WIDE // time.end
+        return WIDE if instant is None else min(instant * WIDE // time.end, WIDE)
 
     def height(count):
         return base - count * HIGH // amount.end
@@ -146,7 +147,8 @@ def picture(forms, arrivals, eof, due, ending, written=None, real=None):
     xs, xe = LEFT + column(eof), LEFT + column(real[1])
     real_end, due_end = column(real[1]), column(ending[1])
     sentences = ["Bytes over time.", told("Arrived", arrivals)]
-    sentences.append("The source stayed quiet." if eof is None else f"The source ended at {eof} us.")
+    told_end = "was reset" if was_reset else "ended"
+    sentences.append("The source stayed quiet." if eof is None else f"The source {told_end} at {eof} us.")
     if written is None:
         sentences.append(told("Left", due))
     else:
@@ -201,7 +203,7 @@ def picture(forms, arrivals, eof, due, ending, written=None, real=None):
     late = written is not None and place(D, W, real_end, 20, 20)
     if late:
         text.append(f'<text class="mark mid" x="{late[0]}" y="{late[1] + 4}">late</text>')
-    label = f"arrived {quantity(arrived, BYTES)}"
+    label = f"arrived {quantity(arrived, BYTES)}{', then reset' if was_reset else ''}"
     above = min(height(arrived) - 9, base - (40 if written is None else 56))
     if xs - LEFT < 8 * len(label):
         text.append(f'<text class="arrived halo" x="72" y="{above}">{label}</text>')
@@ -272,4 +274,4 @@ def recorded(text):
                 real = "broken", latest
     arrivals = [(instant, stop - start) for instant, (start, stop) in log.pieces]
     due = flow(log.words, log.lanes, log.chain, arrivals, log.end)
-    return picture(forms_of(log.words, log.chain), arrivals, log.end, *due, written, real or ("no end", latest))
+    return picture(forms_of(log.words, log.chain), arrivals, log.end, *due, written, real or ("no end", latest), log.was_reset)

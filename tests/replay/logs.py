@@ -15,8 +15,10 @@ NAME = r"[^\x00-\x1f\x7f]+"
 LINK = re.compile(rf"link ({NAME}) (0|[1-9][0-9]*) (upstream|downstream)")
 SEED = re.compile(rb"lanes (16|32) seed " + NUMBER)
 TOXIC = re.compile(rf"toxic ([^ ]*) ({NAME})")
+# The most bytes of a piece.
+MAX_PIECE = 16_384
 PIECE = re.compile(NUMBER + b" piece " + NUMBER)
-END = re.compile(NUMBER + b" end")
+END = re.compile(NUMBER + b" end( reset)?")
 WROTE = re.compile(NUMBER + b" wrote " + NUMBER + rb"\.\." + NUMBER + b" " + NUMBER)
 ENDED = re.compile(NUMBER + b" (open|closed|reset)(?: " + NUMBER + b")?")
 BROKEN = re.compile(b"broken (write|memory|thread|upstream|stopped) " + NUMBER)
@@ -50,7 +52,7 @@ class Log:
     """A log, as far as it was read."""
 
     def __init__(self):
-        self.chain, self.pieces, self.end = [], [], None
+        self.chain, self.pieces, self.end, self.was_reset = [], [], None, False
         self.heard, self.said, self.writes, self.late = 0, 0, 0, []
         self.latest, self.begun, self.over, self.unfaithful, self.ending = 0, False, False, None, None
 
@@ -82,7 +84,7 @@ class Log:
         if match := PIECE.fullmatch(line):
             reading, count = map(int, match.groups())
             self.at(reading)
-            if count == 0 or self.heard + count > manual.MAX_BYTES or self.end is not None:
+            if not 0 < count <= MAX_PIECE or self.heard + count > manual.MAX_BYTES or self.end is not None:
                 raise Bad
             if self.unfaithful is None:
                 self.pieces.append((reading, (self.heard, self.heard + count)))
@@ -92,7 +94,7 @@ class Log:
             self.at(int(match[1]))
             if self.end is not None:
                 raise Bad
-            self.end = int(match[1])
+            self.end, self.was_reset = int(match[1]), match[2] is not None
             return True
         if match := WROTE.fullmatch(line):
             reading, start, stop, due = map(int, match.groups())
@@ -225,15 +227,19 @@ def random_log(random):
             clock = max(clock, due + random.choice((0, 0, 3, 70, 2000)))
             add(f"{clock} wrote {log.said}..{stop} {due}")
         elif log.end is None:
-            add(f"{clock} end" if random.random() < 0.1 else f"{clock} piece {random.choice((1, 2, 5, 40))}")
+            add(random_end(random, clock) if random.random() < 0.1 else f"{clock} piece {random.choice((1, 2, 5, 40))}")
     finish(random, log, add, clock)
     return "".join(line + "\n" for line in lines).encode()
+
+
+def random_end(random, clock):
+    return f"{clock} end" + random.choice(("", " reset"))
 
 
 def finish(random, log, add, clock):
     """Says what is left, and ends, where the ending is settled; or breaks off."""
     if log.end is None and random.random() < 0.7:
-        add(f"{clock} end")
+        add(random_end(random, clock))
     if random.random() < 0.15:
         return
     for start, stop, due in runs(log.table(), log.said):
@@ -273,5 +279,5 @@ def changed(random, log):
         number = max(0, int(match[0]) + random.choice((-1, 1, 1000, -1000)))
         lines[place] = lines[place][: match.start()] + str(number).encode() + lines[place][match.end() :]
     else:
-        return texts.changed(random, log.decode(), [*" \n\r0.x", "0", "\n\n", " end\n"], 1).encode()
+        return texts.changed(random, log.decode(), [*" \n\r0.x", "0", "\n\n", " end\n", " reset"], 1).encode()
     return b"\n".join(lines)

@@ -13,21 +13,22 @@ use Rattle.tox_time.specs.declared.streams.position.StreamPosition.{StreamPositi
 use Rattle.tox_time.specs.streams.Stream.{IsStream}
 use Rattle.tox_time.specs.streams.StreamPosition.{first_position}
 use Rattle.tox_time.specs.streams.Table.{ending, final_of, table}
-use Rattle.tox_link.specs.log.Log.{IsGapless, heard, heard_from, said}
+use Rattle.tox_link.specs.declared.notes.LinkEvent.{LinkEvent}
+use Rattle.tox_link.specs.declared.notes.LinkEvent.TheVariants.{Piece, SourceEnd, Wrote}
+use Rattle.tox_link.specs.log.Log.{IsGapless, has_source_end, heard, heard_from, said}
 use Rattle.tox_link.proofs.Sent.{prepend-append, prepend_more}
 use Rattle.tox_log.specs.declared.event_line.LogLine.{LogLine}
-use Rattle.tox_log.specs.declared.event_line.LogLine.TheVariants.{Event, Last}
+use Rattle.tox_log.specs.declared.event_line.LogLine.TheVariants.{Event, SourceReset, Last}
 use Rattle.tox_log.specs.declared.last_line.LastLine.{LastLine}
 use Rattle.tox_log.specs.declared.open_log.OpenLog.{OpenLog}
-use Rattle.tox_log.specs.EventText.{event_words}
+use Rattle.tox_log.specs.EventLines.{event_lines, logged_line}
 use Rattle.tox_log.specs.HeaderText.{header_text}
-use Rattle.tox_log.specs.Hearing.{event_lines}
-use Rattle.tox_log.specs.Lines.{line_words}
+use Rattle.tox_log.specs.Lines.{IsWritable, line_words}
 use Rattle.tox_log.specs.Numbers.{Lacks}
 use Rattle.tox_log.specs.Opening.{Opens}
 use Rattle.tox_log.specs.Order.{ComesNext, GoesOnWith, heard_with}
-use Rattle.tox_log.specs.Reading.{Hands, LacksLine, to_hand}
-use Rattle.tox_log.proofs.Hearing.{line-more}
+use Rattle.tox_log.specs.Reading.{Hands, LacksLine, is_last, to_hand}
+use Rattle.tox_log.proofs.Hearing.{line-next, piece-line, wrote-line}
 use Rattle.tox_plan.specs.RunnerView.{RunnerView, no_piece, to_come}
 use Rattle.tox_draw.specs.declared.curve.Curve.{Curve}
 use Rattle.tox_draw.specs.declared.frame.Frame.{Frame}
@@ -37,7 +38,7 @@ use Rattle.tox_draw.specs.declared.recorded.Hearing.{Hearing}
 use Rattle.tox_draw.specs.declared.recorded.Record.{Record}
 use Rattle.tox_draw.specs.declared.setting.Setting.{Setting}
 use Rattle.tox_draw.specs.Frames.{IsFrame}
-use Rattle.tox_draw.specs.Hearings.{BeginsHearing, HearsAll, HearsEvents, HearsLines, HearsLogLine, HearsSoFar, KeepsRecord, LeadsTo, RecordsLog}
+use Rattle.tox_draw.specs.Hearings.{BeginsHearing, HearsAll, HearsEvent, HearsEvents, HearsLines, HearsLogLine, HearsSoFar, KeepsRecord, LeadsTo, RecordsLog}
 use Rattle.tox_draw.specs.LinkEnds.{end_of}
 use Rattle.tox_draw.specs.Lines.{IsCurve, IsStrand}
 use Rattle.tox_draw.specs.Pictures.{picture_text}
@@ -64,28 +65,54 @@ module _ (frame : Frame) (means : List Item → List Item) where
     heard = heard;
   }
 
+  -- the line of an event more
+  so-far-event : (given before after : Option (List ℕ)) (old new : OpenLog) (hearing next : Hearing) (runner later : RunnerView) (event : LinkEvent) (line : LogLine)
+      → logged_line next.course.source_reset event ≡ line → (next.course.source_reset ≡ hearing.course.source_reset) ⊎ (old.heard.ended ≡ false)
+      → Hands old new before after line → is_last line ≡ false → ComesNext old.heard (Event event) → new.heard ≡ heard_with old.heard (Event event) → IsWritable (Event event) → HearsEvent frame hearing runner event next later
+      → HearsSoFar frame means given (to_hand old before) old hearing runner → HearsSoFar frame means given (to_hand new after) new next later
+  so-far-event given before after old new hearing next runner later event line is kept hands going comes heard writable hears so_far =
+      let was = hearing.course.source_reset in
+      let now = next.course.source_reset in
+      let none : so_far.last ≡ None = none_yet so_far.last (sym so_far.over ∙ hands.going) in
+      let at : so_far.position ≡ old.heard = so_far.at hands.going in
+      let lines : event_lines was so_far.events ++ last_lines so_far.last ≡ event_lines was so_far.events = ap (λ last. event_lines was so_far.events ++ last_lines last) none ∙ append-nil (event_lines was so_far.events) in
+      let more : (event_lines was so_far.events ++ last_lines so_far.last) ++ (line_words line ++ 10 ∷ []) ≡ event_lines now (so_far.events ++ event ∷ []) ++ [] =
+      ap (λ line. (event_lines was so_far.events ++ last_lines so_far.last) ++ (line_words line ++ 10 ∷ [])) (sym is)
+      ∙ line-next was now (event_lines was so_far.events ++ last_lines so_far.last) so_far.events event (stays-so at kept) lines ∙ sym (append-nil (event_lines now (so_far.events ++ event ∷ []))) in record {
+        events = so_far.events ++ event ∷ [];
+        last = None;
+        position = heard_with so_far.position (Event event);
+        text = prepend_more (event_lines was so_far.events ++ last_lines so_far.last) (line_words line ++ 10 ∷ []) given (to_hand old before) (to_hand new after) so_far.text hands.given
+            ∙ ap (λ lines. prepend_known lines (to_hand new after)) more;
+        over = hands.over ∙ going;
+        at = λ _. ap (λ position. heard_with position (Event event)) at ∙ sym heard;
+        heard = hears means so_far.events so_far.position (subst (λ position. ComesNext position (Event event)) (sym at) comes) writable so_far.heard.heard;
+      }
+    where
+      stays-so : so_far.position ≡ old.heard → (next.course.source_reset ≡ hearing.course.source_reset) ⊎ (old.heard.ended ≡ false) → (next.course.source_reset ≡ hearing.course.source_reset) ⊎ (has_source_end so_far.events ≡ false)
+      stays-so at (inl same) = inl same
+      stays-so at (inr going) = inr (so_far.heard.heard.order.ended ∙ ap (λ position. position.ended) at ∙ going)
+
   -- a line more
   pub so-far-line : (given before after : Option (List ℕ)) (old new : OpenLog) (hearing next : Hearing) (runner later : RunnerView) (line : LogLine)
       → Hands old new before after line → GoesOnWith old.heard line new.heard → HearsLogLine frame hearing runner line next later
       → HearsSoFar frame means given (to_hand old before) old hearing runner → HearsSoFar frame means given (to_hand new after) new next later
-  so-far-line given before after old new hearing next runner later (Event event) hands goes hears so_far =
-      let none : so_far.last ≡ None = none_yet so_far.last (sym so_far.over ∙ hands.going) in
-      let at : so_far.position ≡ old.heard = so_far.at hands.going in
-      let lines : event_lines so_far.events ++ last_lines so_far.last ≡ event_lines so_far.events = ap (λ last. event_lines so_far.events ++ last_lines last) none ∙ append-nil (event_lines so_far.events) in
-      let more : (event_lines so_far.events ++ last_lines so_far.last) ++ (line_words (Event event) ++ 10 ∷ []) ≡ event_lines (so_far.events ++ event ∷ []) ++ [] =
-      line-more (event_lines so_far.events ++ last_lines so_far.last) (event_words event) so_far.events event lines refl ∙ sym (append-nil (event_lines (so_far.events ++ event ∷ []))) in record {
-        events = so_far.events ++ event ∷ [];
-        last = None;
-        position = heard_with so_far.position (Event event);
-        text = prepend_more (event_lines so_far.events ++ last_lines so_far.last) (line_words (Event event) ++ 10 ∷ []) given (to_hand old before) (to_hand new after) so_far.text hands.given
-            ∙ ap (λ lines. prepend_known lines (to_hand new after)) more;
-        over = hands.over;
-        at = λ _. ap (λ position. heard_with position (Event event)) at ∙ sym goes.heard;
-        heard = hears means so_far.events so_far.position (subst (λ position. ComesNext position (Event event)) (sym at) goes.next) hands.writable so_far.heard.heard;
-      }
+  so-far-line given before after old new hearing next runner later (Event (Piece len t)) hands goes hears so_far =
+      so-far-event given before after old new hearing next runner later (Piece len t) (Event (Piece len t)) (piece-line next.course.source_reset len t) (inl hears.1)
+      hands refl goes.next goes.heard hands.writable hears.0 so_far
+  so-far-line given before after old new hearing next runner later (Event (SourceEnd t)) hands goes hears so_far =
+      so-far-event given before after old new hearing next runner later (SourceEnd t) (Event (SourceEnd t)) (ap (λ reset. logged_line reset (SourceEnd t)) hears.1) (inr goes.next.2)
+      hands refl goes.next goes.heard hands.writable hears.0 so_far
+  so-far-line given before after old new hearing next runner later (Event (Wrote slice reading)) hands goes hears so_far =
+      so-far-event given before after old new hearing next runner later (Wrote slice reading) (Event (Wrote slice reading)) (wrote-line next.course.source_reset slice reading) (inl hears.1)
+      hands refl goes.next goes.heard hands.writable hears.0 so_far
+  so-far-line given before after old new hearing next runner later (SourceReset t) hands goes hears so_far =
+      so-far-event given before after old new hearing next runner later (SourceEnd t) (SourceReset t) (ap (λ reset. logged_line reset (SourceEnd t)) hears.1) (inr goes.next.2)
+      hands refl goes.next goes.heard hands.writable hears.0 so_far
   so-far-line given before after old new hearing next runner later (Last last) hands goes hears so_far =
       let none : so_far.last ≡ None = none_yet so_far.last (sym so_far.over ∙ hands.going) in
-      let lines : event_lines so_far.events ++ last_lines so_far.last ≡ event_lines so_far.events = ap (λ last. event_lines so_far.events ++ last_lines last) none ∙ append-nil (event_lines so_far.events) in
+      let was = hearing.course.source_reset in
+      let lines : event_lines was so_far.events ++ last_lines so_far.last ≡ event_lines was so_far.events = ap (λ last. event_lines was so_far.events ++ last_lines last) none ∙ append-nil (event_lines was so_far.events) in
       let heard = so_far.heard.heard in
       let same_next = hears.0 in
       let same_later = hears.1 in
@@ -102,8 +129,9 @@ module _ (frame : Frame) (means : List Item → List Item) where
         events = so_far.events;
         last = Some last;
         position = so_far.position;
-        text = prepend_more (event_lines so_far.events ++ last_lines so_far.last) (line_words (Last last) ++ 10 ∷ []) given (to_hand old before) (to_hand new after) so_far.text hands.given
-            ∙ ap (λ lines. prepend_known (lines ++ last_lines (Some last)) (to_hand new after)) lines;
+        text = prepend_more (event_lines was so_far.events ++ last_lines so_far.last) (line_words (Last last) ++ 10 ∷ []) given (to_hand old before) (to_hand new after) so_far.text hands.given
+            ∙ ap (λ lines. prepend_known (lines ++ last_lines (Some last)) (to_hand new after)) lines
+            ∙ ap (λ next. prepend_known (event_lines next.course.source_reset so_far.events ++ last_lines (Some last)) (to_hand new after)) (sym same_next);
         over = hands.over;
         at = λ going. let no : true ≡ false = sym hands.over ∙ going in cc;
         heard = record {
@@ -122,7 +150,7 @@ module _ (frame : Frame) (means : List Item → List Item) where
     position = so_far.position;
     torn = lacks.torn;
     left = lacks.left;
-    text = prepend_more (event_lines so_far.events ++ last_lines so_far.last) lacks.torn given before lacks.left so_far.text lacks.given;
+    text = prepend_more (event_lines hearing.course.source_reset so_far.events ++ last_lines so_far.last) lacks.torn given before lacks.left so_far.text lacks.given;
     unended = lacks.unended;
     ended = lacks.ended;
     heard = so_far.heard;
@@ -164,10 +192,10 @@ lines-behind before (Some bytes) header torn lines rest (Some left) given (inr o
 -- the log that was read
 pub says-log : (frame : Frame) (means : List Item → List Item) (before after : Option (List ℕ)) (log : OpenLog) (hearing : Hearing) (runner : RunnerView)
     → Opens before after log → (all : HearsAll frame means (to_hand log after) hearing runner)
-    → SaysLog before (record { heading = log.heading; chain = log.chain; events = all.events; last = all.last })
+    → SaysLog before (record { heading = log.heading; chain = log.chain; events = all.events; source_reset = hearing.course.source_reset; last = all.last })
 says-log frame means before after log hearing runner opens all =
     let (last, end, text, unended, ended) = lines-behind before (to_hand log after) (header_text (string_bytes log.heading.proxy) log.heading.number log.heading.stream log.heading.seed log.chain opens.names) opens.torn
-    (event_lines all.events ++ last_lines all.last) all.torn all.left opens.given opens.rest opens.unended all.text all.unended all.ended in record {
+    (event_lines hearing.course.source_reset all.events ++ last_lines all.last) all.torn all.left opens.given opens.rest opens.unended all.text all.unended all.ended in record {
       names = opens.names;
       torn = last;
       left = end;
@@ -180,12 +208,13 @@ says-log frame means before after log hearing runner opens all =
 -- what is kept of it
 pub records-log : (frame : Frame) (means : List Item → List Item) (log : LogText) (position : StreamPosition) (hearing : Hearing) (runner : RunnerView) (last : Ending) (kept : Record)
     → HearsLines frame means log.events log.last position hearing runner → means (heard log.events) ≡ due_items log → to_come runner (Quiet ∷ []) ≡ final_of last ∷ []
-    → kept.course ≡ hearing.course → kept.due_end ≡ last → kept.written ≡ hearing.written → kept.end ≡ hearing.end → RecordsLog frame log kept
-records-log frame means log position hearing runner last kept lines meaning only course due_end written end =
+    → log.source_reset ≡ hearing.course.source_reset → kept.course ≡ hearing.course → kept.due_end ≡ last → kept.written ≡ hearing.written → kept.end ≡ hearing.end → RecordsLog frame log kept
+records-log frame means log position hearing runner last kept lines meaning only reset course due_end written end =
     let heard = lines.heard in
     let whole = plan-whole frame means (heard_from 0 log.events) hearing.course.planned runner (Quiet ∷ []) last (leads-stream log.events position heard.order) only heard.due in record {
       arrived = subst (λ course. IsStrand frame (table (heard_from 0 log.events (Quiet ∷ []))) course.arrived) (sym course) heard.arrived;
       source_end = ap (λ course. course.source_end) course ∙ heard.source_end;
+      source_reset = ap (λ course. course.source_reset) course ∙ sym reset;
       due = subst (λ course. IsStrand frame (table (due_items log)) course.planned) (sym course) (subst (λ items. IsStrand frame (table items) hearing.course.planned) meaning whole.0);
       due_end = due_end ∙ whole.1 ∙ ap ending meaning;
       written = subst (λ strand. (stop : ℕ) → IsGapless 0 (said log.events) stop → IsStrand frame (written_table log.events) strand) (sym written) heard.written;
@@ -231,10 +260,10 @@ pub picture-shown : (result : Result (String Global) AllocError) (setting : Sett
     → ((table : List ℕ) → IsStrand frame table kept.course.arrived → IsCurve frame table picture.arrived)
     → ((table : List ℕ) → IsStrand frame table kept.course.planned → IsCurve frame table picture.planned)
     → ((table : List ℕ) → IsStrand frame table kept.written → IsCurve frame table curve) → picture.written ≡ Some curve
-    → picture.source_end ≡ kept.course.source_end → picture.planned_end ≡ end_of kept.due_end → picture.end ≡ kept.end
+    → picture.source_end ≡ kept.course.source_end → picture.source_reset ≡ kept.course.source_reset → picture.planned_end ≡ end_of kept.due_end → picture.end ≡ kept.end
     → IfOk result (λ text. string_bytes text ≡ picture_text picture)
     → IfOk result (λ text. (given : Option (List ℕ)) → KeepsRecord frame given kept → IsPictureOf given setting (string_bytes text))
-picture-shown (Ok text) setting frame kept picture curve stands same is_frame arrived planned written has source_end planned_end end is = λ (given : Option (List ℕ)) (keeps : KeepsRecord frame given kept).
+picture-shown (Ok text) setting frame kept picture curve stands same is_frame arrived planned written has source_end source_reset planned_end end is = λ (given : Option (List ℕ)) (keeps : KeepsRecord frame given kept).
     let records = keeps.records in record {
       log = keeps.log;
       says = keeps.says;
@@ -244,6 +273,7 @@ picture-shown (Ok text) setting frame kept picture curve stands same is_frame ar
       shows = record {
         arrived = subst (λ frame. IsCurve frame (table (heard keeps.log.events)) picture.arrived) (sym same) (arrived (table (heard keeps.log.events)) records.arrived);
         source_end = source_end ∙ records.source_end;
+        source_reset = source_reset ∙ records.source_reset;
         due = subst (λ frame. IsCurve frame (table (due_items keeps.log)) picture.planned) (sym same) (planned (table (due_items keeps.log)) records.due);
         due_end = planned_end ∙ ap end_of records.due_end;
         written = λ stop gapless. (
@@ -255,4 +285,4 @@ picture-shown (Ok text) setting frame kept picture curve stands same is_frame ar
       };
       is = is;
     }
-picture-shown (Err error) setting frame kept picture curve stands same is_frame arrived planned written has source_end planned_end end is = is
+picture-shown (Err error) setting frame kept picture curve stands same is_frame arrived planned written has source_end source_reset planned_end end is = is

@@ -1,17 +1,18 @@
 -- What was read of a log so far, as it is drawn.
-use Rattle.std.specs.Prelude.{◌≡◌, ℕ, true, false, List, [], ◌∷◌, ◌++◌, is_some, Option, Some, None}
+use Rattle.std.specs.Prelude.{◌≡◌, ℕ, Bool, true, false, List, [], ◌∷◌, ◌++◌, is_some, Option, Some, None}
 use Rattle.std.specs.Io.KnownBytes.{IsAtEnd, prepend_known}
 use Rattle.tox_time.specs.declared.streams.item.Item.{Item}
 use Rattle.tox_time.specs.declared.streams.position.StreamPosition.{StreamPosition}
 use Rattle.tox_time.specs.streams.Stream.{IsStream, IsStreamFrom}
 use Rattle.tox_time.specs.streams.Table.{ending, table}
 use Rattle.tox_link.specs.declared.notes.LinkEvent.{LinkEvent}
+use Rattle.tox_link.specs.declared.notes.LinkEvent.TheVariants.{SourceEnd}
 use Rattle.tox_link.specs.log.Log.{IsGapless, has_source_end, heard, heard_bytes, heard_from, said}
 use Rattle.tox_log.specs.declared.event_line.LogLine.{LogLine}
-use Rattle.tox_log.specs.declared.event_line.LogLine.TheVariants.{Event, Last}
+use Rattle.tox_log.specs.declared.event_line.LogLine.TheVariants.{Event, SourceReset, Last}
 use Rattle.tox_log.specs.declared.last_line.LastLine.{LastLine}
 use Rattle.tox_log.specs.declared.open_log.OpenLog.{OpenLog}
-use Rattle.tox_log.specs.Hearing.{event_lines}
+use Rattle.tox_log.specs.EventLines.{event_lines}
 use Rattle.tox_log.specs.Lines.{IsWritable}
 use Rattle.tox_log.specs.Numbers.{Lacks}
 use Rattle.tox_log.specs.Order.{ComesNext, heard_with}
@@ -58,9 +59,18 @@ HearsEvent frame old before event new after =
     → HearsEvents frame means events position old before
     → HearsLines frame means (events ++ event ∷ []) None (heard_with position (Event event)) new after
 
+-- whether a reset ended the source, after an event that is a reset or not if it is the source's end
+abbrev pub reset_after : LinkEvent → Bool → Bool → Bool
+reset_after (SourceEnd instant) reset before = reset
+reset_after event reset before = before
+
 -- a line is heard: an event, or a last line that tells how the link ended
 abbrev pub HearsLogLine : Frame → Hearing → RunnerView → LogLine → Hearing → RunnerView → Type 0
-HearsLogLine frame old before (Event event) new after = HearsEvent frame old before event new after
+HearsLogLine frame old before (Event event) new after =
+    HearsEvent frame old before event new after
+    × (new.course.source_reset ≡ reset_after event false old.course.source_reset)
+HearsLogLine frame old before (SourceReset instant) new after =
+    HearsEvent frame old before (SourceEnd instant) new after × (new.course.source_reset ≡ true)
 HearsLogLine frame old before (Last last) new after =
     (new ≡ record old { end = link_end (Some last) old.latest }) × (after ≡ before)
 
@@ -70,7 +80,7 @@ pub record HearsSoFar (frame : Frame) (means : List Item → List Item) (given l
   pub events : List LinkEvent
   pub last : Option LastLine
   pub position : StreamPosition
-  pub text : given ≡ prepend_known (event_lines events ++ last_lines last) left
+  pub text : given ≡ prepend_known (event_lines hearing.course.source_reset events ++ last_lines last) left
   pub over : log.over ≡ is_some last
   pub at : log.over ≡ false → position ≡ log.heard
   pub heard : HearsLines frame means events last position hearing runner
@@ -83,7 +93,8 @@ pub record HearsAll (frame : Frame) (means : List Item → List Item) (given : O
   pub position : StreamPosition
   pub torn : List ℕ
   pub left : Option (List ℕ)
-  pub text : given ≡ prepend_known ((event_lines events ++ last_lines last) ++ torn) left
+  pub text : given
+      ≡ prepend_known ((event_lines hearing.course.source_reset events ++ last_lines last) ++ torn) left
   pub unended : Lacks 10 torn
   pub ended : IsAtEnd left
   pub heard : HearsLines frame means events last position hearing runner
@@ -97,6 +108,7 @@ BeginsHearing frame means log hearing runner =
 pub record RecordsLog (frame : Frame) (log : LogText) (kept : Record) : Type 0 where
   pub arrived : IsStrand frame (table (heard log.events)) kept.course.arrived
   pub source_end : kept.course.source_end ≡ source_end_of log.events
+  pub source_reset : kept.course.source_reset ≡ log.source_reset
   pub due : IsStrand frame (table (due_items log)) kept.course.planned
   pub due_end : kept.due_end ≡ ending (due_items log)
   pub written : (stop : ℕ) → IsGapless 0 (said log.events) stop

@@ -1,7 +1,8 @@
 -- The words of a picture beside its lines.
-use Rattle.std.specs.Prelude.{ℕ, ◌+◌, ◌-◌, ◌/◌, List, [], ◌++◌, length, min, nat_lt, Option, Some, None, codes, if◌then◌else◌}
+use Rattle.std.specs.Prelude.{ℕ, ◌+◌, ◌-◌, ◌/◌, Bool, List, [], ◌++◌, length, min, nat_lt, Option, Some, None, codes, if◌then◌else◌}
 use Rattle.tox_draw.specs.declared.frame.Frame.{Frame}
 use Rattle.tox_draw.specs.declared.link_end.LinkEnd.{LinkEnd}
+use Rattle.tox_draw.specs.declared.picture.Picture.{Picture}
 use Rattle.tox_draw.specs.declared.place.Point.{Point}
 use Rattle.tox_draw.specs.Frames.{x_of, y_of}
 use Rattle.tox_draw.specs.LinkEnds.{end_instant, link_end_word}
@@ -13,20 +14,26 @@ abbrev pub word_at : List ℕ → Option Point → List ℕ → List ℕ
 word_at class (Some point) word = text_line class point.x (point.y + 4) word
 word_at class None word = []
 
+-- how the arrivals ended, where a reset ended them
+abbrev pub reset_word : Bool → List ℕ
+reset_word reset = if reset then codes ", then reset" else []
+
 -- the text of the label of the arrivals
-unfoldable pub arrived_text : ℕ → List ℕ
-arrived_text arrived = codes "arrived " ++ quantity arrived (byte_unit arrived)
+unfoldable pub arrived_text : ℕ → Bool → List ℕ
+arrived_text arrived reset = codes "arrived " ++ (quantity arrived (byte_unit arrived) ++ reset_word reset)
 
 -- the y of that label, which keeps a gap above the base
 abbrev pub arrived_y : Frame → ℕ → ℕ → ℕ
 arrived_y frame arrived gap = min (y_of frame arrived - 9) (frame.base - gap)
 
 -- the label of the arrivals: left of the source's end, or where it doesn't fit there at the plot's left side
-unfoldable pub arrived_label : Frame → Option ℕ → ℕ → ℕ → List ℕ
-arrived_label frame source_end arrived gap =
-    if nat_lt ((x_of frame source_end - 64) / 8) (length (arrived_text arrived))
-    then text_line (codes "arrived halo") 72 (arrived_y frame arrived gap) (arrived_text arrived)
-    else text_line (codes "arrived halo end") (x_of frame source_end) (arrived_y frame arrived gap) (arrived_text arrived)
+unfoldable pub arrived_label : Picture → ℕ → List ℕ
+arrived_label picture gap =
+    if nat_lt ((x_of picture.frame picture.source_end - 64) / 8) (length (arrived_text picture.arrived.total picture.source_reset))
+    then text_line (codes "arrived halo") 72 (arrived_y picture.frame picture.arrived.total gap)
+    (arrived_text picture.arrived.total picture.source_reset)
+    else text_line (codes "arrived halo end") (x_of picture.frame picture.source_end) (arrived_y picture.frame picture.arrived.total gap)
+    (arrived_text picture.arrived.total picture.source_reset)
 
 -- the label of a count
 unfoldable pub count_label : List ℕ → List ℕ → ℕ → ℕ → ℕ → List ℕ

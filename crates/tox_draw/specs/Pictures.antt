@@ -56,7 +56,7 @@ left_told planned (Some written) = due_told planned written
 unfoldable pub sentences : Picture → List ℕ
 sentences picture =
     passed (codes "Arrived") picture.arrived.total picture.arrived.last
-    ++ (source_ended picture.source_end
+    ++ (source_ended picture.source_end picture.source_reset
     ++ (left_told picture.planned picture.written ++ ended picture.end))
 
 -- the line of the sentences
@@ -157,7 +157,7 @@ below frame count gap = min (y_of frame count + 18) (frame.base - gap)
 -- the labels where what was due and what was written are shown, from an x and a y on
 unfoldable pub labels_of_both : Picture → Curve → ℕ → ℕ → List ℕ
 labels_of_both picture written x y =
-    arrived_label picture.frame picture.source_end picture.arrived.total 56
+    arrived_label picture 56
     ++ (count_label (codes "due halo") (codes "due") x y picture.planned.total
     ++ (count_label (codes "written halo") (codes "written") x (y + 16) written.total
     ++ end_label picture.end x (y + 32)))
@@ -165,7 +165,7 @@ labels_of_both picture written x y =
 -- the labels where what left is shown, from an x and a y on
 unfoldable pub labels_of_left : Picture → ℕ → ℕ → List ℕ
 labels_of_left picture x y =
-    arrived_label picture.frame picture.source_end picture.arrived.total 40
+    arrived_label picture 40
     ++ (count_label (codes "left halo") (codes "left") x y picture.planned.total
     ++ end_label picture.end x (y + 16))
 

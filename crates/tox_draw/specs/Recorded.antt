@@ -1,5 +1,5 @@
 -- What a log says, and the picture of it.
-use Rattle.std.specs.Prelude.{◌≡◌, ℕ, List, [], ◌∷◌, ◌++◌, fold, replicate, string_bytes, Option, Some, None}
+use Rattle.std.specs.Prelude.{◌≡◌, ℕ, Bool, List, [], ◌∷◌, ◌++◌, fold, replicate, string_bytes, Option, Some, None}
 use Rattle.std.specs.Io.KnownBytes.{IsAtEnd, prepend_known}
 use Rattle.tox_time.specs.declared.streams.ending.Ending.{Ending}
 use Rattle.tox_time.specs.declared.streams.ending.Ending.TheVariants.{StillOpen, Closed as ClosedAt, Reset as ResetAt}
@@ -15,8 +15,8 @@ use Rattle.tox_link.specs.log.Log.{IsGapless, heard, reading_of, said}
 use Rattle.tox_log.specs.declared.heading.Heading.{Heading}
 use Rattle.tox_log.specs.declared.last_line.LastLine.{LastLine}
 use Rattle.tox_log.specs.declared.last_line.LastLine.TheVariants.{Ended, Broken as BrokenOff}
+use Rattle.tox_log.specs.EventLines.{event_lines}
 use Rattle.tox_log.specs.HeaderText.{header_text}
-use Rattle.tox_log.specs.Hearing.{event_lines}
 use Rattle.tox_log.specs.LastText.{last_line}
 use Rattle.tox_log.specs.Numbers.{Lacks}
 use Rattle.tox_draw.specs.declared.curve.Curve.{Curve}
@@ -29,11 +29,12 @@ use Rattle.tox_draw.specs.LinkEnds.{end_of}
 use Rattle.tox_draw.specs.Lines.{IsCurve}
 use Rattle.tox_draw.specs.Pictures.{picture_text}
 
--- what a log says: its header, its events and its last line
+-- what a log says: its header, its events, whether a reset ended the source, and its last line
 pub record LogText : Type 0 where
   pub heading : Heading
   pub chain : Toxics
   pub events : List LinkEvent
+  pub source_reset : Bool
   pub last : Option LastLine
 
 -- the text of a last line, if there is one
@@ -48,7 +49,7 @@ pub record SaysLog (given : Option (List ℕ)) (log : LogText) : Type 0 where
   pub left : Option (List ℕ)
   pub text : given
       ≡ prepend_known (header_text (string_bytes log.heading.proxy) log.heading.number log.heading.stream log.heading.seed log.chain names
-      ++ ((event_lines log.events ++ last_lines log.last) ++ torn)) left
+      ++ ((event_lines log.source_reset log.events ++ last_lines log.last) ++ torn)) left
   pub unended : Lacks 10 torn
   pub ended : IsAtEnd left
   pub ordered : IsStream (heard log.events)
@@ -94,6 +95,7 @@ due_items log =
 pub record ShowsLog (log : LogText) (picture : Picture) : Type 0 where
   pub arrived : IsCurve picture.frame (table (heard log.events)) picture.arrived
   pub source_end : picture.source_end ≡ source_end_of log.events
+  pub source_reset : picture.source_reset ≡ log.source_reset
   pub due : IsCurve picture.frame (table (due_items log)) picture.planned
   pub due_end : picture.planned_end ≡ end_of (ending (due_items log))
   pub written : (stop : ℕ) → IsGapless 0 (said log.events) stop

@@ -1,5 +1,5 @@
 -- What a picture says to those who don't see it.
-use Rattle.std.specs.Prelude.{ℕ, ◌==◌, List, [], ◌∷◌, ◌++◌, flat_map, Option, Some, None, codes, decimal, if◌then◌else◌}
+use Rattle.std.specs.Prelude.{ℕ, ◌==◌, Bool, true, false, List, [], ◌∷◌, ◌++◌, flat_map, Option, Some, None, codes, decimal, if◌then◌else◌}
 use Rattle.tox_draw.specs.declared.link_end.LinkEnd.{LinkEnd}
 use Rattle.tox_draw.specs.LinkEnds.{end_instant, link_end_word}
 
@@ -19,10 +19,11 @@ abbrev pub passed : List ℕ → ℕ → ℕ → List ℕ
 passed word total last =
     if total == 0 then codes " " ++ word ++ codes " 0 B." else some_passed word total last
 
--- when the source ended
-abbrev pub source_ended : Option ℕ → List ℕ
-source_ended (Some t) = codes " The source ended at " ++ decimal t ++ codes " us."
-source_ended None = codes " The source stayed quiet."
+-- when the source ended, by a reset or not
+abbrev pub source_ended : Option ℕ → Bool → List ℕ
+source_ended (Some t) false = codes " The source ended at " ++ decimal t ++ codes " us."
+source_ended (Some t) true = codes " The source was reset at " ++ decimal t ++ codes " us."
+source_ended None reset = codes " The source stayed quiet."
 
 -- an end with an instant, if it has one
 abbrev pub ended_at : List ℕ → Option ℕ → List ℕ

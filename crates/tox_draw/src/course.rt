@@ -1,5 +1,5 @@
 //! What happens on a drawn link: what arrives, and what leaves by its plan.
-ghost use Rattle.std.specs.Prelude.{◌≡◌, ◌∷◌, [], None, true, IfOk};
+ghost use Rattle.std.specs.Prelude.{◌≡◌, ◌∷◌, [], None, false, true, IfOk};
 ghost use Rattle.tox_time.specs.declared.streams.item.Item.TheVariants.{Quiet};
 ghost use Rattle.tox_time.specs.streams.Table.{final_of};
 ghost use Rattle.tox_plan.specs.Cuts.{GivesAll};
@@ -21,12 +21,15 @@ pub(crate) struct Course {
     pub(crate) arrived: Strand,
     pub(crate) planned: Strand,
     pub(crate) source_end: Option<Micros>,
+    /// Whether the source's end was a reset by its peer.
+    pub(crate) source_reset: bool,
 }
 
 impl Course {
     /// Nothing happened yet.
     pub(crate) fn new(alloc: Global) -> Result<Course, AllocError>
-        ensures ended { IfOk result (λ course. course.source_end ≡ None) }
+        ensures ended { IfOk result
+            (λ course. (course.source_end ≡ None) × (course.source_reset ≡ false)) }
         ensures drawn { IfOk result (λ course. (frame : OneFrame)
             → IsStrand frame [] course.arrived × IsStrand frame [] course.planned) }
     {
@@ -34,6 +37,7 @@ impl Course {
             arrived: Strand::new(alloc)?,
             planned: Strand::new(alloc)?,
             source_end: None,
+            source_reset: false,
         })
     }
 
@@ -51,7 +55,8 @@ impl Course {
         ensures arrived { PassesBytes frame.now len instant.now self.old.arrived self.new.arrived }
         ensures due { DrawsPiece frame.now self.old.planned runner.old len instant.now
             self.new.planned runner.new }
-        ensures kept { self.new.source_end ≡ self.old.source_end }
+        ensures kept { (self.new.source_end ≡ self.old.source_end)
+            × (self.new.source_reset ≡ self.old.source_reset) }
     {
         self.arrived.add(frame, len, instant);
         if runner.offer(len, *instant).is_err() {
@@ -60,15 +65,17 @@ impl Course {
         take_cuts(&mut self.planned, runner, frame);
     }
 
-    /// The source ends. Returns the plan's ending.
-    pub(crate) fn take_end(&mut self, runner: &mut Runner<'_>, instant: &Micros)
+    /// The source ends, by a reset or not.
+    pub(crate) fn take_end(&mut self, runner: &mut Runner<'_>, instant: &Micros, is_reset: bool)
         requires { runner.old.idle ≡ true }
         ensures idle { runner.new.idle ≡ true }
-        ensures ended { self.new ≡ record self.old { source_end = Some instant.now } }
+        ensures ended { self.new
+            ≡ record self.old { source_end = Some instant.now; source_reset = is_reset } }
         ensures due { (frame : OneFrame)
             → DrawsSourceEnd frame self.old.planned runner.old instant.now runner.new }
     {
         self.source_end = Some(*instant);
+        self.source_reset = is_reset;
         let end = runner.latest().later(*instant);
         runner.finish(end);
     }

@@ -75,6 +75,7 @@ fn drawn(alloc: Global, text: &[u8], chain: &Chain, words: &Words) -> Result<Str
         heading,
         frame,
         source_end: course.source_end,
+        source_reset: course.source_reset,
         arrived: course.arrived.curve(alloc, &frame)?,
         planned: course.planned.curve(alloc, &frame)?,
         planned_end: LinkEnd::of(&ending),
@@ -107,7 +108,7 @@ fn run(
             Event::Data(digits) => {
                 course.take_piece(&mut runner, frame, digits.len() as u64 / 2, &said.instant);
             }
-            Event::Eof => course.take_end(&mut runner, &said.instant),
+            Event::Eof => course.take_end(&mut runner, &said.instant, false),
         }
     }
     Ok((course, ending_of(&mut runner)))

@@ -73,7 +73,7 @@ fn push_sentences(text: &mut String, picture: &Picture) -> Result<(), AllocError
         picture.arrived.total,
         &picture.arrived.last,
     )?;
-    push_source_end(text, &picture.source_end)?;
+    push_source_end(text, &picture.source_end, picture.source_reset)?;
     push_left(text, &picture.planned, &picture.written)?;
     push_end(text, &picture.end)
 }

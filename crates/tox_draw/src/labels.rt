@@ -9,6 +9,7 @@ use crate::frame::Frame;
 use crate::link_end::LinkEnd;
 use crate::parts::{push_text, push_text_end, push_text_start, push_word};
 use crate::path::LEFT;
+use crate::picture::Picture;
 use crate::place::Point;
 use crate::unit::{Unit, push_quantity};
 use std::alloc::{AllocError, Global};
@@ -36,18 +37,16 @@ pub(crate) fn push_word_at(
 pub(crate) fn push_arrived_label(
     alloc: Global,
     text: &mut String,
-    frame: &Frame,
-    source_end: &Option<Micros>,
-    arrived: u64,
+    picture: &Picture,
     gap: u64,
 ) -> Result<(), AllocError>
-    requires frame { IsFrame frame.now }
-    requires few { arrived ≤ 1_099_511_627_776 }
-    ensures { OnOk result
-        (AddsText text.old text.new (arrived_label frame.now source_end.now arrived gap)) }
+    requires { IsFrame picture.now.frame }
+    ensures { OnOk result (AddsText text.old text.new (arrived_label picture.now gap)) }
 {
-    let label = arrived_text(alloc, arrived)?;
-    let x = frame.x_of(source_end);
+    let frame = &picture.frame;
+    let arrived = picture.arrived.total;
+    let label = arrived_text(alloc, arrived, picture.source_reset)?;
+    let x = frame.x_of(&picture.source_end);
     let y = frame
         .y_of(arrived)
         .saturating_sub(9)
@@ -61,11 +60,14 @@ pub(crate) fn push_arrived_label(
 
 /// The text of the label of the arrivals.
 #[tactic(auto, unfolding(crate::specs::Labels::arrived_text))]
-fn arrived_text(alloc: Global, arrived: u64) -> Result<String, AllocError>
-    ensures { IfOk result (λ label. string_bytes label ≡ arrived_text arrived) }
+fn arrived_text(alloc: Global, arrived: u64, source_reset: bool) -> Result<String, AllocError>
+    ensures { IfOk result (λ label. string_bytes label ≡ arrived_text arrived source_reset) }
 {
     let mut label = String::from_str(alloc, "arrived ")?;
     push_quantity(&mut label, arrived, Unit::of_bytes(arrived))?;
+    if source_reset {
+        label.push_str(", then reset")?;
+    }
     Ok(label)
 }
 

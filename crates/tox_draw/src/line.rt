@@ -8,7 +8,7 @@ use crate::curve::Curve;
 use crate::frame::Frame;
 use crate::strand::Strand;
 use std::alloc::{AllocError, Global};
-use tox_time::{MAX_BYTES, Micros};
+use tox_time::{HORIZON, MAX_BYTES, Micros};
 
 /// How many columns there are.
 const COLUMNS: usize = 751;
@@ -21,6 +21,7 @@ impl Strand {
         Ok(Strand {
             total: 0,
             last: Micros::ZERO,
+            last_before_horizon: Micros::ZERO,
             counts: vec![in alloc; 0; COLUMNS]?,
         })
     }
@@ -33,6 +34,9 @@ impl Strand {
         let column = frame.column_of(&Some(*instant));
         self.total = self.total.saturating_add(len).min(MAX_BYTES);
         self.last = *instant;
+        if instant.get() < HORIZON {
+            self.last_before_horizon = *instant;
+        }
         self.counts[column] = self.counts[column].saturating_add(len);
     }
 

@@ -30,6 +30,8 @@ pub(crate) struct Picture {
     pub(crate) heading: String,
     pub(crate) frame: Frame,
     pub(crate) source_end: Option<Micros>,
+    /// Whether the source's end was a reset by its peer.
+    pub(crate) source_reset: bool,
     pub(crate) arrived: Curve,
     /// What leaves by the plan, and its ending.
     pub(crate) planned: Curve,
@@ -273,15 +275,7 @@ fn push_labels_of_both(
     ensures { OnOk result
         (AddsText text.old text.new (labels_of_both picture.now written.now x y)) }
 {
-    let arrived = picture.arrived.total;
-    push_arrived_label(
-        alloc,
-        text,
-        &picture.frame,
-        &picture.source_end,
-        arrived,
-        56,
-    )?;
+    push_arrived_label(alloc, text, picture, 56)?;
     push_count_label(text, "due halo", "due", x, y, picture.planned.total)?;
     push_count_label(text, "written halo", "written", x, y + 16, written.total)?;
     push_end_label(text, &picture.end, x, y + 32)
@@ -300,15 +294,7 @@ fn push_labels_of_left(
     requires low { y ≤ 454 }
     ensures { OnOk result (AddsText text.old text.new (labels_of_left picture.now x y)) }
 {
-    let arrived = picture.arrived.total;
-    push_arrived_label(
-        alloc,
-        text,
-        &picture.frame,
-        &picture.source_end,
-        arrived,
-        40,
-    )?;
+    push_arrived_label(alloc, text, picture, 40)?;
     push_count_label(text, "left halo", "left", x, y, picture.planned.total)?;
     push_end_label(text, &picture.end, x, y + 16)
 }

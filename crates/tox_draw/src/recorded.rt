@@ -4,7 +4,7 @@ ghost use Rattle.tox_time.specs.declared.streams.item.Item.{Item as OneItem};
 ghost use Rattle.tox_log.specs.Reading.{to_hand};
 ghost use Rattle.tox_draw.specs.Drawn.{IsPictureAlone, IsPictureOnPage, WritesPictureFront, WritesPicture};
 ghost use Rattle.tox_draw.specs.Frames.{IsFrame};
-ghost use Rattle.tox_draw.specs.Hearings.{BeginsHearing, HearsAll, HearsEvent, HearsLogLine, KeepsRecord};
+ghost use Rattle.tox_draw.specs.Hearings.{BeginsHearing, HearsAll, HearsEvent, HearsLogLine, KeepsRecord, reset_after};
 ghost use Rattle.tox_draw.specs.Recorded.{IsPictureOf, end_at};
 
 use crate::course::{Course, ending_of};
@@ -22,7 +22,7 @@ use tox_log::{LastLine, LogFault, LogLine, OpenLog, ReplayFault};
 use tox_plan::Runner;
 use tox_text::Part::Word;
 use tox_text::write_parts;
-use tox_time::{Ending, Micros, Sink, Source};
+use tox_time::{Ending, HORIZON, Micros, Sink, Source};
 
 /// What a log says of its stream.
 #[derive(Drop)]
@@ -138,6 +138,7 @@ fn picture_of(
         heading,
         frame,
         source_end: course.source_end,
+        source_reset: course.source_reset,
         arrived,
         planned,
         planned_end: LinkEnd::of(&due_end),
@@ -147,15 +148,28 @@ fn picture_of(
     picture_text(alloc, &picture)
 }
 
-/// The greatest instant of a record.
+/// The greatest instant of a record that is before the horizon. Programs before 0.3.0 gave the horizon for a reading where a
+/// signal had ended the link.
 fn latest(record: &Record) -> Micros {
-    let due = LinkEnd::of(&record.due_end).instant();
-    let ended = record.end.instant().unwrap_or(Micros::ZERO);
-    record
+    let passed = record
         .course
-        .latest(&due)
-        .later(record.written.last)
-        .later(ended)
+        .arrived
+        .last_before_horizon
+        .later(record.course.planned.last_before_horizon)
+        .later(record.written.last_before_horizon);
+    let due = LinkEnd::of(&record.due_end).instant();
+    passed
+        .later(before_horizon(&record.course.source_end))
+        .later(before_horizon(&due))
+        .later(before_horizon(&record.end.instant()))
+}
+
+/// An instant, if there is one before the horizon, or else 0.
+fn before_horizon(instant: &Option<Micros>) -> Micros {
+    match instant {
+        Some(instant) if instant.get() < HORIZON => *instant,
+        _ => Micros::ZERO,
+    }
 }
 
 /// Reads a log to its end.
@@ -220,7 +234,11 @@ fn hear_line(hearing: &mut Hearing, runner: &mut Runner<'_>, frame: &Frame, line
     ensures hears { HearsLogLine frame.now hearing.old runner.old line.now hearing.new runner.new }
 {
     match line {
-        LogLine::Event(event) => hear_event(hearing, runner, frame, event),
+        LogLine::Event(event) => hear_event(hearing, runner, frame, event, false),
+        LogLine::SourceReset(instant) => {
+            let end = LinkEvent::SourceEnd(*instant);
+            hear_event(hearing, runner, frame, &end, true)
+        }
         LogLine::Last(LastLine::Ended(reading, ending)) => {
             hearing.end = end_at(ending, reading);
         }
@@ -228,12 +246,20 @@ fn hear_line(hearing: &mut Hearing, runner: &mut Runner<'_>, frame: &Frame, line
     }
 }
 
-/// Hears an event.
-fn hear_event(hearing: &mut Hearing, runner: &mut Runner<'_>, frame: &Frame, event: &LinkEvent)
+/// Hears an event. The source's end is a reset or not.
+fn hear_event(
+    hearing: &mut Hearing,
+    runner: &mut Runner<'_>,
+    frame: &Frame,
+    event: &LinkEvent,
+    is_reset: bool,
+)
     requires idle { runner.old.idle ≡ true }
     requires frame { IsFrame frame.now }
     ensures idle { runner.new.idle ≡ true }
     ensures hears { HearsEvent frame.now hearing.old runner.old event.now hearing.new runner.new }
+    ensures reset { hearing.new.course.source_reset
+        ≡ reset_after event.now is_reset hearing.old.course.source_reset }
 {
     match event {
         LinkEvent::Piece(len, instant) => {
@@ -241,7 +267,7 @@ fn hear_event(hearing: &mut Hearing, runner: &mut Runner<'_>, frame: &Frame, eve
             read_at(hearing, instant);
         }
         LinkEvent::SourceEnd(instant) => {
-            hearing.course.take_end(runner, instant);
+            hearing.course.take_end(runner, instant, is_reset);
             read_at(hearing, instant);
         }
         LinkEvent::Wrote(slice, reading) => {

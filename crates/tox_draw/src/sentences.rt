@@ -46,14 +46,22 @@ fn push_some_passed(text: &mut String, word: &str, total: u64, last: u64) -> Res
     write!(text, " {word} {total} B, the last at {last} us.")
 }
 
-/// Adds the sentence of the source's end.
-pub(crate) fn push_source_end(text: &mut String, end: &Option<Micros>) -> Result<(), AllocError>
-    ensures { OnOk result (AddsText text.old text.new (source_ended end.now)) }
+/// Adds the sentence of the source's end, which was a reset or not.
+pub(crate) fn push_source_end(
+    text: &mut String,
+    end: &Option<Micros>,
+    is_reset: bool,
+) -> Result<(), AllocError>
+    ensures { OnOk result (AddsText text.old text.new (source_ended end.now is_reset)) }
 {
     match end {
         Some(instant) => {
             let instant = instant.get();
-            write!(text, " The source ended at {instant} us.")
+            if is_reset {
+                write!(text, " The source was reset at {instant} us.")
+            } else {
+                write!(text, " The source ended at {instant} us.")
+            }
         }
         None => text.push_str(" The source stayed quiet."),
     }

@@ -15,10 +15,11 @@ use Rattle.tox_log.specs.Opening.{Opens}
 use Rattle.std.proofs.lemmas.Grind.{flat_map-append}
 use Rattle.std.proofs.lemmas.List.Elements.{All-append, All-cons, All-head, All-nil, All-tail}
 use Rattle.tox_time.specs.declared.streams.item.Item.{Item}
+use Rattle.tox_time.specs.declared.streams.slice.Slice.{Slice}
 use Rattle.tox_time.specs.declared.streams.ending.Ending.{Ending}
 use Rattle.tox_link.specs.declared.notes.LinkEvent.{LinkEvent}
 use Rattle.tox_link.specs.declared.notes.LinkEvent.TheVariants.{Piece, SourceEnd, Wrote}
-use Rattle.tox_link.specs.log.Log.{IsGapless, reading_of, said}
+use Rattle.tox_link.specs.log.Log.{IsGapless, has_source_end, reading_of, said}
 use Rattle.tox_link.proofs.Logs.{gapless-bytes, said-append}
 use Rattle.tox_link.specs.Reports.{ReportsAt}
 use Rattle.tox_log.specs.declared.judge.Judge.{Judge}
@@ -26,17 +27,17 @@ use Rattle.tox_log.specs.declared.replay.Hearing.{Hearing}
 use Rattle.tox_log.specs.Numbers.{Lacks}
 use Rattle.tox_log.specs.Reading.{LacksLine, is_last, to_hand, IsLineNumber, next_number}
 use Rattle.tox_log.specs.declared.event_line.LogLine.{LogLine}
-use Rattle.tox_log.specs.declared.event_line.LogLine.TheVariants.{Event, Last}
+use Rattle.tox_log.specs.declared.event_line.LogLine.TheVariants.{Event, SourceReset, Last}
 use Rattle.tox_log.specs.declared.last_line.BreakCause.{BreakCause}
 use Rattle.tox_log.specs.declared.last_line.LastLine.TheVariants.{Ended, Broken}
-use Rattle.tox_log.specs.EventText.{event_line, event_words}
+use Rattle.tox_log.specs.EventLines.{event_lines, logged_line, logged_text}
 use Rattle.tox_log.specs.Lateness.{IsLate, KeepsLate, ending_late, lates}
 use Rattle.tox_log.specs.declared.lateness.Lateness.{Lateness}
 use Rattle.tox_log.specs.Lines.{IsWritable, line_words}
 use Rattle.tox_log.specs.Judging.{Hears, Judged, Refuses, RefusesEnding, source_heard}
 use Rattle.tox_log.specs.declared.replay.Verdict.{Verdict}
 use Rattle.tox_log.specs.declared.replay.Verdict.TheVariants.{Faithful, Unfinished, Unfaithful}
-use Rattle.tox_log.specs.Hearing.{AreCounts, BeginsJudging, HasHeard, HasNoEnding, HasReport, HasStopped, HearsLine, HearsToEnd, IsFaithfulText, IsRefusedText, IsTextOf, IsTold, IsUnfinishedText, SaysOf, SaysSo, event_lines, HasRefusal}
+use Rattle.tox_log.specs.Hearing.{AreCounts, BeginsJudging, HasHeard, HasNoEnding, HasReport, HasStopped, HearsLine, HearsToEnd, IsFaithfulText, IsRefusedText, IsTextOf, IsTold, IsUnfinishedText, SaysOf, SaysSo, HasRefusal}
 use Rattle.tox_log.proofs.Refusing.{timely-told}
 
 told-front : (told : ℕ → Bool) (events : List LinkEvent) (event : LinkEvent) → IsTold told (events ++ event ∷ []) → IsTold told events
@@ -50,11 +51,38 @@ told-last : (told : ℕ → Bool) (events : List LinkEvent) (event : LinkEvent) 
 told-last told [] event all = All-head (λ event. told (reading_of event) ≡ true) event [] all
 told-last told (first ∷ events) event all = told-last told events event (All-tail (λ event. told (reading_of event) ≡ true) first (events ++ event ∷ []) all)
 
-pub line-more : (text words : List ℕ) (events : List LinkEvent) (event : LinkEvent) → text ≡ event_lines events → words ≡ event_words event
-    → text ++ (words ++ 10 ∷ []) ≡ event_lines (events ++ event ∷ [])
-line-more text words events event lines is =
-    let one : event_lines (event ∷ []) ≡ event_words event ++ codes "\n" = append-nil (event_line event) in
-    rw (lines, is, flat_map-append event_line events (event ∷ []), one) refl
+line-more : (reset : Bool) (text : List ℕ) (events : List LinkEvent) (event : LinkEvent) → text ≡ event_lines reset events
+    → text ++ (line_words (logged_line reset event) ++ 10 ∷ []) ≡ event_lines reset (events ++ event ∷ [])
+line-more reset text events event lines =
+    let one : event_lines reset (event ∷ []) ≡ logged_text reset event = append-nil (logged_text reset event) in
+    rw (lines, flat_map-append (logged_text reset) events (event ∷ []), one) refl
+
+-- whether the source was reset changes no line but that of its end
+lines-going : (reset other : Bool) (events : List LinkEvent) → has_source_end events ≡ false → event_lines reset events ≡ event_lines other events
+lines-going reset other [] going = refl
+lines-going reset other (Piece len instant ∷ events) going =
+    ap₂ (λ line rest. line ++ rest) (same-piece reset other) (lines-going reset other events going)
+  where
+    same-piece : (reset other : Bool) → logged_text reset (Piece len instant) ≡ logged_text other (Piece len instant)
+    same-piece true true = refl
+    same-piece true false = refl
+    same-piece false true = refl
+    same-piece false false = refl
+lines-going reset other (SourceEnd instant ∷ events) going = let no : true ≡ false = going in cc
+lines-going reset other (Wrote slice reading ∷ events) going =
+    ap₂ (λ line rest. line ++ rest) (same-write reset other) (lines-going reset other events going)
+  where
+    same-write : (reset other : Bool) → logged_text reset (Wrote slice reading) ≡ logged_text other (Wrote slice reading)
+    same-write true true = refl
+    same-write true false = refl
+    same-write false true = refl
+    same-write false false = refl
+
+-- so the lines before stay, and the line of an event comes behind them
+pub line-next : (old new : Bool) (text : List ℕ) (events : List LinkEvent) (event : LinkEvent) → (new ≡ old) ⊎ (has_source_end events ≡ false) → text ≡ event_lines old events
+    → text ++ (line_words (logged_line new event) ++ 10 ∷ []) ≡ event_lines new (events ++ event ∷ [])
+line-next old new text events event (inl same) lines = line-more new text events event (lines ∙ ap (λ reset. event_lines reset events) (sym same))
+line-next old new text events event (inr going) lines = line-more new text events event (lines ∙ lines-going old new events going)
 
 -- each reading is told by a clock that tells all
 all-told : (events : List LinkEvent) → IsTold (λ _. true) events
@@ -118,16 +146,34 @@ keeps-none late values few kept = subst (λ values. KeepsLate values late) (sym 
 -- a hearing goes on with an event
 pub record GoesOn (old new : Hearing) (event : LinkEvent) : Type 0 where
   pub hears : Hears old.judge event new.judge
+  pub reset : (new.source_reset ≡ old.source_reset) ⊎ (old.judge.ended ≡ false)
   pub count : new.writes ≡ old.writes + length (said (event ∷ []))
   pub late : KeepsMore old.late (lates (event ∷ [])) new.late
 
+-- a piece and a write are told in one way
+pub piece-line : (reset : Bool) (len instant : ℕ) → logged_line reset (Piece len instant) ≡ Event (Piece len instant)
+piece-line true len instant = refl
+piece-line false len instant = refl
+
+pub wrote-line : (reset : Bool) (slice : Slice) (reading : ℕ) → logged_line reset (Wrote slice reading) ≡ Event (Wrote slice reading)
+wrote-line true slice reading = refl
+wrote-line false slice reading = refl
+
+-- an event can be written if its line can
+event-writable : (reset : Bool) (event : LinkEvent) → IsWritable (logged_line reset event) → IsWritable (Event event)
+event-writable false event writable = writable
+event-writable true (Piece len instant) writable = writable
+event-writable true (SourceEnd instant) writable = writable
+event-writable true (Wrote slice reading) writable = writable
+
 -- an event more
-pub hears-event : (means : List Item → List Item) (text : List ℕ) (old new : Hearing) (event : LinkEvent) → IsWritable (Event event)
-    → HasHeard means text old → GoesOn old new event → HasHeard means (text ++ (line_words (Event event) ++ 10 ∷ [])) new
+pub hears-event : (means : List Item → List Item) (text : List ℕ) (old new : Hearing) (event : LinkEvent) → IsWritable (logged_line new.source_reset event)
+    → HasHeard means text old → GoesOn old new event → HasHeard means (text ++ (line_words (logged_line new.source_reset event) ++ 10 ∷ [])) new
 hears-event means text old new event writable heard goes = record {
   events = heard.events ++ event ∷ [];
-  written = All-append (λ event. IsWritable (Event event)) heard.events (event ∷ []) heard.written (All-cons (λ event. IsWritable (Event event)) event [] writable (All-nil (λ event. IsWritable (Event event))));
-  lines = line-more text (event_words event) heard.events event heard.lines refl;
+  written = All-append (λ event. IsWritable (Event event)) heard.events (event ∷ []) heard.written
+      (All-cons (λ event. IsWritable (Event event)) event [] (event-writable new.source_reset event writable) (All-nil (λ event. IsWritable (Event event))));
+  lines = line-next old.source_reset new.source_reset text heard.events event (stays-so goes.reset) heard.lines;
   judged = λ told all. goes.hears means told heard.events (told-last told heard.events event all) (heard.judged told (told-front told heard.events event all));
   count =
       let both = length-append (said heard.events) (said (event ∷ [])) in
@@ -137,13 +183,20 @@ hears-event means text old new event writable heard goes = record {
       let same = lates-count heard.events in
       subst (λ values. KeepsLate values new.late) (sym (lates-append heard.events (event ∷ []))) (goes.late (lates heard.events) (omega (arith, few, same, heard.count)) heard.late);
 }
+  where
+    stays-so : (new.source_reset ≡ old.source_reset) ⊎ (old.judge.ended ≡ false) → (new.source_reset ≡ old.source_reset) ⊎ (has_source_end heard.events ≡ false)
+    stays-so (inl same) = inl same
+    stays-so (inr going) =
+        let judged : Judged means (λ _. true) old.judge heard.events = heard.judged (λ _. true) (all-told heard.events) in
+        inr (judged.closed ∙ going)
 
--- a verdict that stays open after an event
-pub says-event : (start : ℕ) (means : List Item → List Item) (text : List ℕ) (old new : Hearing) (event : LinkEvent) → new.verdict ≡ Unfinished → new.broken ≡ None
-    → GoesOn old new event → IsWritable (Event event) → HasHeard means text old → SaysOf start means (text ++ (line_words (Event event) ++ 10 ∷ [])) false new
-says-event start means text old new event going whole goes writable heard =
-    let lines : List ℕ = text ++ (line_words (Event event) ++ 10 ∷ []) in
-    let going_on : HasNoEnding means lines false new None = (refl, hears-event means text old new event writable heard goes) in
+-- a verdict that stays open after the line of an event
+pub says-event : (start : ℕ) (means : List Item → List Item) (text : List ℕ) (old new : Hearing) (event : LinkEvent) (line : LogLine) → logged_line new.source_reset event ≡ line → new.verdict ≡ Unfinished → new.broken ≡ None
+    → GoesOn old new event → IsWritable line → HasHeard means text old → SaysOf start means (text ++ (line_words line ++ 10 ∷ [])) false new
+says-event start means text old new event line is going whole goes writable heard =
+    let lines : List ℕ = text ++ (line_words line ++ 10 ∷ []) in
+    let more : HasHeard means lines new = subst (λ line. HasHeard means (text ++ (line_words line ++ 10 ∷ [])) new) is (hears-event means text old new event (subst IsWritable (sym is) writable) heard goes) in
+    let going_on : HasNoEnding means lines false new None = (refl, more) in
     subst (SaysSo start means lines false new) (sym going) (subst (HasNoEnding means lines false new) (sym whole) going_on)
 
 -- an event that no faithful log has here
@@ -156,9 +209,10 @@ says-refused start means text old new event number whole refuses writable heard 
     written = heard.written;
     writable = writable;
     events = heard.events;
+    reset = old.source_reset;
     line = Event event;
     more = [];
-    lines = ap (λ lines. lines ++ (line_words (Event event) ++ 10 ∷ [])) heard.lines ∙ ap (λ line. event_lines heard.events ++ line) (sym (append-nil (line_words (Event event) ++ 10 ∷ [])));
+    lines = ap (λ lines. lines ++ (line_words (Event event) ++ 10 ∷ [])) heard.lines ∙ ap (λ line. event_lines old.source_reset heard.events ++ line) (sym (append-nil (line_words (Event event) ++ 10 ∷ [])));
     faithful = λ told all. (heard.judged told all).faithful;
     numbered = at;
     refused = λ told faithful. refuses means told heard.events
@@ -175,24 +229,25 @@ says-other-end start means text old new reading last number whole refuses writab
       whole,
       record {
         events = heard.events;
+        reset = old.source_reset;
         written = heard.written;
         writable = writable;
         line = Last (Ended reading last);
         more = [];
-        lines = ap (λ lines. lines ++ words) heard.lines ∙ ap (λ line. event_lines heard.events ++ line) (sym (append-nil words));
+        lines = ap (λ lines. lines ++ words) heard.lines ∙ ap (λ line. event_lines old.source_reset heard.events ++ line) (sym (append-nil words));
         faithful = λ told all. (heard.judged told all).faithful;
         numbered = at;
         refused = λ told taken written source report. refuses means told heard.events (heard.judged told (timely-told told 0 heard.events report.faithful.timely)) taken written source report;
       },
     )
 
--- what a hearing keeps of the same judge, writes and lateness
-same-heard : (means : List Item → List Item) (text : List ℕ) (old new : Hearing) → new.judge ≡ old.judge → new.writes ≡ old.writes → new.late ≡ old.late
+-- what a hearing keeps of the same judge, source's end, writes and lateness
+same-heard : (means : List Item → List Item) (text : List ℕ) (old new : Hearing) → new.judge ≡ old.judge → new.source_reset ≡ old.source_reset → new.writes ≡ old.writes → new.late ≡ old.late
     → HasHeard means text old → HasHeard means text new
-same-heard means text old new judge writes late heard = record {
+same-heard means text old new judge reset writes late heard = record {
   events = heard.events;
   written = heard.written;
-  lines = heard.lines;
+  lines = heard.lines ∙ ap (λ reset. event_lines reset heard.events) (sym reset);
   judged = λ told all. rw judge (heard.judged told all);
   count = heard.count ∙ sym writes;
   late = rw late heard.late;
@@ -200,21 +255,21 @@ same-heard means text old new judge writes late heard = record {
 
 -- the last line tells that the stream broke off
 pub says-broken : (start : ℕ) (means : List Item → List Item) (text : List ℕ) (old new : Hearing) (cause : BreakCause) (bytes : ℕ) → new.verdict ≡ Unfinished → new.broken ≡ Some cause
-    → new.judge ≡ old.judge → new.writes ≡ old.writes → new.late ≡ old.late → HasHeard means text old
+    → new.judge ≡ old.judge → new.source_reset ≡ old.source_reset → new.writes ≡ old.writes → new.late ≡ old.late → HasHeard means text old
     → SaysOf start means (text ++ (line_words (Last (Broken cause bytes)) ++ 10 ∷ [])) true new
-says-broken start means text old new cause bytes going broken judge writes late heard =
+says-broken start means text old new cause bytes going broken judge reset writes late heard =
     let lines : List ℕ = text ++ (line_words (Last (Broken cause bytes)) ++ 10 ∷ []) in
-    let stopped : HasNoEnding means lines true new (Some cause) = (refl, record { front = text; bytes = bytes; heard = same-heard means text old new judge writes late heard; lines = refl }) in
+    let stopped : HasNoEnding means lines true new (Some cause) = (refl, record { front = text; bytes = bytes; heard = same-heard means text old new judge reset writes late heard; lines = refl }) in
     subst (SaysSo start means lines true new) (sym going) (subst (HasNoEnding means lines true new) (sym broken) stopped)
 
 -- the last line tells the ending
-pub says-ended : (start : ℕ) (means : List Item → List Item) (text : List ℕ) (old new : Hearing) (reading : ℕ) (last : Ending) → new.broken ≡ None → new.writes ≡ old.writes
+pub says-ended : (start : ℕ) (means : List Item → List Item) (text : List ℕ) (old new : Hearing) (reading : ℕ) (last : Ending) → new.broken ≡ None → new.source_reset ≡ old.source_reset → new.writes ≡ old.writes
     → KeepsMore old.late (ending_late reading last) new.late → HasHeard means text old
     → (new.judge.heard ≡ old.judge.heard) × (new.judge.said ≡ old.judge.said) × (new.judge.ended ≡ old.judge.ended)
     → ((means : List Item → List Item) (told : ℕ → Bool) (log : List LinkEvent) → told reading ≡ true → Judged means told old.judge log
     → ReportsAt means (λ t. told t ≡ true) log old.judge.heard old.judge.said last (source_heard old.judge.ended) reading)
     → SaysSo start means (text ++ (line_words (Last (Ended reading last)) ++ 10 ∷ [])) true new (Faithful last)
-says-ended start means text old new reading last whole writes late heard counts reports =
+says-ended start means text old new reading last whole reset writes late heard counts reports =
     let few = few-writes means text old heard in
     let same = lates-count heard.events in (
       refl,
@@ -224,7 +279,7 @@ says-ended start means text old new reading last whole writes late heard counts 
       record {
         events = heard.events;
         reading = reading;
-        lines = rw heard.lines (simp append_assoc);
+        lines = ap (λ lines. lines ++ (line_words (Last (Ended reading last)) ++ 10 ∷ [])) (heard.lines ∙ ap (λ reset. event_lines reset heard.events) (sym reset));
         counts = rw (counts.0, counts.1, counts.2, writes) (counts-of means text old heard);
         values = refl;
         report = λ told all says. rw (counts.0, counts.1, counts.2) (reports means told heard.events says (heard.judged told all));
@@ -244,12 +299,13 @@ says-skipped start means text line over now hearing (Unfaithful number) known go
       says.0,
       record {
         events = refusal.events;
+        reset = refusal.reset;
         written = refusal.written;
         writable = refusal.writable;
         line = refusal.line;
         more = refusal.more ++ line;
-        lines = ap (λ text. text ++ line) refusal.lines ∙ append_assoc (event_lines refusal.events) ((line_words refusal.line ++ 10 ∷ []) ++ refusal.more) line
-            ∙ ap (λ rest. event_lines refusal.events ++ rest) (append_assoc (line_words refusal.line ++ 10 ∷ []) refusal.more line);
+        lines = ap (λ text. text ++ line) refusal.lines ∙ append_assoc (event_lines refusal.reset refusal.events) ((line_words refusal.line ++ 10 ∷ []) ++ refusal.more) line
+            ∙ ap (λ rest. event_lines refusal.reset refusal.events ++ rest) (append_assoc (line_words refusal.line ++ 10 ∷ []) refusal.more line);
         faithful = refusal.faithful;
         refused = refusal.refused;
         numbered = refusal.numbered;
@@ -300,7 +356,7 @@ behind-header before (Some bytes) header torn lines (Some left) lacks none given
 
 -- how far a log came that tells no ending
 stopped-so : (means : List Item → List Item) (text : List ℕ) (over : Bool) (hearing : Hearing) (broken : Option BreakCause) → HasNoEnding means text over hearing broken
-    → (late : List ℕ) × KeepsLate late hearing.late × HasStopped means text broken hearing.judge.heard hearing.judge.said hearing.judge.ended hearing.writes late
+    → (late : List ℕ) × KeepsLate late hearing.late × HasStopped means text broken hearing.judge.heard hearing.judge.said hearing.judge.ended hearing.source_reset hearing.writes late
 stopped-so means text over hearing None says =
     let heard = says.1 in (
       lates heard.events,
@@ -308,7 +364,7 @@ stopped-so means text over hearing None says =
       record {
         events = heard.events;
         bytes = 0;
-        lines = heard.lines ∙ sym (append-nil (event_lines heard.events));
+        lines = heard.lines ∙ sym (append-nil (event_lines hearing.source_reset heard.events));
         counts = counts-of means text hearing heard;
         values = refl;
         faithful = λ told all. (heard.judged told all).faithful;
@@ -349,18 +405,19 @@ pub record KeepsHearing (hearing : Hearing) (judged : JudgedLog) : Type 0 where
   pub heard : judged.heard ≡ hearing.judge.heard
   pub said : judged.said ≡ hearing.judge.said
   pub ended : judged.source_ended ≡ hearing.judge.ended
+  pub reset : judged.source_reset ≡ hearing.source_reset
   pub writes : judged.writes ≡ hearing.writes
   pub late : (values : List ℕ) → KeepsLate values hearing.late → IsLate values judged.late
 
 kept-report : (means : List Item → List Item) (text : List ℕ) (hearing : Hearing) (judged : JudgedLog) (late : List ℕ) (ending : Ending) → KeepsHearing hearing judged
-    → HasReport means text hearing.judge.heard hearing.judge.said hearing.judge.ended hearing.writes late ending
-    → HasReport means text judged.heard judged.said judged.source_ended judged.writes late ending
-kept-report means text hearing judged late ending kept report = rw (kept.heard, kept.said, kept.ended, kept.writes) report
+    → HasReport means text hearing.judge.heard hearing.judge.said hearing.judge.ended hearing.source_reset hearing.writes late ending
+    → HasReport means text judged.heard judged.said judged.source_ended judged.source_reset judged.writes late ending
+kept-report means text hearing judged late ending kept report = rw (kept.heard, kept.said, kept.ended, kept.reset, kept.writes) report
 
 kept-stopped : (means : List Item → List Item) (text : List ℕ) (hearing : Hearing) (judged : JudgedLog) (late : List ℕ) → KeepsHearing hearing judged
-    → HasStopped means text hearing.broken hearing.judge.heard hearing.judge.said hearing.judge.ended hearing.writes late
-    → HasStopped means text judged.broken judged.heard judged.said judged.source_ended judged.writes late
-kept-stopped means text hearing judged late kept stopped = rw (kept.broken, kept.heard, kept.said, kept.ended, kept.writes) stopped
+    → HasStopped means text hearing.broken hearing.judge.heard hearing.judge.said hearing.judge.ended hearing.source_reset hearing.writes late
+    → HasStopped means text judged.broken judged.heard judged.said judged.source_ended judged.source_reset judged.writes late
+kept-stopped means text hearing judged late kept stopped = rw (kept.broken, kept.heard, kept.said, kept.ended, kept.reset, kept.writes) stopped
 
 module _ (before after : Option (List ℕ)) (log last : OpenLog) (hearing end : Hearing) (judged : JudgedLog) (opened : Opens before after log) (begun : BeginsJudging log.heading log.chain hearing)
     (heard : HearsToEnd log last after hearing end) (kept : KeepsHearing end judged) (heading : judged.heading ≡ last.heading) (chain : judged.chain ≡ last.chain)

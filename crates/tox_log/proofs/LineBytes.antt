@@ -23,7 +23,7 @@ use Rattle.tox_log.specs.declared.last_line.BreakCause.{BreakCause}
 use Rattle.tox_log.specs.declared.last_line.BreakCause.TheVariants.{Write, Memory, Thread, Upstream as UpstreamCause, Stopped}
 use Rattle.tox_log.specs.declared.last_line.LastLine.TheVariants.{Ended, Broken}
 use Rattle.tox_log.specs.declared.event_line.LogLine.{LogLine}
-use Rattle.tox_log.specs.declared.event_line.LogLine.TheVariants.{Event, Last}
+use Rattle.tox_log.specs.declared.event_line.LogLine.TheVariants.{Event, SourceReset, Last}
 use Rattle.tox_log.specs.HeaderText.{link_line, seed_line, toxic_line}
 use Rattle.tox_log.specs.LastText.{cause_name}
 use Rattle.tox_log.specs.HeaderLines.{BeginsToxic, IsWritableName, IsWritableToxic}
@@ -75,6 +75,7 @@ first-word : (line : LogLine) → IsWritable line → IsWord (first_words line) 
 first-word (Event (Piece len instant)) writable = number-word instant (omega (arith, writable.0))
 first-word (Event (SourceEnd instant)) writable = number-word instant (omega (arith, writable))
 first-word (Event (Wrote slice reading)) writable = number-word reading (omega (arith, writable.0))
+first-word (SourceReset instant) writable = number-word instant (omega (arith, writable))
 first-word (Last (Ended reading ending)) writable = number-word reading (omega (arith, writable.0))
 first-word (Last (Broken cause bytes)) writable = word-by (codes "broken") 20 refl (omega arith)
 
@@ -90,6 +91,7 @@ rest-word (Event (Wrote slice reading)) writable =
     let both = two-words (decimal slice.span.start ++ codes ".." ++ decimal slice.span.stop) (32 ∷ decimal slice.instant) 42 21 63 (omega arith) range
     (two-words (codes " ") (decimal slice.instant) 1 20 21 (omega arith) (word-by (codes " ") 1 refl (omega arith)) due) in
     two-words (codes "wrote ") ((decimal slice.span.start ++ codes ".." ++ decimal slice.span.stop) ++ 32 ∷ decimal slice.instant) 6 63 100 (omega arith) (word-by (codes "wrote ") 6 refl (omega arith)) both
+rest-word (SourceReset instant) writable = word-by (codes "end reset") 100 refl (omega arith)
 rest-word (Last (Ended reading ending)) writable =
     let word = ending-word ending writable.1 in record { lacks = word.lacks; short = omega (arith, word.short) }
 rest-word (Last (Broken cause bytes)) writable =
@@ -121,6 +123,7 @@ no-toxic line writable (rest, begins) = by line writable (line-cut (codes "toxic
     by (Event (Piece len instant)) writable same = no-number instant (omega (arith, writable.0)) same
     by (Event (SourceEnd instant)) writable same = no-number instant (omega (arith, writable)) same
     by (Event (Wrote slice reading)) writable same = no-number reading (omega (arith, writable.0)) same
+    by (SourceReset instant) writable same = no-number instant (omega (arith, writable)) same
     by (Last (Ended reading ending)) writable same = no-number reading (omega (arith, writable.0)) same
     by (Last (Broken cause bytes)) writable same = other-word (codes "toxic") (codes "broken") refl same
 

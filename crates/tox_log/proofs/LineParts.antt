@@ -1,6 +1,7 @@
 -- Lines, in the parts in which they are read.
-use Rattle.std.proofs.Common.{◌≡◌, ℕ, List, [], ◌∷◌, ◌++◌, Option, IfSome, codes, sym, subst, append_assoc}
+use Rattle.std.proofs.Common.{◌≡◌, ℕ, List, [], ◌∷◌, ◌++◌, Option, IfSome, codes, decimal, sym, subst, append_assoc, append-nil}
 use Rattle.tox_log.specs.declared.event_line.LogLine.{LogLine}
+use Rattle.tox_log.specs.declared.event_line.LogLine.TheVariants.{SourceReset}
 use Rattle.tox_log.specs.Lines.{line_words, IsWritable}
 
 -- a range, a space and an instant
@@ -25,3 +26,7 @@ words-parts front words word rest name is_words is_word = rw (is_words, is_word)
 pub some-line : (read : Option LogLine) (text other : List ℕ) → other ≡ text → IfSome read (λ line. (text ≡ line_words line) × IsWritable line)
     → IfSome read (λ line. (other ≡ line_words line) × IsWritable line)
 some-line read text other same = subst (λ t. IfSome read (λ line. (t ≡ line_words line) × IsWritable line)) (sym same)
+
+-- a reading and the word of a reset, as they are printed
+pub reset-parts : (instant number : ℕ) → number ≡ instant → decimal number ++ (codes " end reset\n" ++ []) ≡ line_words (SourceReset instant) ++ codes "\n"
+reset-parts instant number is = rw is (simp (append_assoc, append-nil))

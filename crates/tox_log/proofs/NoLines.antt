@@ -19,7 +19,7 @@ use Rattle.tox_log.specs.declared.last_line.BreakCause.{BreakCause}
 use Rattle.tox_log.specs.declared.last_line.BreakCause.TheVariants.{Write, Memory, Thread, Upstream, Stopped}
 use Rattle.tox_log.specs.declared.last_line.LastLine.TheVariants.{Ended, Broken}
 use Rattle.tox_log.specs.declared.event_line.LogLine.{LogLine}
-use Rattle.tox_log.specs.declared.event_line.LogLine.TheVariants.{Event, Last}
+use Rattle.tox_log.specs.declared.event_line.LogLine.TheVariants.{Event, SourceReset, Last}
 use Rattle.tox_log.specs.LastText.{cause_name}
 use Rattle.tox_log.specs.Lines.{line_words, IsNoLine, IsWritable, IsWritableSpan, ReadsLine}
 use Rattle.tox_log.specs.Numbers.{Lacks}
@@ -47,6 +47,7 @@ abbrev pub first_words : LogLine → List ℕ
 first_words (Event (Piece len instant)) = decimal instant
 first_words (Event (SourceEnd instant)) = decimal instant
 first_words (Event (Wrote slice reading)) = decimal reading
+first_words (SourceReset instant) = decimal instant
 first_words (Last (Ended reading ending)) = decimal reading
 first_words (Last (Broken cause bytes)) = codes "broken"
 
@@ -55,6 +56,7 @@ abbrev pub rest_words : LogLine → List ℕ
 rest_words (Event (Piece len instant)) = codes "piece" ++ 32 ∷ decimal len
 rest_words (Event (SourceEnd instant)) = codes "end"
 rest_words (Event (Wrote slice reading)) = codes "wrote" ++ 32 ∷ ((decimal slice.span.start ++ codes ".." ++ decimal slice.span.stop) ++ 32 ∷ decimal slice.instant)
+rest_words (SourceReset instant) = codes "end" ++ 32 ∷ codes "reset"
 rest_words (Last (Ended reading ending)) = ending_words ending
 rest_words (Last (Broken cause bytes)) = cause_name cause ++ 32 ∷ decimal bytes
 
@@ -62,6 +64,7 @@ pub line-parts : (line : LogLine) → line_words line ≡ first_words line ++ 32
 line-parts (Event (Piece len instant)) = simp append_assoc
 line-parts (Event (SourceEnd instant)) = refl
 line-parts (Event (Wrote slice reading)) = simp append_assoc
+line-parts (SourceReset instant) = refl
 line-parts (Last (Ended reading ending)) = simp append_assoc
 line-parts (Last (Broken cause bytes)) = simp append_assoc
 
@@ -69,6 +72,7 @@ pub first-lacks : (line : LogLine) → IsWritable line → Lacks 32 (first_words
 first-lacks (Event (Piece len instant)) writable = number-lacks 32 instant (omega arith) (omega (arith, writable.0))
 first-lacks (Event (SourceEnd instant)) writable = number-lacks 32 instant (omega arith) (omega (arith, writable))
 first-lacks (Event (Wrote slice reading)) writable = number-lacks 32 reading (omega arith) (omega (arith, writable.0))
+first-lacks (SourceReset instant) writable = number-lacks 32 instant (omega arith) (omega (arith, writable))
 first-lacks (Last (Ended reading ending)) writable = number-lacks 32 reading (omega arith) (omega (arith, writable.0))
 first-lacks (Last (Broken cause bytes)) writable = lacks-by 32 (codes "broken") refl
 
@@ -85,6 +89,7 @@ no-word n fits same =
 -- what a line has behind its reading
 abbrev pub IsBehind : List ℕ → LogLine → Type 0
 IsBehind words (Event event) = words ≡ rest_words (Event event)
+IsBehind words (SourceReset instant) = words ≡ rest_words (SourceReset instant)
 IsBehind words (Last (Ended reading ending)) = words ≡ ending_words ending
 IsBehind words (Last (Broken cause bytes)) = ⊥
 
@@ -94,6 +99,7 @@ behind reading words fits line writable same = by line (line-cut (decimal readin
   where
     by : (line : LogLine) → (decimal reading ≡ first_words line) × (words ≡ rest_words line) → IsBehind words line
     by (Event event) parts = parts.1
+    by (SourceReset instant) parts = parts.1
     by (Last (Ended r ending)) parts = parts.1
     by (Last (Broken cause bytes)) parts = no-word reading (omega (arith, fits)) parts.0
 
@@ -107,6 +113,7 @@ behind-broken words line writable same = by line writable (line-cut (codes "brok
     by (Event (Piece len instant)) writable parts = absurd (no-word instant (omega (arith, writable.0)) (sym parts.0))
     by (Event (SourceEnd instant)) writable parts = absurd (no-word instant (omega (arith, writable)) (sym parts.0))
     by (Event (Wrote slice reading)) writable parts = absurd (no-word reading (omega (arith, writable.0)) (sym parts.0))
+    by (SourceReset instant) writable parts = absurd (no-word instant (omega (arith, writable)) (sym parts.0))
     by (Last (Ended reading ending)) writable parts = absurd (no-word reading (omega (arith, writable.0)) (sym parts.0))
     by (Last (Broken cause bytes)) writable parts = (cause, bytes, writable, parts.1)
 
@@ -137,6 +144,7 @@ no_reading first rest lacks no_broken none line writable same = by line writable
     by (Event (Piece len instant)) writable parts = none instant writable.0 parts.0
     by (Event (SourceEnd instant)) writable parts = none instant writable parts.0
     by (Event (Wrote slice reading)) writable parts = none reading writable.0 parts.0
+    by (SourceReset instant) writable parts = none instant writable parts.0
     by (Last (Ended reading ending)) writable parts = none reading writable.0 parts.0
     by (Last (Broken cause bytes)) writable parts = no_broken parts.0
 
@@ -148,22 +156,38 @@ no_single reading words fits lacks no_end no_open line writable same = by line (
     by (Event (Piece len instant)) is = stands 32 (codes "piece") (decimal len) (subst (Lacks 32) is lacks)
     by (Event (SourceEnd instant)) is = no_end is
     by (Event (Wrote slice at)) is = stands 32 (codes "wrote") ((decimal slice.span.start ++ codes ".." ++ decimal slice.span.stop) ++ 32 ∷ decimal slice.instant) (subst (Lacks 32) is lacks)
+    by (SourceReset instant) is = stands 32 (codes "end") (codes "reset") (subst (Lacks 32) is lacks)
     by (Last (Ended at StillOpen)) is = no_open is
     by (Last (Ended at (ClosedAt t))) is = stands 32 (codes "closed") (decimal t) (subst (Lacks 32) is lacks)
     by (Last (Ended at (ResetAt t))) is = stands 32 (codes "reset") (decimal t) (subst (Lacks 32) is lacks)
     by (Last (Broken cause bytes)) is = is
 
 -- a piece of no number
-pub no_piece : (reading : ℕ) (bytes : List ℕ) → IsInstant reading → ((n : ℕ) → n ≤ 2 ^ 40 → bytes ≢ decimal n) → IsNoLine (decimal reading ++ 32 ∷ (codes "piece" ++ 32 ∷ bytes))
+pub no_piece : (reading : ℕ) (bytes : List ℕ) → IsInstant reading → ((n : ℕ) → n ≤ 16_384 → bytes ≢ decimal n) → IsNoLine (decimal reading ++ 32 ∷ (codes "piece" ++ 32 ∷ bytes))
 no_piece reading bytes fits none line writable same = by line writable (behind reading (codes "piece" ++ 32 ∷ bytes) fits line writable same)
   where
     by : (line : LogLine) → IsWritable line → IsBehind (codes "piece" ++ 32 ∷ bytes) line → ⊥
     by (Event (Piece len instant)) writable is = let number : bytes ≡ decimal len = cc in none len writable.1 number
     by (Event (SourceEnd instant)) writable is = other-word (codes "piece" ++ 32 ∷ bytes) (codes "end") refl is
     by (Event (Wrote slice at)) writable is = other-word (codes "piece" ++ 32 ∷ bytes) (codes "wrote" ++ 32 ∷ ((decimal slice.span.start ++ codes ".." ++ decimal slice.span.stop) ++ 32 ∷ decimal slice.instant)) refl is
+    by (SourceReset instant) writable is = other-word (codes "piece" ++ 32 ∷ bytes) (codes "end" ++ 32 ∷ codes "reset") refl is
     by (Last (Ended at StillOpen)) writable is = other-word (codes "piece" ++ 32 ∷ bytes) (codes "open") refl is
     by (Last (Ended at (ClosedAt t))) writable is = other-word (codes "piece" ++ 32 ∷ bytes) (codes "closed" ++ 32 ∷ decimal t) refl is
     by (Last (Ended at (ResetAt t))) writable is = other-word (codes "piece" ++ 32 ∷ bytes) (codes "reset" ++ 32 ∷ decimal t) refl is
+    by (Last (Broken cause count)) writable is = is
+
+-- `end` with another word than `reset` behind it
+pub no_end : (reading : ℕ) (how : List ℕ) → IsInstant reading → (how ≢ codes "reset") → IsNoLine (decimal reading ++ 32 ∷ (codes "end" ++ 32 ∷ how))
+no_end reading how fits none line writable same = by line writable (behind reading (codes "end" ++ 32 ∷ how) fits line writable same)
+  where
+    by : (line : LogLine) → IsWritable line → IsBehind (codes "end" ++ 32 ∷ how) line → ⊥
+    by (Event (Piece len instant)) writable is = other-word (codes "end" ++ 32 ∷ how) (codes "piece" ++ 32 ∷ decimal len) refl is
+    by (Event (SourceEnd instant)) writable is = stands 32 (codes "end") how (subst (Lacks 32) (sym is) (lacks-by 32 (codes "end") refl))
+    by (Event (Wrote slice at)) writable is = other-word (codes "end" ++ 32 ∷ how) (codes "wrote" ++ 32 ∷ ((decimal slice.span.start ++ codes ".." ++ decimal slice.span.stop) ++ 32 ∷ decimal slice.instant)) refl is
+    by (SourceReset instant) writable is = let word : how ≡ codes "reset" = cc in none word
+    by (Last (Ended at StillOpen)) writable is = other-word (codes "end" ++ 32 ∷ how) (codes "open") refl is
+    by (Last (Ended at (ClosedAt t))) writable is = other-word (codes "end" ++ 32 ∷ how) (codes "closed" ++ 32 ∷ decimal t) refl is
+    by (Last (Ended at (ResetAt t))) writable is = other-word (codes "end" ++ 32 ∷ how) (codes "reset" ++ 32 ∷ decimal t) refl is
     by (Last (Broken cause count)) writable is = is
 
 -- a slice whose words are none of a slice
@@ -178,6 +202,7 @@ no_wrote reading words fits none line writable same = by line writable (behind r
     by (Event (Wrote slice at)) writable is =
         let range : words ≡ (decimal slice.span.start ++ codes ".." ++ decimal slice.span.stop) ++ 32 ∷ decimal slice.instant = cc in
         none slice writable.1 writable.2 range
+    by (SourceReset instant) writable is = other-word (codes "wrote" ++ 32 ∷ words) (codes "end" ++ 32 ∷ codes "reset") refl is
     by (Last (Ended at StillOpen)) writable is = other-word (codes "wrote" ++ 32 ∷ words) (codes "open") refl is
     by (Last (Ended at (ClosedAt t))) writable is = other-word (codes "wrote" ++ 32 ∷ words) (codes "closed" ++ 32 ∷ decimal t) refl is
     by (Last (Ended at (ResetAt t))) writable is = other-word (codes "wrote" ++ 32 ∷ words) (codes "reset" ++ 32 ∷ decimal t) refl is
@@ -191,10 +216,10 @@ range-lacks span writable =
     (number-lacks 32 span.stop (omega arith) (omega (arith, writable.1)))
 
 -- a word with a number behind it, where it is no event's
-pub no_ending : (reading : ℕ) (name instant : List ℕ) → IsInstant reading → Lacks 32 name → (name ≢ codes "piece") → (name ≢ codes "wrote")
+pub no_ending : (reading : ℕ) (name instant : List ℕ) → IsInstant reading → Lacks 32 name → (name ≢ codes "piece") → (name ≢ codes "wrote") → (name ≢ codes "end")
     → (name ≡ codes "closed" → (n : ℕ) → n ≤ 1_000_000_000_000_000 → instant ≢ decimal n) → (name ≡ codes "reset" → (n : ℕ) → n ≤ 1_000_000_000_000_000 → instant ≢ decimal n)
     → IsNoLine (decimal reading ++ 32 ∷ (name ++ 32 ∷ instant))
-no_ending reading name instant fits lacks piece wrote closed reset line writable same = by line writable (behind reading (name ++ 32 ∷ instant) fits line writable same)
+no_ending reading name instant fits lacks piece wrote ended closed reset line writable same = by line writable (behind reading (name ++ 32 ∷ instant) fits line writable same)
   where
     cut : (word rest : List ℕ) → Lacks 32 word → name ++ 32 ∷ instant ≡ word ++ 32 ∷ rest → (name ≡ word) × (instant ≡ rest)
     cut word rest = cut-once 32 name instant word rest lacks
@@ -206,6 +231,7 @@ no_ending reading name instant fits lacks piece wrote closed reset line writable
     by (Event (Piece len t)) writable is = piece (cut (codes "piece") (decimal len) (lacks-by 32 (codes "piece") refl) is).0
     by (Event (SourceEnd t)) writable is = single (codes "end") (lacks-by 32 (codes "end") refl) is
     by (Event (Wrote slice at)) writable is = wrote (cut (codes "wrote") ((decimal slice.span.start ++ codes ".." ++ decimal slice.span.stop) ++ 32 ∷ decimal slice.instant) (lacks-by 32 (codes "wrote") refl) is).0
+    by (SourceReset t) writable is = ended (cut (codes "end") (codes "reset") (lacks-by 32 (codes "end") refl) is).0
     by (Last (Ended at StillOpen)) writable is = single (codes "open") (lacks-by 32 (codes "open") refl) is
     by (Last (Ended at (ClosedAt t))) writable is = let parts = cut (codes "closed") (decimal t) (lacks-by 32 (codes "closed") refl) is in closed parts.0 t writable.1 parts.1
     by (Last (Ended at (ResetAt t))) writable is = let parts = cut (codes "reset") (decimal t) (lacks-by 32 (codes "reset") refl) is in reset parts.0 t writable.1 parts.1

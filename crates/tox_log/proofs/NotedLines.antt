@@ -2,7 +2,7 @@
 use Rattle.std.proofs.Common.{◌≡◌, ℕ, ◌+◌, ◌<◌, ◌≤◌, ◌^◌, ◌⊎◌, inl, inr, Bool, true, false, List, [], ◌∷◌, ◌++◌, length, map, take, drop, refl, ap, sym, subst, ◌∙◌, add-zero, zero-add, append-nil, arith}
 use Rattle.std.specs.Prelude.{All, Contains, Option}
 use Rattle.std.proofs.lemmas.List.{take-append-drop, take_all}
-use Rattle.std.proofs.lemmas.List.Elements.{All-cons, All-nil, All-contains, Contains-append_cases, Contains-append_left, Contains-push_cases}
+use Rattle.std.proofs.lemmas.List.Elements.{All-cons, All-head, All-nil, All-tail, All-contains, Contains-append_cases, Contains-append_left, Contains-push_cases}
 use Rattle.tox_time.specs.declared.streams.ending.Ending.{Ending}
 use Rattle.tox_time.specs.declared.streams.ending.Ending.TheVariants.{StillOpen, Closed as ClosedAt, Reset as ResetAt}
 use Rattle.tox_time.specs.declared.streams.item.Item.{Item}
@@ -17,22 +17,23 @@ use Rattle.tox_link.specs.declared.notes.LinkEvent.{LinkEvent}
 use Rattle.tox_link.specs.declared.notes.LinkEvent.TheVariants.{Piece, SourceEnd, Wrote}
 use Rattle.tox_link.specs.declared.ring.message.ReadEnd.{ReadEnd}
 use Rattle.tox_link.specs.log.Carried.{IsBy}
-use Rattle.tox_link.specs.log.Log.{HearsNothing, IsFaithful, IsGapless, IsHeardInOrder, IsShallowBehind, IsTimely, SaysHeard, heard, heard_bytes, heard_from, reading_of, said}
+use Rattle.tox_link.specs.log.Log.{HasSmallPieces, HearsNothing, IsFaithful, IsGapless, IsHeardInOrder, IsShallowBehind, IsTimely, SaysHeard, heard, heard_bytes, heard_from, heard_lens, reading_of, said}
 use Rattle.tox_link.specs.log.Logged.{IsCutOff, IsReached}
 use Rattle.tox_link.specs.Reports.{ReportsAt}
 use Rattle.tox_link.proofs.Depths.{shallow-front}
 use Rattle.tox_link.proofs.Logs.{gapless-bytes, stream-earlier}
 use Rattle.tox_log.specs.declared.event_line.LogLine.{LogLine}
-use Rattle.tox_log.specs.declared.event_line.LogLine.TheVariants.{Event, Last}
+use Rattle.tox_log.specs.declared.event_line.LogLine.TheVariants.{Event, SourceReset, Last}
 use Rattle.tox_log.specs.declared.last_line.BreakCause.{BreakCause}
 use Rattle.tox_log.specs.declared.last_line.LastLine.TheVariants.{Ended, Broken}
+use Rattle.tox_log.specs.EventLines.{logged_line}
 use Rattle.tox_log.specs.Lines.{IsWritableEnding}
 use Rattle.tox_log.specs.LinkLog.{IsReported, events_in}
 use Rattle.tox_log.specs.NotedLines.{AreNoted, broken_lines, ended_lines}
 use Rattle.tox_log.specs.Order.{heard_with}
 use Rattle.tox_log.specs.Reading.{is_last}
 use Rattle.tox_log.specs.WrittenLog.{AreInOrder}
-use Rattle.tox_log.proofs.Keeping.{events-of, faithful-front}
+use Rattle.tox_log.proofs.Keeping.{events-of, faithful-front, logged-goes}
 
 -- What may still be heard, where the source has ended or not
 abbrev HearsOn : Bool → List LinkEvent → Type 0
@@ -68,32 +69,32 @@ module _ (told : ℕ → Type 0) (instants : (t : ℕ) → told t → IsInstant 
 
   -- each event may come next, and so may the lines behind them
   in-order : (most stop : ℕ) (tail : List LogLine) → ((heard : StreamPosition) → heard.latest ≤ most → AreInOrder heard tail) → stop ≤ 2 ^ 40
-      → (heard : StreamPosition) (start : ℕ) (events : List LinkEvent) → IsTimely told heard.latest events → HearsOn heard.ended events → heard.position + heard_bytes events ≤ 2 ^ 40
+      → (heard : StreamPosition) (start : ℕ) (events : List LinkEvent) → IsTimely told heard.latest events → HasSmallPieces events → HearsOn heard.ended events → heard.position + heard_bytes events ≤ 2 ^ 40
       → IsGapless start (said events) stop → IsBy most events → heard.latest ≤ most → AreInOrder heard (map Event events ++ tail)
-  in-order most stop tail behind few heard start [] timely order fits gapless by late = behind heard late
-  in-order most stop tail behind few heard start (Piece len t ∷ events) timely order fits gapless by late =
+  in-order most stop tail behind few heard start [] timely small order fits gapless by late = behind heard late
+  in-order most stop tail behind few heard start (Piece len t ∷ events) timely small order fits gapless by late =
       let on = hears-piece heard.ended len t events order in
       let bound = instants t timely.0 in (
-        (bound, omega (arith, fits)),
+        (bound, All-head (λ len. len ≤ 16_384) len (heard_lens events) small),
         (timely.1, bound, on.1, omega (arith, fits), on.0),
         (λ last. cc),
-        in-order most stop tail behind few (heard_with heard (Event (Piece len t))) start events timely.3 on.2 (omega (arith, fits)) gapless by.1 by.0,
+        in-order most stop tail behind few (heard_with heard (Event (Piece len t))) start events timely.3 (All-tail (λ len. len ≤ 16_384) len (heard_lens events) small) on.2 (omega (arith, fits)) gapless by.1 by.0,
       )
-  in-order most stop tail behind few heard start (SourceEnd t ∷ events) timely order fits gapless by late =
+  in-order most stop tail behind few heard start (SourceEnd t ∷ events) timely small order fits gapless by late =
       let on = hears-end heard.ended t events order in
       let bound = instants t timely.0 in (
         bound,
         (timely.1, bound, on.0),
         (λ last. cc),
-        in-order most stop tail behind few (heard_with heard (Event (SourceEnd t))) start events timely.3 on.1 fits gapless by.1 by.0,
+        in-order most stop tail behind few (heard_with heard (Event (SourceEnd t))) start events timely.3 small on.1 fits gapless by.1 by.0,
       )
-  in-order most stop tail behind few heard start (Wrote slice t ∷ events) timely order fits gapless by late =
+  in-order most stop tail behind few heard start (Wrote slice t ∷ events) timely small order fits gapless by late =
       let bound = instants t timely.0 in
       let within = gapless-within slice.span.stop stop (said events) gapless.2 in (
         (bound, (omega (arith, gapless.0, gapless.1, within, few), omega (arith, within, few)), omega (arith, timely.2, bound)),
         timely.1,
         (λ last. cc),
-        in-order most stop tail behind few (heard_with heard (Event (Wrote slice t))) slice.span.stop events timely.3 (hears-wrote heard.ended slice t events order) fits gapless.2 by.1 by.0,
+        in-order most stop tail behind few (heard_with heard (Event (Wrote slice t))) slice.span.stop events timely.3 small (hears-wrote heard.ended slice t events order) fits gapless.2 by.1 by.0,
       )
 
   -- what is heard of them is a stream
@@ -152,16 +153,25 @@ module _ (told : ℕ → Type 0) (instants : (t : ℕ) → told t → IsInstant 
           hears = report.hears;
         }
 
--- No event's line is a last line
-all-events : (events : List LinkEvent) → (line : LogLine) → Contains (map Event events) line → is_last line ≡ false
-all-events events line = All-contains (λ line. is_last line ≡ false) (map Event events) line (each events)
-  where
-    each : (events : List LinkEvent) → All (λ line. is_last line ≡ false) (map Event events)
-    each [] = All-nil (λ line. is_last line ≡ false)
-    each (event ∷ events) = All-cons (λ line. is_last line ≡ false) (Event event) (map Event events) refl (each events)
+-- The lines of events, where a source's end may be told as a reset
 
-events-behind : (events : List LinkEvent) (tail : List LogLine) → events_in tail ≡ [] → events_in (map Event events ++ tail) ≡ events
-events-behind events tail none = events-of events tail ∙ ap (λ rest. events ++ rest) none ∙ append-nil events
+order-logged : (reset : Bool) (heard : StreamPosition) (events : List LinkEvent) (tail : List LogLine) → AreInOrder heard (map Event events ++ tail) → AreInOrder heard (map (logged_line reset) events ++ tail)
+order-logged reset heard [] tail order = order
+order-logged false heard (event ∷ events) tail order = (order.0, order.1, (λ last. cc), order-logged false (heard_with heard (Event event)) events tail order.3)
+order-logged true heard (Piece len t ∷ events) tail order = (order.0, order.1, (λ last. cc), order-logged true (heard_with heard (Event (Piece len t))) events tail order.3)
+order-logged true heard (SourceEnd t ∷ events) tail order = (order.0, order.1, (λ last. cc), order-logged true (heard_with heard (SourceReset t)) events tail order.3)
+order-logged true heard (Wrote slice t ∷ events) tail order = (order.0, order.1, (λ last. cc), order-logged true (heard_with heard (Event (Wrote slice t))) events tail order.3)
+
+-- no event's line is a last line
+all-events : (reset : Bool) (events : List LinkEvent) → (line : LogLine) → Contains (map (logged_line reset) events) line → is_last line ≡ false
+all-events reset events line = All-contains (λ line. is_last line ≡ false) (map (logged_line reset) events) line (each events)
+  where
+    each : (events : List LinkEvent) → All (λ line. is_last line ≡ false) (map (logged_line reset) events)
+    each [] = All-nil (λ line. is_last line ≡ false)
+    each (event ∷ events) = All-cons (λ line. is_last line ≡ false) (logged_line reset event) (map (logged_line reset) events) (logged-goes reset event) (each events)
+
+events-behind : (reset : Bool) (events : List LinkEvent) (tail : List LogLine) → events_in tail ≡ [] → events_in (map (logged_line reset) events ++ tail) ≡ events
+events-behind reset events tail none = events-of reset events tail ∙ ap (λ rest. events ++ rest) none ∙ append-nil events
 
 said-stop : (means : List Item → List Item) (told : ℕ → Type 0) (events : List LinkEvent) → IsFaithful means told events → SaysHeard events → (stop : ℕ) × IsGapless 0 (said events) stop × (stop ≤ 2 ^ 40)
 said-stop means told events faithful of_heard =
@@ -171,53 +181,55 @@ said-stop means told events faithful of_heard =
     (gapless.0, gapless.1, omega (arith, long, of_heard.heard, of_heard.few))
 
 -- the lines of a link that ended
-pub noted-ended : (told : ℕ → Type 0) → ((t : ℕ) → told t → IsInstant t) → (means : List Item → List Item) (events : List LinkEvent) (taken written reading : ℕ) (last : Ending) (source : Option ReadEnd)
-    → ReportsAt means told events taken written last source reading → SaysHeard events → AreNoted means (ended_lines events reading last)
-noted-ended told instants means events taken written reading last source report of_heard =
+pub noted-ended : (told : ℕ → Type 0) → ((t : ℕ) → told t → IsInstant t) → (means : List Item → List Item) (reset : Bool) (events : List LinkEvent) (taken written reading : ℕ) (last : Ending) (source : Option ReadEnd)
+    → ReportsAt means told events taken written last source reading → SaysHeard events → AreNoted means (ended_lines reset events reading last)
+noted-ended told instants means reset events taken written reading last source report of_heard =
     let bound = instants reading report.says in
     let (stop, gapless, few) = said-stop means told events report.faithful of_heard in
     let line : LogLine = Last (Ended reading last) in
     record {
-      in_order = in-order told instants reading stop (line ∷ []) (λ heard late. ((bound, writable-ending reading last bound report.reached), late, (λ over. refl), tt)) few first_position 0 events report.faithful.timely report.faithful.ordered
-          (omega (arith, of_heard.few)) gapless report.by (omega arith);
+      in_order = order-logged reset first_position events (line ∷ [])
+          (in-order told instants reading stop (line ∷ []) (λ heard late. ((bound, writable-ending reading last bound report.reached), late, (λ over. refl), tt)) few first_position 0 events report.faithful.timely of_heard.small report.faithful.ordered
+          (omega (arith, of_heard.few)) gapless report.by (omega arith));
       linked = λ other same.
-          let here : events_in (map Event events ++ line ∷ []) ≡ events = events-behind events (line ∷ []) refl in
+          let here : events_in (map (logged_line reset) events ++ line ∷ []) ≡ events = events-behind reset events (line ∷ []) refl in
           let reported : IsReported other (λ reading. true) events reading last
           = record { taken = taken; written = written; source = source; report = reports-other told instants means other same events taken written reading last source report } in
           record {
             faithful = subst (IsFaithful other (λ t. true ≡ true)) (sym here) (faithful-other told instants means other same events report.faithful);
-            reported = λ at end has. subst (λ events. IsReported other (λ reading. true) events at end) (sym here) (is-last (IsReported other (λ reading. true) events) at end reported (Contains-push_cases (map Event events) line (Last (Ended at end)) has));
+            reported = λ at end has. subst (λ events. IsReported other (λ reading. true) events at end) (sym here) (is-last (IsReported other (λ reading. true) events) at end reported (Contains-push_cases (map (logged_line reset) events) line (Last (Ended at end)) has));
           };
-      shallow = subst (IsShallowBehind []) (sym (events-behind events (line ∷ []) refl)) of_heard.shallow;
+      shallow = subst (IsShallowBehind []) (sym (events-behind reset events (line ∷ []) refl)) of_heard.shallow;
     }
   where
-    is-last : (P : ℕ → Ending → Type 0) (at : ℕ) (end : Ending) → P reading last → Contains (map Event events) (Last (Ended at end)) ⊎ (Last (Ended reading last) ≡ Last (Ended at end)) → P at end
-    is-last P at end here (inl among) = let event = all-events events (Last (Ended at end)) among in cc
+    is-last : (P : ℕ → Ending → Type 0) (at : ℕ) (end : Ending) → P reading last → Contains (map (logged_line reset) events) (Last (Ended at end)) ⊎ (Last (Ended reading last) ≡ Last (Ended at end)) → P at end
+    is-last P at end here (inl among) = let event = all-events reset events (Last (Ended at end)) among in cc
     is-last P at end here (inr same) =
         let at_is : reading ≡ at = cc in
         let end_is : last ≡ end = cc in
         subst (λ at. P at end) at_is (subst (P reading) end_is here)
 
 -- the lines of a link that broke off
-pub noted-broken : (told : ℕ → Type 0) → ((t : ℕ) → told t → IsInstant t) → (means : List Item → List Item) (events : List LinkEvent) (written : ℕ) (cause : BreakCause) → IsCutOff means told written events
-    → AreNoted means (broken_lines events cause written)
-noted-broken told instants means events written cause cut =
+pub noted-broken : (told : ℕ → Type 0) → ((t : ℕ) → told t → IsInstant t) → (means : List Item → List Item) (reset : Bool) (events : List LinkEvent) (written : ℕ) (cause : BreakCause) → IsCutOff means told written events
+    → AreNoted means (broken_lines reset events cause written)
+noted-broken told instants means reset events written cause cut =
     let (stop, gapless, few) = said-stop means told events cut.faithful cut.of_heard in
     let line : LogLine = Last (Broken cause written) in
     record {
-      in_order = in-order told instants horizon stop (line ∷ []) (λ heard late. (omega (arith, cut.within, cut.of_heard.few), tt, (λ over. refl), tt)) few first_position 0 events cut.faithful.timely cut.faithful.ordered
-          (omega (arith, cut.of_heard.few)) gapless (by-horizon told instants 0 events cut.faithful.timely) (omega arith);
+      in_order = order-logged reset first_position events (line ∷ [])
+          (in-order told instants horizon stop (line ∷ []) (λ heard late. (omega (arith, cut.within, cut.of_heard.few), tt, (λ over. refl), tt)) few first_position 0 events cut.faithful.timely cut.of_heard.small cut.faithful.ordered
+          (omega (arith, cut.of_heard.few)) gapless (by-horizon told instants 0 events cut.faithful.timely) (omega arith));
       linked = λ other same.
-          let here : events_in (map Event events ++ line ∷ []) ≡ events = events-behind events (line ∷ []) refl in
+          let here : events_in (map (logged_line reset) events ++ line ∷ []) ≡ events = events-behind reset events (line ∷ []) refl in
           record {
             faithful = subst (IsFaithful other (λ t. true ≡ true)) (sym here) (faithful-other told instants means other same events cut.faithful);
-            reported = λ at end has. absurd (no-last at end (Contains-push_cases (map Event events) line (Last (Ended at end)) has));
+            reported = λ at end has. absurd (no-last at end (Contains-push_cases (map (logged_line reset) events) line (Last (Ended at end)) has));
           };
-      shallow = subst (IsShallowBehind []) (sym (events-behind events (line ∷ []) refl)) cut.of_heard.shallow;
+      shallow = subst (IsShallowBehind []) (sym (events-behind reset events (line ∷ []) refl)) cut.of_heard.shallow;
     }
   where
-    no-last : (at : ℕ) (end : Ending) → Contains (map Event events) (Last (Ended at end)) ⊎ (Last (Broken cause written) ≡ Last (Ended at end)) → ⊥
-    no-last at end (inl among) = let event = all-events events (Last (Ended at end)) among in cc
+    no-last : (at : ℕ) (end : Ending) → Contains (map (logged_line reset) events) (Last (Ended at end)) ⊎ (Last (Broken cause written) ≡ Last (Ended at end)) → ⊥
+    no-last at end (inl among) = let event = all-events reset events (Last (Ended at end)) among in cc
     no-last at end (inr same) = cc
 
 -- The front of a log
@@ -246,6 +258,7 @@ last-behind heard (first ∷ front) back line order has last = by (λ among. las
 events-front : (front back : List LogLine) → events_in (front ++ back) ≡ events_in front ++ events_in back
 events-front [] back = refl
 events-front (Event event ∷ front) back = ap (λ rest. event ∷ rest) (events-front front back)
+events-front (SourceReset instant ∷ front) back = ap (λ rest. SourceEnd instant ∷ rest) (events-front front back)
 events-front (Last last ∷ front) back = events-front front back
 
 pub noted-front : (means : List Item → List Item) (front back : List LogLine) → AreNoted means (front ++ back) → AreNoted means front

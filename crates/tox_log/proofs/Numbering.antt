@@ -10,11 +10,12 @@ use Rattle.tox_log.specs.declared.event_line.LogLine.TheVariants.{Event}
 use Rattle.tox_log.specs.declared.open_log.OpenLog.{OpenLog}
 use Rattle.tox_log.specs.declared.replay.Hearing.{Hearing}
 use Rattle.tox_log.specs.Opening.{AddsToxic}
-use Rattle.tox_log.specs.EventText.{event_words}
-use Rattle.tox_log.specs.Hearing.{HasHeard, event_lines}
+use Rattle.tox_log.specs.EventLines.{event_lines, logged_line}
+use Rattle.tox_log.specs.Hearing.{HasHeard}
 use Rattle.tox_log.specs.Lines.{IsWritable, line_words}
 use Rattle.tox_log.specs.Numbers.{Lacks}
 use Rattle.tox_log.specs.Reading.{CountsOn, IsLineNumber, next_number}
+use Rattle.tox_log.proofs.Keeping.{logged-writable}
 use Rattle.tox_log.proofs.LineBytes.{line-feedless}
 
 -- the number of the line behind a text that begins with line `start`
@@ -41,17 +42,18 @@ behind-one start line writable =
 pub behind-line : (start : ℕ) (text : List ℕ) (line : LogLine) → IsWritable line → number_behind start (text ++ (line_words line ++ 10 ∷ [])) ≡ number_behind start text + 1
 behind-line start text line writable = behind-append start text (line_words line ++ 10 ∷ []) ∙ behind-one (number_behind start text) line writable
 
-behind-events : (start : ℕ) (events : List LinkEvent) → All (λ event. IsWritable (Event event)) events → number_behind start (event_lines events) ≡ start + length events
-behind-events start [] written = omega arith
-behind-events start (event ∷ events) written =
-    let rest = behind-events (start + 1) events (All-tail (λ event. IsWritable (Event event)) event events written) in
-    behind-append start (event_words event ++ 10 ∷ []) (event_lines events)
-    ∙ ap (λ start. number_behind start (event_lines events)) (behind-one start (Event event) (All-head (λ event. IsWritable (Event event)) event events written))
+behind-events : (reset : Bool) (start : ℕ) (events : List LinkEvent) → All (λ event. IsWritable (Event event)) events → number_behind start (event_lines reset events) ≡ start + length events
+behind-events reset start [] written = omega arith
+behind-events reset start (event ∷ events) written =
+    let rest = behind-events reset (start + 1) events (All-tail (λ event. IsWritable (Event event)) event events written) in
+    let line : LogLine = logged_line reset event in
+    behind-append start (line_words line ++ 10 ∷ []) (event_lines reset events)
+    ∙ ap (λ start. number_behind start (event_lines reset events)) (behind-one start line (logged-writable reset event (All-head (λ event. IsWritable (Event event)) event events written)))
     ∙ omega (arith, rest)
 
 -- the lines of events
 pub behind-heard : (start : ℕ) (means : List Item → List Item) (text : List ℕ) (hearing : Hearing) (heard : HasHeard means text hearing) → number_behind start text ≡ start + length heard.events
-behind-heard start means text hearing heard = ap (number_behind start) heard.lines ∙ behind-events start heard.events heard.written
+behind-heard start means text hearing heard = ap (number_behind start) heard.lines ∙ behind-events hearing.source_reset start heard.events heard.written
 
 -- The lines of the header
 

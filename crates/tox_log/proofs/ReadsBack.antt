@@ -1,5 +1,5 @@
 -- A line is read back first_slice itself: two lines that print the same are the same.
-use Rattle.std.proofs.Common.{◌≡◌, ℕ, ◌^◌, ◌≤◌, List, ◌∷◌, ◌++◌, Option, Some, None, codes, refl, ap, sym, ◌∙◌, append_assoc, arith}
+use Rattle.std.proofs.Common.{◌≡◌, ℕ, ◌^◌, ◌≤◌, List, ◌∷◌, ◌++◌, Option, Some, None, codes, refl, ap, sym, subst, ◌∙◌, append_assoc, arith}
 use Rattle.std.specs.Fmt.{decimal}
 use Rattle.std.proofs.lemmas.Fmt.{decimal_injective}
 use Rattle.tox_time.specs.declared.streams.slice.Slice.{Slice}
@@ -11,11 +11,12 @@ use Rattle.tox_log.specs.declared.last_line.BreakCause.{BreakCause}
 use Rattle.tox_log.specs.declared.last_line.BreakCause.TheVariants.{Write, Memory, Thread, Upstream, Stopped}
 use Rattle.tox_log.specs.declared.last_line.LastLine.TheVariants.{Ended, Broken}
 use Rattle.tox_log.specs.declared.event_line.LogLine.{LogLine}
-use Rattle.tox_log.specs.declared.event_line.LogLine.TheVariants.{Event, Last}
+use Rattle.tox_log.specs.declared.event_line.LogLine.TheVariants.{Event, SourceReset, Last}
 use Rattle.tox_log.specs.LastText.{cause_name}
 use Rattle.tox_log.specs.Lines.{line_words, IsWritable, IsWritableSpan, ReadsLine}
-use Rattle.tox_log.proofs.Cuts.{cut-once, number-lacks}
-use Rattle.tox_log.proofs.NoLines.{cause-cut, cause-lacks, first-lacks, first_words, line-cut, line-parts, no-word, other-word, range-lacks, rest_words, span-cut}
+use Rattle.tox_log.specs.Numbers.{Lacks}
+use Rattle.tox_log.proofs.Cuts.{cut-once, number-lacks, stands}
+use Rattle.tox_log.proofs.NoLines.{cause-cut, cause-lacks, first-lacks, first_words, lacks-by, line-cut, line-parts, no-word, other-word, range-lacks, rest_words, span-cut}
 
 -- numbers up to 10^15 that print the same
 same-instant : (m n : ℕ) → IsInstant m → IsInstant n → decimal m ≡ decimal n → m ≡ n
@@ -80,9 +81,10 @@ same-parts : (a b : LogLine) → IsWritable a → IsWritable b → first_words a
 same-parts (Event (Piece an at)) (Event (Piece bn bt)) wa wb first rest =
     let t : at ≡ bt = same-instant at bt wa.0 wb.0 first in
     let digits : decimal an ≡ decimal bn = cc in
-    let n : an ≡ bn = same-count an bn wa.1 wb.1 digits in cc
+    let n : an ≡ bn = same-count an bn (omega (arith, wa.1)) (omega (arith, wb.1)) digits in cc
 same-parts (Event (Piece an at)) (Event (SourceEnd bt)) wa wb first rest = absurd (other-word (rest_words (Event (Piece an at))) (rest_words (Event (SourceEnd bt))) refl rest)
 same-parts (Event (Piece an at)) (Event (Wrote other_slice bt)) wa wb first rest = absurd (other-word (rest_words (Event (Piece an at))) (rest_words (Event (Wrote other_slice bt))) refl rest)
+same-parts (Event (Piece an at)) (SourceReset bt) wa wb first rest = absurd (other-word (rest_words (Event (Piece an at))) (rest_words (SourceReset bt)) refl rest)
 same-parts (Event (Piece an at)) (Last (Ended bt StillOpen)) wa wb first rest = absurd (other-word (rest_words (Event (Piece an at))) (rest_words (Last (Ended bt StillOpen))) refl rest)
 same-parts (Event (Piece an at)) (Last (Ended bt (ClosedAt bu))) wa wb first rest = absurd (other-word (rest_words (Event (Piece an at))) (rest_words (Last (Ended bt (ClosedAt bu)))) refl rest)
 same-parts (Event (Piece an at)) (Last (Ended bt (ResetAt bu))) wa wb first rest = absurd (other-word (rest_words (Event (Piece an at))) (rest_words (Last (Ended bt (ResetAt bu)))) refl rest)
@@ -91,6 +93,7 @@ same-parts (Event (SourceEnd at)) (Event (Piece bn bt)) wa wb first rest = absur
 same-parts (Event (SourceEnd at)) (Event (SourceEnd bt)) wa wb first rest =
     let t : at ≡ bt = same-instant at bt wa wb first in cc
 same-parts (Event (SourceEnd at)) (Event (Wrote other_slice bt)) wa wb first rest = absurd (other-word (rest_words (Event (SourceEnd at))) (rest_words (Event (Wrote other_slice bt))) refl rest)
+same-parts (Event (SourceEnd at)) (SourceReset bt) wa wb first rest = absurd (stands 32 (codes "end") (codes "reset") (subst (Lacks 32) rest (lacks-by 32 (codes "end") refl)))
 same-parts (Event (SourceEnd at)) (Last (Ended bt StillOpen)) wa wb first rest = absurd (other-word (rest_words (Event (SourceEnd at))) (rest_words (Last (Ended bt StillOpen))) refl rest)
 same-parts (Event (SourceEnd at)) (Last (Ended bt (ClosedAt bu))) wa wb first rest = absurd (other-word (rest_words (Event (SourceEnd at))) (rest_words (Last (Ended bt (ClosedAt bu)))) refl rest)
 same-parts (Event (SourceEnd at)) (Last (Ended bt (ResetAt bu))) wa wb first rest = absurd (other-word (rest_words (Event (SourceEnd at))) (rest_words (Last (Ended bt (ResetAt bu)))) refl rest)
@@ -100,13 +103,24 @@ same-parts (Event (Wrote first_slice at)) (Event (SourceEnd bt)) wa wb first res
 same-parts (Event (Wrote first_slice at)) (Event (Wrote other_slice bt)) wa wb first rest =
     let t : at ≡ bt = same-instant at bt wa.0 wb.0 first in
     let slice : first_slice ≡ other_slice = same-slice first_slice other_slice wa.1 wa.2 wb.1 wb.2 cc in cc
+same-parts (Event (Wrote first_slice at)) (SourceReset bt) wa wb first rest = absurd (other-word (rest_words (Event (Wrote first_slice at))) (rest_words (SourceReset bt)) refl rest)
 same-parts (Event (Wrote first_slice at)) (Last (Ended bt StillOpen)) wa wb first rest = absurd (other-word (rest_words (Event (Wrote first_slice at))) (rest_words (Last (Ended bt StillOpen))) refl rest)
 same-parts (Event (Wrote first_slice at)) (Last (Ended bt (ClosedAt bu))) wa wb first rest = absurd (other-word (rest_words (Event (Wrote first_slice at))) (rest_words (Last (Ended bt (ClosedAt bu)))) refl rest)
 same-parts (Event (Wrote first_slice at)) (Last (Ended bt (ResetAt bu))) wa wb first rest = absurd (other-word (rest_words (Event (Wrote first_slice at))) (rest_words (Last (Ended bt (ResetAt bu)))) refl rest)
 same-parts (Event (Wrote first_slice at)) (Last (Broken bc bn)) wa wb first rest = absurd (no-word at (omega (arith, wa.0)) first)
+same-parts (SourceReset at) (Event (Piece bn bt)) wa wb first rest = absurd (other-word (rest_words (SourceReset at)) (rest_words (Event (Piece bn bt))) refl rest)
+same-parts (SourceReset at) (Event (SourceEnd bt)) wa wb first rest = absurd (stands 32 (codes "end") (codes "reset") (subst (Lacks 32) (sym rest) (lacks-by 32 (codes "end") refl)))
+same-parts (SourceReset at) (Event (Wrote other_slice bt)) wa wb first rest = absurd (other-word (rest_words (SourceReset at)) (rest_words (Event (Wrote other_slice bt))) refl rest)
+same-parts (SourceReset at) (SourceReset bt) wa wb first rest =
+    let t : at ≡ bt = same-instant at bt wa wb first in cc
+same-parts (SourceReset at) (Last (Ended bt StillOpen)) wa wb first rest = absurd (other-word (rest_words (SourceReset at)) (rest_words (Last (Ended bt StillOpen))) refl rest)
+same-parts (SourceReset at) (Last (Ended bt (ClosedAt bu))) wa wb first rest = absurd (other-word (rest_words (SourceReset at)) (rest_words (Last (Ended bt (ClosedAt bu)))) refl rest)
+same-parts (SourceReset at) (Last (Ended bt (ResetAt bu))) wa wb first rest = absurd (other-word (rest_words (SourceReset at)) (rest_words (Last (Ended bt (ResetAt bu)))) refl rest)
+same-parts (SourceReset at) (Last (Broken bc bn)) wa wb first rest = absurd (no-word at (omega (arith, wa)) first)
 same-parts (Last (Ended at StillOpen)) (Event (Piece bn bt)) wa wb first rest = absurd (other-word (rest_words (Last (Ended at StillOpen))) (rest_words (Event (Piece bn bt))) refl rest)
 same-parts (Last (Ended at StillOpen)) (Event (SourceEnd bt)) wa wb first rest = absurd (other-word (rest_words (Last (Ended at StillOpen))) (rest_words (Event (SourceEnd bt))) refl rest)
 same-parts (Last (Ended at StillOpen)) (Event (Wrote other_slice bt)) wa wb first rest = absurd (other-word (rest_words (Last (Ended at StillOpen))) (rest_words (Event (Wrote other_slice bt))) refl rest)
+same-parts (Last (Ended at StillOpen)) (SourceReset bt) wa wb first rest = absurd (other-word (rest_words (Last (Ended at StillOpen))) (rest_words (SourceReset bt)) refl rest)
 same-parts (Last (Ended at StillOpen)) (Last (Ended bt StillOpen)) wa wb first rest =
     let t : at ≡ bt = same-instant at bt wa.0 wb.0 first in cc
 same-parts (Last (Ended at StillOpen)) (Last (Ended bt (ClosedAt bu))) wa wb first rest = absurd (other-word (rest_words (Last (Ended at StillOpen))) (rest_words (Last (Ended bt (ClosedAt bu)))) refl rest)
@@ -115,6 +129,7 @@ same-parts (Last (Ended at StillOpen)) (Last (Broken bc bn)) wa wb first rest = 
 same-parts (Last (Ended at (ClosedAt au))) (Event (Piece bn bt)) wa wb first rest = absurd (other-word (rest_words (Last (Ended at (ClosedAt au)))) (rest_words (Event (Piece bn bt))) refl rest)
 same-parts (Last (Ended at (ClosedAt au))) (Event (SourceEnd bt)) wa wb first rest = absurd (other-word (rest_words (Last (Ended at (ClosedAt au)))) (rest_words (Event (SourceEnd bt))) refl rest)
 same-parts (Last (Ended at (ClosedAt au))) (Event (Wrote other_slice bt)) wa wb first rest = absurd (other-word (rest_words (Last (Ended at (ClosedAt au)))) (rest_words (Event (Wrote other_slice bt))) refl rest)
+same-parts (Last (Ended at (ClosedAt au))) (SourceReset bt) wa wb first rest = absurd (other-word (rest_words (Last (Ended at (ClosedAt au)))) (rest_words (SourceReset bt)) refl rest)
 same-parts (Last (Ended at (ClosedAt au))) (Last (Ended bt StillOpen)) wa wb first rest = absurd (other-word (rest_words (Last (Ended at (ClosedAt au)))) (rest_words (Last (Ended bt StillOpen))) refl rest)
 same-parts (Last (Ended at (ClosedAt au))) (Last (Ended bt (ClosedAt bu))) wa wb first rest =
     let t : at ≡ bt = same-instant at bt wa.0 wb.0 first in
@@ -125,6 +140,7 @@ same-parts (Last (Ended at (ClosedAt au))) (Last (Broken bc bn)) wa wb first res
 same-parts (Last (Ended at (ResetAt au))) (Event (Piece bn bt)) wa wb first rest = absurd (other-word (rest_words (Last (Ended at (ResetAt au)))) (rest_words (Event (Piece bn bt))) refl rest)
 same-parts (Last (Ended at (ResetAt au))) (Event (SourceEnd bt)) wa wb first rest = absurd (other-word (rest_words (Last (Ended at (ResetAt au)))) (rest_words (Event (SourceEnd bt))) refl rest)
 same-parts (Last (Ended at (ResetAt au))) (Event (Wrote other_slice bt)) wa wb first rest = absurd (other-word (rest_words (Last (Ended at (ResetAt au)))) (rest_words (Event (Wrote other_slice bt))) refl rest)
+same-parts (Last (Ended at (ResetAt au))) (SourceReset bt) wa wb first rest = absurd (other-word (rest_words (Last (Ended at (ResetAt au)))) (rest_words (SourceReset bt)) refl rest)
 same-parts (Last (Ended at (ResetAt au))) (Last (Ended bt StillOpen)) wa wb first rest = absurd (other-word (rest_words (Last (Ended at (ResetAt au)))) (rest_words (Last (Ended bt StillOpen))) refl rest)
 same-parts (Last (Ended at (ResetAt au))) (Last (Ended bt (ClosedAt bu))) wa wb first rest = absurd (other-word (rest_words (Last (Ended at (ResetAt au)))) (rest_words (Last (Ended bt (ClosedAt bu)))) refl rest)
 same-parts (Last (Ended at (ResetAt au))) (Last (Ended bt (ResetAt bu))) wa wb first rest =
@@ -135,6 +151,7 @@ same-parts (Last (Ended at (ResetAt au))) (Last (Broken bc bn)) wa wb first rest
 same-parts (Last (Broken ac an)) (Event (Piece bn bt)) wa wb first rest = absurd (no-word bt (omega (arith, wb.0)) (sym first))
 same-parts (Last (Broken ac an)) (Event (SourceEnd bt)) wa wb first rest = absurd (no-word bt (omega (arith, wb)) (sym first))
 same-parts (Last (Broken ac an)) (Event (Wrote other_slice bt)) wa wb first rest = absurd (no-word bt (omega (arith, wb.0)) (sym first))
+same-parts (Last (Broken ac an)) (SourceReset bt) wa wb first rest = absurd (no-word bt (omega (arith, wb)) (sym first))
 same-parts (Last (Broken ac an)) (Last (Ended bt StillOpen)) wa wb first rest = absurd (no-word bt (omega (arith, wb.0)) (sym first))
 same-parts (Last (Broken ac an)) (Last (Ended bt (ClosedAt bu))) wa wb first rest = absurd (no-word bt (omega (arith, wb.0)) (sym first))
 same-parts (Last (Broken ac an)) (Last (Ended bt (ResetAt bu))) wa wb first rest = absurd (no-word bt (omega (arith, wb.0)) (sym first))

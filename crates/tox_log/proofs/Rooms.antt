@@ -4,7 +4,7 @@ use Rattle.tox_time.specs.declared.streams.item.Item.{Item}
 use Rattle.tox_link.specs.declared.notes.LinkEvent.{LinkEvent}
 use Rattle.tox_link.specs.log.Log.{IsShallowBehind}
 use Rattle.tox_log.specs.declared.event_line.LogLine.{LogLine}
-use Rattle.tox_log.specs.declared.event_line.LogLine.TheVariants.{Event, Last}
+use Rattle.tox_log.specs.declared.event_line.LogLine.TheVariants.{Event, SourceReset, Last}
 use Rattle.tox_log.specs.declared.judge.Judge.{Judge}
 use Rattle.tox_log.specs.Judging.{Judged}
 use Rattle.tox_log.specs.LinkLog.{events_in}
@@ -18,11 +18,13 @@ pub record IsNowShallow (means : List Item → List Item) (judge : Judge) (lines
 -- the first of the lines alone
 pub shallow-first : (events : List LinkEvent) (line : LogLine) (lines : List LogLine) → IsShallowBehind events (events_in (line ∷ lines)) → IsShallowBehind events (events_in (line ∷ []))
 shallow-first events (Event event) lines room = (room.0, tt)
+shallow-first events (SourceReset instant) lines room = (room.0, tt)
 shallow-first events (Last last) lines room = tt
 
 -- and the others behind it
 shallow-others : (events : List LinkEvent) (line : LogLine) (lines : List LogLine) → IsShallowBehind events (events_in (line ∷ lines)) → IsShallowBehind (events ++ events_in (line ∷ [])) (events_in lines)
 shallow-others events (Event event) lines room = room.1
+shallow-others events (SourceReset instant) lines room = room.1
 shallow-others events (Last last) lines room = subst (λ events. IsShallowBehind events (events_in lines)) (sym (append-nil events)) room
 
 pub shallow-next : (means : List Item → List Item) (old new : Judge) (line : LogLine) (lines : List LogLine)

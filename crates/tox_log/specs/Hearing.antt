@@ -1,5 +1,5 @@
 -- What a verdict says of the lines that were read.
-use Rattle.std.specs.Prelude.{◌≡◌, ℕ, ◌+◌, Bool, true, false, List, [], ◌∷◌, ◌++◌, All, flat_map, length, string_bytes, Option, Some, None}
+use Rattle.std.specs.Prelude.{◌≡◌, ℕ, ◌+◌, Bool, true, false, List, [], ◌∷◌, ◌++◌, All, length, string_bytes, Option, Some, None}
 use Rattle.std.specs.Io.KnownBytes.{prepend_known}
 use Rattle.tox_time.specs.streams.Stream.{IsStream}
 use Rattle.tox_words.specs.Seeded.{seeded_words}
@@ -11,27 +11,24 @@ use Rattle.tox_log.specs.HeaderText.{header_text}
 use Rattle.tox_time.specs.declared.streams.item.Item.{Item}
 use Rattle.tox_time.specs.declared.streams.ending.Ending.{Ending}
 use Rattle.tox_link.specs.declared.notes.LinkEvent.{LinkEvent}
+use Rattle.tox_link.specs.declared.notes.LinkEvent.TheVariants.{SourceEnd}
 use Rattle.tox_time.specs.streams.Table.{slices_table}
 use Rattle.tox_link.specs.log.Log.{has_source_end, heard_bytes, reading_of, said, IsFaithful}
 use Rattle.tox_link.specs.Reports.{ReportsAt}
 use Rattle.tox_log.specs.declared.event_line.LogLine.{LogLine}
-use Rattle.tox_log.specs.declared.event_line.LogLine.TheVariants.{Event, Last}
+use Rattle.tox_log.specs.declared.event_line.LogLine.TheVariants.{Event, SourceReset, Last}
 use Rattle.tox_log.specs.declared.last_line.BreakCause.{BreakCause}
 use Rattle.tox_log.specs.declared.last_line.LastLine.TheVariants.{Ended, Broken}
 use Rattle.tox_log.specs.declared.replay.Verdict.{Verdict}
 use Rattle.tox_log.specs.declared.replay.Verdict.TheVariants.{Faithful, Unfinished, Unfaithful}
 use Rattle.tox_log.specs.declared.replay.Hearing.{Hearing}
 use Rattle.tox_log.specs.declared.open_log.OpenLog.{OpenLog}
-use Rattle.tox_log.specs.EventText.{event_line}
+use Rattle.tox_log.specs.EventLines.{event_lines}
 use Rattle.tox_log.specs.LastText.{last_line}
 use Rattle.tox_log.specs.Lateness.{IsLate, KeepsLate, ending_late, lates}
 use Rattle.tox_log.specs.Lines.{IsWritable, line_words}
 use Rattle.tox_log.specs.Reading.{IsLineNumber, LacksLine, is_last, next_number, to_hand}
 use Rattle.tox_log.specs.Judging.{HasNoReport, Judged, source_heard}
-
--- the lines of events
-abbrev pub event_lines : List LinkEvent → List ℕ
-event_lines events = flat_map event_line events
 
 -- the clock told the reading of each event
 abbrev pub IsTold : (ℕ → Bool) → List LinkEvent → Type 0
@@ -44,11 +41,11 @@ pub record AreCounts (events : List LinkEvent) (taken written : ℕ) (ended : Bo
   pub source : has_source_end events ≡ ended
   pub count : length (said events) ≡ writes
 
--- the text is the lines of these events, and a hearing is one after them
+-- the text is the lines of these events, whose source was reset or not as the hearing has it, and the hearing is one after them
 pub record HasHeard (means : List Item → List Item) (text : List ℕ) (hearing : Hearing) : Type 0 where
   pub events : List LinkEvent
   pub written : All (λ event. IsWritable (Event event)) events
-  pub lines : text ≡ event_lines events
+  pub lines : text ≡ event_lines hearing.source_reset events
   pub judged : (told : ℕ → Bool) → IsTold told events → Judged means told hearing.judge events
   pub count : length (said events) ≡ hearing.writes
   pub late : KeepsLate (lates events) hearing.late
@@ -66,20 +63,25 @@ HasNoEnding means text over hearing None = (over ≡ false) × HasHeard means te
 HasNoEnding means text over hearing (Some cause) = (over ≡ true) × HasBroken means text hearing cause
 
 -- the text is the lines of events and a last line with this ending, and the link with these events reports so: it took and wrote so
--- many bytes in so many writes, which were so late with its ending, and its source had ended or not
-pub record HasReport (means : List Item → List Item) (text : List ℕ) (taken written : ℕ) (ended : Bool) (writes : ℕ) (late : List ℕ) (ending : Ending) : Type 0 where
+-- many bytes in so many writes, which were so late with its ending, and its source had ended or not, by a reset or not
+pub record HasReport (means : List Item → List Item) (text : List ℕ) (taken written : ℕ) (ended reset : Bool) (writes : ℕ) (late : List ℕ) (ending : Ending) : Type 0 where
   pub events : List LinkEvent
   pub reading : ℕ
-  pub lines : text ≡ event_lines events ++ last_line (Ended reading ending)
+  pub lines : text ≡ event_lines reset events ++ last_line (Ended reading ending)
   pub counts : AreCounts events taken written ended writes
   pub values : late ≡ lates events ++ ending_late reading ending
   pub report : (told : ℕ → Bool) → IsTold told events → told reading ≡ true
       → ReportsAt means (λ t. told t ≡ true) events taken written ending (source_heard ended) reading
 
--- whatever the clock told, no log with these events that goes on with this one is faithful, or no link with these events reports this
+-- whatever the clock told, no log with these events that goes on with this one is faithful
+abbrev pub IsRefusedEvent : (List Item → List Item) → List LinkEvent → LinkEvent → Type 0
+IsRefusedEvent means events event = (told : ℕ → Bool) → IsFaithful means (λ t. told t ≡ true) (events ++ event ∷ []) → ⊥
+
+-- no log with these events that goes on with this line is faithful, or, whatever the clock told, no link with these events reports this
 -- ending at this reading; a line that tells a break is never refused
 abbrev pub IsRefused : (List Item → List Item) → List LinkEvent → LogLine → Type 0
-IsRefused means events (Event event) = (told : ℕ → Bool) → IsFaithful means (λ t. told t ≡ true) (events ++ event ∷ []) → ⊥
+IsRefused means events (Event event) = IsRefusedEvent means events event
+IsRefused means events (SourceReset instant) = IsRefusedEvent means events (SourceEnd instant)
 IsRefused means events (Last (Ended reading ending)) = (told : ℕ → Bool) → HasNoReport means told events reading ending
 IsRefused means events (Last (Broken cause bytes)) = ⊥
 
@@ -87,11 +89,12 @@ IsRefused means events (Last (Broken cause bytes)) = ⊥
 -- them is line `start`
 pub record HasRefusal (means : List Item → List Item) (text : List ℕ) (start number : ℕ) : Type 0 where
   pub events : List LinkEvent
+  pub reset : Bool
   pub line : LogLine
   pub more : List ℕ
   pub written : All (λ event. IsWritable (Event event)) events
   pub writable : IsWritable line
-  pub lines : text ≡ event_lines events ++ ((line_words line ++ 10 ∷ []) ++ more)
+  pub lines : text ≡ event_lines reset events ++ ((line_words line ++ 10 ∷ []) ++ more)
   pub faithful : (told : ℕ → Bool) → IsTold told events → IsFaithful means (λ t. told t ≡ true) events
   pub refused : IsRefused means events line
   pub numbered : IsLineNumber number (start + length events)
@@ -100,7 +103,7 @@ pub record HasRefusal (means : List Item → List Item) (text : List ℕ) (start
 abbrev pub SaysSo : ℕ → (List Item → List Item) → List ℕ → Bool → Hearing → Verdict → Type 0
 SaysSo start means text over hearing (Faithful ending) =
     (over ≡ true) × (hearing.broken ≡ None) × (late : List ℕ) × KeepsLate late hearing.late
-    × HasReport means text hearing.judge.heard hearing.judge.said hearing.judge.ended hearing.writes late ending
+    × HasReport means text hearing.judge.heard hearing.judge.said hearing.judge.ended hearing.source_reset hearing.writes late ending
 SaysSo start means text over hearing Unfinished = HasNoEnding means text over hearing hearing.broken
 SaysSo start means text over hearing (Unfaithful number) = (hearing.broken ≡ None) × HasRefusal means text start number
 
@@ -151,7 +154,7 @@ pub record IsFaithfulText (given : Option (List ℕ)) (judged : JudgedLog) (endi
   pub means : List Item → List Item
   pub text : IsTextOf given judged lines means
   pub late : List ℕ
-  pub report : HasReport means lines judged.heard judged.said judged.source_ended judged.writes late ending
+  pub report : HasReport means lines judged.heard judged.said judged.source_ended judged.source_reset judged.writes late ending
   pub percentiles : IsLate late judged.late
   pub whole : judged.broken ≡ None
 
@@ -171,10 +174,10 @@ broken_line (Some cause) bytes = last_line (Broken cause bytes)
 
 -- the text is the lines of events that are faithful, and no last line or one with this cause; and these are the events' counts, and
 -- how late its writes were
-pub record HasStopped (means : List Item → List Item) (text : List ℕ) (broken : Option BreakCause) (taken written : ℕ) (ended : Bool) (writes : ℕ) (late : List ℕ) : Type 0 where
+pub record HasStopped (means : List Item → List Item) (text : List ℕ) (broken : Option BreakCause) (taken written : ℕ) (ended reset : Bool) (writes : ℕ) (late : List ℕ) : Type 0 where
   pub events : List LinkEvent
   pub bytes : ℕ
-  pub lines : text ≡ event_lines events ++ broken_line broken bytes
+  pub lines : text ≡ event_lines reset events ++ broken_line broken bytes
   pub counts : AreCounts events taken written ended writes
   pub values : late ≡ lates events
   pub faithful : (told : ℕ → Bool) → IsTold told events → IsFaithful means (λ t. told t ≡ true) events
@@ -185,5 +188,5 @@ pub record IsUnfinishedText (given : Option (List ℕ)) (judged : JudgedLog) : T
   pub means : List Item → List Item
   pub text : IsTextOf given judged lines means
   pub late : List ℕ
-  pub stopped : HasStopped means lines judged.broken judged.heard judged.said judged.source_ended judged.writes late
+  pub stopped : HasStopped means lines judged.broken judged.heard judged.said judged.source_ended judged.source_reset judged.writes late
   pub percentiles : IsLate late judged.late

@@ -1,4 +1,5 @@
 pub mod EventText
+pub mod EventLines
 pub mod LastText
 pub mod Lateness
 pub mod HeaderLines

@@ -9,13 +9,14 @@ use Rattle.tox_link.specs.declared.notes.LinkEvent.TheVariants.{Piece, SourceEnd
 use Rattle.tox_log.specs.declared.last_line.LastLine.{LastLine}
 use Rattle.tox_log.specs.declared.last_line.LastLine.TheVariants.{Ended, Broken}
 use Rattle.tox_log.specs.declared.event_line.LogLine.{LogLine}
-use Rattle.tox_log.specs.declared.event_line.LogLine.TheVariants.{Event, Last}
+use Rattle.tox_log.specs.declared.event_line.LogLine.TheVariants.{Event, SourceReset, Last}
 use Rattle.tox_log.specs.EventText.{event_words}
 use Rattle.tox_log.specs.LastText.{last_words}
 
 -- a line behind the header, without its line feed
 abbrev pub line_words : LogLine → List ℕ
 line_words (Event event) = event_words event
+line_words (SourceReset instant) = decimal instant ++ codes " end reset"
 line_words (Last last) = last_words last
 
 -- positions that a log may have: at most 2^40
@@ -38,9 +39,9 @@ IsWritableEnding StillOpen = Unit {0}
 IsWritableEnding (ClosedAt t) = IsInstant t
 IsWritableEnding (ResetAt t) = IsInstant t
 
--- instants are at most 10^15, and counts and positions at most 2^40
+-- instants are at most 10^15, the bytes of a piece at most 16,384, and positions at most 2^40
 abbrev pub IsWritableEvent : LinkEvent → Type 0
-IsWritableEvent (Piece len instant) = IsInstant instant × (len ≤ 2 ^ 40)
+IsWritableEvent (Piece len instant) = IsInstant instant × (len ≤ 16_384)
 IsWritableEvent (SourceEnd instant) = IsInstant instant
 IsWritableEvent (Wrote slice reading) = IsInstant reading × IsWritableSpan slice.span × IsInstant slice.instant
 
@@ -50,6 +51,7 @@ IsWritableLast (Broken cause bytes) = bytes ≤ 2 ^ 40
 
 abbrev pub IsWritable : LogLine → Type 0
 IsWritable (Event event) = IsWritableEvent event
+IsWritable (SourceReset instant) = IsInstant instant
 IsWritable (Last last) = IsWritableLast last
 
 -- a text is no line that a log may have

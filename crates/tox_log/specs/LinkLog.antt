@@ -4,11 +4,12 @@ use Rattle.tox_time.specs.declared.streams.ending.Ending.{Ending}
 use Rattle.tox_time.specs.declared.streams.item.Item.{Item}
 use Rattle.tox_words.specs.Seeded.{seeded_words}
 use Rattle.tox_link.specs.declared.notes.LinkEvent.{LinkEvent}
+use Rattle.tox_link.specs.declared.notes.LinkEvent.TheVariants.{SourceEnd}
 use Rattle.tox_link.specs.declared.ring.message.ReadEnd.{ReadEnd}
 use Rattle.tox_link.specs.log.Log.{IsFaithful}
 use Rattle.tox_link.specs.Reports.{ReportsAt}
 use Rattle.tox_log.specs.declared.event_line.LogLine.{LogLine}
-use Rattle.tox_log.specs.declared.event_line.LogLine.TheVariants.{Event, Last}
+use Rattle.tox_log.specs.declared.event_line.LogLine.TheVariants.{Event, SourceReset, Last}
 use Rattle.tox_log.specs.declared.last_line.LastLine.TheVariants.{Ended}
 use Rattle.tox_log.specs.Hearing.{IsMeaningOf}
 use Rattle.tox_log.specs.WrittenLog.{WrittenLog}
@@ -17,6 +18,7 @@ use Rattle.tox_log.specs.WrittenLog.{WrittenLog}
 abbrev pub events_in : List LogLine → List LinkEvent
 events_in [] = []
 events_in (Event event ∷ lines) = event ∷ events_in lines
+events_in (SourceReset instant ∷ lines) = SourceEnd instant ∷ events_in lines
 events_in (Last last ∷ lines) = events_in lines
 
 -- a link reports this ending at this reading, with some counts and some end of its source

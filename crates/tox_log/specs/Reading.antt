@@ -4,7 +4,7 @@ use Rattle.std.specs.Io.KnownBytes.{IsAtEnd, prepend_known}
 use Rattle.tox_log.specs.declared.line_reader.LineReader.{LineReader}
 use Rattle.tox_log.specs.declared.open_log.OpenLog.{OpenLog}
 use Rattle.tox_log.specs.declared.event_line.LogLine.{LogLine}
-use Rattle.tox_log.specs.declared.event_line.LogLine.TheVariants.{Event, Last}
+use Rattle.tox_log.specs.declared.event_line.LogLine.TheVariants.{Event, SourceReset, Last}
 use Rattle.tox_log.specs.Lines.{IsWritable, line_words}
 use Rattle.tox_log.specs.Numbers.{KeepsText, Lacks}
 
@@ -74,6 +74,7 @@ CountsOn old new = (line : ℕ) → IsLineNumber old line → IsLineNumber new (
 
 abbrev pub is_last : LogLine → Bool
 is_last (Event event) = false
+is_last (SourceReset instant) = false
 is_last (Last last) = true
 
 -- a line was handed out: the bytes are its text and a line feed, and none came behind the last one

@@ -2,29 +2,45 @@
 ghost use Rattle.std.specs.Prelude.{◌≡◌, ◌≢◌, ◌++◌, ◌∷◌, codes, decimal, Some};
 ghost use Rattle.tox_time.specs.Time.{IsInstant};
 ghost use Rattle.tox_log.specs.declared.event_line.LogLine.{LogLine as OneLine};
+ghost use Rattle.tox_log.specs.EventLines.{logged_line};
 ghost use Rattle.tox_log.specs.Lines.{IsWritable, ReadsLine, ReadsSpan, line_words};
 ghost use Rattle.tox_log.specs.Numbers.{Lacks};
 ghost use Rattle.tox_log.specs.Reading.{is_last};
 
 use crate::last_line::{BreakCause, LastLine};
 use crate::numbers::{cut_at, instant_of, number_of};
-use tox_link::LinkEvent;
+use tox_link::{LinkEvent, READ_SIZE};
 use tox_time::{Ending, MAX_BYTES, Micros, Slice, Span};
 
+/// The most bytes of a piece: a link reads no more at once.
+const MAX_PIECE: u64 = READ_SIZE as u64;
+
 /// A line behind the header.
-#[derive(Clone, Copy)]
+#[derive(Clone, Copy, Debug, PartialEq, Eq)]
 pub enum LogLine {
     Event(LinkEvent),
+    /// The source's end, told as a reset by its peer.
+    SourceReset(Micros),
     Last(LastLine),
 }
 
 impl LogLine {
+    /// The line of an event. The source's end is told as a reset, if it was one.
+    pub(crate) fn of(event: &LinkEvent, source_reset: bool) -> LogLine
+        ensures { result ≡ logged_line source_reset event.now }
+    {
+        match event {
+            LinkEvent::SourceEnd(instant) if source_reset => LogLine::SourceReset(*instant),
+            event => LogLine::Event(*event),
+        }
+    }
+
     /// Whether it is the last line of a log.
     pub(crate) fn is_last(&self) -> bool
         ensures { result ≡ is_last self.now }
     {
         match self {
-            LogLine::Event(_) => false,
+            LogLine::Event(_) | LogLine::SourceReset(_) => false,
             LogLine::Last(_) => true,
         }
     }
@@ -65,10 +81,24 @@ fn words_of(reading: &Micros, words: &[u8]) -> Option<LogLine>
     if word == b"wrote".as_slice() {
         return wrote_of(reading, rest);
     }
+    if word == b"end".as_slice() {
+        return end_of(reading, rest);
+    }
     if word == b"piece".as_slice() {
         return piece_of(reading, rest);
     }
     ending_of(reading, word, rest)
+}
+
+/// The source's end, with the word that tells how it came.
+fn end_of(reading: &Micros, how: &[u8]) -> Option<LogLine>
+    requires { IsInstant reading.now }
+    ensures { ReadsLine result (decimal reading.now ++ codes " end " ++ how.now) }
+{
+    if how == b"reset".as_slice() {
+        return Some(LogLine::SourceReset(*reading));
+    }
+    None
 }
 
 /// The event of a piece of so many bytes.
@@ -76,7 +106,7 @@ fn piece_of(reading: &Micros, bytes: &[u8]) -> Option<LogLine>
     requires { IsInstant reading.now }
     ensures { ReadsLine result (decimal reading.now ++ codes " piece " ++ bytes.now) }
 {
-    let len = number_of(bytes, MAX_BYTES)?;
+    let len = number_of(bytes, MAX_PIECE)?;
     Some(LogLine::Event(LinkEvent::Piece(len, *reading)))
 }
 
@@ -106,7 +136,8 @@ fn span_of(text: &[u8]) -> Option<Span>
 fn ending_of(reading: &Micros, name: &[u8], instant: &[u8]) -> Option<LogLine>
     requires reading { IsInstant reading.now }
     requires one_word { Lacks 32 name.now }
-    requires no_event { (name.now ≢ codes "piece") × (name.now ≢ codes "wrote") }
+    requires no_event { (name.now ≢ codes "piece") × (name.now ≢ codes "wrote")
+        × (name.now ≢ codes "end") }
     ensures { ReadsLine result
         (decimal reading.now ++ codes " " ++ name.now ++ codes " " ++ instant.now) }
 {

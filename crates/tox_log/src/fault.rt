@@ -9,7 +9,7 @@ use tox_text::VisibleName;
 use tox_time::EndFault;
 
 /// Why a log can't be judged. A line is named by its number from 1.
-#[derive(Clone, Copy)]
+#[derive(Clone, Copy, Debug, PartialEq, Eq)]
 pub enum LogFault {
     OutOfMemory,
     /// A read failed.

@@ -11,7 +11,7 @@ use tox_time::{EndFault, Sink, Stream};
 use tox_words::Lanes;
 
 /// The stream of a link that a log is of, and the seed of its words.
-#[derive(Clone, Copy, Debug)]
+#[derive(Clone, Copy, Debug, PartialEq, Eq)]
 pub struct LoggedLink<'a> {
     /// The proxy's name.
     pub proxy: &'a str,

@@ -21,7 +21,7 @@ use tox_time::Stream;
 use tox_words::{Lanes, MAX_CONNECTIONS};
 
 /// What the first three lines of a log say.
-#[derive(Drop)]
+#[derive(Debug, Drop)]
 pub struct Heading {
     /// The proxy's name, as it is printed.
     pub proxy: String,

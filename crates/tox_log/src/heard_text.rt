@@ -11,7 +11,7 @@ use tox_text::Part::{Number, Word};
 use tox_time::{EndFault, Micros, Sink, Source};
 
 /// Why a text of a log was not printed whole.
-#[derive(Clone, Copy)]
+#[derive(Clone, Copy, Debug, PartialEq, Eq)]
 pub enum HeardFault {
     Log(LogFault),
     /// A write failed, or took nothing.
@@ -74,7 +74,7 @@ fn print_heard_line<W: Sink>(
         LogLine::Event(LinkEvent::Piece(len, instant)) => {
             print_piece(buffer, writer, *len, instant)
         }
-        LogLine::Event(LinkEvent::SourceEnd(instant)) => {
+        LogLine::Event(LinkEvent::SourceEnd(instant)) | LogLine::SourceReset(instant) => {
             buffer.print(writer, &[Number(instant.get()), Word(" eof\n")])
         }
         _ => Ok(()),

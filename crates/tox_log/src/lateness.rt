@@ -27,7 +27,7 @@ pub(crate) struct Lateness {
 }
 
 /// The median, the 99th percentile and the maximum of some values.
-#[derive(Clone, Copy)]
+#[derive(Clone, Copy, Debug, PartialEq, Eq)]
 pub struct Percentiles {
     pub median: u64,
     pub p99: u64,

@@ -14,6 +14,7 @@ mod judged_text;
 mod last_line;
 mod lateness;
 mod line_reader;
+mod line_text;
 mod log_bytes;
 mod meant_text;
 mod noted_lines;

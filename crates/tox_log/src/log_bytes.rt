@@ -6,7 +6,7 @@ use std::marker::Model;
 use tox_time::{EndFault, Sink};
 
 /// Bytes of a log that wait for its file. A refused growth fails it, and leaves the bytes as they were.
-#[derive(Drop)]
+#[derive(Debug, Drop)]
 pub struct LogBytes {
     bytes: Vec<u8>,
     failed: bool,

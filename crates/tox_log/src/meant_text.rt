@@ -57,7 +57,7 @@ fn print_lines<R: Source, W: Sink>(
             LogLine::Event(LinkEvent::Piece(len, instant)) => {
                 print_cuts(buffer, writer, runner, *len, instant)?;
             }
-            LogLine::Event(LinkEvent::SourceEnd(instant)) => {
+            LogLine::Event(LinkEvent::SourceEnd(instant)) | LogLine::SourceReset(instant) => {
                 ending = Some(finish(runner, instant));
             }
             _ => {}

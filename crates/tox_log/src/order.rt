@@ -17,7 +17,9 @@ pub(crate) fn comes_next(heard: &mut StreamPosition, line: &LogLine) -> bool
 {
     match line {
         LogLine::Event(LinkEvent::Piece(len, instant)) => hear_piece(heard, *len, instant),
-        LogLine::Event(LinkEvent::SourceEnd(instant)) => hear_end(heard, instant),
+        LogLine::Event(LinkEvent::SourceEnd(instant)) | LogLine::SourceReset(instant) => hear_end(
+            heard, instant,
+        ),
         LogLine::Event(LinkEvent::Wrote(_, reading)) | LogLine::Last(LastLine::Ended(reading, _)) =>
             read_at(heard, reading),
         LogLine::Last(LastLine::Broken(_, _)) => true,

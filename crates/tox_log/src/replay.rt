@@ -2,6 +2,7 @@
 ghost use Rattle.std.specs.Prelude.{◌≡◌, ◌≢◌, ℕ, List, [], ◌∷◌, true, false, IfErr, IfOk, MatchOption, OnOk};
 ghost use Rattle.tox_log.specs.Lateness.{ending_late};
 ghost use Rattle.tox_compile.specs.Meaning.{means};
+ghost use Rattle.tox_log.specs.EventLines.{logged_line};
 ghost use Rattle.tox_log.specs.Hearing.{BeginsJudging, HearsLine, HearsToEnd, IsFaithfulText, IsRefusedText, IsUnfinishedText};
 ghost use Rattle.tox_time.specs.declared.streams.ending.Ending.{Ending as OneEnding};
 ghost use Rattle.tox_log.specs.Judging.{Judged, KeepsUp};
@@ -37,7 +38,7 @@ use tox_text::Buffer;
 use tox_time::{Ending, Micros, Sink, Slice, Source};
 
 /// What a log is.
-#[derive(Clone, Copy, PartialEq, Eq)]
+#[derive(Clone, Copy, Debug, PartialEq, Eq)]
 pub enum Verdict {
     /// A faithful log of a stream that ended so.
     Faithful(Ending),
@@ -56,8 +57,9 @@ pub struct JudgedLog {
     pub verdict: Verdict,
     /// Why the stream broke off, where the last line says so and the log is faithful up to it.
     pub broken: Option<BreakCause>,
-    /// Whether the source's end was heard.
+    /// Whether the source's end was heard, and whether it is told as a reset by its peer.
     pub source_ended: bool,
+    pub source_reset: bool,
     /// How many bytes were heard and said, and in how many writes.
     pub heard: u64,
     pub said: u64,
@@ -72,6 +74,7 @@ struct Hearing {
     judge: Judge,
     verdict: Verdict,
     broken: Option<BreakCause>,
+    source_reset: bool,
     writes: u64,
     late: Lateness,
 }
@@ -106,6 +109,7 @@ pub fn judge_log<R: Source>(alloc: Global, reader: &mut R) -> Result<JudgedLog, 
         verdict: hearing.verdict,
         broken: hearing.broken,
         source_ended: hearing.judge.ended,
+        source_reset: hearing.source_reset,
         heard: hearing.judge.heard,
         said: hearing.judge.said,
         writes: hearing.writes,
@@ -152,6 +156,7 @@ fn begin(alloc: Global, log: &OpenLog) -> Result<Hearing, LogFault>
         judge: begin_judge(alloc, plan, words)?,
         verdict: Verdict::Unfinished,
         broken: None,
+        source_reset: false,
         writes: 0,
         late: Lateness::new(alloc),
     })
@@ -210,7 +215,10 @@ fn hear_line(
         LogLine::Event(LinkEvent::Piece(len, instant)) => {
             hear_piece(hearing, *len, instant, number)
         }
-        LogLine::Event(LinkEvent::SourceEnd(instant)) => hear_source_end(hearing, instant, number),
+        LogLine::Event(LinkEvent::SourceEnd(instant)) => {
+            hear_source_end(hearing, instant, false, number)
+        }
+        LogLine::SourceReset(instant) => hear_source_end(hearing, instant, true, number),
         LogLine::Event(LinkEvent::Wrote(slice, reading)) => {
             hear_wrote(alloc, hearing, slice, reading, number)
         }
@@ -253,12 +261,17 @@ fn hear_piece(
     Ok(())
 }
 
-fn hear_source_end(hearing: &mut Hearing, instant: &Micros, number: u64) -> Result<(), LogFault>
+fn hear_source_end(
+    hearing: &mut Hearing,
+    instant: &Micros,
+    is_reset: bool,
+    number: u64,
+) -> Result<(), LogFault>
     requires held { KeepsUp hearing.old.judge }
     requires going { hearing.old.verdict ≡ TheVerdict.Unfinished }
     ensures held { KeepsUp hearing.new.judge }
     ensures hears { OnOk result (HearsLine hearing.old
-        (OneLine.Event (OneEvent.SourceEnd instant.now)) number hearing.new) }
+        (logged_line is_reset (OneEvent.SourceEnd instant.now)) number hearing.new) }
     ensures reads { AcceptsNext hearing.old
         (OneLine.Event (OneEvent.SourceEnd instant.now)) result }
     ensures follows { OnOk result (ComesWith hearing.old
@@ -271,6 +284,7 @@ fn hear_source_end(hearing: &mut Hearing, instant: &Micros, number: u64) -> Resu
         return Err(LogFault::BadLine(number));
     }
     hear_end(&mut hearing.judge, instant);
+    hearing.source_reset = is_reset;
     Ok(())
 }
 

@@ -4,7 +4,7 @@ use Rattle.tox_time.specs.streams.StreamName.{stream_name}
 use Rattle.tox_log.specs.LastText.{cause_name}
 use Rattle.tox_log.specs.declared.lateness.Percentiles.{Percentiles}
 use Rattle.tox_draw.specs.declared.pages.outcome.Outcome.{Outcome}
-use Rattle.tox_draw.specs.declared.pages.outcome.Outcome.TheVariants.{Open, Closed, Cut, Reset, Broken, Missing, Unfaithful}
+use Rattle.tox_draw.specs.declared.pages.outcome.Outcome.TheVariants.{Open, Closed, SourceReset, Cut, Reset, Broken, Missing, Unfaithful}
 use Rattle.tox_draw.specs.declared.pages.row.Row.{Row}
 use Rattle.tox_draw.specs.declared.pages.row.StreamFacts.{StreamFacts}
 use Rattle.tox_draw.specs.declared.pages.row.Told.{Told}
@@ -55,6 +55,7 @@ broken_cell cause = codes "<td>broken " ++ (cause ++ codes "</td>")
 abbrev pub ending_cell : Outcome → List ℕ
 ending_cell Open = word_cell (codes "open")
 ending_cell (Closed t) = counted_cell (codes "closed ") t
+ending_cell (SourceReset t) = counted_cell (codes "source reset, closed ") t
 ending_cell (Cut t) = counted_cell (codes "cut, closed ") t
 ending_cell (Reset t) = counted_cell (codes "reset ") t
 ending_cell (Broken cause) = broken_cell (cause_name cause)

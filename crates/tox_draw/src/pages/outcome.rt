@@ -10,6 +10,8 @@ use tox_time::{Ending, Micros};
 pub(crate) enum Outcome {
     Open,
     Closed(Micros),
+    /// Closed behind a reset of the source by its peer.
+    SourceReset(Micros),
     /// Closed by its plan before its source's end was heard, or with bytes left.
     Cut(Micros),
     Reset(Micros),
@@ -31,7 +33,8 @@ impl Outcome {
             Verdict::Faithful(Ending::StillOpen) => Outcome::Open,
             Verdict::Faithful(Ending::Reset(instant)) => Outcome::Reset(instant),
             Verdict::Faithful(Ending::Closed(instant)) => {
-                closed(instant, log.source_ended && log.said == log.heard)
+                let whole = log.source_ended && log.said == log.heard;
+                closed(instant, whole, log.source_reset)
             }
         }
     }
@@ -41,7 +44,11 @@ impl Outcome {
         ensures { result.now ≡ outcome_verdict self.now }
     {
         match self {
-            Outcome::Open | Outcome::Closed(_) | Outcome::Cut(_) | Outcome::Reset(_) => "faithful",
+            Outcome::Open
+            | Outcome::Closed(_)
+            | Outcome::SourceReset(_)
+            | Outcome::Cut(_)
+            | Outcome::Reset(_) => "faithful",
             Outcome::Broken(_) | Outcome::Missing => "unfinished",
             Outcome::Unfaithful(_) => "unfaithful",
         }
@@ -58,13 +65,16 @@ fn unfinished(broken: Option<BreakCause>) -> Outcome
     }
 }
 
-/// A stream that its plan closed, with all that its source gave or without.
-fn closed(instant: Micros, whole: bool) -> Outcome
-    ensures { result ≡ closed_outcome instant whole }
+/// A stream that its plan closed, with all that its source gave or without, which a reset ended or not.
+fn closed(instant: Micros, whole: bool, source_reset: bool) -> Outcome
+    ensures { result ≡ closed_outcome instant whole source_reset }
 {
-    if whole {
-        Outcome::Closed(instant)
+    if !whole {
+        return Outcome::Cut(instant);
+    }
+    if source_reset {
+        Outcome::SourceReset(instant)
     } else {
-        Outcome::Cut(instant)
+        Outcome::Closed(instant)
     }
 }

@@ -147,6 +147,9 @@ fn push_ending(text: &mut String, outcome: &Outcome) -> Result<(), AllocError>
     match outcome {
         Outcome::Open => push_word_cell(text, "open"),
         Outcome::Closed(instant) => push_counted_cell(text, "closed ", instant.get()),
+        Outcome::SourceReset(instant) => {
+            push_counted_cell(text, "source reset, closed ", instant.get())
+        }
         Outcome::Cut(instant) => push_counted_cell(text, "cut, closed ", instant.get()),
         Outcome::Reset(instant) => push_counted_cell(text, "reset ", instant.get()),
         Outcome::Broken(cause) => push_broken(text, cause.name()),

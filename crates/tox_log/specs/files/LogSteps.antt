@@ -1,16 +1,16 @@
 -- How a log grows, and when it is told that it has ended.
 use Rattle.std.specs.Prelude.{◌≡◌, ℕ, ◌*◌, ◌==◌, ◌≤◌, Bool, true, false, not, ◌||◌, ◌⊎◌, List, ◌++◌, length, take, if◌then◌else◌}
 use Rattle.tox_log.specs.declared.files.entry.Entry.{Entry}
-use Rattle.tox_log.specs.declared.files.entry.Entry.TheVariants.{Header, Event, Last}
+use Rattle.tox_log.specs.declared.files.entry.Entry.TheVariants.{Header, Line}
 use Rattle.tox_log.specs.declared.files.log_state.LogState.{LogState}
 use Rattle.tox_log.specs.declared.files.log_state.LogState.TheVariants.{Goes, Done, Cut, Told}
+use Rattle.tox_log.specs.Reading.{is_last}
 use Rattle.tox_log.specs.files.WholeLines.{AreLines, IsLinesWithin}
 
--- how a log is that has all of an entry
+-- how a log is that has all of an entry: done behind its last line
 abbrev pub state_behind : Entry → LogState
 state_behind (Header header) = Goes
-state_behind (Event event) = Goes
-state_behind (Last last) = Done
+state_behind (Line line) = if is_last line.now then Done else Goes
 
 -- the lines of a text that have room came behind those that waited, and the log is done unless that is all of it
 pub record Keeps (room : ℕ) (old text new : List ℕ) (next state : LogState) : Type 0 where

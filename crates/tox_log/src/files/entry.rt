@@ -1,16 +1,14 @@
 //! What is added to a log.
 ghost use Rattle.std.specs.Prelude.{◌≡◌, length};
 
-use crate::{LastLine, LoggedLink};
+use crate::{LogLine, LoggedLink};
 use tox_defs::Chain;
-use tox_link::LinkEvent;
 
 /// What is added to a log.
 #[derive(Clone, Copy)]
 pub(crate) enum Entry<'a> {
     Header(Header<'a>),
-    Event(&'a LinkEvent),
-    Last(&'a LastLine),
+    Line(&'a LogLine),
 }
 
 /// What the header of a log tells.

@@ -1,15 +1,14 @@
 //! The text of an entry.
-ghost use Rattle.std.specs.Prelude.{◌≡◌, Some, false};
+ghost use Rattle.std.specs.Prelude.{◌≡◌, ◌++◌, Some, codes, false};
 ghost use Rattle.tox_text.specs.Writing.{Writes};
-ghost use Rattle.tox_log.specs.EventText.{event_line};
-ghost use Rattle.tox_log.specs.LastText.{last_line};
+ghost use Rattle.tox_log.specs.Lines.{line_words};
 ghost use Rattle.tox_log.specs.files.EntryText.{entry_text};
 ghost use Rattle.tox_log.specs.files.LogSteps.{state_behind};
 
 use crate::files::entry::{Entry, Header};
 use crate::files::log_state::LogState;
-use crate::{LastLine, LogBytes, print_event, print_header, print_last};
-use tox_link::LinkEvent;
+use crate::line_text::print_line;
+use crate::{LogBytes, LogLine, print_header};
 use tox_text::{Buffer, LineBuffer};
 use tox_time::EndFault;
 
@@ -22,12 +21,11 @@ pub(crate) fn print_entry(waiting: &mut LogBytes, entry: &Entry<'_>) -> Result<(
 {
     match entry {
         Entry::Header(header) => write_header(waiting, header),
-        Entry::Event(event) => write_event(waiting, event),
-        Entry::Last(last) => write_last(waiting, last),
+        Entry::Line(line) => write_line(waiting, line),
     }
 }
 
-/// Prints a header. It isn't inlined, so that an event's line needs no room for the large buffer.
+/// Prints a header. It isn't inlined, so that a line needs no room for the large buffer.
 #[inline(never)]
 #[tactic(auto, unfolding(crate::specs::files::EntryText::entry_text))]
 fn write_header(waiting: &mut LogBytes, header: &Header<'_>) -> Result<(), EndFault>
@@ -41,25 +39,14 @@ fn write_header(waiting: &mut LogBytes, header: &Header<'_>) -> Result<(), EndFa
     buffer.flush(waiting)
 }
 
-/// Prints the line of an event.
-fn write_event(waiting: &mut LogBytes, event: &LinkEvent) -> Result<(), EndFault>
+/// Prints a line behind the header.
+fn write_line(waiting: &mut LogBytes, line: &LogLine) -> Result<(), EndFault>
     requires { waiting.old.1 ≡ false }
     ensures { Writes result (Some waiting.old.0) (Some waiting.new.0) waiting.new.1
-        (event_line event.now) }
+        (line_words line.now ++ codes "\n") }
 {
     let mut buffer = LineBuffer::new();
-    print_event(&mut buffer, waiting, event)?;
-    buffer.flush(waiting)
-}
-
-/// Prints the last line.
-fn write_last(waiting: &mut LogBytes, last: &LastLine) -> Result<(), EndFault>
-    requires { waiting.old.1 ≡ false }
-    ensures { Writes result (Some waiting.old.0) (Some waiting.new.0) waiting.new.1
-        (last_line last.now) }
-{
-    let mut buffer = LineBuffer::new();
-    print_last(&mut buffer, waiting, last)?;
+    print_line(&mut buffer, waiting, line)?;
     buffer.flush(waiting)
 }
 
@@ -68,7 +55,7 @@ pub(crate) fn state_behind(entry: &Entry<'_>) -> LogState
     ensures { result ≡ state_behind entry.now }
 {
     match entry {
-        Entry::Header(_) | Entry::Event(_) => LogState::Goes,
-        Entry::Last(_) => LogState::Done,
+        Entry::Line(line) if line.is_last() => LogState::Done,
+        _ => LogState::Goes,
     }
 }

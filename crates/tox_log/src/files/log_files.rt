@@ -5,7 +5,13 @@ ghost use Rattle.tox_log.specs.files.WholeLines.{AreLines};
 
 /// Where the bytes of logs go.
 pub trait LogFiles {
-    /// Appends whole lines to the log of a name, which is made with its first lines. Tells how many bytes it took: fewer once it fails.
+    /// Makes the log of a name with its first whole lines. Tells how many bytes it took: fewer once it fails.
+    fn create(&self, name: &str, bytes: &[u8]) -> usize
+        requires named { IsTrue (names_file name.now) }
+        requires whole { AreLines bytes.now }
+        ensures { result ≤ length bytes.now };
+
+    /// Appends whole lines to the log of a name, which was made. Tells how many bytes it took: fewer once it fails.
     fn append(&self, name: &str, bytes: &[u8]) -> usize
         requires named { IsTrue (names_file name.now) }
         requires whole { AreLines bytes.now }
@@ -17,10 +23,14 @@ pub trait LogFiles {
 }
 
 /// No log is kept.
-#[derive(Clone, Copy)]
+#[derive(Clone, Copy, Debug, PartialEq, Eq)]
 pub struct NoLogs;
 
 impl LogFiles for NoLogs {
+    fn create(&self, _name: &str, bytes: &[u8]) -> usize {
+        bytes.len()
+    }
+
     fn append(&self, _name: &str, bytes: &[u8]) -> usize {
         bytes.len()
     }

@@ -1,5 +1,5 @@
 //! The lines of a log that wait for its file.
-ghost use Rattle.std.specs.Prelude.{◌≡◌, ◌≢◌, ℕ, ◌+◌, ◌-◌, ◌*◌, ◌<◌, ◌≤◌, ◌^◌, ◌&&◌, ◌||◌, List, [], ◌++◌, IsTrue, false, length, not, if◌then◌else◌};
+ghost use Rattle.std.specs.Prelude.{◌≡◌, ◌≢◌, ℕ, ◌+◌, ◌-◌, ◌*◌, ◌<◌, ◌≤◌, ◌^◌, ◌==◌, ◌&&◌, ◌||◌, List, [], ◌++◌, IsTrue, false, length, not, if◌then◌else◌};
 ghost use Rattle.tox_log.specs.files.WholeLines.{AreLines};
 ghost use Rattle.tox_log.specs.files.EntryText.{entry_text};
 ghost use Rattle.tox_log.specs.files.LogSteps.{Adds, IsShareOf, is_wanted, state_behind, tells};
@@ -89,6 +89,15 @@ fn add_entry<R: Wait>(
     }
     waiting.cut(before);
     LogState::Cut
+}
+
+/// Lines that were taken for the file of a log.
+pub(crate) struct TakenLines {
+    pub(crate) lines: LogBytes,
+    /// Whether none were taken before.
+    pub(crate) is_first: bool,
+    /// What is counted of the log.
+    pub(crate) share: Share,
 }
 
 /// The lines of a log that wait for its file, and what its file has.
@@ -228,18 +237,23 @@ impl LogText {
     }
 
     /// Takes the lines that wait, with all that is counted of the log.
-    pub(crate) fn take(&mut self) -> (LogBytes, Share)
-        ensures taken { result.0 ≡ self.old.waiting }
-        ensures share { (result.1 ≡ self.old.share) × (result.1.bytes ≤ 2097152) }
+    pub(crate) fn take(&mut self) -> TakenLines
+        ensures taken { result.lines ≡ self.old.waiting }
+        ensures first { result.is_first ≡ (self.old.taken == 0) }
+        ensures share { (result.share ≡ self.old.share) × (result.share.bytes ≤ 2097152) }
         ensures counted { self.new.taken ≡ self.old.taken + length self.old.waiting.0 }
         ensures empty { (self.new.waiting ≡ ([], false)) × (self.new.is_called ≡ false) }
         ensures kept { (self.new.most ≡ self.old.most) × (self.new.lines ≡ self.old.lines)
             × (self.new.state ≡ self.old.state) }
     {
         self.is_called = false;
+        let is_first = self.taken == 0;
         self.taken += self.waiting.bytes().len() as u64;
-        let waiting = mem::replace(&mut self.waiting, LogBytes::new(self.alloc));
-        (waiting, mem::replace(&mut self.share, Share::none()))
+        TakenLines {
+            lines: mem::replace(&mut self.waiting, LogBytes::new(self.alloc)),
+            is_first,
+            share: mem::replace(&mut self.share, Share::none()),
+        }
     }
 
     /// The file has so many more lines, or has failed behind them. Tells how many lines it has if the log ends there, once.

@@ -16,7 +16,7 @@ use std::sync::{Arc, Wait};
 use tox_defs::Chain;
 
 /// How much is logged.
-#[derive(Clone, Copy)]
+#[derive(Clone, Copy, Debug, PartialEq, Eq)]
 pub struct LogLimits {
     /// How many links of each proxy are logged, the first ones.
     pub links: u64,

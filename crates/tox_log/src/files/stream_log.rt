@@ -5,7 +5,7 @@ ghost use Rattle.tox_log.specs.files.WholeLines.{AreLines};
 
 use crate::files::entry::Entry;
 use crate::files::log_files::LogFiles;
-use crate::files::log_text::LogText;
+use crate::files::log_text::{LogText, TakenLines};
 use crate::files::waiting_bytes::WaitingBytes;
 use crate::files::whole_lines::count_lines;
 use std::sync::{Mutex, Wait};
@@ -49,9 +49,13 @@ impl StreamLog {
 
     /// Brings the lines that wait to the file. The lock is not held meanwhile, so that a slow disk holds no link.
     pub(crate) fn write<R: Wait, F: LogFiles>(&self, rt: &R, all: &WaitingBytes, files: &F) {
-        let (lines, mut share) = self.text.lock(rt).take();
+        let TakenLines {
+            lines,
+            is_first,
+            mut share,
+        } = self.text.lock(rt).take();
         let bytes = lines.bytes();
-        let taken = self.append(bytes, files);
+        let taken = self.bring(bytes, is_first, files);
         let count = count_lines(&bytes[..taken]) as u64;
         let failed = taken < bytes.len();
         let told = self.text.lock(rt).wrote(count, failed, &mut share);
@@ -61,14 +65,18 @@ impl StreamLog {
         }
     }
 
-    /// Appends whole lines to the file, if there are any. How many bytes it took.
-    fn append<F: LogFiles>(&self, bytes: &[u8], files: &F) -> usize
+    /// Brings whole lines to the file, if there are any. The first ones make it. How many bytes it took.
+    fn bring<F: LogFiles>(&self, bytes: &[u8], is_first: bool, files: &F) -> usize
         requires { AreLines bytes.now }
         ensures { result ≤ length bytes.now }
     {
         if bytes.is_empty() {
             return 0;
         }
-        files.append(&self.name, bytes)
+        if is_first {
+            files.create(&self.name, bytes)
+        } else {
+            files.append(&self.name, bytes)
+        }
     }
 }

@@ -2,10 +2,10 @@
 ghost use Rattle.std.specs.Prelude.{◌≡◌, None, option_map};
 ghost use Rattle.tox_log.specs.files.SharedLog.{file_of};
 
-use crate::LastLine;
 use crate::files::channel::LogChannel;
 use crate::files::entry::Entry;
 use crate::files::stream_log::StreamLog;
+use crate::{LastLine, LogLine};
 use std::alloc::{AllocError, Global};
 use std::marker::Model;
 use std::sync::{Arc, Wait};
@@ -23,6 +23,8 @@ struct KeptLog<'r> {
 pub struct StreamNotes<'r, R> {
     rt: &'r R,
     kept: Option<KeptLog<'r>>,
+    /// Whether the source's end is told as a reset by its peer.
+    source_reset: bool,
 }
 
 impl<'r, R> Model for StreamNotes<'r, R> {
@@ -39,7 +41,11 @@ impl<'r, R: Wait> StreamNotes<'r, R> {
     pub fn none(rt: &'r R) -> StreamNotes<'r, R>
         ensures { result ≡ None }
     {
-        StreamNotes { rt, kept: None }
+        StreamNotes {
+            rt,
+            kept: None,
+            source_reset: false,
+        }
     }
 
     /// Notes that go to a log, if there is one.
@@ -54,7 +60,11 @@ impl<'r, R: Wait> StreamNotes<'r, R> {
             Some(log) => Some(KeptLog { channel, log }),
             None => None,
         };
-        StreamNotes { rt, kept }
+        StreamNotes {
+            rt,
+            kept,
+            source_reset: false,
+        }
     }
 
     /// Adds an entry to the log, and calls its writer if that is due. Without memory for the call the next entry makes it.
@@ -68,9 +78,16 @@ impl<'r, R: Wait> StreamNotes<'r, R> {
         }
     }
 
+    /// The source's peer reset it: its end, if it is noted from now on, is told as a reset.
+    pub fn source_was_reset(&mut self)
+        ensures { self.new ≡ self.old }
+    {
+        self.source_reset = true;
+    }
+
     /// The stream has ended, or broke off: its log gets its last line.
     pub fn end(&self, last: &LastLine) {
-        self.add(&Entry::Last(last));
+        self.add(&Entry::Line(&LogLine::Last(*last)));
     }
 }
 
@@ -91,7 +108,7 @@ impl<'r, R: Wait> Notes for StreamNotes<'r, R> {
         ensures goes_on { result ≡ Ok tt }
         ensures same { self.new ≡ self.old }
     {
-        self.add(&Entry::Event(&event));
+        self.add(&Entry::Line(&LogLine::of(&event, self.source_reset)));
         Ok(())
     }
 }

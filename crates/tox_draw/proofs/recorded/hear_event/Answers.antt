@@ -16,7 +16,7 @@ returns-in-Piece-clause-hears c =
     let len = c.in-Piece.len in
     let t = c.in-Piece.instant in
     let new : Hearing = record old { course = c.take_piece.new.self; latest = t; end = Missing t } in
-    let heard : HearsEvent frame old before (Piece len t) new after = hears-piece frame old new before after len t c.take_piece.ensures.arrived c.take_piece.ensures.due c.take_piece.ensures.kept refl refl refl in
+    let heard : HearsEvent frame old before (Piece len t) new after = hears-piece frame old new before after len t c.take_piece.ensures.arrived c.take_piece.ensures.due c.take_piece.ensures.kept.0 refl refl refl in
     subst (λ event. HearsEvent frame old before event c.read_at.new.hearing after) (sym c.in-Piece.is)
     (subst (λ hearing. HearsEvent frame old before (Piece len t) hearing after) (sym c.read_at.ensures) heard)
 

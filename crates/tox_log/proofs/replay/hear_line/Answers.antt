@@ -1,7 +1,7 @@
 -- The line is heard, and the judge comes as far as the event.
 use Rattle.std.proofs.Common.{◌≡◌, true, [], ◌∷◌, ◌++◌, Some, refl, sym, subst, append-nil, OnOk, rules}
 use Rattle.tox_link.specs.declared.notes.LinkEvent.TheVariants.{Piece, SourceEnd, Wrote}
-use Rattle.tox_log.specs.declared.event_line.LogLine.TheVariants.{Event, Last}
+use Rattle.tox_log.specs.declared.event_line.LogLine.TheVariants.{Event, SourceReset, Last}
 use Rattle.tox_log.specs.declared.last_line.LastLine.TheVariants.{Broken, Ended}
 use Rattle.tox_log.specs.Hearing.{HearsLine}
 use Rattle.tox_log.specs.declared.replay.Hearing.{Hearing}
@@ -51,7 +51,7 @@ returns-in-Last-Broken-clause-hears c =
     let is : c.args.line.now ≡ Last (Broken c.in-Last-Broken.cause c.in-Last-Broken.field-0-1) = search rules in
     let broken : Hearing = record c.args.hearing.now { broken = Some c.in-Last-Broken.cause } in
     subst (λ line. HearsLine c.args.hearing.now line c.args.number broken) (sym is)
-    (λ start means text writable whole heard at. says-broken start means text c.args.hearing.now broken c.in-Last-Broken.cause c.in-Last-Broken.field-0-1 c.requires.going refl refl refl refl heard)
+    (λ start means text writable whole heard at. says-broken start means text c.args.hearing.now broken c.in-Last-Broken.cause c.in-Last-Broken.field-0-1 c.requires.going refl refl refl refl refl heard)
 
 pub returns-in-Event-Piece-clause-judges : goal.returns-in-Event-Piece-clause-judges
 returns-in-Event-Piece-clause-judges c =
@@ -78,3 +78,18 @@ returns-in-Last-Broken-clause-judges c = λ means events judged unfinished.
     let is : c.args.line.now ≡ Last (Broken c.in-Last-Broken.cause c.in-Last-Broken.field-0-1) = search rules in
     subst (λ line. Judged means (λ reading. true) c.args.hearing.now.judge (events ++ events_in (line ∷ []))) (sym is)
     (subst (Judged means (λ reading. true) c.args.hearing.now.judge) (sym (append-nil events)) judged)
+
+pub returns-in-SourceReset-clause-hears : goal.returns-in-SourceReset-clause-hears
+returns-in-SourceReset-clause-hears c =
+    let is : c.args.line.now ≡ SourceReset c.in-SourceReset.instant = search rules in
+    subst (λ line. OnOk c.hear_source_end-in-SourceReset.result (HearsLine c.args.hearing.now line c.args.number c.hear_source_end-in-SourceReset.new.hearing)) (sym is) c.hear_source_end-in-SourceReset.ensures.hears
+
+pub returns-in-SourceReset-clause-follows : goal.returns-in-SourceReset-clause-follows
+returns-in-SourceReset-clause-follows c =
+    let is : c.args.line.now ≡ SourceReset c.in-SourceReset.instant = search rules in
+    subst (λ line. OnOk c.hear_source_end-in-SourceReset.result (ComesWith c.args.hearing.now line c.hear_source_end-in-SourceReset.new.hearing)) (sym is) c.hear_source_end-in-SourceReset.ensures.follows
+
+pub returns-in-SourceReset-clause-judges : goal.returns-in-SourceReset-clause-judges
+returns-in-SourceReset-clause-judges c =
+    let is : c.args.line.now ≡ SourceReset c.in-SourceReset.instant = search rules in
+    subst (λ line. OnOk c.hear_source_end-in-SourceReset.result (JudgesWith c.args.hearing.now line c.hear_source_end-in-SourceReset.new.hearing)) (sym is) c.hear_source_end-in-SourceReset.ensures.judges
