@@ -8,6 +8,7 @@ mod cores;
 mod drives;
 mod drives_one_by_one;
 mod driving;
+mod failing_rests;
 mod link_ends;
 mod plain_drives;
 mod polled_ends;

@@ -64,6 +64,7 @@ settled-still core now invariant emptied none going before unended = record {
   ended = refl;
   bytes = refl;
   latest = refl;
+  cuts = refl;
   known = λ last is. is;
   told = λ ended. absurd (going emptied.drained.idle (invariant.finished ended none));
   overdue = λ d due late. absurd (let ahead : now < d = subst (IsBeforeDeadline now) due before in omega (arith, ahead, late));
@@ -100,6 +101,7 @@ module _ (core : CoreView) (last : Ending) where
       ended = refl;
       bytes = refl;
       latest = refl;
+      cuts = refl;
       known = λ other known. absurd (let both : Some other ≡ None = sym known ∙ unknown in cc);
       told = λ ended. subst IsSome (sym quiet-ending) refl;
       overdue = λ e due late. subst IsSome (sym quiet-ending) refl;
@@ -120,5 +122,6 @@ keeps-after core middle new now looked known kept = record {
         ∙ sym (append_assoc looked.waiting.0 kept.waiting.0 new.waiting),
   );
   count = omega (arith, looked.count, kept.count);
+  cuts = omega (arith, looked.cuts, kept.cuts);
   ending = λ last is. kept.ending last (known last is);
 }

@@ -29,6 +29,7 @@ use Rattle.tox_link.specs.carrying.Side.{IsSound, TookAll}
 use Rattle.tox_link.specs.Sources.{read_end_of}
 use Rattle.tox_link.proofs.Logs.{gapless-bytes}
 use Rattle.tox_link.proofs.Sent.{bytes_of-append, prepend-append}
+use Rattle.tox_link.proofs.Sizes.{small-none}
 use Rattle.tox_link.proofs.StepLemmas.{faithful-nil}
 
 -- how what was heard ends
@@ -79,7 +80,7 @@ append-nothing (Some bytes) = ap Some (sym (append-nil bytes))
 
 -- a link that did nothing
 pub cut-nothing : (means : List Item → List Item) (told : ℕ → Type 0) (written : ℕ) → written ≡ 0 → IsCutOff means told written []
-cut-nothing means told written none = record { faithful = faithful-nil means told; few = omega (arith, none); of_heard = record { few = omega arith; heard = omega arith; shallow = tt }; within = omega (arith, none) }
+cut-nothing means told written none = record { faithful = faithful-nil means told; few = omega (arith, none); of_heard = record { few = omega arith; heard = omega arith; shallow = tt; small = small-none }; within = omega (arith, none) }
 
 pub writes-nothing : (given before : Option (List ℕ)) (written : ℕ) → written ≡ 0 → WritesFirst given before before [] written
 writes-nothing given before written none = record { left = given; gave = prepend-nil given; few = omega (arith, none); wrote = append-nothing before ∙ ap (append_known before) (sym (take-nil written)) }

@@ -17,7 +17,7 @@ use Rattle.tox_link.specs.log.Log.{ends_behind, heard_lens, said, waiting_pieces
 use Rattle.tox_link.specs.log.Carried.{KeepsLast}
 use Rattle.tox_link.proofs.Logs.{gapless-bytes}
 
-heard_lens-append : (log more : List LinkEvent) → heard_lens (log ++ more) ≡ heard_lens log ++ heard_lens more
+pub heard_lens-append : (log more : List LinkEvent) → heard_lens (log ++ more) ≡ heard_lens log ++ heard_lens more
 heard_lens-append [] more = refl
 heard_lens-append (Piece len instant ∷ log) more = ap (λ lens. len ∷ lens) (heard_lens-append log more)
 heard_lens-append (SourceEnd instant ∷ log) more = heard_lens-append log more

@@ -1,5 +1,5 @@
 -- A direction that is driven: steps one after the other.
-use Rattle.std.proofs.Common.{◌≡◌, ℕ, ◌+◌, ◌≤◌, inl, Bool, false, true, List, [], ◌∷◌, ◌++◌, length, length-append, take, drop, Option, Some, None, refl, ap, ◌∙◌, sym, subst, append_assoc, append-nil, arith}
+use Rattle.std.proofs.Common.{◌≡◌, ℕ, ◌+◌, ◌≤◌, inl, inr, ◌⊎◌, Bool, false, true, List, [], ◌∷◌, ◌++◌, length, length-append, take, drop, Option, Some, None, refl, ap, ◌∙◌, sym, subst, append_assoc, append-nil, arith}
 use Rattle.std.specs.Io.KnownBytes.{append_known, prepend_known}
 use Rattle.std.proofs.lemmas.List.{take-append-drop}
 use Rattle.std.specs.Prelude.{is_some, IfSome, slice_get, ◌||◌, Result, Ok, Err, nat_le, if◌then◌else◌}
@@ -17,7 +17,7 @@ use Rattle.tox_link.specs.declared.link_core.act.Act.TheVariants.{Write, WaitUnt
 use Rattle.tox_link.specs.declared.notes.LinkEvent.{LinkEvent}
 use Rattle.tox_link.specs.declared.notes.LinkEvent.TheVariants.{Wrote}
 use Rattle.tox_link.specs.carrying.Held.{AreOf}
-use Rattle.tox_link.specs.direction.Driven.{EndsView, Drove, IsReady, done_of, begun_by, steps_of_act, steps_of_move}
+use Rattle.tox_link.specs.direction.Driven.{EndsView, Drove, IsReady, KeepsDone, done_of, moved_of, begun_by, steps_of_act, steps_of_move}
 use Rattle.tox_link.specs.direction.Follows.{unsaid, IsUpTo, IsHeld, IsNew, Follows, Drives, WritesOn, AreLeftOver}
 use Rattle.tox_link.specs.link_core.Acts.{Answered, After, Says, end_act, idle_act, wait_act}
 use Rattle.tox_link.specs.link_core.Core.{CoreView, KeepsCore, LeavesOutput, remaining_output, next_instant, core_ending, core_deadline, core_position}
@@ -36,6 +36,7 @@ use Rattle.tox_link.specs.Sources.{read_end_of}
 use Rattle.tox_link.proofs.CarryLemmas.{append-nothing, prepend-nil}
 use Rattle.tox_link.proofs.FollowLemmas.{bare, clad, drives-ended, unsent-none}
 use Rattle.tox_link.proofs.Depths.{shallow-front}
+use Rattle.tox_link.proofs.Sizes.{small-front}
 use Rattle.tox_link.proofs.StepLemmas.{start-carried, says-heard}
 use Rattle.tox_link.proofs.LoggedLemmas.{said-within}
 use Rattle.tox_link.proofs.Logs.{heard-wrote, heard_bytes-append, said-append, end-same, events-append, events-none, has_source_end-append}
@@ -134,6 +135,9 @@ module _ (link : PolledLink) (core : CoreView) (now : ℕ) (held : IsHeld link) 
   work-asked WaitForInput leaves = omega (arith, leaves.position)
   work-asked (End last) leaves = omega (arith, leaves.position)
 
+  pub done-asked : (act : Act) → After link.core now act core → KeepsDone link (asked act)
+  done-asked act after = record { found = let found = work-asked act after in omega (arith, found); cuts = kept.cuts; written = omega arith; ended = omega arith }
+
   pub drives-asked : (told : ℕ → Type 0) (act : Act) (known : Option (List ℕ)) → KeepsCarried told link.core (noted_of act now) core → Drives told link known [] [] (asked act) known
   drives-asked told act known keeps means log came before follows =
       let same : came ++ [] ≡ came = append-nil came in
@@ -172,6 +176,8 @@ drove-none told link view = record {
   noted = events-none view.events;
   follows = λ means log came before follows.
       subst (λ log. Follows means told link log (came ++ []) before view.written) (sym (append-nil log)) (subst (λ came. Follows means told link log came before view.written) (sym (append-nil came)) follows);
+  kept = record { found = omega arith; cuts = omega arith; written = omega arith; ended = omega arith };
+  taken = omega arith;
   work = omega arith;
 }
 
@@ -186,6 +192,13 @@ drove-then told first second a b c before between after one two = record {
       subst (λ log. Follows means told c log (came ++ (one.bytes ++ two.bytes)) start after.written) (append_assoc log one.more two.more)
       (subst (λ came. Follows means told c ((log ++ one.more) ++ two.more) came start after.written) (append_assoc came one.bytes two.bytes)
       (two.follows means (log ++ one.more) (came ++ one.bytes) start (one.follows means log came start follows)));
+  kept = record {
+    found = omega (arith, one.kept.found, two.kept.found);
+    cuts = omega (arith, one.kept.cuts, two.kept.cuts);
+    written = omega (arith, one.kept.written, two.kept.written);
+    ended = omega (arith, one.kept.ended, two.kept.ended);
+  };
+  taken = let bytes = length-append one.bytes two.bytes in omega (arith, one.taken, two.taken, bytes);
   work =
       let bytes = length-append one.bytes two.bytes in
       let more = length-append one.more two.more in
@@ -197,7 +210,7 @@ heard-unsaid : (log : List LinkEvent) (slice : Option Unwritten) → heard (log 
 heard-unsaid log None = ap heard (append-nil log)
 heard-unsaid log (Some unwritten) = heard-wrote 0 log unwritten.slice unwritten.reading (Quiet ∷ [])
 
-written-up_to : (slice : Option Unwritten) (written position : ℕ) → IsUpTo slice written position → written ≤ position
+pub written-up_to : (slice : Option Unwritten) (written position : ℕ) → IsUpTo slice written position → written ≤ position
 written-up_to None written position up_to = omega (arith, up_to)
 written-up_to (Some unwritten) written position up_to = up_to.2
 
@@ -212,7 +225,7 @@ said-of_heard log (Some unwritten) all =
     let more = Wrote unwritten.slice unwritten.reading ∷ [] in
     let heard_is = heard_bytes-append log more in
     let said_is = ap (λ slices. length (slices_table slices)) (said-append log more) ∙ ap length (slices_table-append (said log) (said more)) ∙ length-append (slices_table (said log)) (slices_table (said more)) in
-    record { few = omega (arith, heard_is, all.few); heard = omega (arith, heard_is, said_is, all.heard); shallow = shallow-front [] log _ all.shallow }
+    record { few = omega (arith, heard_is, all.few); heard = omega (arith, heard_is, said_is, all.heard); shallow = shallow-front [] log _ all.shallow; small = small-front log _ all.small }
 
 -- a direction that broke off
 pub cut-follows : (means : List Item → List Item) (told : ℕ → Type 0) (link : PolledLink) (log : List LinkEvent) (came : List ℕ) (before after : Option (List ℕ)) → IsHeld link → Follows means told link log came before after
@@ -247,10 +260,21 @@ pub drove-read : (least fewer : ℕ) (told : ℕ → Type 0) (old new : PolledLi
     → Drove least told old (record { remaining = again; written = before; events = events }) new (record { remaining = left; written = after; events = noted })
     → Drove fewer told old (record { remaining = given; written = before; events = events }) new (record { remaining = left; written = after; events = noted })
 drove-read least fewer told old new given again left before after events noted few same drove =
-    record { bytes = drove.bytes; more = drove.more; read = same ∙ drove.read; noted = drove.noted; follows = drove.follows; work = omega (arith, few, drove.work) }
+    record { bytes = drove.bytes; more = drove.more; read = same ∙ drove.read; noted = drove.noted; follows = drove.follows; kept = drove.kept; taken = drove.taken; work = omega (arith, few, drove.work) }
 
 pub drove-less : (least fewer : ℕ) (told : ℕ → Type 0) (old new : PolledLink) (before after : EndsView) → fewer ≤ least → Drove least told old before new after → Drove fewer told old before new after
-drove-less least fewer told old new before after few drove = record { bytes = drove.bytes; more = drove.more; read = drove.read; noted = drove.noted; follows = drove.follows; work = omega (arith, few, drove.work) }
+drove-less least fewer told old new before after few drove =
+    record { bytes = drove.bytes; more = drove.more; read = drove.read; noted = drove.noted; follows = drove.follows; kept = drove.kept; taken = drove.taken; work = omega (arith, few, drove.work) }
+
+-- a drive that moved so much, or cut so often, took as many steps as one may take at most
+pub drove-enough : (steps : ℕ) (told : ℕ → Type 0) (old new : PolledLink) (before after : EndsView) → (moved_of old + 131_072 ≤ moved_of new) ⊎ (old.core.runner.cuts + 4_096 ≤ new.core.runner.cuts) → Drove steps told old before new after
+    → Drove 32 told old before new after
+drove-enough steps told old new before after enough drove =
+    record { bytes = drove.bytes; more = drove.more; read = drove.read; noted = drove.noted; follows = drove.follows; kept = drove.kept; taken = drove.taken; work = work enough }
+  where
+    work : (moved_of old + 131_072 ≤ moved_of new) ⊎ (old.core.runner.cuts + 4_096 ≤ new.core.runner.cuts) → done_of old + 32 ≤ done_of new + length drove.bytes + length drove.more
+    work (inl moved) = omega (arith, moved, drove.taken, drove.kept.found, drove.kept.cuts, drove.kept.written, drove.kept.ended)
+    work (inr cut) = omega (arith, cut, drove.kept.found, drove.kept.cuts, drove.kept.written, drove.kept.ended)
 
 -- a move is at most one step
 pub move-few : {E : Type 0} (moved : Result Bool E) → steps_of_move moved ≤ 1
@@ -266,18 +290,26 @@ move-one false result same is = absurd (cc)
 
 -- a slice is written on
 pub drove-writes : (least : ℕ) (told : ℕ → Type 0) (old new : PolledLink) (left before after : Option (List ℕ)) (events noted : Option (List LinkEvent)) (more : List LinkEvent) → noted ≡ with_events events more → WritesOn old before more new after
-    → old.written + least ≤ new.written + length more
+    → old.written ≤ new.written → old.written + least ≤ new.written + length more
     → Drove least told old (record { remaining = left; written = before; events = events }) new (record { remaining = left; written = after; events = noted })
-drove-writes least told old new left before after events noted more said on work = record {
+drove-writes least told old new left before after events noted more said on forward work = record {
   bytes = [];
   more = more;
   read = prepend-nil left;
   noted = said;
   follows = writes-follow told old new before after more on;
+  kept = record {
+    found = let position = ap core_position on.core in omega (arith, position);
+    cuts = let cuts = ap (λ (core : CoreView). core.runner.cuts) on.core in omega (arith, cuts);
+    written = forward;
+    ended = let ended = ap shut_of on.ended in omega (arith, ended);
+  };
+  taken = let bytes = ap (λ (core : CoreView). core.bytes) on.core in omega (arith, bytes);
   work =
       let position = ap core_position on.core in
+      let cuts = ap (λ (core : CoreView). core.runner.cuts) on.core in
       let ended = ap shut_of on.ended in
-      omega (arith, work, position, ended);
+      omega (arith, work, position, cuts, ended);
 }
 
 -- the answer to a wait
@@ -342,12 +374,15 @@ drove-asked told link new core now act left known events held idle answered keep
   read = prepend-nil left;
   noted = events-none events;
   follows = subst (λ (new : PolledLink). Drives told link known [] [] new known) (sym same) (drives-asked link core now held idle answered.kept told act known keeps);
+  kept = subst (KeepsDone link) (sym same) (done-asked link core now held idle answered.kept act answered.output);
+  taken = let bytes = ap (λ (link : PolledLink). link.core.bytes) same in omega (arith, bytes, answered.kept.bytes);
   work =
       let found = work-asked link core now held idle answered.kept act answered.output in
       let position = ap (λ (link : PolledLink). core_position link.core) same in
+      let cuts = ap (λ (link : PolledLink). link.core.runner.cuts) same in
       let written = ap (λ (link : PolledLink). link.written) same in
       let ended = ap (λ (link : PolledLink). shut_of link.ended) same in
-      omega (arith, found, position, written, ended);
+      omega (arith, found, position, cuts, answered.kept.cuts, written, ended);
 }
 
 -- an answer that gives no slice
@@ -363,25 +398,27 @@ keeps-same told old new same means log carried = subst (Carried means told new) 
 
 -- input came, and nothing was written
 pub drove-took : (told : ℕ → Type 0) (link new : PolledLink) (bytes : List ℕ) (left known : Option (List ℕ)) (events noted : Option (List LinkEvent)) (more : List LinkEvent) → noted ≡ with_events events more → Drives told link known bytes more new known
-    → done_of link + 1 ≤ done_of new + length bytes + length more
+    → KeepsDone link new → new.core.bytes ≤ link.core.bytes + length bytes → done_of link + 1 ≤ done_of new + length bytes + length more
     → Drove 1 told link (record { remaining = prepend_known bytes left; written = known; events = events }) new (record { remaining = left; written = known; events = noted })
-drove-took told link new bytes left known events noted more said follows work = record { bytes = bytes; more = more; read = refl; noted = said; follows = follows; work = work }
+drove-took told link new bytes left known events noted more said follows kept taken work = record { bytes = bytes; more = more; read = refl; noted = said; follows = follows; kept = kept; taken = taken; work = work }
 
 -- the source ended, or nothing more is read
 module _ (told : ℕ → Type 0) (link new : PolledLink) (bytes : List ℕ) (left known : Option (List ℕ)) (events noted : Option (List LinkEvent)) (held : IsHeld link) (idle : link.unwritten ≡ None) (going : link.ended ≡ false)
     (window : new.window ≡ link.window) (unwritten : new.unwritten ≡ link.unwritten) (ended : new.ended ≡ true) (written : new.written ≡ link.written) where
-  pub drove-ended : (more : List LinkEvent) → new.core.bytes ≡ link.core.bytes → core_position new.core ≡ core_position link.core → noted ≡ with_events events more → KeepsCarried told link.core more new.core
+  pub drove-ended : (more : List LinkEvent) → new.core.bytes ≡ link.core.bytes → core_position new.core ≡ core_position link.core → link.core.runner.cuts ≤ new.core.runner.cuts → noted ≡ with_events events more → KeepsCarried told link.core more new.core
       → has_source_end more ≡ is_some (read_end_of new.source) → (core_ending link.core ≡ None → AreLeftOver link new.source bytes) → ((core_ending link.core ≡ None → ⊥) → read_end_of new.source ≡ None)
       → Drove 1 told link (record { remaining = prepend_known bytes left; written = known; events = events }) new (record { remaining = left; written = known; events = noted })
-  drove-ended more counts position said keeps says over late =
+  drove-ended more counts position cuts said keeps says over late =
+      let before = ap shut_of going in
+      let after = ap shut_of ended in
       drove-took told link new bytes left known events noted more said (drives-ended link new held idle counts position window unwritten ended written told more bytes known going keeps says over late)
-      (let before = ap shut_of going in let after = ap shut_of ended in omega (arith, position, written, before, after))
+      (record { found = omega (arith, position); cuts = cuts; written = omega (arith, written); ended = omega (arith, before, after) }) (omega (arith, counts)) (omega (arith, position, cuts, written, before, after))
 
   pub drove-shut : new.core ≡ link.core → new.source ≡ link.source → noted ≡ events
       → Drove 1 told link (record { remaining = prepend_known bytes left; written = known; events = events }) new (record { remaining = left; written = known; events = noted })
   drove-shut core source said =
       let none : read_end_of new.source ≡ None = ap read_end_of source ∙ held.unheard going in
-      drove-ended [] (ap (λ (core : CoreView). core.bytes) core) (ap core_position core) (said ∙ events-none events) (keeps-same told link.core new.core core) (sym (ap is_some none))
+      drove-ended [] (ap (λ (core : CoreView). core.bytes) core) (ap core_position core) (let cuts = ap (λ (core : CoreView). core.runner.cuts) core in omega (arith, cuts)) (said ∙ events-none events) (keeps-same told link.core new.core core) (sym (ap is_some none))
       (λ unknown came long. subst (λ source. IfSome source (λ end. IsUnsent end came bytes)) (sym none) tt) (λ known. none)
 
 -- a direction that is new may be driven

@@ -5,6 +5,7 @@ pub mod ActLemmas
 pub mod Sent
 pub mod Logs
 pub mod Depths
+pub mod Sizes
 pub mod StepLemmas
 pub mod HeldLemmas
 pub mod SideLemmas

@@ -63,6 +63,7 @@ looked-none core = record {
   latest = refl;
   waiting = ([], refl);
   count = omega arith;
+  cuts = omega arith;
   finished = refl;
   unknown = λ none. none;
   given_up = λ none. gives-none core;
@@ -80,6 +81,7 @@ looked-both a b c first second = record {
   latest = second.latest ∙ first.latest;
   waiting = (first.waiting.0 ++ second.waiting.0, first.waiting.1 ∙ ap (λ rest. first.waiting.0 ++ rest) second.waiting.1 ∙ sym (append_assoc first.waiting.0 second.waiting.0 c.waiting));
   count = omega (arith, first.count, second.count);
+  cuts = omega (arith, first.cuts, second.cuts);
   finished = second.finished ∙ first.finished;
   unknown = λ none. first.unknown (second.unknown none);
   given_up = λ none. gives-both a b c (first.given_up (second.unknown none)) (second.given_up none);
@@ -159,6 +161,7 @@ pub record Cuts (old new : RunnerView) (found : Option Slice) : Type 0 where
   pub piece : new.piece ≡ old.piece
   pub latest : new.latest ≡ old.latest
   pub ops : ops_of new.cursors ≡ ops_of old.cursors
+  pub counted : old.cuts ≤ new.cuts
 
 -- the slice is one or more cuts
 cut_of : (old new : RunnerView) (found : Option Slice) → IfSome found (GivesCut old new) → IfSome found (IsCut old new)
@@ -177,6 +180,10 @@ stays_of : (old new : RunnerView) (found : Option Slice) → IfNone found (Gives
 stays_of old new None stays = record { idle = stays.idle; position = stays.position; from = stays.from; whole = stays.whole; same = stays.same }
 stays_of old new (Some slice) stays = tt
 
+counted_of : (old new : RunnerView) (found : Option Slice) → IfSome found (GivesCut old new) → IfNone found (GivesNoCut old new) → old.cuts ≤ new.cuts
+counted_of old new None gives stays = omega (arith, stays.cuts)
+counted_of old new (Some slice) gives stays = omega (arith, gives.cut.counted)
+
 -- what the runner's call tells
 pub cuts_of : (old new : RunnerView) (found : Option Slice) → IfSome found (GivesCut old new) → IsNone found ↔ HasNoChunk (to_come old (Quiet ∷ [])) → IfNone found (GivesNoCut old new)
     → KeepsOffers old new → Cuts old new found
@@ -191,6 +198,7 @@ cuts_of old new found gives none idle kept = record {
   piece = kept.piece;
   latest = kept.latest;
   ops = kept.ops;
+  counted = counted_of old new found gives idle;
 }
 
 cut_count : (n : ℕ) (old new : Bool) → old ≡ false → n + (if new then 0 else 1) ≤ n + (if old then 0 else 1)
@@ -277,6 +285,7 @@ module _ (core : CoreView) (new : RunnerView) (found : Option Slice) where
       latest = refl;
       waiting = ([], refl);
       count = cut_count (length core.waiting) core.runner.idle new.idle busy;
+      cuts = cuts.counted;
       finished = cuts.finished;
       unknown = λ none. busy-unknown core.runner busy;
       given_up = gives found refl;
@@ -339,6 +348,7 @@ module _ (core : CoreView) (new : RunnerView) (piece : WaitingPiece) (rest : Lis
     pub drawing : new.drawing ≡ core.runner.drawing
     pub finished : new.finished ≡ core.runner.finished
     pub cursors : new.cursors ≡ core.runner.cursors
+    pub counted : new.cuts ≡ core.runner.cuts
 
   module _ (offers : Offers) where
     count_offer : (idle old : Bool) → idle ≡ false → old ≡ true → length rest + (if idle then 0 else 1) ≤ length (piece ∷ rest) + (if old then 0 else 1)
@@ -378,6 +388,7 @@ module _ (core : CoreView) (new : RunnerView) (piece : WaitingPiece) (rest : Lis
       latest = refl;
       waiting = (piece ∷ [], offers.waiting);
       count = subst (λ waiting. length rest + (if new.idle then 0 else 1) ≤ length waiting + (if core.runner.idle then 0 else 1)) (sym offers.waiting) (count_offer new.idle core.runner.idle offers.busy offers.idle);
+      cuts = omega (arith, offers.counted);
       finished = offers.finished;
       unknown = λ none. idle-known core.runner offers.idle ∙ offers.running;
       given_up = λ none. gives_offer;
@@ -430,6 +441,7 @@ module _ (core : CoreView) (piece : WaitingPiece) (rest : List WaitingPiece) (fa
       latest = refl;
       waiting = (piece ∷ [], waiting);
       count = let more : length core.waiting ≡ length (piece ∷ rest) = ap length waiting in omega (arith, more);
+      cuts = omega arith;
       finished = refl;
       unknown = λ none. none;
       given_up = λ none. absurd (let over = over_by invariant.total in let both : Some over.last ≡ None = sym over.known ∙ none in cc);

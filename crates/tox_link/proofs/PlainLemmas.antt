@@ -92,7 +92,7 @@ module _ (given now : ℕ) (piece : WaitingPiece) (end : Option ℕ) (so_far : S
     overdue = λ d none. absurd (let both : Some piece.instant ≡ None = sym next ∙ none in cc);
     unended = λ none. absurd (let both : Some piece.instant ≡ None = sym next ∙ none in cc);
     output = (omega (arith, early, later), gives);
-    kept = record { drawing = refl; ops = refl; ended = refl; bytes = refl; waiting = (piece ∷ [], refl); count = omega arith; ending = λ last is. absurd (cc) };
+    kept = record { drawing = refl; ops = refl; ended = refl; bytes = refl; waiting = (piece ∷ [], refl); count = omega arith; cuts = omega arith; ending = λ last is. absurd (cc) };
     given_up = λ unknown. record { first = piece.len ∷ []; lens = refl; start = omega arith; before = λ before. omega arith };
     holds = λ t is ahead. let same : Some t ≡ Some piece.instant = sym is ∙ next in absurd (let at : t ≡ piece.instant = cc in omega (arith, early, later, at, ahead));
     latest = refl;
@@ -125,7 +125,7 @@ module _ (given now : ℕ) (end : Option ℕ) (so_far : StreamPosition) (ended :
   leaves-later = record { output = λ position since items later stream. same-refl (remaining_output idle_core items); position = refl }
 
   keeps-later : KeepsCore idle_core later_core
-  keeps-later = record { drawing = refl; ops = refl; ended = refl; bytes = refl; waiting = ([], refl); count = omega arith; ending = λ last is. is }
+  keeps-later = record { drawing = refl; ops = refl; ended = refl; bytes = refl; waiting = ([], refl); count = omega arith; cuts = omega arith; ending = λ last is. is }
 
   after-closed : (t : ℕ) (reached : Bool) → nat_le t now ≡ reached → After idle_core now (if reached then End (ClosedAt t) else WaitUntil t) later_core
   after-closed t true is = leaves-later

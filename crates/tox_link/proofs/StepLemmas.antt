@@ -18,6 +18,7 @@ use Rattle.tox_link.specs.log.Log.{heard_from, heard_lens, said, heard_bytes, ha
 use Rattle.tox_link.specs.log.Carried.{Carried, KeepsCarried, KeepsLast, noted_of}
 use Rattle.tox_link.proofs.Depths.{few-waiting, keeps-none, keeps-piece, shallow-append}
 use Rattle.tox_link.proofs.Logs.{stream-earlier, heard-piece, heard-end, heard-wrote, said-append, heard_bytes-append, gapless-append, gapless-bytes, by-later, by-append, faithful-append, end-same, open-log, ordered-piece, ordered-end, ordered-wrote}
+use Rattle.tox_link.proofs.Sizes.{small-append, small-none, small-one}
 
 -- what stands now agrees with the plan
 agrees-now : (means : List Item → List Item) (core : CoreView) (log : List LinkEvent)
@@ -34,10 +35,10 @@ module _ (told : ℕ → Type 0) (old new : CoreView) (len instant : ℕ) where
   piece = Chunk (record { start = old.bytes; stop = old.bytes + len }) instant
 
   piece-carried : kept_count old < 1_024 → core_ending old ≡ None → new.runner ≡ old.runner → new.found ≡ old.found → new.waiting ≡ old.waiting ++ record { len = len; instant = instant } ∷ []
-      → old.latest ≤ instant → IsInstant instant → told instant → 0 < len → old.bytes + len ≤ 2 ^ 40 → old.ended ≡ false → new.latest ≡ instant → new.bytes ≡ old.bytes + len → core_position new ≡ core_position old
+      → old.latest ≤ instant → IsInstant instant → told instant → 0 < len → len ≤ 16_384 → old.bytes + len ≤ 2 ^ 40 → old.ended ≡ false → new.latest ≡ instant → new.bytes ≡ old.bytes + len → core_position new ≡ core_position old
       → ((items : List Item) → remaining_output new items ≡ remaining_output old (Chunk (record { start = old.bytes; stop = old.bytes + len }) instant ∷ items))
       → KeepsCarried told old (Piece len instant ∷ []) new
-  piece-carried room unknown runner found waiting later fits says some few going latest bytes position output means log carried = record {
+  piece-carried room unknown runner found waiting later fits says some small few going latest bytes position output means log carried = record {
     tables = tables;
     endings = λ rest stream. ap (λ items. ending (means items)) (heard_is rest) ∙ carried.endings (piece ∷ rest) (goes_on rest stream) ∙ ap ending (sym (output rest));
     stream = λ rest stream. subst IsStream (sym (heard_is rest)) (carried.stream (piece ∷ rest) (goes_on rest stream));
@@ -52,6 +53,7 @@ module _ (told : ℕ → Type 0) (old new : CoreView) (len instant : ℕ) where
     read = inr (subst told (sym latest) says);
     shallow = shallow-append [] log (Piece len instant ∷ []) carried.shallow
         (let waiting = few-waiting old log (carried.kept going unknown) carried.gapless in omega (arith, waiting, room), tt);
+    small = small-append log (Piece len instant ∷ []) carried.small (small-one len small);
     kept = λ _ _. keeps-piece old new log len instant runner found waiting (carried.kept going unknown);
   }
     where
@@ -75,12 +77,12 @@ module _ (told : ℕ → Type 0) (old new : CoreView) (len instant : ℕ) where
       gapless : IsGapless 0 (said (log ++ Piece len instant ∷ [])) (core_position new)
       gapless = subst (λ slices. IsGapless 0 slices (core_position new)) (sym said_is) (subst (IsGapless 0 (said log)) (sym position) carried.gapless)
 
-  pub taken-carried : kept_count old < 1_024 → core_ending old ≡ None → old.latest ≤ instant → IsInstant instant → told instant → 0 < len → old.bytes + len ≤ 2 ^ 40 → old.ended ≡ false
+  pub taken-carried : kept_count old < 1_024 → core_ending old ≡ None → old.latest ≤ instant → IsInstant instant → told instant → 0 < len → len ≤ 16_384 → old.bytes + len ≤ 2 ^ 40 → old.ended ≡ false
       → new ≡ record old { waiting = old.waiting ++ record { len = len; instant = instant } ∷ []; bytes = old.bytes + len; latest = instant }
       → ((items : List Item) → remaining_output new items ≡ remaining_output old (Chunk (record { start = old.bytes; stop = old.bytes + len }) instant ∷ items))
       → KeepsCarried told old (Piece len instant ∷ []) new
-  taken-carried room unknown later fits says some few going taken =
-      piece-carried room unknown (ap (λ (core : CoreView). core.runner) taken) (ap (λ (core : CoreView). core.found) taken) (ap (λ (core : CoreView). core.waiting) taken) later fits says some few going
+  taken-carried room unknown later fits says some small few going taken =
+      piece-carried room unknown (ap (λ (core : CoreView). core.runner) taken) (ap (λ (core : CoreView). core.found) taken) (ap (λ (core : CoreView). core.waiting) taken) later fits says some small few going
       (ap (λ (core : CoreView). core.latest) taken) (ap (λ (core : CoreView). core.bytes) taken) (ap core_position taken)
 
 -- the source's end arrives
@@ -101,6 +103,7 @@ module _ (told : ℕ → Type 0) (old new : CoreView) (instant : ℕ) where
     few = omega (arith, bytes, carried.few);
     read = inr (subst told (sym latest) says);
     shallow = shallow-append [] log (SourceEnd instant ∷ []) carried.shallow (tt, tt);
+    small = small-append log (SourceEnd instant ∷ []) carried.small small-none;
     kept = λ going. absurd (let both : true ≡ false = sym ended ∙ going in cc);
   }
     where
@@ -147,6 +150,7 @@ module _ (told : ℕ → Type 0) (old new : CoreView) (now : ℕ) (later : old.l
     few = omega (arith, bytes, carried.few);
     read = inr (subst told (sym latest) says);
     shallow = carried.shallow;
+    small = carried.small;
     kept = λ going unknown. subst (KeepsLast new) (append-nil log) (keeps log [] refl carried.kept going unknown);
   })
 
@@ -165,6 +169,7 @@ module _ (told : ℕ → Type 0) (old new : CoreView) (now : ℕ) (later : old.l
     few = omega (arith, bytes, carried.few);
     read = inr (subst told (sym latest) says);
     shallow = shallow-append [] log (Wrote slice now ∷ []) carried.shallow (tt, tt);
+    small = small-append log (Wrote slice now ∷ []) carried.small small-none;
     kept = keeps log (Wrote slice now ∷ []) refl carried.kept;
   }
     where
@@ -198,7 +203,7 @@ module _ (told : ℕ → Type 0) (old new : CoreView) (now : ℕ) (later : old.l
 pub says-heard : (means : List Item → List Item) (told : ℕ → Type 0) (core : CoreView) (log : List LinkEvent) → Carried means told core log → SaysHeard log
 says-heard means told core log carried =
     let long = gapless-bytes 0 (said log) (core_position core) carried.gapless in
-    record { few = omega (arith, carried.bytes, carried.few); heard = omega (arith, long, carried.bytes, carried.arrived); shallow = carried.shallow }
+    record { few = omega (arith, carried.bytes, carried.few); heard = omega (arith, long, carried.bytes, carried.arrived); shallow = carried.shallow; small = carried.small }
 
 -- an empty log is faithful
 pub faithful-nil : (means : List Item → List Item) (told : ℕ → Type 0) → IsFaithful means told []
@@ -224,6 +229,7 @@ start-carried means told core bytes latest position none_kept output = record {
   few = omega (arith, bytes);
   read = inl latest;
   shallow = tt;
+  small = small-none;
   kept = λ _ _. keeps-none core none_kept;
 }
   where

@@ -72,7 +72,8 @@ fn start<
 ///
 /// A thread reads at most `reads` times and sends what it read through a ring. The writer's side stamps each
 /// piece with the greatest reading of the clock so far, notes it, and does what a
-/// [`LinkCore`](crate::LinkCore) of the plan says. It hangs up once, and then waits for the reader's thread.
+/// [`LinkCore`](crate::LinkCore) of the plan says. Before each rest it writes no bytes, which asks the writer whether it
+/// still works. It hangs up once, and then waits for the reader's thread.
 ///
 /// # Errors
 ///

@@ -1,5 +1,6 @@
 //! One direction of a live link as a step machine. It owns no clock, socket or thread.
 mod asking;
+mod drive_start;
 mod poll_ends;
 mod polled_link;
 mod progress;

@@ -109,6 +109,13 @@ impl<'w> LinkCore<'w> {
         self.so_far.latest
     }
 
+    /// How many cuts its runner gave.
+    pub(crate) fn cuts(&self) -> u64
+        ensures { result ≡ self.now.runner.cuts }
+    {
+        self.runner.cuts()
+    }
+
     /// The link's ending, once it is known and no piece is kept. Nothing else is then to come.
     pub fn ending(&self) -> Option<Ending>
         ensures value { result ≡ core_ending self.now }

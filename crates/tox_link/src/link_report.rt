@@ -3,7 +3,7 @@ use crate::source_ending::SourceEnding;
 use tox_time::{Ending, Micros};
 
 /// What a link that ended reports.
-#[derive(Drop)]
+#[derive(Debug, PartialEq, Eq, Drop)]
 pub struct LinkReport<S> {
     /// How many bytes the link took from its source.
     pub taken: u64,
@@ -18,7 +18,7 @@ pub struct LinkReport<S> {
 }
 
 /// What a link that ended reports, and the reading of the clock at which it ended.
-#[derive(Drop)]
+#[derive(Debug, PartialEq, Eq, Drop)]
 pub struct TimedReport<S> {
     pub report: LinkReport<S>,
     pub reading: Micros,

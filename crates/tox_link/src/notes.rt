@@ -29,7 +29,7 @@ pub trait Notes {
 }
 
 /// Notes that keep nothing.
-#[derive(Clone, Copy)]
+#[derive(Clone, Copy, Debug, PartialEq, Eq)]
 pub struct NoNotes;
 
 impl Notes for NoNotes {

@@ -7,6 +7,7 @@ use tox_link::LinkFault;
 const STAMPED: &DriveCase = &DriveCase {
     toxics: "latency:latency=1",
     gives: 1,
+    most_read: 1,
     due: None,
     kept: Kept::All,
     steps: &[
@@ -26,6 +27,7 @@ fn a_piece_is_stamped_after_its_read(rt: HostRuntime) {
 const WAITING_SLICE: &DriveCase = &DriveCase {
     toxics: "reset_peer:timeout=20",
     gives: 1,
+    most_read: 1,
     due: Some(20_000),
     kept: Kept::Nothing,
     steps: &[
@@ -43,6 +45,7 @@ fn a_slice_that_waits_hides_no_reset(rt: HostRuntime) {
 const NOTHING_MOVES: &DriveCase = &DriveCase {
     toxics: "latency:latency=1",
     gives: 0,
+    most_read: 1,
     due: None,
     kept: Kept::Nothing,
     steps: &[
@@ -56,4 +59,45 @@ const NOTHING_MOVES: &DriveCase = &DriveCase {
 #[test]
 fn a_drive_that_moves_nothing_takes_no_memory(rt: HostRuntime) {
     follow(&rt, NOTHING_MOVES);
+}
+
+const MANY_CUTS: &DriveCase = &DriveCase {
+    toxics: "slicer:average_size=1,size_variation=0,delay=0",
+    gives: 1_000_000,
+    most_read: 16_384,
+    due: None,
+    kept: Kept::All,
+    steps: &[
+        Step::DriveOn,
+        Step::Left(983_616),
+        Step::Events(&[Event::Piece(16_384, 10)]),
+        Step::DriveOn,
+        Step::Left(967_232),
+        Step::Events(&[
+            Event::Piece(16_384, 10),
+            Event::Wrote(0, 16_384, 10),
+            Event::Piece(16_384, 20),
+        ]),
+    ],
+};
+
+/// A piece of 16,384 cuts at one instant is one slice, and a drive looks for one such slice.
+#[test]
+fn a_drive_ends_behind_many_cuts(rt: HostRuntime) {
+    follow(&rt, MANY_CUTS);
+}
+
+const MANY_BYTES: &DriveCase = &DriveCase {
+    toxics: "latency:latency=1",
+    gives: 1_000_000,
+    most_read: 16_384,
+    due: None,
+    kept: Kept::Nothing,
+    steps: &[Step::DriveOn, Step::Left(868_928)],
+};
+
+/// A drive that reads 131,072 bytes reads no more.
+#[test]
+fn a_drive_ends_behind_many_bytes(rt: HostRuntime) {
+    follow(&rt, MANY_BYTES);
 }

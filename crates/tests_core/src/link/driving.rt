@@ -15,11 +15,12 @@ use tests_support::{Scarcity, at};
 use tox_link::{LinkFault, PollSink, PollSource, PolledLink, Progress, drive};
 use tox_time::{EndFault, Micros};
 
-/// A source that gives one byte a call, so often, and then would wait. The clock moves on by 10 at each call.
+/// A source that gives so many bytes, some of them a call, and then would wait. The clock moves on by 10 at each call.
 #[derive(Drop)]
 struct TickingSource {
     micros: Arc<AtomicU64>,
     left: u64,
+    most: u64,
     waits: bool,
 }
 
@@ -36,8 +37,9 @@ impl PollSource for TickingSource {
         if self.waits {
             return Ok(None);
         }
-        self.left = self.left.saturating_sub(1);
-        Ok(Some(1))
+        let count = self.left.min(self.most).min(buffer.len() as u64);
+        self.left = self.left.saturating_sub(count);
+        Ok(Some(count as usize))
     }
 }
 
@@ -86,8 +88,9 @@ fn planned_link(rt: &(impl Abort + AllocGlobal), toxics: &str) -> PolledLink
 /// What a direction is driven with, and how.
 pub struct DriveCase {
     pub toxics: &'static str,
-    /// How many bytes the source gives.
+    /// How many bytes the source gives, and how many of them a call.
     pub gives: u64,
+    pub most_read: u64,
     /// When a sink that takes nothing is due.
     pub due: Option<u64>,
     pub kept: Kept,
@@ -98,6 +101,8 @@ pub struct DriveCase {
 pub enum Step {
     /// A drive waits, at most until this instant if there is one, or breaks off.
     Drive(Result<Option<u64>, LinkFault>),
+    /// A drive may go on at once.
+    DriveOn,
     /// The same where there is no memory.
     DriveWithoutMemory(Result<Option<u64>, LinkFault>),
     /// The clock goes to this instant.
@@ -138,6 +143,7 @@ impl DriveCase {
         TickingSource {
             micros: clock.share(rt),
             left: self.gives,
+            most: self.most_read,
             waits: false,
         }
     }
@@ -170,6 +176,10 @@ impl DrivenLink {
             Step::Drive(answer) => {
                 let driven = self.drive(rt);
                 compare_answer(rt, driven, answer, nth);
+            }
+            Step::DriveOn => {
+                let driven = self.drive(rt);
+                assert_equal_at(rt, &driven, &Ok(Progress::Again), nth);
             }
             Step::DriveWithoutMemory(answer) => {
                 let driven = self.drive_without_memory(rt);

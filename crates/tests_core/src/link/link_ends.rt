@@ -84,13 +84,13 @@ impl Gate for TickingGate {
     }
 }
 
-/// A sink that looks at the clock at each write, and counts its bytes.
+/// A sink that looks at the clock at its first write of bytes, and counts them.
 #[derive(Drop)]
 pub struct WatchingSink {
     pub sink: MemorySink,
     pub micros: Arc<AtomicU64>,
     pub bytes: Arc<AtomicU64>,
-    /// The clock at the first write.
+    /// The clock at the first write of bytes.
     pub first: Option<u64>,
 }
 
@@ -100,7 +100,7 @@ impl Sink for WatchingSink {
     ghost written = { λ s. Some s.sink.bytes };
 
     fn write(&mut self, bytes: &[u8]) -> Result<usize, EndFault> {
-        if self.first.is_none() {
+        if self.first.is_none() && !bytes.is_empty() {
             self.first = Some(self.micros.load(Ordering::SeqCst));
         }
         let wrote = self.sink.write(bytes);

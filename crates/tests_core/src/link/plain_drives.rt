@@ -40,6 +40,7 @@ fn a_plain_direction_has_the_log_of_a_planned_one(rt: HostRuntime) {
 const ONE_READ: &DriveCase = &DriveCase {
     toxics: "",
     gives: 5,
+    most_read: 1,
     due: Some(20_000),
     kept: Kept::Nothing,
     steps: &[

@@ -41,17 +41,31 @@ pub record IsReady (told : ℕ → Type 0) (link : PolledLink) (left : Option (L
 abbrev pub EndsWithCore : PolledLink → Type 0
 EndsWithCore link = link.ended ≡ link.core.ended
 
--- how far a direction is: how much of its output is found and how much written, and whether it reads no more
+-- how far a direction is: how much of its output is found and by how many cuts, how much is written, and whether it reads no more
 abbrev pub done_of : PolledLink → ℕ
-done_of link = core_position link.core + link.written + (if link.ended then 1 else 0)
+done_of link = core_position link.core + link.core.runner.cuts + link.written + (if link.ended then 1 else 0)
 
--- these bytes were read, these events were noted, and these bytes are written: at least so many steps were taken
+-- how many bytes a direction took and wrote
+abbrev pub moved_of : PolledLink → ℕ
+moved_of link = link.core.bytes + link.written
+
+-- what a direction has done stays done
+pub record KeepsDone (old new : PolledLink) : Type 0 where
+  pub found : core_position old.core ≤ core_position new.core
+  pub cuts : old.core.runner.cuts ≤ new.core.runner.cuts
+  pub written : old.written ≤ new.written
+  pub ended : (if old.ended then 1 else 0) ≤ (if new.ended then 1 else 0)
+
+-- these bytes were read and no more were taken, these events were noted, and these bytes are written: at least so many steps were
+-- taken
 pub record Drove (least : ℕ) (told : ℕ → Type 0) (old : PolledLink) (before : EndsView) (new : PolledLink) (after : EndsView) : Type 0 where
   pub bytes : List ℕ
   pub more : List LinkEvent
   pub read : before.remaining ≡ prepend_known bytes after.remaining
   pub noted : after.events ≡ with_events before.events more
   pub follows : Drives told old before.written bytes more new after.written
+  pub kept : KeepsDone old new
+  pub taken : new.core.bytes ≤ old.core.bytes + length bytes
   pub work : done_of old + least ≤ done_of new + length bytes + length more
 
 -- the slice that an answer gives to be written, with the reading at which it was given

@@ -105,7 +105,7 @@ pub record GivesUp (old new : CoreView) : Type 0 where
   pub start : kept_start old + sum first ≡ kept_start new
   pub before : kept_start old ≤ core_position old → kept_start new ≤ core_position new
 
--- only the front of the waiting pieces is dropped, and no piece that waits is added
+-- only the front of the waiting pieces is dropped, no piece that waits is added, and the cuts are counted on
 pub record KeepsCore (old new : CoreView) : Type 0 where
   pub drawing : new.runner.drawing ≡ old.runner.drawing
   pub ops : ops_of new.runner.cursors ≡ ops_of old.runner.cursors
@@ -113,6 +113,7 @@ pub record KeepsCore (old new : CoreView) : Type 0 where
   pub bytes : new.bytes ≡ old.bytes
   pub waiting : (dropped : List WaitingPiece) × (old.waiting ≡ dropped ++ new.waiting)
   pub count : kept_count new ≤ kept_count old
+  pub cuts : old.runner.cuts ≤ new.runner.cuts
   pub ending : (last : Ending) → core_ending old ≡ Some last → core_ending new ≡ Some last
 
 -- a look for the next slice: the remaining output is the same, and pieces are only dropped
@@ -127,6 +128,7 @@ pub record Looked (old new : CoreView) : Type 0 where
   pub latest : new.latest ≡ old.latest
   pub waiting : (dropped : List WaitingPiece) × (old.waiting ≡ dropped ++ new.waiting)
   pub count : kept_count new ≤ kept_count old
+  pub cuts : old.runner.cuts ≤ new.runner.cuts
   pub finished : new.runner.finished ≡ old.runner.finished
   pub unknown : known_ending new.runner ≡ None → known_ending old.runner ≡ None
   pub given_up : known_ending new.runner ≡ None → GivesUp old new
@@ -152,6 +154,7 @@ pub record Settled (old new : CoreView) (now : ℕ) : Type 0 where
   pub ended : new.ended ≡ old.ended
   pub bytes : new.bytes ≡ old.bytes
   pub latest : new.latest ≡ old.latest
+  pub cuts : new.runner.cuts ≡ old.runner.cuts
   pub known : (last : Ending) → core_ending old ≡ Some last → core_ending new ≡ Some last
   pub told : old.ended ≡ true → IsSome (core_ending new)
   pub overdue : (d : ℕ) → core_deadline old ≡ Some d → d ≤ now → IsSome (core_ending new)
@@ -169,4 +172,5 @@ pub record HandsOnEnd (old new : CoreView) : Type 0 where
   pub ended : new.ended ≡ old.ended
   pub bytes : new.bytes ≡ old.bytes
   pub latest : new.latest ≡ old.latest
+  pub cuts : new.runner.cuts ≡ old.runner.cuts
   pub known : (last : Ending) → core_ending old ≡ Some last → core_ending new ≡ Some last

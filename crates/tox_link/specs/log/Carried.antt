@@ -10,7 +10,7 @@ use Rattle.tox_link.specs.declared.link_core.act.Act.TheVariants.{Write, WaitUnt
 use Rattle.tox_link.specs.declared.notes.LinkEvent.{LinkEvent}
 use Rattle.tox_link.specs.declared.notes.LinkEvent.TheVariants.{SourceEnd, Wrote}
 use Rattle.tox_link.specs.link_core.Core.{CoreView, core_ending, core_position, kept_lens, kept_start, remaining_output}
-use Rattle.tox_link.specs.log.Log.{heard_from, heard_bytes, heard_lens, has_source_end, said, reading_of, IsFaithful, IsGapless, IsShallowBehind}
+use Rattle.tox_link.specs.log.Log.{heard_from, heard_bytes, heard_lens, has_source_end, said, reading_of, HasSmallPieces, IsFaithful, IsGapless, IsShallowBehind}
 
 -- no reading is above this one
 abbrev pub IsBy : ℕ → List LinkEvent → Type 0
@@ -25,7 +25,7 @@ pub record KeepsLast (core : CoreView) (log : List LinkEvent) : Type 0 where
   pub before : kept_start core ≤ core_position core
 
 -- what was said and what is to come are together what the plan means for what was heard and goes on from there;
--- the log is faithful, and its numbers are the core's: no slice passes the bytes that arrived, at most 2^40
+-- the log is faithful, and its numbers are the core's: no slice passes the bytes that arrived, at most 2^40 in pieces of at most 16,384
 pub record Carried (means : List Item → List Item) (told : ℕ → Type 0) (core : CoreView) (log : List LinkEvent) : Type 0 where
   pub tables : (rest : List Item) → IsStreamFrom core.bytes core.latest rest → table (means (heard_from 0 log rest)) ≡ slices_table (said log) ++ table (remaining_output core rest)
   pub endings : (rest : List Item) → IsStreamFrom core.bytes core.latest rest → ending (means (heard_from 0 log rest)) ≡ ending (remaining_output core rest)
@@ -39,6 +39,7 @@ pub record Carried (means : List Item → List Item) (told : ℕ → Type 0) (co
   pub closed : has_source_end log ≡ true → core.ended ≡ true
   pub read : (core.latest ≡ 0) ⊎ told core.latest
   pub shallow : IsShallowBehind [] log
+  pub small : HasSmallPieces log
   pub kept : core.ended ≡ false → core_ending core ≡ None → KeepsLast core log
 
 -- a core's last instant after another: it is 0 or a reading that the clock told

@@ -1,5 +1,5 @@
 -- The log of a link: what was heard, what was said, and when a log is faithful to a plan.
-use Rattle.std.specs.Prelude.{◌≡◌, ℕ, ◌+◌, ◌<◌, ◌≤◌, ◌^◌, Bool, true, false, List, [], ◌∷◌, ◌++◌, length, take, nat_lt, if◌then◌else◌}
+use Rattle.std.specs.Prelude.{◌≡◌, ℕ, ◌+◌, ◌<◌, ◌≤◌, ◌^◌, Bool, true, false, List, [], ◌∷◌, ◌++◌, All, length, take, nat_lt, if◌then◌else◌}
 use Rattle.tox_time.specs.declared.streams.slice.Slice.{Slice}
 use Rattle.tox_time.specs.declared.streams.item.Item.{Item}
 use Rattle.tox_time.specs.declared.streams.item.Item.TheVariants.{Chunk, Closed, Quiet}
@@ -46,6 +46,10 @@ heard_lens [] = []
 heard_lens (Piece len instant ∷ log) = len ∷ heard_lens log
 heard_lens (SourceEnd instant ∷ log) = heard_lens log
 heard_lens (Wrote slice now ∷ log) = heard_lens log
+
+-- each piece has at most 16,384 bytes
+abbrev pub HasSmallPieces : List LinkEvent → Type 0
+HasSmallPieces log = All (λ len. len ≤ 16_384) (heard_lens log)
 
 -- of pieces with these lengths, the first of which starts at `start`, so many end behind a position
 abbrev pub ends_behind : ℕ → ℕ → List ℕ → ℕ
@@ -94,11 +98,13 @@ pub record Agrees (means : List Item → List Item) (log : List LinkEvent) : Typ
   pub gapless : (stop : ℕ) × IsGapless 0 (said log) stop
   pub prefix : IsPrefix (slices_table (said log)) (table (means (heard log)))
 
--- what was said is of bytes that were heard, at most 2^40 of them, and each piece came while fewer than 1,024 waited
+-- what was said is of bytes that were heard: at most 2^40 of them, in pieces of at most 16,384, each of which came while fewer
+-- than 1,024 waited
 pub record SaysHeard (log : List LinkEvent) : Type 0 where
   pub few : heard_bytes log ≤ 2 ^ 40
   pub heard : length (slices_table (said log)) ≤ heard_bytes log
   pub shallow : IsShallowBehind [] log
+  pub small : HasSmallPieces log
 
 -- neither a piece nor an end is heard
 abbrev pub HearsNothing : List LinkEvent → Type 0

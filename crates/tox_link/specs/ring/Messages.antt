@@ -24,9 +24,10 @@ has_end [] = false
 has_end (Piece piece ∷ messages) = has_end messages
 has_end (End end ∷ messages) = true
 
--- a nonempty piece may come after pieces, up to 2^40 bytes in all, and an end after pieces
+-- a nonempty piece of at most 16,384 bytes may come after pieces, up to 2^40 bytes in all, and an end after pieces
 abbrev pub Allows : List Message → Message → Type 0
-Allows before (Piece piece) = ArePieces before × (0 < length piece.items) × (length (bytes_of before) + length piece.items ≤ 2 ^ 40)
+Allows before (Piece piece) =
+    ArePieces before × (0 < length piece.items) × (length (bytes_of before) + length piece.items ≤ 2 ^ 40) × (length piece.items ≤ 16_384)
 Allows before (End end) = ArePieces before
 
 -- what was read and not sent: one piece too many, or one for which there was no memory

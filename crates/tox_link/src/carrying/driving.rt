@@ -56,6 +56,25 @@ fn write_next<N: Notes, W: Sink>(
     Ok(())
 }
 
+/// Waits for a while, at most until this instant, unless the writer has failed. A write of no bytes asks it.
+fn rest<C: Clock, W: Sink>(
+    clock: &C,
+    writer: &mut W,
+    written: u64,
+    until: Micros,
+) -> Result<(), LinkFault>
+    requires working { W.failed writer.old ≡ false }
+    ensures same { W.written writer.new ≡ W.written writer.old }
+    ensures ok { OnOk result (W.failed writer.new ≡ false) }
+    ensures fault { IfErr result (IsFaultAt written (W.failed writer.new)) }
+{
+    let Ok(_) = writer.write(&[]) else {
+        return Err(LinkFault::WriteFault(written));
+    };
+    clock.rest(until);
+    Ok(())
+}
+
 /// Does what the core says at the present reading. Waits only if `idle`.
 /// Returns the ending, once the link has ended.
 fn act<R: Wait, C: Clock, N: Notes, W: Sink>(
@@ -87,9 +106,10 @@ fn act<R: Wait, C: Clock, N: Notes, W: Sink>(
             Ok(None)
         }
         Act::WaitUntil(instant) => {
-            if idle {
-                clock.rest(instant);
+            if !idle {
+                return Ok(None);
             }
+            rest(clock, writer, side.written, instant)?;
             Ok(None)
         }
         Act::WaitForInput => {

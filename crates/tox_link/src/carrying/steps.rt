@@ -22,7 +22,7 @@ pub(crate) fn may_take(core: &DirectionCore<'_>, window: &Window, ended: bool) -
     !ended && core.has_room() && (window.has_room() || core.ending().is_some())
 }
 
-/// A nonempty piece arrives. It is stamped with the greatest reading so far, noted and kept. A refused note changes nothing.
+/// A nonempty piece of at most 16,384 bytes arrives. It is stamped with the greatest reading so far, noted and kept. A refused note changes nothing.
 pub(crate) fn take_piece<C: Clock, N: Notes>(
     core: &mut DirectionCore<'_>,
     window: &mut Window,
@@ -35,6 +35,7 @@ pub(crate) fn take_piece<C: Clock, N: Notes>(
     requires read { (core.old.latest ≡ 0) ⊎ C.told clock.now core.old.latest }
     requires goes_on { (core.old.ended ≡ false) × (core_ending core.old ≡ None) }
     requires fits { (0 < length bytes.items) × (core.old.bytes + length bytes.items ≤ 2 ^ 40) }
+    requires small { length bytes.items ≤ 16_384 }
     requires starts { window.old.stop ≡ core.old.bytes }
     ensures counts { OnOk result
         (TakesIn core.old core.new (core.old.bytes + length bytes.items) false) }

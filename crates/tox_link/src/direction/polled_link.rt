@@ -2,6 +2,7 @@
 ghost use Rattle.std.specs.Prelude.{◌≡◌, ℕ, List, IfOk, false};
 ghost use Rattle.tox_compile.specs.Drawing.{plan_draws};
 ghost use Rattle.tox_link.specs.Meaning.{MeansPlan};
+ghost use Rattle.tox_link.specs.direction.Driven.{moved_of};
 ghost use Rattle.tox_link.specs.direction.Follows.{HasRoomOf, IsHeld, IsNew};
 
 use crate::direction::unwritten::Unwritten;
@@ -68,6 +69,14 @@ impl PolledLink {
         ensures { result ≡ self.now.ended }
     {
         self.ended
+    }
+
+    /// How many bytes it took and wrote.
+    pub(crate) fn moved(&self) -> u64
+        requires { IsHeld self.now }
+        ensures { result ≡ moved_of self.now }
+    {
+        self.window.stop() + self.written
     }
 
     /// How many bytes are written.

@@ -32,10 +32,12 @@ fn keep_bytes<C: Clock, N: Notes>(
     requires unknown { core_ending link.old.core ≡ None }
     requires fits { (0 < length bytes.items)
         × (link.old.core.bytes + length bytes.items ≤ 2 ^ 40) }
+    requires small { length bytes.items ≤ 16_384 }
     ensures held { IsHeld link.new }
     ensures reads { ReadsOn (C.told clock.now) link.old.core.latest link.new.core.latest }
     ensures same { (link.new.source ≡ link.old.source) × (link.new.unwritten ≡ None)
         × (link.new.written ≡ link.old.written) }
+    ensures taken { link.new.core.bytes ≤ link.old.core.bytes + length bytes.items }
     ensures ok { OnOk result ((link.new.ended ≡ false) × (link.new.core.ended ≡ false)) }
     ensures drove { (left written : Option (List ℕ)) → Drove 1 (C.told clock.now)
         link.old (ends_view (prepend_known bytes.items left) written (N.events notes.old))
@@ -65,6 +67,7 @@ pub(crate) fn end_source<C: Clock, N: Notes>(
     ensures reads { ReadsOn (C.told clock.now) link.old.core.latest link.new.core.latest }
     ensures same { (link.new.ended ≡ true) × (link.new.unwritten ≡ None)
         × (link.new.written ≡ link.old.written) }
+    ensures taken { link.new.core.bytes ≡ link.old.core.bytes }
     ensures source { (link.new.source ≡ source) ⊎ (link.new.source ≡ link.old.source) }
     ensures ok { OnOk result (link.new.core.ended ≡ true) }
     ensures drove { (bytes : List ℕ) (left written : Option (List ℕ))
@@ -96,9 +99,11 @@ pub(crate) fn keep_read<C: Clock, N: Notes>(
     requires idle { link.old.unwritten ≡ None }
     requires room { MayTake link.old.core link.old.window link.old.ended }
     requires some { 0 < length bytes.now }
+    requires small { length bytes.now ≤ 16_384 }
     ensures held { IsHeld link.new }
     ensures reads { ReadsOn (C.told clock.now) link.old.core.latest link.new.core.latest }
     ensures same { (link.new.unwritten ≡ None) × (link.new.written ≡ link.old.written) }
+    ensures taken { link.new.core.bytes ≤ link.old.core.bytes + length bytes.now }
     ensures source { (link.new.source ≡ link.old.source)
         ⊎ ((link.new.source ≡ AtLimit) × (link.new.ended ≡ true)) }
     ensures ends { OnOk result (EndsWithCore link.old → EndsWithCore link.new) }

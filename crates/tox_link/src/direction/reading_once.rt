@@ -1,5 +1,5 @@
 //! Reading once, where the core waits.
-ghost use Rattle.std.specs.Prelude.{◌≡◌, ℕ, List, false, true, None, Option, IfOk, OnOk};
+ghost use Rattle.std.specs.Prelude.{◌≡◌, ℕ, ◌+◌, ◌≤◌, List, false, true, None, Option, IfOk, OnOk};
 ghost use Rattle.tox_link.specs.carrying.Held.{MayTake};
 ghost use Rattle.tox_link.specs.direction.Driven.{Drove, EndsWithCore, IsReady, steps_of_move, ends_view};
 
@@ -29,6 +29,7 @@ pub(crate) fn read_once<C: Clock, N: Notes, S: PollSource>(
     ensures ready { IsReady (C.told clock.now) link.new
         (S.remaining source.new) (S.failed source.new) }
     ensures same { (link.new.unwritten ≡ None) × (link.new.written ≡ link.old.written) }
+    ensures taken { link.new.core.bytes ≤ link.old.core.bytes + 16_384 }
     ensures ends { OnOk result (EndsWithCore link.old → EndsWithCore link.new) }
     ensures waits { IfOk result (λ moved. moved ≡ false
         → (link.new ≡ link.old) × (S.waits source.new ≡ true)) }

@@ -1,12 +1,13 @@
 //! Driving a direction: as many steps as its ends allow.
-ghost use Rattle.std.specs.Prelude.{◌≡◌, ℕ, Bool, List, false, None, Option, IfOk, IfErr, OnOk};
-ghost use Rattle.tox_link.specs.direction.Driven.{Drove, EndsWithCore, IsReady, IsProgress, steps_of, ends_view};
+ghost use Rattle.std.specs.Prelude.{◌≡◌, ℕ, ◌+◌, ◌≤◌, Bool, List, false, None, Option, IfOk, IfErr, OnOk};
+ghost use Rattle.tox_link.specs.direction.Driven.{Drove, EndsWithCore, IsReady, IsProgress, moved_of, steps_of, ends_view};
 ghost use Rattle.tox_link.specs.link_core.Acts.{Says, wait_act};
 ghost use Rattle.tox_link.specs.Reports.{IsFaultAt};
 
 use crate::carrying::steps::may_take;
 use crate::clock::Clock;
 use crate::direction::asking::ask;
+use crate::direction::drive_start::DriveStart;
 use crate::direction::poll_ends::{PollSink, PollSource};
 use crate::direction::polled_link::PolledLink;
 use crate::direction::progress::Progress;
@@ -22,7 +23,8 @@ use tox_time::Micros;
 /// The most steps of one drive.
 const STEPS: usize = 32;
 
-/// Drives a direction: takes as many steps as its ends allow, but no more than 32, so that others have their turn.
+/// Drives a direction: takes as many steps as its ends allow, but no more than 32, so that others have their turn. It also goes on
+/// no further once it has taken and written 131,072 bytes in all, or its core gave 4,096 cuts.
 ///
 /// A slice that is being written is written on, and nothing else happens while it waits. Else the core is asked at the clock's
 /// reading. Where the core waits, a piece of at most 16,384 bytes is read if there is room for it.
@@ -49,13 +51,19 @@ pub fn drive<C: Clock, N: Notes, S: PollSource, W: PollSink>(
         link.new (ends_view (S.remaining source.new) (W.written sink.new) (N.events notes.new)) }
     ensures progress { IfOk result (IsProgress (C.told clock.now) link.new
         (S.waits source.new) (W.waits sink.new) (W.due sink.new)) }
+    ensures few { moved_of link.new ≤ moved_of link.old + 147_456 }
     ensures ends { OnOk result (EndsWithCore link.old → EndsWithCore link.new) }
     ensures err { IfErr result (IsFaultAt link.new.written (W.failed sink.new)) }
     ensures working { OnOk result (W.failed sink.new ≡ false) }
 {
+    let start = DriveStart::of(link);
     for _nth in 0..STEPS {
         match step(link, alloc, clock, notes, source, sink, scratch) {
-            Ok(Progress::Again) => {}
+            Ok(Progress::Again) => {
+                if start.has_done_enough(link) {
+                    return Ok(Progress::Again);
+                }
+            }
             Ok(Progress::Waits(until)) => return Ok(Progress::Waits(until)),
             Ok(Progress::Ended(ending)) => return Ok(Progress::Ended(ending)),
             Err(fault) => return Err(fault),
@@ -84,6 +92,7 @@ fn step<C: Clock, N: Notes, S: PollSource, W: PollSink>(
         link.new (ends_view (S.remaining source.new) (W.written sink.new) (N.events notes.new)) }
     ensures progress { IfOk result (IsProgress (C.told clock.now) link.new
         (S.waits source.new) (W.waits sink.new) (W.due sink.new)) }
+    ensures few { moved_of link.new ≤ moved_of link.old + 16_384 }
     ensures ends { OnOk result (EndsWithCore link.old → EndsWithCore link.new) }
     ensures err { IfErr result (IsFaultAt link.new.written (W.failed sink.new)) }
     ensures working { OnOk result (W.failed sink.new ≡ false) }
@@ -118,6 +127,7 @@ fn act<C: Clock, N: Notes, S: PollSource>(
         link.new (ends_view (S.remaining source.new) written (N.events notes.new)) }
     ensures progress { (sink_waits : Bool) (due : Option ℕ) → IfOk result
         (IsProgress (C.told clock.now) link.new (S.waits source.new) sink_waits due) }
+    ensures few { moved_of link.new ≤ moved_of link.old + 16_384 }
     ensures ends { OnOk result (EndsWithCore link.old → EndsWithCore link.new) }
     ensures err { IfErr result (IsFaultAt link.new.written false) }
 {
@@ -159,6 +169,7 @@ fn read_or_wait<C: Clock, N: Notes, S: PollSource>(
         link.new (ends_view (S.remaining source.new) written (N.events notes.new)) }
     ensures progress { (sink_waits : Bool) (due : Option ℕ) → IfOk result
         (IsProgress (C.told clock.now) link.new (S.waits source.new) sink_waits due) }
+    ensures few { moved_of link.new ≤ moved_of link.old + 16_384 }
     ensures ends { OnOk result (EndsWithCore link.old → EndsWithCore link.new) }
     ensures err { IfErr result (IsFaultAt link.new.written false) }
 {

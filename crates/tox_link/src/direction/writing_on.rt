@@ -14,9 +14,10 @@ use crate::direction::polled_link::PolledLink;
 use crate::direction::unwritten::Unwritten;
 use crate::link_fault::LinkFault;
 use crate::notes::{LinkEvent, Notes};
+use crate::ring::reading::READ_SIZE;
 use tox_time::Span;
 
-/// Writes the next part of the slice, as far as one piece holds it. False where the sink would wait.
+/// Writes the next part of the slice, as far as one piece holds it, and at most 16,384 bytes. False where the sink would wait.
 fn write_part<W: PollSink>(
     link: &mut PolledLink,
     sink: &mut W,
@@ -29,6 +30,7 @@ fn write_part<W: PollSink>(
     ensures held { (link.new.core ≡ link.old.core) × IsHeld link.new }
     ensures wrote { WritesOn link.old (W.written sink.old) [] link.new (W.written sink.new) }
     ensures on { link.old.written + steps_of_move result ≤ link.new.written }
+    ensures few { link.new.written ≤ link.old.written + 16_384 }
     ensures waits { IfOk result (λ moved. moved ≡ false
         → (link.new ≡ link.old) × (W.waits sink.new ≡ true)) }
     ensures err { IfErr result (λ fault. (fault ≡ FaultOf.WriteFault link.new.written)
@@ -37,7 +39,11 @@ fn write_part<W: PollSink>(
 {
     let left = Span {
         start: link.written,
-        stop: unwritten.slice.span.stop,
+        stop: unwritten
+            .slice
+            .span
+            .stop
+            .min(link.written + READ_SIZE as u64),
     };
     let front = front_of(&link.window, &left, unwritten.slice.instant);
     match sink.poll_write(front) {
@@ -92,6 +98,8 @@ pub(crate) fn write_on<N: Notes, W: PollSink>(
         × (N.events notes.new ≡ with_events (N.events notes.old) more)
         × WritesOn link.old (W.written sink.old) more link.new (W.written sink.new)
         × (link.old.written + steps_of_move result ≤ link.new.written + length more) }
+    ensures moved { (link.old.written ≤ link.new.written)
+        × (link.new.written ≤ link.old.written + 16_384) }
     ensures waits { IfOk result (λ moved. moved ≡ false
         → (link.new ≡ link.old) × (W.waits sink.new ≡ true)) }
     ensures err { IfErr result (IsFaultAt link.new.written (W.failed sink.new)) }

@@ -110,6 +110,16 @@ impl<'w> DirectionCore<'w> {
         }
     }
 
+    /// How many cuts its runner gave: none where the plan has no operation.
+    pub fn cuts(&self) -> u64
+        ensures { result ≡ self.now.runner.cuts }
+    {
+        match &self.kind {
+            CoreKind::Plain(core) => core.cuts(),
+            CoreKind::Planned(core) => core.cuts(),
+        }
+    }
+
     /// The link's ending, once it is known and no piece is kept. Nothing else is then to come.
     pub fn ending(&self) -> Option<Ending>
         ensures value { result ≡ core_ending self.now }

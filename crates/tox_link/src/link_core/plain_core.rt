@@ -62,6 +62,14 @@ impl PlainCore {
         self.so_far.latest
     }
 
+    /// How many cuts it gave: none, since no operation cuts a piece.
+    pub fn cuts(&self) -> u64
+        ensures { result ≡ self.now.runner.cuts }
+    {
+        let _ = &self.given;
+        0
+    }
+
     /// The ending, once the source has ended and no piece waits.
     pub fn ending(&self) -> Option<Ending>
         ensures value { result ≡ core_ending self.now }

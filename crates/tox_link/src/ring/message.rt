@@ -5,7 +5,7 @@ use rtrb::{Consumer, Producer, Protocol};
 use std::alloc::Global;
 
 /// Why a reading ended.
-#[derive(Clone, Copy, PartialEq, Eq)]
+#[derive(Clone, Copy, Debug, PartialEq, Eq)]
 pub enum ReadEnd {
     /// The reader had nothing left.
     Eof,
@@ -28,7 +28,7 @@ pub enum Message {
     End(ReadEnd),
 }
 
-/// The order of messages: nonempty pieces of at most 2^40 bytes in all, then one end.
+/// The order of messages: nonempty pieces of at most 16,384 bytes each and 2^40 in all, then one end.
 #[derive(Clone, Copy)]
 pub struct InOrder;
 

@@ -26,4 +26,5 @@ returns-clause-drove g c =
     λ left written.
     drove-took (g.C.Clock.told c.args.clock.now) c.args.link.now _ c.args.bytes.items left written (g.N.Notes.events c.args.notes.now) _ noted.more noted.noted
     (drives-kept c.args.link.now _ run c.requires.held c.requires.idle c.requires.fits.0 refl counts.bytes_are counts.position c.in-Ok.ensures.kept refl refl refl refl (g.C.Clock.told c.args.clock.now) noted.more written c.requires.room.0
-    c.requires.unknown noted.keeps noted.end) (omega (arith, counts.position, c.requires.fits.0))
+    c.requires.unknown noted.keeps noted.end)
+    (record { found = omega (arith, counts.position); cuts = counts.cuts; written = omega arith; ended = omega arith }) (omega (arith, counts.bytes_are)) (omega (arith, counts.position, counts.cuts, c.requires.fits.0))

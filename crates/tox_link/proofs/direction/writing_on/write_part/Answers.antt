@@ -5,6 +5,11 @@ use Rattle.tox_link.proofs.direction.writing_on.write_part.Goals as goal
 
 pub overflow_add-link : goal.overflow_add-link
 overflow_add-link g c =
+    let at = at-slice c.args.link.now c.args.unwritten.now c.requires.held c.requires.writing in
+    omega (arith, at.0, c.requires.left, c.requires.held.within, c.requires.held.few)
+
+pub overflow_add-link-in-Ok-Some : goal.overflow_add-link-in-Ok-Some
+overflow_add-link-in-Ok-Some g c =
     let few : c.in-Ok-Some.count ≤ length c.front_of-front.result.now = rw c.in-Ok-Some.field-0-is at c.in-Ok-Some.ensures.count in
     let at = at-slice c.args.link.now c.args.unwritten.now c.requires.held c.requires.writing in
     omega (arith, c.front_of-front.ensures.few, few, at.0, c.requires.held.within, c.requires.held.few)

@@ -39,6 +39,7 @@ offers c = record {
   drawing = ap (λ runner. runner.drawing) c.in-Ok.ensures.offered;
   finished = ap (λ runner. runner.finished) c.in-Ok.ensures.offered;
   cursors = ap (λ runner. runner.cursors) c.in-Ok.ensures.offered;
+  counted = ap (λ runner. runner.cuts) c.in-Ok.ensures.offered;
 }
 
 -- and was asked for its next cut
