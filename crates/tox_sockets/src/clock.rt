@@ -3,11 +3,10 @@ ghost use Rattle.std.specs.Prelude.{◌≡◌, ◌-◌, ◌/◌, None, min};
 ghost use Rattle.std.specs.Time.{instant_nanos};
 ghost use Rattle.tox_time.specs.Time.{IsInstant, plus};
 
-use crate::link_sockets::LinkSockets;
 use std::thread;
 use std::time::{Clock, Duration, Instant};
 use tox_link::Clock as LinkClock;
-use tox_time::{HORIZON, Micros};
+use tox_time::Micros;
 
 /// The longest rest, in microseconds.
 const MAX_REST: u64 = 1_000;
@@ -40,34 +39,19 @@ impl LinkStart {
     }
 }
 
-/// The time since a link's start. It stands still where the clock can't be read. Once the link is stopped it is the last
-/// instant: then nothing that the link waits for is still to come.
+/// The time since a link's start. It stands still where the clock can't be read.
 #[derive(Clone, Copy)]
 pub struct SinceStart<'r, R> {
     rt: &'r R,
-    link: &'r LinkSockets,
     start: LinkStart,
 }
 
 impl<'r, R: Clock> SinceStart<'r, R> {
     /// The time since this start.
-    pub fn new(rt: &'r R, link: &'r LinkSockets, start: LinkStart) -> SinceStart<'r, R>
-        ensures start { result.start ≡ start }
-        ensures link { result.link.now ≡ link.now }
+    pub fn new(rt: &'r R, start: LinkStart) -> SinceStart<'r, R>
+        ensures { result.start ≡ start }
     {
-        SinceStart { rt, link, start }
-    }
-
-    /// Whether the link is stopped.
-    pub fn is_stopped(&self) -> bool {
-        self.link.is_stopped()
-    }
-
-    fn micros(&self) -> Micros {
-        if self.is_stopped() {
-            return Micros::ZERO.after(HORIZON);
-        }
-        self.start.elapsed(self.rt)
+        SinceStart { rt, start }
     }
 }
 
@@ -90,12 +74,12 @@ impl<'r, R: Clock> LinkClock for SinceStart<'r, R> {
     ghost told = { λ clock instant. IsInstant instant };
 
     fn now(&self) -> Micros {
-        self.micros()
+        self.start.elapsed(self.rt)
     }
 
     /// Sleeps until that instant, at most 1,000 microseconds.
     fn rest(&self, until: Micros) {
-        let micros = rest_before(self.micros(), until);
+        let micros = rest_before(self.now(), until);
         if micros > 0 {
             thread::sleep(self.rt, Duration::from_micros(micros));
         }

@@ -3,6 +3,8 @@
 
 mod bound;
 mod clock;
+mod connection;
+mod failures;
 mod link_sockets;
 mod live_sockets;
 mod readiness;
@@ -11,14 +13,17 @@ mod ready_source;
 mod reset_due;
 mod socket_calls;
 mod sockets;
+mod spare;
 mod until_cut;
 mod until_due;
 
 pub use clock::{LinkStart, SinceStart};
+pub use connection::{Connection, connection_of};
 pub use link_sockets::LinkSockets;
 pub use live_sockets::{LiveSocket, LiveSockets};
 pub use ready_sink::ReadySink;
 pub use ready_source::ReadySource;
-pub use socket_calls::{can_write, lengthen_queue};
+pub use socket_calls::{can_read, can_write, lengthen_queue};
+pub use spare::SpareDescriptor;
 pub use until_cut::UntilCut;
 pub use until_due::UntilDue;

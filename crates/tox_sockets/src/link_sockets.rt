@@ -27,6 +27,10 @@ pub struct LinkSockets {
     cut: AtomicU32,
     /// Whether the run was told to stop while the link lived.
     stopped: AtomicBool,
+    /// Whether the client has reset the connection.
+    client_reset: AtomicBool,
+    /// Whether the upstream has.
+    server_reset: AtomicBool,
 }
 
 impl LinkSockets {
@@ -41,15 +45,15 @@ impl LinkSockets {
     {
         prepare(&client);
         prepare(&server);
-        let cut = AtomicU32::new(UNCUT);
-        let stopped = AtomicBool::new(false);
         Arc::new(
             alloc,
             LinkSockets {
                 client,
                 server,
-                cut,
-                stopped,
+                cut: AtomicU32::new(UNCUT),
+                stopped: AtomicBool::new(false),
+                client_reset: AtomicBool::new(false),
+                server_reset: AtomicBool::new(false),
             },
         )
         .ok()
@@ -88,6 +92,24 @@ impl LinkSockets {
     /// Whether the link was stopped.
     pub fn is_stopped(&self) -> bool {
         self.stopped.load(Ordering::SeqCst)
+    }
+
+    /// The peer that a stream comes from has reset its connection.
+    pub fn note_reset(&self, stream: Stream) {
+        self.reset_of(stream).store(true, Ordering::SeqCst);
+    }
+
+    /// Whether the peer that a stream comes from was seen to reset its connection.
+    pub fn was_reset(&self, stream: Stream) -> bool {
+        self.reset_of(stream).load(Ordering::SeqCst)
+    }
+
+    /// Whether the source of a stream has reset its connection.
+    fn reset_of(&self, stream: Stream) -> &AtomicBool {
+        match stream {
+            Stream::Upstream => &self.client_reset,
+            Stream::Downstream => &self.server_reset,
+        }
     }
 
     /// The ends of a stream. Upstream goes from the client to the server, and downstream comes back.

@@ -30,7 +30,7 @@ impl LiveSocket {
 }
 
 /// Why a socket isn't kept.
-#[derive(Clone, Copy, PartialEq, Eq)]
+#[derive(Clone, Copy, Debug, PartialEq, Eq)]
 pub enum AddFault {
     /// The run is stopping.
     Stopping,

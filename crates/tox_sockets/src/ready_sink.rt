@@ -82,7 +82,7 @@ impl<'r, R: Clock> ReadySink<'r, R> {
     fn is_due(&self) -> bool
         ensures { (reading : ℕ) × (result ≡ is_reached self.now.due reading) }
     {
-        let clock = SinceStart::new(self.rt, &self.link, self.start);
+        let clock = SinceStart::new(self.rt, self.start);
         is_reached(self.due, clock.now())
     }
 

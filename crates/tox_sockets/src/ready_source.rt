@@ -3,6 +3,7 @@ ghost use Rattle.std.specs.Prelude.{◌≡◌, ◌<◌, ◌≤◌, ◌||◌, fal
 ghost use Rattle.std.specs.Arc.{arc_value};
 ghost use Rattle.tox_sockets.specs.Streams.{source_of};
 
+use crate::failures::note_failure;
 use crate::link_sockets::LinkSockets;
 use crate::readiness::{read_on, would_wait};
 use std::alloc::Global;
@@ -22,14 +23,17 @@ pub struct ReadySource {
     /// Whether its peer was reported to send no more. A short read then doesn't mean that the socket is empty: the end is still
     /// to be read.
     closing: bool,
+    /// Whether urgent data may have come. A read stops where they stand, so a short one doesn't mean that the socket is empty,
+    /// until a read would wait.
+    urgent: bool,
     failed: bool,
     /// Whether it has answered that it would wait.
     waits: bool,
 }
 
 impl ReadySource {
-    /// A reader of a stream's source, of which nothing is known but whether its peer was reported to send no more. None where
-    /// the link can't be shared by one more.
+    /// A reader of a stream's source, of which nothing is known but whether its peer was reported to send no more: urgent data
+    /// may have come. None where the link can't be shared by one more.
     pub fn new(
         link: &Arc<LinkSockets, Global>,
         stream: Stream,
@@ -39,7 +43,7 @@ impl ReadySource {
         ensures stream { IfSome result (λ reader. reader.stream ≡ stream) }
         ensures working { IfSome result (λ reader. reader.failed ≡ false) }
         ensures fresh { IfSome result (λ reader. (reader.readable ≡ true)
-            × (reader.closing ≡ closing)) }
+            × (reader.closing ≡ closing) × (reader.urgent ≡ true)) }
     {
         let link = link.clone().ok()?;
         Some(ReadySource {
@@ -47,18 +51,23 @@ impl ReadySource {
             stream,
             readable: true,
             closing,
+            urgent: true,
             failed: false,
             waits: false,
         })
     }
 
-    /// The system reported that a read may give something, and perhaps that the peer sends no more.
-    pub fn note(&mut self, closing: bool)
-        ensures { self.new
-            ≡ record self.old { readable = true; closing = self.old.closing || closing } }
+    /// The system reported that a read may give something, and perhaps that the peer sends no more or has sent urgent data.
+    pub fn note(&mut self, closing: bool, urgent: bool)
+        ensures { self.new ≡ record self.old {
+          readable = true;
+          closing = self.old.closing || closing;
+          urgent = self.old.urgent || urgent;
+        } }
     {
         self.readable = true;
         self.closing = self.closing || closing;
+        self.urgent = self.urgent || urgent;
     }
 
     /// The socket that is read.
@@ -81,8 +90,9 @@ impl PollSource for ReadySource {
         ensures count { IfOk result (λ got. IfSome got (λ n. n ≤ length buffer.new)) }
         ensures waits { IfOk result (λ got. IfNone got
             ((self.new.waits ≡ true) × (self.new.readable ≡ false))) }
-        ensures more { IfOk result (λ got. IfSome got (λ n. 0 < n
-            → self.new.readable ≡ (self.old.closing || nat_eq n (length buffer.new)))) }
+        ensures more { IfOk result (λ got. IfSome got (λ n. 0 < n → self.new.readable
+            ≡ (self.old.closing || self.old.urgent || nat_eq n (length buffer.new)))) }
+        ensures urgent { IfOk result (λ got. IfSome got (λ n. self.new.urgent ≡ self.old.urgent)) }
         ensures working { OnOk result (self.new.failed ≡ false) }
         ensures fault { OnErr result (self.new.failed ≡ true) }
         ensures kept { (self.new.closing ≡ self.old.closing) × (self.new.stream ≡ self.old.stream) }
@@ -100,15 +110,17 @@ impl PollSource for ReadySource {
         }
         match answer {
             Ok(count) => {
-                self.readable = may_give_more(self.closing, count, buffer.len());
+                self.readable = may_give_more(self.closing || self.urgent, count, buffer.len());
                 Ok(Some(count))
             }
             Err(error) if would_wait(&error) => {
                 self.readable = false;
+                self.urgent = false;
                 self.waits = true;
                 Ok(None)
             }
-            Err(_) => {
+            Err(error) => {
+                note_failure(&self.link, self.stream, &error);
                 self.failed = true;
                 Err(EndFault)
             }
@@ -116,9 +128,10 @@ impl PollSource for ReadySource {
     }
 }
 
-/// Whether a socket may give more behind a read of so many bytes into so much room.
-fn may_give_more(closing: bool, count: usize, room: usize) -> bool
-    ensures { result ≡ (closing || nat_eq count room) }
+/// Whether a socket may give more behind a read of so many bytes into so much room. A short read may leave something behind
+/// where the end or urgent data were reported.
+fn may_give_more(reported: bool, count: usize, room: usize) -> bool
+    ensures { result ≡ (reported || nat_eq count room) }
 {
-    closing || count == room
+    reported || count == room
 }

@@ -108,9 +108,20 @@ fn check(status: i32) -> io::Result<()>
 
 /// Whether a descriptor can be written without waiting, or has failed, within so many milliseconds.
 pub fn can_write(fd: RawFd, millis: i32) -> bool {
+    comes(fd, system::POLLOUT, millis)
+}
+
+/// Whether a descriptor can be read without waiting, or has failed, within so many milliseconds. Without a limit where they are
+/// negative; a signal ends that wait too.
+pub fn can_read(fd: RawFd, millis: i32) -> bool {
+    comes(fd, system::POLLIN, millis)
+}
+
+/// Whether the system reports an event of a descriptor, or a failure, within so many milliseconds.
+fn comes(fd: RawFd, event: i16, millis: i32) -> bool {
     let mut asked = [pollfd {
         fd,
-        events: system::POLLOUT,
+        events: event,
         revents: 0,
     }];
     system::poll(&mut asked, millis) > 0

@@ -3,6 +3,7 @@ ghost use Rattle.std.specs.Prelude.{◌≡◌, IfSome};
 ghost use Rattle.std.specs.Arc.{arc_value};
 ghost use Rattle.tox_sockets.specs.Streams.{source_of};
 
+use crate::failures::note_failure;
 use crate::link_sockets::LinkSockets;
 use std::alloc::Global;
 use std::io;
@@ -45,6 +46,12 @@ impl Read for UntilCut {
             return Ok(0);
         }
         let answer = self.source().read(buf);
-        if self.link.is_cut() { Ok(0) } else { answer }
+        if self.link.is_cut() {
+            return Ok(0);
+        }
+        if let Err(error) = &answer {
+            note_failure(&self.link, self.stream, error);
+        }
+        answer
     }
 }

@@ -3,9 +3,11 @@ ghost use Rattle.std.specs.Prelude.{◌≡◌, ℕ, false, None, fold};
 ghost use Rattle.std.specs.Io.{WritesAtMost};
 ghost use Rattle.tox_sockets.specs.Bound.{is_reached};
 ghost use Rattle.tox_sockets.specs.ResetDue.{after_op};
+ghost use Rattle.tox_sockets.specs.Streams.{target_of};
 
 use crate::bound::is_reached;
 use crate::clock::SinceStart;
+use crate::link_sockets::LinkSockets;
 use crate::reset_due::reset_due;
 use std::io;
 use std::io::{ErrorKind, Write};
@@ -14,17 +16,18 @@ use std::sync::Wait;
 use std::time::{Clock, Duration};
 use tox_defs::Op;
 use tox_link::Clock as LinkClock;
-use tox_time::Micros;
+use tox_time::{Micros, Stream};
 
 /// How long a write waits for room before the clock is read again, in milliseconds.
 const MAX_WAIT: u64 = 10;
 
 /// A socket whose writes wait for room until the instant by which its plan resets the stream. From then on a write that finds
 /// no room fails, so that a peer that doesn't read can't hold up the reset. Without an instant a write waits for ever. Once the
-/// link is stopped every write fails.
+/// link is stopped every write fails, an empty one too, by which a link that waits asks whether it goes on.
 #[derive(Drop)]
 pub struct UntilDue<'a, 'r, R> {
     rt: &'r R,
+    link: &'a LinkSockets,
     pub socket: &'a TcpStream,
     clock: SinceStart<'r, R>,
     pub due: Option<Micros>,
@@ -33,24 +36,27 @@ pub struct UntilDue<'a, 'r, R> {
 }
 
 impl<'a, 'r, R: Wait + Clock> UntilDue<'a, 'r, R> {
-    /// A writer of the socket, for a stream under a plan of these operations.
+    /// A writer of a stream's target, for a plan of these operations.
     pub fn new(
         rt: &'r R,
-        socket: &'a TcpStream,
+        link: &'a LinkSockets,
+        stream: Stream,
         clock: SinceStart<'r, R>,
         ops: &[Op],
     ) -> UntilDue<'a, 'r, R>
-        ensures socket { result.socket.now ≡ socket.now }
+        ensures socket { result.socket.now ≡ target_of stream link.now }
         ensures due { result.due ≡ fold after_op None ops.now }
         ensures full { result.is_full ≡ false }
     {
         let due = reset_due(ops);
+        let socket = link.ends_of(stream).target;
         if due.is_some() {
             // A socket that is gone by now refuses the option, and its first write tells.
             let _ = socket.set_write_timeout(Some(Duration::from_millis(MAX_WAIT)));
         }
         UntilDue {
             rt,
+            link,
             socket,
             clock,
             due,
@@ -91,8 +97,11 @@ fn is_momentary(error: &io::Error) -> bool {
 
 impl<'a, 'r, R: Wait + Clock> Write for UntilDue<'a, 'r, R> {
     fn write(&mut self, bytes: &[u8]) -> io::Result<usize> {
-        if self.clock.is_stopped() {
+        if self.link.is_stopped() {
             return Err(ErrorKind::ConnectionReset.into());
+        }
+        if bytes.is_empty() {
+            return Ok(0);
         }
         if self.is_full && self.is_due() {
             return Err(ErrorKind::TimedOut.into());
