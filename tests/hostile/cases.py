@@ -178,27 +178,21 @@ def output_is_closed(toxi):
 
 @case(9)
 def descriptors_lack(toxi):
-    """A link takes two descriptors: the client's and the upstream's."""
-    toxi.allow_descriptors(1)
-    with toxi.client() as client:
-        has_ended(client)
-    toxi.ended(1, 0, "broken", 0, "broken")
-    toxi.rests()
-    # A waiting accept has its descriptor already. So the first client may be taken, and then its upstream's is lacking.
-    toxi.allow_descriptors(0)
-    clients = [toxi.client() for _ in range(8)]
-    for place, client in enumerate(clients):
-        client.sendall(bytes([place]))
-    are_quiet(*clients[1:])
+    """A link takes two descriptors: the client's and the upstream's. Where there are fewer, clients wait, and none is broken."""
+    clients = []
+    for more in (1, 0):
+        toxi.allow_descriptors(more)
+        came = [toxi.client() for _ in range(4 + more)]
+        for client in came:
+            client.sendall(b"a")
+        clients += came
+        are_quiet(*clients)
     toxi.allow_descriptors(None)
     heard = toxi.upstream.echo_bytes(clients)
-    for place, client in enumerate(clients):
+    check(heard == [b"a"] * 9, f"clients that waited heard {heard}")
+    for client in clients:
         client.close()
-        if place == 0 and heard[0] == b"":
-            toxi.ended(2, 0, "broken", 0, "broken")
-        else:
-            check(heard[place] == bytes([place]), f"waiting client {place} heard {heard[place]}")
-            toxi.ended(2 + place, 1, "closed", 1, "closed")
+    toxi.ended_alike(9, [(1, "closed")], [(1, "closed")])
 
 
 @case(2, ("timeout", "timeout = 0"))

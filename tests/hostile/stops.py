@@ -65,13 +65,37 @@ def status_of(process):
         raise Failed(f"it didn't end within {LIMIT} s") from None
 
 
+def echo_one(server):
+    with contextlib.suppress(OSError), server:
+        server.sendall(server.recv(1))
+        server.recv(1)
+
+
+def log_of(folder, stream, number=1):
+    """The lines of the log of a link's stream."""
+    with open(os.path.join(folder, f"shop-{number}-{stream}.log")) as file:
+        return file.read().splitlines()
+
+
 class Stopped:
     """A `toxi serve` started by its launcher, with one proxy before an upstream, until a signal ends it."""
 
-    def __init__(self, program, folder, script="", name="shop", queue=4096, listen="127.0.0.1:0", before=(), logs=None, **setting):
+    def __init__(
+        self,
+        program,
+        folder,
+        script="",
+        name="shop",
+        queue=4096,
+        listen="127.0.0.1:0",
+        before=(),
+        logs=None,
+        upstream_host="127.0.0.1",
+        **setting,
+    ):
         self.upstream = socket.create_server(("127.0.0.1", 0), backlog=queue)
         self.upstream.settimeout(LIMIT)
-        upstream = f"127.0.0.1:{self.upstream.getsockname()[1]}"
+        upstream = f"{upstream_host}:{self.upstream.getsockname()[1]}"
         proxy = {"name": name, "listen": listen, "upstream": upstream}
         command = serve_command(launcher(program, folder), folder, [proxy], script, logs)
         self.process = subprocess.Popen(
@@ -102,6 +126,26 @@ class Stopped:
 
     def client(self):
         return socket.create_connection(("127.0.0.1", self.port), timeout=LIMIT)
+
+    def descriptors(self):
+        """How many descriptors it has, of which there is none above the last."""
+        return max(map(int, os.listdir(f"/proc/{self.process.pid}/fd"))) + 1
+
+    def allow_descriptors(self, most):
+        """Sets the soft limit. Without a number it is lifted."""
+        _, hard = resource.prlimit(self.process.pid, resource.RLIMIT_NOFILE)
+        resource.prlimit(self.process.pid, resource.RLIMIT_NOFILE, (hard if most is None else most, hard))
+
+    def echo_first_bytes(self):
+        """Has the upstream send back the first byte of each connection from now on, and close it once its peer has."""
+        self.upstream.settimeout(None)
+        threading.Thread(target=self.echo_all, daemon=True).start()
+
+    def echo_all(self):
+        with contextlib.suppress(OSError):
+            while True:
+                server, _ = self.upstream.accept()
+                threading.Thread(target=echo_one, args=(server,), daemon=True).start()
 
     def link(self):
         """A client, and the upstream's side of its link."""

@@ -178,7 +178,8 @@ def migrated(script):
 
 
 def shown(name):
-    return re.sub("[\0-\x1f\x7f]", lambda match: f"\\x{ord(match[0]):02x}", name)
+    name = re.sub("[\0-\x1f\x7f-\x9f]", lambda match: f"\\x{ord(match[0]):02x}", name)
+    return re.sub("[\u202a-\u202e\u2066-\u2069]", lambda match: f"\\u{ord(match[0]):04x}", name)
 
 
 def short_form(kind, values, toxicity):

@@ -83,7 +83,7 @@ def quoted(text):
 
 def proxy_names(random):
     count = mostly(random, (1, 1, 1, 2, 3, 3, 64), [65], 0.02)
-    names = [random.choice(("shop", "mail", "né", "the\nshop", 'a "b"\\', "x" * 255)) for _ in range(count)]
+    names = [random.choice(("shop", "mail", "né", "the\nshop", "\x9b\xa0\u202e", 'a "b"\\', "x" * 255)) for _ in range(count)]
     return names if count < 64 else [f"shop {place}" for place in range(count)]
 
 

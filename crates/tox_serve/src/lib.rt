@@ -3,6 +3,7 @@
 #![tactic(auto)]
 
 mod addresses;
+mod descriptors;
 mod fault;
 mod lines;
 mod link;

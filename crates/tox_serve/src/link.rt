@@ -1,4 +1,7 @@
-//! One link: what its streams meet, and how it ended.
+//! One link: what its streams meet, its upstream, and how it ended.
 pub(crate) mod course;
 pub(crate) mod end;
 pub(crate) mod logs;
+pub(crate) mod look_up;
+pub(crate) mod reached;
+pub(crate) mod source_notes;

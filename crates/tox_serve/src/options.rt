@@ -3,7 +3,7 @@ use crate::lines::LineForm;
 use tox_log::LogLimits;
 
 /// Options of [`serve_with`](crate::serve_with). Without any, `serve` does as it always did.
-#[derive(Clone, Copy, Default)]
+#[derive(Clone, Copy, Debug, Default, PartialEq, Eq)]
 pub struct ServeOptions {
     /// After how many connections each proxy stops listening, 1 to 1,000,000. None: it goes on.
     pub links: Option<u64>,

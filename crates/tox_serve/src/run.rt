@@ -1,4 +1,5 @@
 //! What all links of a run of `serve` share.
+use crate::descriptors::Descriptors;
 use crate::lines::LineChannel;
 use crate::options::ServeOptions;
 use crate::stop::Stop;
@@ -25,6 +26,7 @@ pub(crate) struct ServeRun<'a> {
     pub(crate) stop: &'a Stop,
     /// What is stopped once the run is told to end.
     pub(crate) live: &'a LiveSockets,
+    pub(crate) descriptors: Descriptors,
     /// How many proxies are served.
     pub(crate) proxies: AtomicU64,
 }

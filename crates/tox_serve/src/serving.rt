@@ -3,6 +3,7 @@ ghost use Rattle.std.specs.Prelude.{◌≡◌, All, false, IfErr, Ok};
 ghost use Rattle.tox_serve.specs.lines.LineQueue.{no_lines};
 ghost use Rattle.tox_serve.specs.Serving.{HasServeCause};
 
+use crate::descriptors::Descriptors;
 use crate::fault::ServeFault;
 use crate::lines::{Gaps, LineChannel, LineForm, LineQueue, NoGaps, print_listening, write_lines};
 use crate::options::ServeOptions;
@@ -142,6 +143,7 @@ pub fn serve_with<
         gate,
         stop,
         live: &live,
+        descriptors: Descriptors::new(),
         proxies: AtomicU64::new(listening.len() as u64),
     };
     if serve_and_write(rt, &run, listening, empty, out, gaps, files) {

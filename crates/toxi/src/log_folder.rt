@@ -51,30 +51,53 @@ pub struct LogFolder<'a, R> {
 }
 
 impl<'a, R: Files + AllocGlobal + Eprint + Wait> LogFolder<'a, R> {
-    /// Opens the file of a log to append to it.
-    fn open(&self, name: &str) -> io::Result<R::File> {
-        let folder = self.folder.unwrap_or(".");
-        let path = format!(in self.rt.alloc(); "{folder}/{name}")?;
+    /// Makes the file of a log to append to it. Where something has its name, it isn't opened.
+    fn make(&self, name: &str) -> io::Result<R::File> {
+        let path = self.path_of(name)?;
         let mut options = OpenOptions::new();
         options.append(true);
-        options.create(true);
+        options.create_new(true);
         options.open(self.rt, path.as_str())
+    }
+
+    /// Opens the file of a log to append to it, unless a link, a FIFO or another thing came in its place.
+    fn open(&self, name: &str) -> io::Result<R::File> {
+        let path = self.path_of(name)?;
+        if !fs::symlink_metadata(self.rt, path.as_str())?.is_file() {
+            return Err(io::ErrorKind::InvalidInput.into());
+        }
+        let mut options = OpenOptions::new();
+        options.append(true);
+        options.open(self.rt, path.as_str())
+    }
+
+    fn path_of(&self, name: &str) -> io::Result<String> {
+        let folder = self.folder.unwrap_or(".");
+        Ok(format!(in self.rt.alloc(); "{folder}/{name}")?)
+    }
+
+    /// Writes bytes to a file that could be opened. How many it took.
+    fn write(&self, file: io::Result<R::File>, bytes: &[u8]) -> usize
+        ensures { result ≤ length bytes.now }
+    {
+        let Ok(mut file) = file else {
+            return 0;
+        };
+        let taken = write_counted(&mut file, bytes);
+        if taken > 0 {
+            self.shutdown.note_write();
+        }
+        taken
     }
 }
 
 impl<'a, R: Files + AllocGlobal + Eprint + Wait> LogFiles for LogFolder<'a, R> {
+    fn create(&self, name: &str, bytes: &[u8]) -> usize {
+        self.write(self.make(name), bytes)
+    }
+
     fn append(&self, name: &str, bytes: &[u8]) -> usize {
-        match self.open(name) {
-            Ok(file) => {
-                let mut file = file;
-                let taken = write_counted(&mut file, bytes);
-                if taken > 0 {
-                    self.shutdown.note_write();
-                }
-                taken
-            }
-            Err(_) => 0,
-        }
+        self.write(self.open(name), bytes)
     }
 
     fn ended(&self, name: &str, lines: u64) {

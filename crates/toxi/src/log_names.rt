@@ -1,6 +1,7 @@
 //! The names of logs on the command line and on standard input.
 use crate::fail;
 use std::io::{BufRead, BufReader};
+use std::str;
 use tox_arguments::NAMES_ON_INPUT;
 use tox_proxy::ReplayFault;
 
@@ -8,10 +9,13 @@ use tox_proxy::ReplayFault;
 pub trait LogTask<R> {
     /// Takes the log of this name. False if nothing more is to be taken.
     fn take(&mut self, rt: &R, name: &str) -> bool;
+
+    /// Takes a name that isn't UTF-8, as it can be printed: no file is opened. False if nothing more is to be taken.
+    fn miss(&mut self, rt: &R, name: &str) -> bool;
 }
 
 /// How the names were taken.
-#[derive(Clone, Copy)]
+#[derive(Clone, Copy, Debug, PartialEq, Eq)]
 pub enum NamesTaken {
     All,
     /// Standard input couldn't be read to its end. The fault was told.
@@ -50,14 +54,32 @@ fn take_named<R: Input + Eprint + AllocGlobal, T: LogTask<R>>(rt: &R, task: &mut
         fail(rt, &ReplayFault::OutOfMemory);
         return NamesTaken::Ended;
     };
-    for name in reader.lines(alloc) {
-        let Ok(name) = name else {
+    for line in reader.split(alloc, b'\n') {
+        let Ok(line) = line else {
             fail(rt, &ReplayFault::Unreadable(NAMES_ON_INPUT));
             return NamesTaken::Some;
         };
-        if !name.is_empty() && !task.take(rt, &name) {
+        if !take_line(rt, &line, task) {
             return NamesTaken::Ended;
         }
     }
     NamesTaken::All
+}
+
+/// Hands on the log that a line names, without its line feed. False if nothing more is to be taken.
+fn take_line<R: Eprint + AllocGlobal, T: LogTask<R>>(rt: &R, line: &[u8], task: &mut T) -> bool {
+    let name = line.strip_suffix(b"\r").unwrap_or(line);
+    if name.is_empty() {
+        return true;
+    }
+    if let Ok(name) = str::from_utf8(name) {
+        return task.take(rt, name);
+    }
+    match String::from_utf8_lossy(rt.alloc(), name) {
+        Ok(name) => task.miss(rt, &name),
+        Err(_) => {
+            fail(rt, &ReplayFault::OutOfMemory);
+            false
+        }
+    }
 }

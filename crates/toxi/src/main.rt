@@ -21,8 +21,8 @@ mod replay_texts;
 mod report;
 mod serve;
 mod shutdown;
-mod signals;
 mod stages;
+mod status;
 mod warnings;
 mod watch;
 

@@ -43,12 +43,24 @@ impl<R: Print + Eprint + Files + AllocGlobal> LogTask<R> for Judging {
             Ok(Verdict::Unfaithful(_)) => self.unfaithful = self.unfaithful.saturating_add(1),
             Ok(_) => {}
             Err(fault) => {
-                fail(rt, &fault);
-                self.failed = true;
+                self.fail(rt, &fault);
                 return !fault.ends();
             }
         }
         true
+    }
+
+    fn miss(&mut self, rt: &R, name: &str) -> bool {
+        self.fail(rt, &ReplayFault::Unreadable(name));
+        true
+    }
+}
+
+impl Judging {
+    /// Tells the fault of a log.
+    fn fail(&mut self, rt: &impl Eprint, fault: &ReplayFault<'_>) {
+        fail(rt, fault);
+        self.failed = true;
     }
 }
 

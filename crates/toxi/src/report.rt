@@ -2,6 +2,7 @@
 use crate::fail;
 use crate::log_names::{LogTask, NamesTaken, take_names};
 use crate::replay::last_status;
+use std::marker::PhantomData;
 use std::process::ExitCode;
 use std::rt::Files;
 use std::{fs, io};
@@ -26,6 +27,20 @@ impl<'r, R: Files> LogStore for LogsInFiles<'r, R> {
     }
 }
 
+/// No logs, for names that no file has.
+#[derive(Clone, Copy)]
+struct NoFiles<R> {
+    files: PhantomData<R>,
+}
+
+impl<R: Files> LogStore for NoFiles<R> {
+    type Reader = Real<R::File>;
+
+    fn open(&self, _name: &str) -> Option<Real<R::File>> {
+        None
+    }
+}
+
 /// A report, and whether a fault was told.
 #[derive(Drop)]
 struct Collected {
@@ -33,9 +48,15 @@ struct Collected {
     failed: bool,
 }
 
-impl<R: Eprint + Files + AllocGlobal> LogTask<R> for Collected {
-    fn take(&mut self, rt: &R, name: &str) -> bool {
-        match self.report.judge(rt.alloc(), &LogsInFiles { rt }, name) {
+impl Collected {
+    /// Judges the log of this name. False if the report ends.
+    fn judge<R: Eprint + AllocGlobal, S: LogStore>(
+        &mut self,
+        rt: &R,
+        logs: &S,
+        name: &str,
+    ) -> bool {
+        match self.report.judge(rt.alloc(), logs, name) {
             Ok(()) => true,
             Err(fault) => {
                 fail(rt, &fault);
@@ -43,6 +64,17 @@ impl<R: Eprint + Files + AllocGlobal> LogTask<R> for Collected {
                 !fault.ends()
             }
         }
+    }
+}
+
+impl<R: Eprint + Files + AllocGlobal> LogTask<R> for Collected {
+    fn take(&mut self, rt: &R, name: &str) -> bool {
+        self.judge(rt, &LogsInFiles { rt }, name)
+    }
+
+    fn miss(&mut self, rt: &R, name: &str) -> bool {
+        let none = NoFiles::<R> { files: PhantomData };
+        self.judge(rt, &none, name)
     }
 }
 

@@ -4,7 +4,7 @@ use crate::fail;
 use crate::near::tell_near_short;
 use crate::serve::{ServeJob, hold_descriptor, serve_job};
 use crate::shutdown::Shutdown;
-use crate::signals::Signals;
+use crate::status::ProcessStatus;
 use std::alloc::Global;
 use std::io::{Read, Seek};
 use std::process::ExitCode;
@@ -15,11 +15,12 @@ use std::time::{Clock, Duration};
 use tox_arguments::{ServeArguments, ServeSource};
 use tox_proxy::{InlineFault, ServeFault, ServeRuntime};
 
-/// How long the end of serving is waited for before signals are looked at, in milliseconds.
-const LOOK: u64 = 50;
+/// How long the end of serving is waited for at a time, in milliseconds.
+const TURN: u64 = 50;
 
-/// How long a program that is told to end waits for the end of serving while nothing is written, in milliseconds.
-const STOP_LIMIT: u64 = 1_500;
+/// How many turns without progress a program that is told to end waits for the end of serving: 900 milliseconds. The links of a
+/// proxy are given up after 750, and its totals are written then.
+const STOPPING_TURNS: u64 = 18;
 
 /// What the two threads share.
 #[derive(Drop)]
@@ -45,9 +46,9 @@ impl Serving {
         self.ended.notify_all();
     }
 
-    /// The status, if serving ends within so many milliseconds.
-    fn wait<R: Wait + Clock>(&self, rt: &R, millis: u64) -> Option<u8> {
-        let limit = Duration::from_millis(millis);
+    /// The status, if serving ends within a turn.
+    fn wait<R: Wait + Clock>(&self, rt: &R) -> Option<u8> {
+        let limit = Duration::from_millis(TURN);
         let status = self.status.lock(rt);
         let (status, _) = self
             .ended
@@ -55,20 +56,44 @@ impl Serving {
         *status
     }
 
-    /// Tells serving to end. The status, if it does. None once nothing was written for as long as the limit.
-    fn stop<R: Wait + Clock>(&self, rt: &R) -> Option<u8> {
-        let mut before = self.shutdown.writes();
+    /// Tells serving to end. The status, if it does. None once it hangs.
+    fn stop<R: Wait + Clock, F: Read + Seek + Drop>(
+        &self,
+        rt: &R,
+        process: &mut ProcessStatus<F>,
+    ) -> Option<u8> {
+        let mut before = self.progress(process);
         self.shutdown.stop.tell(rt);
+        let mut turns = STOPPING_TURNS;
         for _ in rt.forever() {
-            let status = self.wait(rt, STOP_LIMIT);
-            let writes = self.shutdown.writes();
-            if status.is_some() || writes == before {
+            let status = self.wait(rt);
+            if status.is_some() || turns == 0 {
                 return status;
             }
-            before = writes;
+            let now = self.progress(process);
+            turns = if now == before {
+                turns - 1
+            } else {
+                STOPPING_TURNS
+            };
+            before = now;
         }
         unreachable!()
     }
+
+    fn progress<F: Read + Seek + Drop>(&self, process: &mut ProcessStatus<F>) -> Progress {
+        Progress {
+            writes: self.shutdown.writes(),
+            threads: process.threads(),
+        }
+    }
+}
+
+/// How far serving has come to its end: it gets on while lines or logs are written, or threads of links end.
+#[derive(Clone, Copy, PartialEq, Eq)]
+struct Progress {
+    writes: u64,
+    threads: Option<u64>,
 }
 
 /// Serves what the files set up, until no proxy is served any more or a signal tells the program to end.
@@ -84,9 +109,9 @@ where
     let _input = hold_descriptor(rt);
     let _output = hold_descriptor(rt);
     let _errors = hold_descriptor(rt);
-    let mut signals = Signals::of_process(rt);
+    let mut process = ProcessStatus::open(rt);
     match ServeJob::of(rt.alloc(), arguments) {
-        Ok(job) => serve_watched(rt, job, &mut signals),
+        Ok(job) => serve_watched(rt, job, &mut process),
         Err(fault) => refused(rt, arguments, &fault),
     }
 }
@@ -95,7 +120,7 @@ where
 fn serve_watched<R: Print + Eprint + Files + AllocGlobal + ServeRuntime>(
     rt: &R,
     job: ServeJob,
-    signals: &mut Signals<R::File>,
+    process: &mut ProcessStatus<R::File>,
 ) -> ExitCode
 where
     R::File: Send + 'static,
@@ -107,7 +132,7 @@ where
     if !start(rt, job, shared) {
         return fail(rt, &ServeFault::SpawnRefused);
     }
-    ExitCode::from(watch(rt, &serving, signals))
+    ExitCode::from(watch(rt, &serving, process))
 }
 
 /// What the two threads share, for each of them. None if out of memory.
@@ -150,19 +175,19 @@ fn refused<R: Eprint + AllocGlobal>(
     status
 }
 
-/// Waits for the end of serving. Told to end by a signal, it waits on only while lines or logs are written, and the status is 0 then.
+/// Waits for the end of serving. Told to end by a signal, it waits on only while that gets on, and the status is 0 then.
 fn watch<R: Wait + Clock, F: Read + Seek + Drop>(
     rt: &R,
     serving: &Serving,
-    signals: &mut Signals<F>,
+    process: &mut ProcessStatus<F>,
 ) -> u8 {
     for _ in rt.forever() {
-        if let Some(status) = serving.wait(rt, LOOK) {
+        if let Some(status) = serving.wait(rt) {
             return status;
         }
-        if signals.tell_to_end() {
+        if process.tells_to_end() {
             break;
         }
     }
-    serving.stop(rt).unwrap_or(0)
+    serving.stop(rt, process).unwrap_or(0)
 }

@@ -1,5 +1,5 @@
 -- Directions that begin, and that a report changes.
-use Rattle.std.proofs.Common.{◌≡◌, ℕ, Bool, List, Option, None, refl, not, ◌&&◌, ◌||◌}
+use Rattle.std.proofs.Common.{◌≡◌, ℕ, Bool, false, List, Option, None, refl, not, ◌&&◌, ◌||◌}
 use Rattle.tox_serve.specs.declared.link.course.Course.{Course}
 use Rattle.tox_serve.specs.workers.Begun.{BeginsCourse, IsNewDirection}
 use Rattle.tox_serve.specs.workers.Reports.{GoesOnWithEnds, HasSourceAfter, HasTargetAfter, IsNotedSo, drives_source, drives_target, reported_sink, reported_source}
@@ -11,9 +11,9 @@ use Rattle.tox_serve.specs.declared.workers.socket_event.SocketEvent.{SocketEven
 
 module _ {R : Type 0} where
   pub new_direction : (course : Course) (closing : Bool) (direction : OpenDirection R) (flow : Flow R) → direction.state ≡ Going flow
-      → direction.armed ≡ None → BeginsCourse course closing flow → IsNewDirection course closing direction
-  new_direction course closing direction flow going idle begins =
-      record { flow = flow; going = going; idle = idle; begins = begins }
+      → direction.armed ≡ None → direction.has_turn ≡ false → BeginsCourse course closing flow → IsNewDirection course closing direction
+  new_direction course closing direction flow going idle no_turn begins =
+      record { flow = flow; going = going; idle = idle; no_turn = no_turn; begins = begins }
 
   pub noted_so : (notes : Option (List ℕ)) (old after : Flow R) (state : DirectionState R) → state ≡ Going old
       → GoesOnWithEnds old old.source old.sink notes (Going after) → IsNotedSo notes state (Going after)

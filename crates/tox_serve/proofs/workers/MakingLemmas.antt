@@ -26,19 +26,20 @@ module _ {R : Type 0} where
   }
 
   new_noted : (course : Course) (closing : Bool) (old new : OpenDirection R) (notes : Option (List ℕ)) → IsNewDirection course closing old
-      → IsNotedSo notes old.state new.state → new.armed ≡ old.armed → IsNewDirection course closing new
-  new_noted course closing old new notes is noted armed =
+      → IsNotedSo notes old.state new.state → new.armed ≡ old.armed → new.has_turn ≡ old.has_turn → IsNewDirection course closing new
+  new_noted course closing old new notes is noted armed turn =
       let goes : GoesOnWithEnds is.flow is.flow.source is.flow.sink notes new.state = rw is.going at noted in
       record {
         flow = goes.flow;
         going = goes.going;
         idle = rw armed is.idle;
+        no_turn = rw turn is.no_turn;
         begins = begins_noted course closing is.flow notes new.state goes is.begins;
       }
 
   -- a link's direction has the course that it was made with, also once it is noted
   pub has_course : (run : ServeRun) (name : List ℕ) (number : ℕ) (its_stream : Stream) (course : Course) (closing : Bool) (old new : OpenDirection R)
       (notes : Option (List ℕ)) → IsCourse run.script.now run.seed name number its_stream course → IsNewDirection course closing old
-      → IsNotedSo notes old.state new.state → new.armed ≡ old.armed → HasCourse run name number its_stream closing new
-  has_course run name number its_stream course closing old new notes its is noted armed =
-      record { course = course; its = its; begins = new_noted course closing old new notes is noted armed }
+      → IsNotedSo notes old.state new.state → new.armed ≡ old.armed → new.has_turn ≡ old.has_turn → HasCourse run name number its_stream closing new
+  has_course run name number its_stream course closing old new notes its is noted armed turn =
+      record { course = course; its = its; begins = new_noted course closing old new notes is noted armed turn }

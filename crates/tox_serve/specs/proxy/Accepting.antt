@@ -1,5 +1,5 @@
 -- What follows a failed accept.
-use Rattle.std.specs.Prelude.{Bool, ℤ, pos, [], ◌∷◌, Option, None, Some, if◌then◌else◌}
+use Rattle.std.specs.Prelude.{Bool, false, ℤ, pos, [], ◌∷◌, Option, None, Some, if◌then◌else◌}
 use Rattle.std.specs.List.{list_any}
 use Rattle.std.specs.Ordering.{int_eq}
 use Rattle.std.specs.declared.io.ErrorKind.{ErrorKind}
@@ -18,6 +18,11 @@ has_broken code =
 abbrev pub is_lack_code : ℤ → Bool
 is_lack_code code =
     list_any (λ known. int_eq known code) (pos 24 ∷ pos 23 ∷ pos 105 ∷ pos 63 ∷ [])
+
+-- a call failed for such a lack
+abbrev pub is_lack_of : Option ℤ → Bool
+is_lack_of None = false
+is_lack_of (Some code) = is_lack_code code
 
 -- what follows a failure of no kind of its own
 abbrev pub next_of_code : Option ℤ → Next

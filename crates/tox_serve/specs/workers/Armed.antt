@@ -2,16 +2,17 @@
 use Rattle.std.specs.Prelude.{ℕ, nat_eq, Bool, false, Option, Some, None, if◌then◌else◌}
 use Rattle.tox_time.specs.declared.streams.stream.Stream.{Stream}
 use Rattle.tox_serve.specs.declared.workers.link_state.LinkState.{LinkState}
-use Rattle.tox_serve.specs.declared.workers.link_state.LinkState.TheVariants.{Naming, Connecting, Open}
+use Rattle.tox_serve.specs.declared.workers.link_state.LinkState.TheVariants.{Naming, Lacking, Connecting, Open}
 use Rattle.tox_serve.specs.declared.workers.links.Place.{Place}
 use Rattle.tox_serve.specs.declared.workers.timers.Turn.{Turn}
 use Rattle.tox_serve.specs.workers.Directions.{is_armed}
 use Rattle.tox_serve.specs.workers.OpenLinks.{direction_of}
 
--- a direction of an open link waits for its timer, and a link that is being connected for its deadline
+-- a direction of an open link waits for its timer, a link that is being connected for its deadline, and one without a descriptor for its next try
 abbrev pub is_state_armed : {R : Type 0} → Stream → ℕ → Option (LinkState R) → Bool
 is_state_armed its due None = false
 is_state_armed its due (Some (Naming client)) = false
+is_state_armed its due (Some (Lacking lacking)) = nat_eq lacking.due due
 is_state_armed its due (Some (Connecting connecting)) = is_armed due connecting.deadline
 is_state_armed its due (Some (Open link)) = is_armed due (direction_of its link.value).armed
 

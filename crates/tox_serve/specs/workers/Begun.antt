@@ -1,5 +1,5 @@
 -- A direction of a course at which nothing has come, and a link of such directions.
-use Rattle.std.specs.Prelude.{◌≡◌, ℕ, Bool, true, List, None, fold}
+use Rattle.std.specs.Prelude.{◌≡◌, ℕ, Bool, true, false, List, None, fold}
 use Rattle.tox_time.specs.declared.streams.stream.Stream.{Stream}
 use Rattle.tox_link.specs.Meaning.{MeansPlan}
 use Rattle.tox_link.specs.direction.Follows.{IsNew}
@@ -27,11 +27,12 @@ pub record BeginsCourse {R : Type 0} (course : Course) (closing : Bool) (flow : 
   pub meaning : MeansPlan course.plan course.words flow.link.value.core
   pub fresh : IsNew flow.link.value
 
--- a direction goes on that begins a course, and no timer is set
+-- a direction goes on that begins a course, no timer is set, and it has no turn
 pub record IsNewDirection {R : Type 0} (course : Course) (closing : Bool) (direction : OpenDirection R) : Type 0 where
   pub flow : Flow R
   pub going : direction.state ≡ Going flow
   pub idle : direction.armed ≡ None
+  pub no_turn : direction.has_turn ≡ false
   pub begins : BeginsCourse course closing flow
 
 -- a link is made of these parts

@@ -13,6 +13,12 @@ abbrev pub direction_of : {R : Type 0} → Stream → OpenLink R → OpenDirecti
 direction_of Upstream link = link.up
 direction_of Downstream link = link.down
 
+-- a direction stays as it was, but for whether a turn of it waits
+pub record IsSameDirection {R : Type 0} (old new : OpenDirection R) : Type 0 where
+  pub its : new.stream ≡ old.stream
+  pub state : new.state ≡ old.state
+  pub armed : new.armed ≡ old.armed
+
 -- what is known of a link besides its directions stays
 pub record IsSameLink {R : Type 0} (old new : OpenLink R) : Type 0 where
   pub number : new.number ≡ old.number

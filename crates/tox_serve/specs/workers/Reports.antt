@@ -8,10 +8,12 @@ use Rattle.tox_serve.specs.declared.workers.open_direction.DirectionState.TheVar
 use Rattle.tox_serve.specs.declared.workers.open_direction.OpenDirection.{OpenDirection}
 use Rattle.tox_serve.specs.declared.workers.socket_event.SocketEvent.{SocketEvent}
 
--- a source that may give something, and sends no more if that was reported now or before
+-- a source that may give something, and sends no more or has sent urgent data if that was reported now or before
 abbrev pub reported_source : SocketEvent → ReadySource → ReadySource
 reported_source event source =
-    if event.readable then record source { readable = true; closing = source.closing || event.closing } else source
+    if event.readable
+    then record source { readable = true; closing = source.closing || event.closing; urgent = source.urgent || event.urgent }
+    else source
 
 -- a target that may take something
 abbrev pub reported_sink : {R : Type 0} → SocketEvent → ReadySink R → ReadySink R
@@ -61,10 +63,12 @@ drives_target event Driven = false
 pub record IsAfterSource {R : Type 0} (event : SocketEvent) (old new : OpenDirection R) (answer : Bool) : Type 0 where
   pub state : HasSourceAfter event old.state new.state
   pub armed : new.armed ≡ old.armed
+  pub turn : new.has_turn ≡ old.has_turn
   pub drives : answer ≡ drives_source event old.state
 
 -- a direction whose target was reported, and whether it is to be driven
 pub record IsAfterTarget {R : Type 0} (event : SocketEvent) (old new : OpenDirection R) (answer : Bool) : Type 0 where
   pub state : HasTargetAfter event old.state new.state
   pub armed : new.armed ≡ old.armed
+  pub turn : new.has_turn ≡ old.has_turn
   pub drives : answer ≡ drives_target event old.state

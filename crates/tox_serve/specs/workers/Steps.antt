@@ -47,12 +47,14 @@ pub record WasDriven {R : Type 0} (since : ℕ) (flow : Flow R) (old new : OpenD
   pub drove : IsDrivenOf flow driven
   pub state : new.state ≡ state_of_driven driven
   pub armed : new.armed ≡ armed_after since old.armed driven
+  pub turn : new.has_turn ≡ old.has_turn
   pub progress : answer ≡ progress_after since old.armed driven
 
 -- a direction stays as it was, and says nothing
 pub record IsLeft {R : Type 0} (old new : OpenDirection R) (answer : DirectionProgress) : Type 0 where
   pub state : new.state ≡ old.state
   pub armed : new.armed ≡ old.armed
+  pub turn : new.has_turn ≡ old.has_turn
   pub progress : answer ≡ Waits
 
 -- a direction is driven if it goes on

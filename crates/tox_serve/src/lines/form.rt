@@ -1,7 +1,7 @@
 //! How lines are written.
 
 /// How each line is written.
-#[derive(Clone, Copy, PartialEq, Eq)]
+#[derive(Clone, Copy, Debug, PartialEq, Eq)]
 pub enum LineForm {
     /// Words and numbers with spaces between them.
     Words,

@@ -15,7 +15,7 @@ pub trait Gaps {
 }
 
 /// Dropped lines are told to nobody.
-#[derive(Clone, Copy)]
+#[derive(Clone, Copy, Debug)]
 pub struct NoGaps;
 
 impl Gaps for NoGaps {

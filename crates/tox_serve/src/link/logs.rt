@@ -51,7 +51,7 @@ fn logged_link<'a>(
     }
 }
 
-/// The end of a link that carried nothing, as the logs of its streams tell it.
+/// The end of a link that carried nothing, as the logs of its streams tell it: for this cause, unless the run was told to stop.
 pub(crate) fn broken_link<'r, R: Wait>(
     rt: &'r R,
     run: &'r ServeRun<'_>,
@@ -61,7 +61,7 @@ pub(crate) fn broken_link<'r, R: Wait>(
 ) -> LinkEnd
     ensures { result ≡ broken_link number }
 {
-    let last = LastLine::Broken(cause, 0);
+    let last = LastLine::Broken(unless_stopped(rt, run, cause), 0);
     for stream in [Stream::Upstream, Stream::Downstream] {
         notes_of(rt, run, links, number, stream).end(&last);
     }
@@ -69,7 +69,7 @@ pub(crate) fn broken_link<'r, R: Wait>(
 }
 
 /// Why a link broke before anything was carried: for this cause, unless the run was told to stop.
-pub(crate) fn unless_stopped<R: Wait>(rt: &R, run: &ServeRun<'_>, cause: BreakCause) -> BreakCause {
+fn unless_stopped<R: Wait>(rt: &R, run: &ServeRun<'_>, cause: BreakCause) -> BreakCause {
     if run.live.is_stopping(rt) {
         BreakCause::Stopped
     } else {

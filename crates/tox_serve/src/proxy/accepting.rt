@@ -1,7 +1,7 @@
 //! What follows a failed accept.
 ghost use Rattle.std.specs.Prelude.{◌≡◌};
 ghost use Rattle.std.specs.IoError.{error_kind, raw_os_error};
-ghost use Rattle.tox_serve.specs.proxy.Accepting.{next_of, next_of_code};
+ghost use Rattle.tox_serve.specs.proxy.Accepting.{is_lack_of, next_of, next_of_code};
 
 use std::io;
 use std::io::ErrorKind;
@@ -13,7 +13,7 @@ const LACKS: [i32; 4] = [24, 23, 105, 63];
 /// a protocol error, no such option, not supported, timed out, and a host that is down.
 const BROKE: [i32; 7] = [1, 64, 71, 92, 95, 110, 112];
 
-/// How long no connection is taken after a momentary lack, in milliseconds.
+/// How long nothing that takes a descriptor is tried after a momentary lack, in milliseconds.
 pub(crate) const ACCEPT_REST: u64 = 10;
 
 /// What to do after a failed `accept`.
@@ -48,5 +48,15 @@ fn after_code(code: Option<i32>) -> Next
         Some(code) if BROKE.contains(&code) => Next::TryAgain,
         Some(code) if LACKS.contains(&code) => Next::Rest,
         _ => Next::GiveUp,
+    }
+}
+
+/// Whether a call failed for a momentary lack of descriptors, of buffers or of streams.
+pub(crate) fn is_lack(error: &io::Error) -> bool
+    ensures { result ≡ is_lack_of (raw_os_error error.now) }
+{
+    match error.raw_os_error() {
+        Some(code) => LACKS.contains(&code),
+        None => false,
     }
 }

@@ -76,7 +76,9 @@ impl<'a> ProxyLinks<'a> {
             let turn = Duration::from_millis(TURN);
             let (next, waited) = self.ended.wait_timeout(rt, book, turn);
             book = next;
-            if waited.timed_out() && run.live.is_stopping(rt) {
+            if !waited.timed_out() {
+                turns = STOPPING_TURNS;
+            } else if run.live.is_stopping(rt) {
                 turns -= 1;
             }
         }

@@ -50,7 +50,7 @@ pub(crate) fn listen_all<'a, R: Net<Listener = TcpListener, Stream = TcpStream> 
     Ok(listening)
 }
 
-/// Binds the address of the proxy at a place. Its queue of connections is as long as the system allows.
+/// Binds the address of the proxy at a place. Its queue of connections is as long as the system allows, and an `accept` doesn't wait.
 fn listen<'a, R: Net<Listener = TcpListener, Stream = TcpStream> + Wait>(
     rt: &R,
     alloc: Global,
@@ -67,7 +67,7 @@ fn listen<'a, R: Net<Listener = TcpListener, Stream = TcpStream> + Wait>(
     let Ok(listener) = TcpListener::bind(rt, address.as_str()) else {
         return Err(ServeFault::ListenRefused(&proxy.name));
     };
-    if lengthen_queue(&listener).is_err() {
+    if lengthen_queue(&listener).is_err() || listener.set_nonblocking(true).is_err() {
         return Err(ServeFault::ListenRefused(&proxy.name));
     }
     let Ok(bound) = listener.local_addr() else {

@@ -8,6 +8,7 @@ ghost use Rattle.tox_serve.specs.Told.{IsToldOf, carried_after};
 use crate::link::course::Course;
 use crate::link::end::Carried;
 use crate::link::logs::notes_of;
+use crate::link::source_notes::SourceNotes;
 use crate::proxy::links::ProxyLinks;
 use crate::run::ServeRun;
 use crate::runtime::ServeRuntime;
@@ -22,10 +23,11 @@ use tox_time::{MAX_BYTES, Micros, Real, Stream};
 pub(crate) struct Direction {
     pub(crate) course: Course,
     pub(crate) reader: UntilCut,
+    pub(crate) sockets: Arc<LinkSockets, Global>,
 }
 
 impl Direction {
-    /// The direction of a course's stream. None where its reader can't share the link.
+    /// The direction of a course's stream. None where it can't share the link.
     pub(crate) fn new(link: &Arc<LinkSockets, Global>, course: Course) -> Option<Direction>
         ensures course { IfSome result (λ direction. direction.course ≡ course) }
         ensures link { IfSome result (λ direction.
@@ -33,7 +35,12 @@ impl Direction {
         ensures stream { IfSome result (λ direction. direction.reader.stream ≡ course.stream) }
     {
         let reader = UntilCut::new(link, course.stream)?;
-        Some(Direction { course, reader })
+        let sockets = link.clone().ok()?;
+        Some(Direction {
+            course,
+            reader,
+            sockets,
+        })
     }
 }
 
@@ -47,8 +54,7 @@ fn writer_of<'a, 'r, R: ServeRuntime>(
     ensures socket { result.socket.now ≡ target_of course.now.stream link.now }
     ensures due { result.due ≡ fold after_op None course.now.plan.ops }
 {
-    let target = link.ends_of(course.stream).target;
-    UntilDue::new(rt, target, clock, course.plan.ops())
+    UntilDue::new(rt, link, course.stream, clock, course.plan.ops())
 }
 
 /// Carries one direction to its end, which its log tells too. After a fault both sockets are reset, so that the other direction
@@ -64,10 +70,15 @@ pub(crate) fn carry_stream<R: ServeRuntime>(
 ) -> Carried
     ensures { IsToldOf direction.course result }
 {
-    let Direction { course, reader } = direction;
-    let clock = SinceStart::new(rt, link, start);
+    let Direction {
+        course,
+        reader,
+        sockets: shared,
+    } = direction;
+    let clock = SinceStart::new(rt, start);
     let sockets = link.ends_of(course.stream);
-    let mut notes = notes_of(rt, run, links, number, course.stream);
+    let kept = notes_of(rt, run, links, number, course.stream);
+    let mut notes = SourceNotes::of(kept, shared, course.stream);
     let mut ends = Ends {
         writer: Real::new(writer_of(rt, link, &course, clock)),
         hangup: sockets,

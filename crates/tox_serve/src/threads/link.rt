@@ -6,7 +6,8 @@ ghost use Rattle.tox_serve.specs.link.LinkEnds.{carried_link_end};
 use crate::lines::print_open;
 use crate::link::course::{Courses, courses_of};
 use crate::link::end::{Carried, LinkEnd};
-use crate::link::logs::{broken_link, unless_stopped};
+use crate::link::logs::broken_link;
+use crate::link::reached::Reached;
 use crate::proxy::links::ProxyLinks;
 use crate::proxy::taking::Taken;
 use crate::run::ServeRun;
@@ -18,6 +19,7 @@ use std::sync::Arc;
 use std::thread;
 use tox_log::BreakCause;
 use tox_sockets::{LinkSockets, LinkStart, LiveSocket};
+use tox_time::Stream;
 
 /// What the downstream direction carried.
 #[derive(Drop)]
@@ -70,9 +72,7 @@ fn carry_link<R: ServeRuntime>(
 {
     let proxy = links.proxy;
     let start = LinkStart::now(rt);
-    let Some(server) = connect(rt, run, &proxy.upstream) else {
-        return Err(unless_stopped(rt, run, BreakCause::Upstream));
-    };
+    let Reached { server, was_reset } = connect(rt, run, &proxy.upstream)?;
     let Some(courses) = courses_of(run, &proxy.name, taken.number) else {
         return Err(BreakCause::Memory);
     };
@@ -81,6 +81,9 @@ fn carry_link<R: ServeRuntime>(
     let Some(link) = LinkSockets::new(run.alloc, client, server) else {
         return Err(BreakCause::Memory);
     };
+    if was_reset {
+        link.note_reset(Stream::Downstream);
+    }
     carry_live(rt, run, links, number, &link, start, courses)
 }
 
@@ -102,7 +105,7 @@ fn carry_live<R: ServeRuntime>(
         return Err(BreakCause::Memory);
     };
     let Ok(key) = run.live.add(rt, LiveSocket::Link(shared)) else {
-        return Err(unless_stopped(rt, run, BreakCause::Memory));
+        return Err(BreakCause::Memory);
     };
     let end = carry_both(&*rt, &*run, &*links, number, &*link, start, courses);
     run.live.remove(rt, key);

@@ -43,7 +43,7 @@ fn take_links<'s, E: 's, R: ServeRuntime>(
         if is_enough(run.options.links, connections, &links.book(rt).book) {
             return;
         }
-        let Some(client) = next_client(rt, listener) else {
+        let Some(client) = next_client(rt, run, listener) else {
             return;
         };
         let taken = number_link(&mut links.book(rt), client);

@@ -1,12 +1,12 @@
 //! A link whose upstream isn't connected yet.
 ghost use Rattle.std.specs.Prelude.{◌≡◌, ◌||◌};
 
+use crate::descriptors::Lack;
 use crate::proxy::taking::Taken;
 use crate::workers::link_name::LinkName;
 use crate::workers::socket_event::SocketEvent;
 use crate::workers::taken_at::TakenAt;
 use std::alloc::Global;
-use std::io::ErrorKind;
 use std::net::{SocketAddr, TcpStream};
 use std::sync::Arc;
 
@@ -68,23 +68,30 @@ impl Connecting {
     }
 }
 
-/// How a connect that has begun stands.
-#[derive(Clone, Copy, PartialEq, Eq)]
-pub(crate) enum Connection {
-    Coming,
-    There,
-    Refused,
+/// A link whose connect waits for a descriptor.
+#[derive(Drop)]
+pub(crate) struct Lacking<'r> {
+    pub(crate) client: Client,
+    pub(crate) addresses: Arc<Vec<SocketAddr>, Global>,
+    /// The place of the address that is tried next.
+    pub(crate) next: usize,
+    /// When it is tried, by the worker's clock.
+    pub(crate) due: u64,
+    pub(crate) lack: Lack<'r>,
 }
 
-/// How a connect stands that was begun without waiting.
-pub(crate) fn connection_of(server: &TcpStream) -> Connection {
-    match server.take_error() {
-        Ok(None) => {}
-        _ => return Connection::Refused,
-    }
-    match server.peer_addr() {
-        Ok(_) => Connection::There,
-        Err(error) if error.kind() == ErrorKind::NotConnected => Connection::Coming,
-        Err(_) => Connection::Refused,
+impl<'r> Lacking<'r> {
+    /// Gives the connect up.
+    pub(crate) fn into_client(self) -> Client
+        ensures { result ≡ self.entry.client }
+    {
+        let Lacking {
+            client,
+            addresses: _,
+            next: _,
+            due: _,
+            lack: _,
+        } = self;
+        client
     }
 }

@@ -11,6 +11,7 @@ ghost use Rattle.tox_serve.specs.link.LinkEnds.{carried_before, end_before_stop}
 
 use crate::link::course::Course;
 use crate::link::end::{Carried, StreamEnd};
+use crate::link::source_notes::SourceNotes;
 use crate::workers::socket_event::SocketEvent;
 use std::alloc::Global;
 use std::boxed::Box;
@@ -32,7 +33,7 @@ pub(crate) struct Flow<'r, R> {
     pub(crate) link: Box<PolledLink>,
     pub(crate) source: ReadySource,
     pub(crate) sink: ReadySink<'r, R>,
-    pub(crate) notes: StreamNotes<'r, R>,
+    pub(crate) notes: SourceNotes<'r, R>,
     pub(crate) ghost held: { IsHeld link.value } by { IsHeld-prop link.value },
     pub(crate) ghost read: { IsInstant link.value.core.latest },
     pub(crate) ghost readable: { link.value.ended ≡ false → source.failed ≡ false },
@@ -76,17 +77,38 @@ impl<'r, R: Clock + Wait> Flow<'r, R> {
         let sink = ReadySink::new(rt, sockets, stream, start, plan.ops())?;
         let link = link_of(alloc, plan, words)?;
         let link = Box::new(alloc, link).ok()?;
-        Some(Flow {
+        let notes = SourceNotes::none(rt, sockets, stream)?;
+        Some(Flow::of(stream, link, source, sink, notes))
+    }
+
+    /// A direction of these parts, none of which has done anything.
+    fn of(
+        stream: Stream,
+        link: Box<PolledLink>,
+        source: ReadySource,
+        sink: ReadySink<'r, R>,
+        notes: SourceNotes<'r, R>,
+    ) -> Flow<'r, R>
+        requires fresh { IsNew link.value }
+        requires held { IsHeld link.value }
+        requires reads { source.failed ≡ false }
+        requires writes { sink.failed ≡ false }
+        ensures stream { result.stream ≡ stream }
+        ensures link { result.link ≡ link }
+        ensures source { result.source ≡ source }
+        ensures sink { result.sink ≡ sink.entry }
+    {
+        Flow {
             stream,
             link,
             source,
             sink,
-            notes: StreamNotes::none(rt),
-        })
+            notes,
+        }
     }
 
     /// Takes as many steps as the sockets allow, and no more than 32. Where the direction ends it is hung up, and after a fault
-    /// both sockets are reset.
+    /// both sockets are reset. Nothing waits once its link is stopped: it breaks as by the write that it waits for.
     pub(crate) fn drive(
         self,
         alloc: Global,
@@ -113,6 +135,10 @@ impl<'r, R: Clock + Wait> Flow<'r, R> {
             scratch,
         ) {
             Ok(Progress::Waits(until)) => {
+                if sockets.is_stopped() {
+                    let fault = LinkFault::WriteFault(link.written());
+                    return Driven::Ended(fail(sockets, stream, &fault, &notes));
+                }
                 let flow = Flow {
                     stream,
                     link,
@@ -155,7 +181,7 @@ fn fail<R: Wait>(
     sockets: &LinkSockets,
     stream: Stream,
     fault: &LinkFault,
-    notes: &StreamNotes<'_, R>,
+    notes: &SourceNotes<'_, R>,
 ) -> Carried
     ensures { result ≡ carried_before stream fault.now }
 {
@@ -167,7 +193,7 @@ fn fail<R: Wait>(
 pub(crate) fn break_off<R: Wait>(
     stream: Stream,
     fault: &LinkFault,
-    notes: &StreamNotes<'_, R>,
+    notes: &SourceNotes<'_, R>,
 ) -> Carried
     ensures { result ≡ carried_before stream fault.now }
 {
@@ -183,7 +209,7 @@ fn end<R: Clock + Wait>(
     sockets: &LinkSockets,
     stream: Stream,
     ending: &Ending,
-    notes: &StreamNotes<'_, R>,
+    notes: &SourceNotes<'_, R>,
 ) -> Carried
     requires held { IsHeld link.value }
     requires ended { IsAtEnd (λ t. IsInstant t) link.value ending.now }

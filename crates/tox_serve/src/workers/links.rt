@@ -95,6 +95,7 @@ impl<'r, R: Clock + Wait> Links<'r, R> {
             Some(place) if place.generation == key.generation => match &place.state {
                 Some(LinkState::Open(open)) => open.is_armed(stream, due),
                 Some(LinkState::Connecting(connecting)) => connecting.deadline == Some(due),
+                Some(LinkState::Lacking(lacking)) => lacking.due == due,
                 _ => false,
             },
             _ => false,

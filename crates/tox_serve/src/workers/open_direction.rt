@@ -1,5 +1,5 @@
 //! One direction of a link whose upstream is connected.
-ghost use Rattle.std.specs.Prelude.{◌≡◌, None, Some, IfSome, option_copied};
+ghost use Rattle.std.specs.Prelude.{◌≡◌, None, Some, IfSome, option_copied, not, true, false};
 ghost use Rattle.tox_serve.specs.workers.Directions.{IsOf, IsOf-prop};
 
 use crate::link::end::Carried;
@@ -44,6 +44,8 @@ pub(crate) struct OpenDirection<'r, R> {
     pub(crate) state: DirectionState<'r, R>,
     /// When its earliest timer is due, by the worker's clock.
     armed: Option<u64>,
+    /// Whether a turn of it waits.
+    has_turn: bool,
     ghost of_stream: { IsOf stream state } by { IsOf-prop stream state },
 }
 
@@ -59,21 +61,45 @@ impl<'r, R: Clock + Wait> OpenDirection<'r, R> {
         ensures stream { result.stream ≡ flow.entry.stream }
         ensures state { result.state ≡ GoesOn flow.entry }
         ensures armed { result.armed ≡ None }
+        ensures turn { result.has_turn ≡ false }
     {
         OpenDirection {
             stream: flow.stream,
             state: DirectionState::Going(flow),
             armed: None,
+            has_turn: false,
         }
+    }
+
+    /// Has a turn of it wait, unless one does. Whether none did.
+    pub(crate) fn claim_turn(&mut self) -> bool
+        ensures claims { result ≡ not self.old.has_turn }
+        ensures claimed { self.new.has_turn ≡ true }
+        ensures same { (self.new.stream ≡ self.old.stream) × (self.new.state ≡ self.old.state)
+            × (self.new.armed ≡ self.old.armed) }
+    {
+        let claims = !self.has_turn;
+        self.has_turn = true;
+        claims
+    }
+
+    /// Its turn has come.
+    pub(crate) fn take_turn(&mut self)
+        ensures taken { self.new.has_turn ≡ false }
+        ensures same { (self.new.stream ≡ self.old.stream) × (self.new.state ≡ self.old.state)
+            × (self.new.armed ≡ self.old.armed) }
+    {
+        self.has_turn = false;
     }
 
     /// From now on it is noted so, unless it has ended.
     pub(crate) fn log(&mut self, notes: StreamNotes<'r, R>)
         ensures state { IsNotedSo notes.entry self.old.state self.new.state }
-        ensures same { (self.new.stream ≡ self.old.stream) × (self.new.armed ≡ self.old.armed) }
+        ensures same { (self.new.stream ≡ self.old.stream) × (self.new.armed ≡ self.old.armed)
+            × (self.new.has_turn ≡ self.old.has_turn) }
     {
         if let DirectionState::Going(flow) = &mut self.state {
-            flow.notes = notes;
+            flow.notes.change(notes);
         }
     }
 
@@ -84,7 +110,7 @@ impl<'r, R: Clock + Wait> OpenDirection<'r, R> {
     {
         match &mut self.state {
             DirectionState::Going(flow) if event.readable => {
-                flow.source.note(event.closing);
+                flow.source.note(event.closing, event.urgent);
                 true
             }
             _ => false,
@@ -112,7 +138,8 @@ impl<'r, R: Clock + Wait> OpenDirection<'r, R> {
     /// A timer of it is over.
     pub(crate) fn disarm(&mut self, due: u64)
         ensures armed { self.new.armed ≡ disarmed due self.old.armed }
-        ensures same { (self.new.stream ≡ self.old.stream) × (self.new.state ≡ self.old.state) }
+        ensures same { (self.new.stream ≡ self.old.stream) × (self.new.state ≡ self.old.state)
+            × (self.new.has_turn ≡ self.old.has_turn) }
     {
         if self.armed == Some(due) {
             self.armed = None;
@@ -138,7 +165,7 @@ impl<'r, R: Clock + Wait> OpenDirection<'r, R> {
                 return DirectionProgress::Waits;
             }
         };
-        let clock = SinceStart::new(rt, sockets, since.start);
+        let clock = SinceStart::new(rt, since.start);
         match flow.drive(alloc, &clock, sockets, scratch) {
             Driven::Waits(flow, until) => {
                 self.state = DirectionState::Going(flow);
@@ -161,7 +188,8 @@ impl<'r, R: Clock + Wait> OpenDirection<'r, R> {
     /// It waits until an instant. A timer that is due before serves too: it drives it once more.
     fn arm(&mut self, due: u64) -> DirectionProgress
         ensures armed { self.new.armed ≡ earlier_of self.old.armed (Some due) }
-        ensures same { (self.new.stream ≡ self.old.stream) × (self.new.state ≡ self.old.state) }
+        ensures same { (self.new.stream ≡ self.old.stream) × (self.new.state ≡ self.old.state)
+            × (self.new.has_turn ≡ self.old.has_turn) }
         ensures waits { result ≡ wait_until self.old.armed due }
     {
         if self.armed.is_some_and(|armed| armed <= due) {
@@ -174,7 +202,8 @@ impl<'r, R: Clock + Wait> OpenDirection<'r, R> {
     /// Breaks it off, out of memory.
     pub(crate) fn break_off(&mut self)
         ensures state { self.new.state ≡ broken_off self.old.stream self.old.state }
-        ensures same { (self.new.stream ≡ self.old.stream) × (self.new.armed ≡ self.old.armed) }
+        ensures same { (self.new.stream ≡ self.old.stream) × (self.new.armed ≡ self.old.armed)
+            × (self.new.has_turn ≡ self.old.has_turn) }
     {
         if let DirectionState::Going(flow) = &self.state {
             let fault = LinkFault::OutOfMemory(flow.link.written());

@@ -1,5 +1,5 @@
 //! A link whose upstream is connected: its sockets and its two directions.
-ghost use Rattle.std.specs.Prelude.{◌≡◌, false, IfSome};
+ghost use Rattle.std.specs.Prelude.{◌≡◌, false, true, not, IfSome};
 ghost use Rattle.tox_time.specs.declared.streams.stream.Stream.TheVariants as StreamOf;
 
 use crate::link::course::Courses;
@@ -50,7 +50,7 @@ pub(crate) struct Opening {
 impl<'r, R: Clock + Wait> OpenLink<'r, R> {
     ghost use Rattle.tox_serve.specs.workers.Begun.{IsMadeOf, IsNewDirection};
     ghost use Rattle.tox_serve.specs.workers.Directions.{broken_off, carried_of, disarmed, is_armed};
-    ghost use Rattle.tox_serve.specs.workers.OpenLinks.{IsSameLink, direction_of, end_of_both};
+    ghost use Rattle.tox_serve.specs.workers.OpenLinks.{IsSameDirection, IsSameLink, direction_of, end_of_both};
     ghost use Rattle.tox_serve.specs.workers.Peers.{other_stream, stream_from};
     ghost use Rattle.tox_serve.specs.workers.Reports.{IsAfterSource, IsAfterTarget, IsNotedSo};
     ghost use Rattle.tox_serve.specs.workers.Steps.{DrivesFrom};
@@ -111,6 +111,8 @@ impl<'r, R: Clock + Wait> OpenLink<'r, R> {
         ensures down { IsNotedSo down.entry self.old.down.state self.new.down.state }
         ensures armed { (self.new.up.armed ≡ self.old.up.armed)
             × (self.new.down.armed ≡ self.old.down.armed) }
+        ensures turns { (self.new.up.has_turn ≡ self.old.up.has_turn)
+            × (self.new.down.has_turn ≡ self.old.down.has_turn) }
         ensures same { IsSameLink self.old self.new }
     {
         self.up.log(up);
@@ -133,6 +135,37 @@ impl<'r, R: Clock + Wait> OpenLink<'r, R> {
         }
     }
 
+    /// Has a turn of a direction wait, unless one does. Whether none did.
+    pub(crate) fn claim_turn(&mut self, stream: Stream) -> bool
+        ensures claims { result ≡ not (direction_of stream self.old).has_turn }
+        ensures claimed { (direction_of stream self.new).has_turn ≡ true }
+        ensures same_direction { IsSameDirection (direction_of stream self.old)
+            (direction_of stream self.new) }
+        ensures other { direction_of (other_stream stream) self.new
+            ≡ direction_of (other_stream stream) self.old }
+        ensures same { IsSameLink self.old self.new }
+    {
+        match stream {
+            Stream::Upstream => self.up.claim_turn(),
+            Stream::Downstream => self.down.claim_turn(),
+        }
+    }
+
+    /// The turn of a direction has come.
+    pub(crate) fn take_turn(&mut self, stream: Stream)
+        ensures taken { (direction_of stream self.new).has_turn ≡ false }
+        ensures same_direction { IsSameDirection (direction_of stream self.old)
+            (direction_of stream self.new) }
+        ensures other { direction_of (other_stream stream) self.new
+            ≡ direction_of (other_stream stream) self.old }
+        ensures same { IsSameLink self.old self.new }
+    {
+        match stream {
+            Stream::Upstream => self.up.take_turn(),
+            Stream::Downstream => self.down.take_turn(),
+        }
+    }
+
     /// Whether a direction waits for a timer that is due at an instant.
     pub(crate) fn is_armed(&self, stream: Stream, due: u64) -> bool
         ensures { result ≡ is_armed due (direction_of stream self.now).armed }
@@ -149,6 +182,8 @@ impl<'r, R: Clock + Wait> OpenLink<'r, R> {
             ≡ disarmed due (direction_of stream self.old).armed }
         ensures state { (direction_of stream self.new).state
             ≡ (direction_of stream self.old).state }
+        ensures turn { (direction_of stream self.new).has_turn
+            ≡ (direction_of stream self.old).has_turn }
         ensures other { direction_of (other_stream stream) self.new
             ≡ direction_of (other_stream stream) self.old }
         ensures same { IsSameLink self.old self.new }

@@ -24,7 +24,7 @@ impl<'a> ServedProxy<'a> {
             address: _,
         } = listening;
         let upstream = Upstream::new(alloc, &proxy.upstream)?;
-        let listener = SharedListener::new(listener, key).ok()?;
+        let listener = SharedListener::new(listener, key);
         Some(ServedProxy {
             links: ProxyLinks::new(alloc, proxy, place),
             listener,

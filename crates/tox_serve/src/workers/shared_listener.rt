@@ -60,19 +60,15 @@ pub(crate) enum Accepted {
 }
 
 impl SharedListener {
-    /// Shares a listener, which is set not to wait.
-    pub(crate) fn new(
-        listener: Arc<TcpListener, Global>,
-        key: usize,
-    ) -> io::Result<SharedListener> {
-        listener.set_nonblocking(true)?;
-        Ok(SharedListener {
+    /// Shares a listener that doesn't wait.
+    pub(crate) fn new(listener: Arc<TcpListener, Global>, key: usize) -> SharedListener {
+        SharedListener {
             listener: Mutex::new(Listener {
                 listener: Some(listener),
                 connections: 0,
             }),
             key,
-        })
+        }
     }
 
     /// Has a poll report connections.
@@ -91,8 +87,8 @@ impl SharedListener {
         }
     }
 
-    /// Takes the next connection, and gives it a number. After as many as the run takes, at a full book or a failing listener the
-    /// proxy stops listening.
+    /// Takes the next connection, and gives it a number. A descriptor is in hand meanwhile, which is for its upstream then. After as
+    /// many as the run takes, at a full book, a failing listener or the stop of the run the proxy stops listening.
     pub(crate) fn take<R: Wait>(
         &self,
         rt: &R,
@@ -104,7 +100,11 @@ impl SharedListener {
             return Accepted::Closed;
         };
         let mut book = links.book(rt);
-        if !is_enough(run.options.links, shared.connections, &book.book) {
+        let is_enough = is_enough(run.options.links, shared.connections, &book.book);
+        if !is_enough && !run.live.is_stopping(rt) {
+            let Some(_spare) = run.descriptors.spare() else {
+                return Accepted::OutOfResources;
+            };
             match listener.accept() {
                 Ok((client, _)) => {
                     shared.count();

@@ -1,6 +1,6 @@
 //! What the system reports of a socket.
 ghost use Rattle.std.specs.Prelude.{◌≡◌, ◌||◌};
-ghost use Rattle.mio.specs.Event.{is_error, is_read_closed, is_readable, is_writable, is_write_closed};
+ghost use Rattle.mio.specs.Event.{is_error, is_priority, is_read_closed, is_readable, is_writable, is_write_closed};
 
 use mio::event::Event;
 
@@ -11,6 +11,8 @@ pub(crate) struct SocketEvent {
     pub(crate) writable: bool,
     /// Whether its peer sends no more.
     pub(crate) closing: bool,
+    /// Whether its peer has sent urgent data.
+    pub(crate) urgent: bool,
     /// Whether the connection is gone, by a reset or since both its halves are shut.
     pub(crate) gone: bool,
 }
@@ -23,12 +25,14 @@ impl SocketEvent {
             ≡ (result.gone || is_readable event.now || is_read_closed event.now) }
         ensures writable { result.writable ≡ (result.gone || is_writable event.now) }
         ensures closing { result.closing ≡ (result.gone || is_read_closed event.now) }
+        ensures urgent { result.urgent ≡ is_priority event.now }
     {
         let gone = event.is_error() || event.is_write_closed();
         SocketEvent {
             readable: gone || event.is_readable() || event.is_read_closed(),
             writable: gone || event.is_writable(),
             closing: gone || event.is_read_closed(),
+            urgent: event.is_priority(),
             gone,
         }
     }

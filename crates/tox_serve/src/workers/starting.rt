@@ -1,12 +1,17 @@
 //! Starting the threads of a run: one for each worker, and one for each proxy.
+use crate::link::look_up::look_up;
 use crate::run::ServeRun;
 use crate::runtime::ServeRuntime;
 use crate::workers::served_proxy::ServedProxy;
 use crate::workers::shared::{WorkerPoll, Workers};
 use crate::workers::upstream::Job;
 use crate::workers::worker::work;
-use std::sync::Mutex;
+use std::alloc::Global;
+use std::net::SocketAddr;
+use std::sync::{Arc, Mutex};
+use std::thread;
 use std::thread::Scope;
+use tox_log::BreakCause;
 
 /// Starts the workers and the threads of the proxies, all of which wait until they may go. False if one is refused.
 pub(crate) fn start_workers<'s, E: 's, R: ServeRuntime>(
@@ -65,27 +70,70 @@ fn start_proxy<'s, E: 's, R: ServeRuntime>(
     started.is_ok()
 }
 
-/// Resolves the names that workers ask for, and prints the totals once the proxy has stopped listening and all its links have
-/// ended.
+/// Has the names looked up that links ask for, and prints the totals once the proxy has stopped listening and all its links have
+/// ended. It returns once all look-ups have ended too.
 fn serve_proxy<R: ServeRuntime>(
     rt: &R,
     run: &ServeRun<'_>,
     workers: &Workers<'_>,
     proxy: &ServedProxy<'_>,
 ) {
-    let served = proxy.links.proxy;
+    thread::scope(thread::scope_env(), rt, |scope| {
+        do_jobs(rt, run, workers, proxy, scope);
+        proxy.links.end(rt, run);
+    });
+}
+
+/// Starts look-ups until the proxy has stopped listening, and its links have ended or the run is stopping.
+fn do_jobs<'s, E: 's, R: ServeRuntime>(
+    rt: &'s R,
+    run: &'s ServeRun<'s>,
+    workers: &'s Workers<'s>,
+    proxy: &'s ServedProxy<'s>,
+    scope: &'s Scope<'s, E>,
+) {
     for _ in rt.forever() {
         match proxy.upstream.next_job(rt) {
-            Job::Resolve => {
-                proxy.upstream.resolve(rt, &served.upstream);
-                workers.wake_all();
-            }
-            Job::Look => {
+            Job::LookUp => start_look_up(rt, run, workers, proxy, scope),
+            Job::SeeLinks => {
                 if proxy.links.have_ended(rt) || run.live.is_stopping(rt) {
-                    break;
+                    return;
                 }
             }
         }
     }
-    proxy.links.end(rt, run);
+    unreachable!()
+}
+
+/// Looks the name of a proxy's upstream up in a thread of its own, and wakes the workers then.
+fn start_look_up<'s, E: 's, R: ServeRuntime>(
+    rt: &'s R,
+    run: &'s ServeRun<'s>,
+    workers: &'s Workers<'s>,
+    proxy: &'s ServedProxy<'s>,
+    scope: &'s Scope<'s, E>,
+) {
+    let started = scope.spawn(move || {
+        let found = find_addresses(rt, run, proxy);
+        proxy.upstream.end_look_up(rt, found);
+        workers.wake_all();
+    });
+    if started.is_err() {
+        proxy.upstream.end_look_up(rt, Err(BreakCause::Thread));
+        workers.wake_all();
+    }
+}
+
+/// The addresses of a proxy's upstream, to be shared.
+fn find_addresses<R: ServeRuntime>(
+    rt: &R,
+    run: &ServeRun<'_>,
+    proxy: &ServedProxy<'_>,
+) -> Result<Arc<Vec<SocketAddr>, Global>, BreakCause> {
+    let served = proxy.links.proxy;
+    let found = look_up(rt, run, &served.upstream)?;
+    match Arc::new(run.alloc, found) {
+        Ok(shared) => Ok(shared),
+        Err(_) => Err(BreakCause::Memory),
+    }
 }

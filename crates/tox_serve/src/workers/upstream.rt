@@ -1,9 +1,11 @@
-//! The addresses of a proxy's upstream. A name is resolved by the proxy's thread, not by a worker, and kept for a second.
+//! A proxy's upstream. A name is looked up in threads of its own, so that a look-up that hangs holds up nothing else, and its
+//! addresses are kept for a second.
 use crate::addresses::connect_address;
 use std::alloc::Global;
-use std::net::{Net, SocketAddr, TcpListener, TcpStream, ToSocketAddrs};
+use std::net::SocketAddr;
 use std::sync::{Arc, Condvar, Mutex, Wait};
 use std::time::{Clock, Duration, Instant};
+use tox_log::BreakCause;
 
 /// How long the addresses of a name are kept, in milliseconds.
 const KEPT: u64 = 1_000;
@@ -11,10 +13,13 @@ const KEPT: u64 = 1_000;
 /// How long a thread waits for what it is to do at a time, in milliseconds, once the proxy has stopped listening.
 const TURN: u64 = 50;
 
-/// The addresses of a name, and when they were found. None if it couldn't be resolved.
+/// How many look-ups of a name there may be at once. Where they all hang, a further link waits for the first that ends.
+const MAX_LOOK_UPS: u32 = 32;
+
+/// The addresses of a name, or why it has none, and when that was found.
 #[derive(Drop)]
 struct Found {
-    addresses: Option<Arc<Vec<SocketAddr>, Global>>,
+    addresses: Result<Arc<Vec<SocketAddr>, Global>, BreakCause>,
     at: Option<Instant>,
 }
 
@@ -22,8 +27,8 @@ struct Found {
 #[derive(Drop)]
 pub(crate) enum Addresses {
     Known(Arc<Vec<SocketAddr>, Global>),
-    /// There are none.
-    Unreachable,
+    /// There are none, for this cause.
+    Refused(BreakCause),
     /// They are asked for.
     Asked,
 }
@@ -32,7 +37,7 @@ pub(crate) enum Addresses {
 fn share(addresses: &Arc<Vec<SocketAddr>, Global>) -> Addresses {
     match addresses.clone() {
         Ok(addresses) => Addresses::Known(addresses),
-        Err(_) => Addresses::Unreachable,
+        Err(_) => Addresses::Refused(BreakCause::Memory),
     }
 }
 
@@ -40,30 +45,68 @@ fn share(addresses: &Arc<Vec<SocketAddr>, Global>) -> Addresses {
 #[derive(Drop)]
 struct Names {
     found: Option<Found>,
-    /// Whether a worker asks for the addresses.
+    /// Whether a link asks for the addresses that no look-up was begun for.
     asked: bool,
+    /// How many look-ups have begun and not ended.
+    look_ups: u32,
     /// Whether the proxy has stopped listening.
     closed: bool,
+}
+
+impl Names {
+    /// Whether a look-up is to begin.
+    fn wants_look_up(&self) -> bool {
+        self.asked && self.look_ups < MAX_LOOK_UPS
+    }
+
+    /// A look-up begins, for all links that have asked by now.
+    fn begin_look_up(&mut self) {
+        self.asked = false;
+        self.look_ups = self.look_ups.saturating_add(1);
+    }
+
+    /// A look-up has ended so. One that failed leaves addresses that another one has just found.
+    fn end_look_up<R: Clock>(
+        &mut self,
+        rt: &R,
+        addresses: Result<Arc<Vec<SocketAddr>, Global>, BreakCause>,
+    ) {
+        self.look_ups = self.look_ups.saturating_sub(1);
+        if addresses.is_err() && self.has_addresses(rt) {
+            return;
+        }
+        self.found = Some(Found {
+            addresses,
+            at: Instant::now(rt).ok(),
+        });
+    }
+
+    /// Whether addresses were found that may still be used.
+    fn has_addresses<R: Clock>(&self, rt: &R) -> bool {
+        match &self.found {
+            Some(found) => found.addresses.is_ok() && is_fresh(rt, found.at),
+            None => false,
+        }
+    }
 }
 
 /// The upstream of a proxy.
 #[derive(Drop)]
 pub(crate) struct Upstream {
-    alloc: Global,
     /// The address, if its host is a number.
     known: Option<Arc<Vec<SocketAddr>, Global>>,
     names: Mutex<Names>,
-    /// Told when a worker asks, and once the proxy has stopped listening.
+    /// Told when a link asks, when a look-up has ended, and once the proxy has stopped listening.
     changed: Condvar,
 }
 
 /// What the thread of a proxy is to do.
 #[derive(Clone, Copy)]
 pub(crate) enum Job {
-    /// Resolve the name.
-    Resolve,
+    /// Look the name up, in a thread of its own. The look-up has begun.
+    LookUp,
     /// See whether all links have ended, as the proxy has stopped listening.
-    Look,
+    SeeLinks,
 }
 
 impl Upstream {
@@ -78,18 +121,18 @@ impl Upstream {
             Err(_) => None,
         };
         Some(Upstream {
-            alloc,
             known,
             names: Mutex::new(Names {
                 found: None,
                 asked: false,
+                look_ups: 0,
                 closed: false,
             }),
             changed: Condvar::new(),
         })
     }
 
-    /// The addresses. Where they have to be asked for, the proxy's thread wakes the workers once it knows them.
+    /// The addresses. Where they have to be asked for, the workers are woken once they are known.
     pub(crate) fn addresses<R: Wait + Clock>(&self, rt: &R) -> Addresses {
         if let Some(known) = &self.known {
             return share(known);
@@ -97,8 +140,8 @@ impl Upstream {
         let mut names = self.names.lock(rt);
         match &names.found {
             Some(found) if is_fresh(rt, found.at) => match &found.addresses {
-                Some(addresses) => share(addresses),
-                None => Addresses::Unreachable,
+                Ok(addresses) => share(addresses),
+                Err(cause) => Addresses::Refused(*cause),
             },
             _ => {
                 names.asked = true;
@@ -117,43 +160,35 @@ impl Upstream {
     /// Waits until there is something to do. Once the proxy has stopped listening, at most 50 milliseconds.
     pub(crate) fn next_job<R: Wait + Clock>(&self, rt: &R) -> Job {
         let mut names = self.names.lock(rt);
+        let mut waited = false;
         for _ in rt.forever() {
-            if names.asked {
-                return Job::Resolve;
+            if names.wants_look_up() {
+                names.begin_look_up();
+                return Job::LookUp;
             }
-            if names.closed {
-                let turn = Duration::from_millis(TURN);
-                let (names, _) = self.changed.wait_timeout(rt, names, turn);
-                return if names.asked { Job::Resolve } else { Job::Look };
+            if !names.closed {
+                names = self.changed.wait(rt, names);
+                continue;
             }
-            names = self.changed.wait(rt, names);
+            if waited {
+                return Job::SeeLinks;
+            }
+            waited = true;
+            let turn = Duration::from_millis(TURN);
+            let (next, _) = self.changed.wait_timeout(rt, names, turn);
+            names = next;
         }
         unreachable!()
     }
 
-    /// Resolves the name, and keeps its addresses: none if it can't be resolved.
-    pub(crate) fn resolve<R: Net<Listener = TcpListener, Stream = TcpStream> + Wait + Clock>(
+    /// A look-up that began has ended so.
+    pub(crate) fn end_look_up<R: Wait + Clock>(
         &self,
         rt: &R,
-        address: &str,
+        addresses: Result<Arc<Vec<SocketAddr>, Global>, BreakCause>,
     ) {
-        let addresses = self.look_up(rt, address);
-        let mut names = self.names.lock(rt);
-        names.asked = false;
-        names.found = Some(Found {
-            addresses,
-            at: Instant::now(rt).ok(),
-        });
-    }
-
-    fn look_up<R: Net<Listener = TcpListener, Stream = TcpStream>>(
-        &self,
-        rt: &R,
-        address: &str,
-    ) -> Option<Arc<Vec<SocketAddr>, Global>> {
-        let address = connect_address(self.alloc, address).ok()?;
-        let found = address.as_str().to_socket_addrs(rt).ok()?;
-        Arc::new(self.alloc, found.collect(self.alloc).ok()?).ok()
+        self.names.lock(rt).end_look_up(rt, addresses);
+        self.changed.notify_all();
     }
 }
 

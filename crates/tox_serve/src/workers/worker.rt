@@ -1,8 +1,11 @@
 //! A worker: waits for events, and drives its links.
 pub(crate) mod accepting;
+mod breaking;
+mod connecting;
 mod driving;
 mod making;
-mod opening;
+mod naming;
+mod registering;
 
 use crate::run::ServeRun;
 use crate::runtime::ServeRuntime;
@@ -85,7 +88,7 @@ pub(crate) fn work<'s, R: ServeRuntime>(
             nap(rt, wait);
         }
         for event in &events {
-            worker.on_event(event, &mut scratch);
+            worker.on_event(event);
         }
         worker.go_on(&mut scratch);
     }
@@ -116,33 +119,23 @@ impl<'s, R: ServeRuntime> Worker<'s, R> {
         Some(due.saturating_sub(self.now()))
     }
 
-    fn on_event(&mut self, event: &Event, scratch: &mut [u8; READ_SIZE]) {
+    fn on_event(&mut self, event: &Event) {
         match subject_of(event.token()) {
-            Subject::Client(key) => self.on_socket(
-                key,
-                Peer::Client,
-                &SocketEvent::of(event),
-                scratch,
-            ),
-            Subject::Server(key) => self.on_socket(
-                key,
-                Peer::Server,
-                &SocketEvent::of(event),
-                scratch,
-            ),
+            Subject::Client(key) => self.on_socket(key, Peer::Client, &SocketEvent::of(event)),
+            Subject::Server(key) => self.on_socket(key, Peer::Server, &SocketEvent::of(event)),
             Subject::Listener(place) => may_accept(&mut self.accepting, place as usize),
             Subject::Waker => self.on_wake(),
         }
     }
 
-    /// Does what needs no event: takes connections, gives directions their turns, and drives those whose timers are due.
+    /// Does what needs no event: takes connections and the timers that are due, and drives the directions whose turn it is.
     fn go_on(&mut self, scratch: &mut [u8; READ_SIZE]) {
         for place in 0..self.accepting.len() {
             if self.accepts_now(place) {
                 self.accept(place);
             }
         }
+        self.fire();
         self.take_turns(scratch);
-        self.fire(scratch);
     }
 }

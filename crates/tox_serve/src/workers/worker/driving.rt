@@ -1,9 +1,10 @@
-//! Driving the directions of links: after an event, at a timer, or in their turn.
-ghost use Rattle.std.specs.Prelude.{◌≡◌};
+//! Driving the directions of links, each in its turn. An event or a timer gives a turn, and so does a drive that may go on.
+ghost use Rattle.std.specs.Prelude.{◌≡◌, ◌⊎◌};
 ghost use Rattle.std.specs.Bool.{OnTrue};
+ghost use Rattle.tox_serve.specs.workers.OpenLinks.{IsSameLink};
 ghost use Rattle.tox_serve.specs.workers.Peers.{other_stream};
 ghost use Rattle.tox_serve.specs.workers.Timers.{timers_of};
-ghost use Rattle.tox_serve.specs.workers.Turns.{DrivesTurn, HasTurns};
+ghost use Rattle.tox_serve.specs.workers.Turns.{DrivesTurn, HasTurn, IsBrokenOff, IsDrivenAgain};
 
 use crate::runtime::ServeRuntime;
 use crate::workers::link_key::LinkKey;
@@ -16,6 +17,8 @@ use crate::workers::timers::{Timers, Turn};
 use crate::workers::worker::Worker;
 use std::boxed::Box;
 use std::mem;
+use std::sync::Wait;
+use std::time::Clock;
 use tox_link::READ_SIZE;
 use tox_time::Stream;
 
@@ -29,83 +32,95 @@ fn other(stream: Stream) -> Stream
     }
 }
 
+/// Gives a direction of a link a turn behind all others, unless one of it waits. False if out of memory.
+fn give_turn<R: Clock + Wait>(turns: &mut Vec<Turn>, link: &mut OpenLink<'_, R>, turn: Turn) -> bool
+    ensures given { OnTrue result
+        (HasTurn turn link.old link.new turns.old.items turns.new.items) }
+    ensures states { (link.new.up.state ≡ link.old.up.state)
+        × (link.new.down.state ≡ link.old.down.state) }
+    ensures same { IsSameLink link.old link.new }
+{
+    if link.claim_turn(turn.stream) {
+        turns.push(turn).is_ok()
+    } else {
+        true
+    }
+}
+
 /// Sees to it that a direction is driven again. Once it has ended the other one has a turn: its sockets may have been cut. False if
 /// out of memory.
-fn keep(timers: &mut Timers, turns: &mut Vec<Turn>, turn: Turn, progress: DirectionProgress) -> bool
-    ensures { OnTrue result (HasTurns turn progress (timers_of timers.old) (timers_of timers.new)
-        turns.old.items turns.new.items) }
+fn keep<R: Clock + Wait>(
+    timers: &mut Timers,
+    turns: &mut Vec<Turn>,
+    link: &mut OpenLink<'_, R>,
+    turn: Turn,
+    progress: DirectionProgress,
+) -> bool
+    ensures again { OnTrue result (IsDrivenAgain turn progress link.old link.new
+        (timers_of timers.old) (timers_of timers.new) turns.old.items turns.new.items) }
+    ensures states { (link.new.up.state ≡ link.old.up.state)
+        × (link.new.down.state ≡ link.old.down.state) }
 {
     match progress {
         DirectionProgress::Waits => true,
         DirectionProgress::WaitsUntil(due) => timers.set(due, turn),
-        DirectionProgress::Again => turns.push(turn).is_ok(),
+        DirectionProgress::Again => give_turn(turns, link, turn),
         DirectionProgress::Ended => {
             let after = Turn {
                 key: turn.key,
                 stream: other(turn.stream),
             };
-            turns.push(after).is_ok()
+            give_turn(turns, link, after)
         }
     }
 }
 
 impl<'s, R: ServeRuntime> Worker<'s, R> {
     /// The system reported something of a link's socket.
-    pub(super) fn on_socket(
-        &mut self,
-        key: LinkKey,
-        peer: Peer,
-        event: &SocketEvent,
-        scratch: &mut [u8; READ_SIZE],
-    ) {
+    pub(super) fn on_socket(&mut self, key: LinkKey, peer: Peer, event: &SocketEvent) {
         match self.links.take(key) {
-            Some(LinkState::Naming(client)) => {
-                if let Some(client) = self.note_client(key, client, event) {
-                    self.links.put(key, LinkState::Naming(client));
-                }
-            }
-            Some(LinkState::Connecting(connecting)) => {
-                if let Some(open) = self.on_connecting(key, connecting, peer, event) {
-                    self.drive_both(key, open, scratch);
-                }
-            }
-            Some(LinkState::Open(open)) => self.on_open(key, open, peer, event, scratch),
+            Some(LinkState::Open(open)) => self.on_open(key, open, peer, event),
+            Some(state) => self.on_unopened(key, state, peer, event),
             None => {}
         }
     }
 
-    /// Drives the directions of an open link that wait for what the system reported, and first the one that reads from the socket:
-    /// what its peer said last is carried before a failed write resets both.
+    /// Gives turns to the directions of an open link that wait for what the system reported, and first to the one that reads from
+    /// the socket: what its peer said last is carried before a failed write resets both.
     fn on_open(
         &mut self,
         key: LinkKey,
         open: Box<OpenLink<'s, R>>,
         peer: Peer,
         event: &SocketEvent,
-        scratch: &mut [u8; READ_SIZE],
     ) {
         let mut open = open;
         let (source, target) = open.note(peer, event);
         let stream = peer.stream();
         if source {
-            self.drive(key, &mut open, stream, scratch);
+            self.give(key, &mut open, stream);
         }
         if target {
-            self.drive(key, &mut open, other(stream), scratch);
+            self.give(key, &mut open, other(stream));
         }
         self.settle(key, open);
     }
 
-    /// Drives both directions of a link that was just opened.
-    fn drive_both(
-        &mut self,
-        key: LinkKey,
-        open: Box<OpenLink<'s, R>>,
-        scratch: &mut [u8; READ_SIZE],
-    ) {
+    /// Gives a direction a turn. Out of memory the link is broken off.
+    fn give(&mut self, key: LinkKey, link: &mut OpenLink<'s, R>, stream: Stream)
+        ensures { HasTurn (record { key = key; stream = stream }) link.old link.new
+            self.old.turns.items self.new.turns.items ⊎ IsBrokenOff link.old link.new }
+    {
+        if !give_turn(&mut self.turns, link, Turn { key, stream }) {
+            link.break_off();
+        }
+    }
+
+    /// Gives both directions of an open link a turn, and puts it into its place.
+    pub(super) fn give_both(&mut self, key: LinkKey, open: Box<OpenLink<'s, R>>) {
         let mut open = open;
-        self.drive(key, &mut open, Stream::Upstream, scratch);
-        self.drive(key, &mut open, Stream::Downstream, scratch);
+        self.give(key, &mut open, Stream::Upstream);
+        self.give(key, &mut open, Stream::Downstream);
         self.settle(key, open);
     }
 
@@ -123,7 +138,7 @@ impl<'s, R: ServeRuntime> Worker<'s, R> {
     {
         let progress = link.drive(self.rt, self.run.alloc, stream, scratch);
         let turn = Turn { key, stream };
-        if !keep(&mut self.timers, &mut self.turns, turn, progress) {
+        if !keep(&mut self.timers, &mut self.turns, link, turn, progress) {
             link.break_off();
         }
     }
@@ -141,7 +156,7 @@ impl<'s, R: ServeRuntime> Worker<'s, R> {
         self.end_link(name, &end);
     }
 
-    /// Gives each direction its turn that may go on.
+    /// Drives each direction whose turn it is.
     pub(super) fn take_turns(&mut self, scratch: &mut [u8; READ_SIZE]) {
         let spare = mem::replace(&mut self.no_turns, Vec::new(self.run.alloc));
         let mut turns = mem::replace(&mut self.turns, spare);
@@ -156,6 +171,7 @@ impl<'s, R: ServeRuntime> Worker<'s, R> {
         match self.links.take(key) {
             Some(LinkState::Open(open)) => {
                 let mut open = open;
+                open.take_turn(stream);
                 self.drive(key, &mut open, stream, scratch);
                 self.settle(key, open);
             }
@@ -164,28 +180,30 @@ impl<'s, R: ServeRuntime> Worker<'s, R> {
         }
     }
 
-    /// Drives the directions whose timers are due.
-    pub(super) fn fire(&mut self, scratch: &mut [u8; READ_SIZE]) {
+    /// Takes the timers that are due.
+    pub(super) fn fire(&mut self) {
         self.timers.purge(&self.links);
         let now = self.now();
         for _ in 0..u64::MAX {
             let Some((due, turn)) = self.timers.pop_due(now) else {
                 return;
             };
-            self.on_timer(due, turn, scratch);
+            self.on_timer(due, turn);
         }
     }
 
-    fn on_timer(&mut self, due: u64, turn: Turn, scratch: &mut [u8; READ_SIZE]) {
+    /// A timer is over: the direction has a turn, or what isn't open goes on.
+    fn on_timer(&mut self, due: u64, turn: Turn) {
         let Turn { key, stream } = turn;
         match self.links.take(key) {
             Some(LinkState::Open(open)) => {
                 let mut open = open;
                 open.disarm(stream, due);
-                self.drive(key, &mut open, stream, scratch);
+                self.give(key, &mut open, stream);
                 self.settle(key, open);
             }
             Some(LinkState::Connecting(connecting)) => self.on_deadline(key, connecting, due),
+            Some(LinkState::Lacking(lacking)) => self.try_again(key, lacking, due),
             Some(state) => self.links.put(key, state),
             None => {}
         }

@@ -6,6 +6,7 @@ ghost use Rattle.tox_serve.specs.workers.Begun.{HasCourse, IsLinkOf, IsNewDirect
 use crate::lines::print_open;
 use crate::link::course::{Courses, courses_of};
 use crate::link::logs::notes_of;
+use crate::link::reached::Reached;
 use crate::proxy::links::ProxyLinks;
 use crate::proxy::taking::Taken;
 use crate::run::ServeRun;
@@ -13,7 +14,6 @@ use crate::runtime::ServeRuntime;
 use crate::workers::connecting::Client;
 use crate::workers::open_link::{OpenLink, Opening};
 use std::boxed::Box;
-use std::net::TcpStream;
 use tox_sockets::{LinkSockets, LiveSocket};
 use tox_time::Stream;
 
@@ -24,7 +24,7 @@ pub(crate) fn make_link<'r, R: ServeRuntime>(
     run: &'r ServeRun<'r>,
     links: &ProxyLinks<'_>,
     client: Client,
-    server: TcpStream,
+    reached: Reached,
 ) -> Option<Box<OpenLink<'r, R>>>
     ensures link { IfSome result (λ link. IsLinkOf client link.value) }
     ensures up { IfSome result (λ link. HasCourse run.now links.now.proxy.now.name
@@ -36,7 +36,7 @@ pub(crate) fn make_link<'r, R: ServeRuntime>(
     let proxy = links.proxy;
     let courses = courses_of(run, &proxy.name, number)?;
     print_open(rt, run, &proxy.name, number, &client.taken.client, &courses);
-    let mut link = add_link(rt, run, client, server, courses)?;
+    let mut link = add_link(rt, run, client, reached, courses)?;
     // The logs are begun once nothing can fail any more: a link that is broken before has logs that tell just that.
     let up = notes_of(rt, run, links, number, Stream::Upstream);
     let down = notes_of(rt, run, links, number, Stream::Downstream);
@@ -49,7 +49,7 @@ fn add_link<'r, R: ServeRuntime>(
     rt: &'r R,
     run: &'r ServeRun<'r>,
     client: Client,
-    server: TcpStream,
+    reached: Reached,
     courses: Courses,
 ) -> Option<Box<OpenLink<'r, R>>>
     requires up { courses.up.stream ≡ StreamOf.Upstream }
@@ -65,7 +65,11 @@ fn add_link<'r, R: ServeRuntime>(
         closing,
     } = client;
     let Taken { client, number } = taken;
+    let Reached { server, was_reset } = reached;
     let sockets = LinkSockets::new(run.alloc, client, server)?;
+    if was_reset {
+        sockets.note_reset(Stream::Downstream);
+    }
     let shared = sockets.clone().ok()?;
     let live = run.live.add(rt, LiveSocket::Link(shared)).ok()?;
     let opening = Opening {

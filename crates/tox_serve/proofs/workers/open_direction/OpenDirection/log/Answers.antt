@@ -11,5 +11,5 @@ returns-in-Going-clause-state g c = noted_so _ c.in-Going.flow _ _ c.in-Going.is
   link = refl;
   its_source = refl;
   its_sink = refl;
-  its_notes = refl;
+  its_notes = c.change.ensures;
 })

@@ -14,7 +14,7 @@ returns-in-Going-clause-after g c =
       its_sink = refl;
       its_notes = refl;
     }) in
-    record { state = both.0; armed = refl; drives = rw c.if-event.true at both.1 }
+    record { state = both.0; armed = refl; turn = refl; drives = rw c.if-event.true at both.1 }
 
 pub returns-in_default-clause-after : goal.returns-in_default-clause-after
 returns-in_default-clause-after g c =
@@ -27,4 +27,4 @@ returns-in_default-clause-after g c =
       its_sink = refl;
       its_notes = refl;
     }) in
-    record { state = both.0; armed = refl; drives = rw c.if-event.false at both.1 }
+    record { state = both.0; armed = refl; turn = refl; drives = rw c.if-event.false at both.1 }

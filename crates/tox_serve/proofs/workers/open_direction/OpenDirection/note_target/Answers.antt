@@ -14,7 +14,7 @@ returns-then-note-clause-after g c =
       its_sink = rw c.if-event.true c.note.ensures.noted;
       its_notes = refl;
     }) (grind (arith, c.if-event.true, c.if-note.true, c.note.ensures.news)) in
-    record { state = both.0; armed = refl; drives = both.1 }
+    record { state = both.0; armed = refl; turn = refl; drives = both.1 }
 
 pub returns-else-note-clause-after : goal.returns-else-note-clause-after
 returns-else-note-clause-after g c =
@@ -27,7 +27,7 @@ returns-else-note-clause-after g c =
       its_sink = rw c.if-event.true c.note.ensures.noted;
       its_notes = refl;
     }) (grind (arith, c.if-event.true, c.if-note.false, c.note.ensures.news)) in
-    record { state = both.0; armed = refl; drives = both.1 }
+    record { state = both.0; armed = refl; turn = refl; drives = both.1 }
 
 pub returns-in_default-clause-after : goal.returns-in_default-clause-after
 returns-in_default-clause-after g c =
@@ -40,4 +40,4 @@ returns-in_default-clause-after g c =
       its_sink = rw c.if-event.false refl;
       its_notes = refl;
     }) (rw c.if-event.false refl) in
-    record { state = both.0; armed = refl; drives = both.1 }
+    record { state = both.0; armed = refl; turn = refl; drives = both.1 }

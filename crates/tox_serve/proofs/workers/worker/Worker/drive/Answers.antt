@@ -1,14 +1,14 @@
--- The direction was driven, and has its turn or else its link is broken off.
-use Rattle.std.proofs.Common.{inl, inr, refl}
+-- The direction was driven, and is driven again or else its link is broken off.
+use Rattle.std.proofs.Common.{inl, inr}
 use Rattle.tox_serve.proofs.workers.worker.Worker.drive.Goals as goal
 
 pub returns-then-not-keep : goal.returns-then-not-keep
-returns-then-not-keep g c = let drove = c.drive-progress.ensures in record {
+returns-then-not-keep g c = let drove = c.drive-progress.ensures in let states = c.if-not-keep.ensures.states in record {
   driven = c.drive-progress.new.self;
   answer = c.drive-progress.result;
   drives = drove.drives;
   other = drove.other;
-  after = inr (record { up = c.break_off.ensures.up; down = c.break_off.ensures.down });
+  after = inr (record { up = rw states.0 at c.break_off.ensures.up; down = rw states.1 at c.break_off.ensures.down });
 }
 
 pub returns-else-not-keep : goal.returns-else-not-keep
@@ -17,5 +17,5 @@ returns-else-not-keep g c = let drove = c.drive-progress.ensures in record {
   answer = c.drive-progress.result;
   drives = drove.drives;
   other = drove.other;
-  after = inl (refl, c.if-not-keep.ensures);
+  after = inl c.if-not-keep.ensures.again;
 }

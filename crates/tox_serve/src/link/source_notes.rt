@@ -1,0 +1,80 @@
+//! The notes of a stream beside its sockets.
+ghost use Rattle.std.specs.Prelude.{◌≡◌, None, IfSome};
+
+use std::alloc::{AllocError, Global};
+use std::marker::Model;
+use std::sync::{Arc, Wait};
+use tox_link::{LinkEvent, Notes};
+use tox_log::{LastLine, StreamNotes};
+use tox_sockets::LinkSockets;
+use tox_time::Stream;
+
+/// The notes of a stream. Where its source has reset the connection, its end is noted as a reset.
+#[derive(Drop)]
+pub(crate) struct SourceNotes<'r, R> {
+    notes: StreamNotes<'r, R>,
+    sockets: Arc<LinkSockets, Global>,
+    stream: Stream,
+}
+
+impl<'r, R> Model for SourceNotes<'r, R> {
+    ghost use Rattle.std.specs.Prelude.{List, ℕ, Option};
+
+    ghost Value = { Option (List ℕ) };
+
+    ghost view = { λ source. source.notes };
+}
+
+impl<'r, R: Wait> SourceNotes<'r, R> {
+    /// Notes of a stream of a link that keep nothing. None where the link can't be shared by one more.
+    pub(crate) fn none(
+        rt: &'r R,
+        sockets: &Arc<LinkSockets, Global>,
+        stream: Stream,
+    ) -> Option<SourceNotes<'r, R>>
+        ensures { IfSome result (λ made. made ≡ None) }
+    {
+        let shared = sockets.clone().ok()?;
+        Some(SourceNotes::of(StreamNotes::none(rt), shared, stream))
+    }
+
+    /// The notes of a stream of a link with these sockets.
+    pub(crate) fn of(
+        notes: StreamNotes<'r, R>,
+        sockets: Arc<LinkSockets, Global>,
+        stream: Stream,
+    ) -> SourceNotes<'r, R>
+        ensures { result ≡ notes.entry }
+    {
+        SourceNotes {
+            notes,
+            sockets,
+            stream,
+        }
+    }
+
+    /// From now on the stream is noted so.
+    pub(crate) fn change(&mut self, notes: StreamNotes<'r, R>)
+        ensures { self.new ≡ notes.entry }
+    {
+        self.notes = notes;
+    }
+
+    /// The stream has ended, or broke off.
+    pub(crate) fn end(&self, last: &LastLine) {
+        self.notes.end(last);
+    }
+}
+
+impl<'r, R: Wait> Notes for SourceNotes<'r, R> {
+    ghost events = { λ notes. None };
+
+    fn note(&mut self, event: LinkEvent) -> Result<(), AllocError> {
+        if let LinkEvent::SourceEnd(_) = &event {
+            if self.sockets.was_reset(self.stream) {
+                self.notes.source_was_reset();
+            }
+        }
+        self.notes.note(event)
+    }
+}

@@ -1,0 +1,78 @@
+//! Links that break before they are open, and the ends of all.
+ghost use Rattle.std.specs.Prelude.{◌≡◌};
+
+use crate::link::end::LinkEnd;
+use crate::link::logs::broken_link;
+use crate::runtime::ServeRuntime;
+use crate::workers::connecting::Client;
+use crate::workers::link_key::LinkKey;
+use crate::workers::link_name::LinkName;
+use crate::workers::link_state::LinkState;
+use crate::workers::worker::Worker;
+use crate::workers::worker::accepting::may_accept;
+use tox_log::BreakCause;
+
+impl<'s, R: ServeRuntime> Worker<'s, R> {
+    /// Breaks a link that isn't open, for this cause. Its client is closed.
+    pub(super) fn refuse(&mut self, key: LinkKey, client: Client, cause: BreakCause) {
+        self.links.close(key);
+        self.end_broken(client, cause);
+    }
+
+    pub(super) fn end_broken(&mut self, client: Client, cause: BreakCause) {
+        let name = client.name();
+        drop(client);
+        self.break_link(name, cause);
+    }
+
+    /// Settles a link that carried nothing, for this cause.
+    pub(super) fn break_link(&self, name: LinkName, cause: BreakCause) {
+        if let Some(proxy) = self.workers.proxies.get(name.place) {
+            let end = broken_link(self.rt, self.run, &proxy.links, name.number, cause);
+            self.end_link(name, &end);
+        }
+    }
+
+    /// Settles a link. Its end has its number.
+    pub(super) fn end_link(&self, name: LinkName, end: &LinkEnd)
+        requires { end.now.number ≡ name.number }
+    {
+        if let Some(proxy) = self.workers.proxies.get(name.place) {
+            proxy.links.end_link(self.rt, self.run, end);
+        }
+    }
+
+    /// Another thread has woken this one: a name was looked up, a proxy has stopped listening, or the run is stopping.
+    pub(super) fn on_wake(&mut self) {
+        for place in 0..self.accepting.len() {
+            may_accept(&mut self.accepting, place);
+        }
+        if self.run.live.is_stopping(self.rt) {
+            self.stop_links();
+        }
+        self.name_again();
+    }
+
+    /// Breaks all links that aren't open, and gives the others their turns, in which they see that they are stopped.
+    fn stop_links(&mut self) {
+        for slot in 0..self.links.slots() {
+            let Some(key) = self.links.key_at(slot) else {
+                continue;
+            };
+            match self.links.take(key) {
+                Some(LinkState::Open(open)) => self.give_both(key, open),
+                Some(LinkState::Naming(client)) => self.stop_client(key, client),
+                Some(LinkState::Lacking(lacking)) => self.stop_client(key, lacking.into_client()),
+                Some(LinkState::Connecting(connecting)) => {
+                    self.stop_client(key, connecting.into_client())
+                }
+                None => {}
+            }
+        }
+    }
+
+    /// Breaks a link that isn't open, as the run is stopping.
+    fn stop_client(&mut self, key: LinkKey, client: Client) {
+        self.refuse(key, client, BreakCause::Stopped);
+    }
+}
