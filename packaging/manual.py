@@ -54,6 +54,7 @@ def page(program: str) -> str:
     for topic in TOPICS:
         lines += [f".SH {topic.upper()}", *as_it_stands(printed_by(program, "help", topic).rstrip("\n"))]
     lines += [".SH EXIT STATUS", "0: done. 1: a fault, as one line on standard error. 2: a command line that can\\(aqt be read."]
+    lines += [".SH COPYRIGHT", "The Toxi authors, under the MIT licence."]
     return "\n".join([*lines, ""])
 
 
