@@ -146,7 +146,32 @@ class FromToxiproxyTests(unittest.TestCase):
     def test_http_calls_are_named(self):
         change = "curl -X POST localhost:8474/proxies/shop/toxics -d '{\"type\": \"latency\"}'"
         self.assertEqual(self.convert(f"{CREATE}{change}\n"), (3, ["line 2: a call of the HTTP interface isn't read"]))
-        self.assertEqual(self.convert(f"{CREATE}curl localhost:8474/proxies\ncurl -d a=1 localhost/orders\n")[0], 0)
+        for change in (
+            "http POST localhost:8474/proxies name=shop upstream=localhost:6379",
+            "http :8474/proxies/shop/toxics type=latency attributes:='{}'",
+            "xh DELETE http://localhost:8474/proxies/shop",
+            "http :8474/populate < proxies.json",
+            "echo '{}' | http :8474/proxies/shop",
+        ):
+            self.assertEqual(self.convert(f"{CREATE}{change}\n"), (3, ["line 2: a call of the HTTP interface isn't read"]), change)
+        for reading in (
+            "curl localhost:8474/proxies",
+            "curl -d a=1 localhost/orders",
+            "http :8474/proxies",
+            "http GET localhost:8474/proxies q==a",
+            "http POST :80/a b=c",
+        ):
+            self.assertEqual(self.convert(f"{CREATE}{reading}\n"), (0, []), reading)
+
+    def test_commands_of_a_variable_are_named(self):
+        for command, named in (
+            ("$CLI create -u localhost:1 mail", "`$CLI create`"),
+            ('"${CLI}" -h localhost:8474 create -u localhost:1 mail', '`"${CLI}" create`'),
+            ("until $CLI toxic add -t latency shop; do sleep 1; done", "`$CLI toxic`"),
+        ):
+            said = [f"line 3: {named}: a variable of the shell isn't known here"]
+            self.assertEqual(self.convert(f"CLI=toxiproxy-cli\n{CREATE}{command}\n"), (3, said), command)
+        self.assertEqual(self.convert(f"{CREATE}echo $CLI\n"), (0, []))
 
     def test_what_is_no_setup(self):
         for text in ("", "{", "[1]", "{}", "[]", '{"a": 1}', "echo a", "version = 2"):

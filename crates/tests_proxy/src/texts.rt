@@ -4,6 +4,7 @@ mod dry;
 mod fault_names;
 mod migrations;
 mod picks;
+mod populates;
 mod scripts;
 mod words;
 mod written;

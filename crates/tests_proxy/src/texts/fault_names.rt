@@ -164,6 +164,10 @@ const LINES: &[(Fault, &str)] = &[
         "P3 UnknownProxy \\x7fé\\",
     ),
     (
+        Fault::Pick(PickFault::UnknownProxy("\u{9b}\u{202e}\u{202f}")),
+        "P3 UnknownProxy \\x9b\\u202e\u{202f}",
+    ),
+    (
         Fault::Serve(ServeFault::ListenRefused("the\nshop")),
         "P4 ListenRefused the\\x0ashop",
     ),
