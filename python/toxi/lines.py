@@ -50,8 +50,9 @@ class Total:
 
 
 def printed(name: str) -> str:
-    """A name as the program prints it: a control character as `\\x` and its code."""
-    return re.sub(r"[\x00-\x1f\x7f]", lambda found: f"\\x{ord(found[0]):02x}", name)
+    """A name as the program prints it: a control character, and one that orders text by its direction, by its code."""
+    name = re.sub("[\x00-\x1f\x7f-\x9f]", lambda found: f"\\x{ord(found[0]):02x}", name)
+    return re.sub("[\u202a-\u202e\u2066-\u2069]", lambda found: f"\\u{ord(found[0]):04x}", name)
 
 
 def parse(line: str) -> Optional[Union[Tuple[str, Address], Link, Total]]:
