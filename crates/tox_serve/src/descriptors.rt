@@ -1,5 +1,9 @@
 //! Descriptors that links wait for.
+use crate::proxy::accepting::ACCEPT_REST;
+use std::sync::Wait;
 use std::sync::atomic::{AtomicU64, Ordering};
+use std::thread;
+use std::time::{Clock, Duration};
 use tox_sockets::SpareDescriptor;
 
 /// The lack of descriptors in a run. Each connection is taken while another descriptor is in hand, which then is for its
@@ -24,6 +28,20 @@ impl Descriptors {
             return None;
         }
         SpareDescriptor::open().ok()
+    }
+
+    /// Waits a while for a descriptor. `before` is what an earlier wait of the same link gave.
+    pub(crate) fn wait<'a, R: Wait + Clock>(
+        &'a self,
+        rt: &R,
+        before: Option<Lack<'a>>,
+    ) -> Lack<'a> {
+        let lack = match before {
+            Some(lack) => lack,
+            None => self.lack(),
+        };
+        thread::sleep(rt, Duration::from_millis(ACCEPT_REST));
+        lack
     }
 
     /// Somebody waits for a descriptor, while the result lives.

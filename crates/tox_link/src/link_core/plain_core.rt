@@ -66,6 +66,7 @@ impl PlainCore {
     pub fn cuts(&self) -> u64
         ensures { result ≡ self.now.runner.cuts }
     {
+        // The prover looks into a value where a field of it is read.
         let _ = &self.given;
         0
     }

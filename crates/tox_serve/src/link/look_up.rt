@@ -1,12 +1,10 @@
 //! Looking up the addresses of an upstream.
 use crate::addresses::connect_address;
-use crate::proxy::accepting::ACCEPT_REST;
 use crate::run::ServeRun;
 use crate::runtime::ServeRuntime;
+use std::io;
 use std::io::ErrorKind;
 use std::net::{SocketAddr, ToSocketAddrs};
-use std::time::Duration;
-use std::{io, thread};
 use tox_log::BreakCause;
 use tox_sockets::SpareDescriptor;
 
@@ -34,10 +32,7 @@ pub(crate) fn look_up<R: ServeRuntime>(
                 }
             }
         }
-        if lack.is_none() {
-            lack = Some(run.descriptors.lack());
-        }
-        thread::sleep(rt, Duration::from_millis(ACCEPT_REST));
+        lack = Some(run.descriptors.wait(rt, lack));
     }
     unreachable!()
 }

@@ -1,14 +1,12 @@
 //! Connecting the upstream of a link. The connect doesn't wait in the system, so that a run that is stopping gives it up.
 use crate::link::look_up::look_up;
 use crate::link::reached::Reached;
-use crate::proxy::accepting::{ACCEPT_REST, is_lack};
+use crate::proxy::accepting::is_lack;
 use crate::run::ServeRun;
 use crate::runtime::ServeRuntime;
 use mio::net::TcpStream as BegunStream;
 use std::net::{SocketAddr, TcpStream};
 use std::os::fd::AsRawFd;
-use std::thread;
-use std::time::Duration;
 use tox_log::BreakCause;
 use tox_sockets::{Connection, can_write, connection_of};
 
@@ -59,10 +57,7 @@ fn begin_connect<R: ServeRuntime>(
         match BegunStream::connect(rt, address) {
             Ok(begun) => return Some(TcpStream::from(begun)),
             Err(error) if is_lack(&error) => {
-                if lack.is_none() {
-                    lack = Some(run.descriptors.lack());
-                }
-                thread::sleep(rt, Duration::from_millis(ACCEPT_REST));
+                lack = Some(run.descriptors.wait(rt, lack));
             }
             Err(_) => return None,
         }
