@@ -6,7 +6,7 @@ run_each_time() {
         echo "toxi: \`serve\` runs the proved program: run \`./build\` first" >&2
         exit 1
     fi
-    echo "toxi: unproved build, about a minute; \`./build\` makes the proved one" >&2
+    echo "toxi: checked build, about a minute; \`./build\` makes the proved one" >&2
 
     # `rt try` runs the program in a folder of its own, so the files that the arguments name are handed to it by name.
     count=$#

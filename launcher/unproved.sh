@@ -7,22 +7,21 @@ try=
 # keep_unproved: sets `program` to it, and compiles it if need be. Fails where none can be kept; ends where it doesn't compile.
 keep_unproved() {
     begun="$(date +%s)"
-    program="$kept/toxi-$(sum_of_source)"
+    program="$kept/toxi-$(sum_of_program)"
     if [ ! -x "$program" ]; then
         can_keep && share_compile || return
     fi
-    echo "toxi: unproved; \`./build\` makes the proved program" >&2
+    warn
 }
 
-sum_of_source() {
-    (cd "$root" && find crates.txt crates/tox*/src -type f -exec sha256sum {} +) | LC_ALL=C sort | sha256sum | cut -c 1-16
+# Once an hour, since each call would say it.
+warn() {
+    [ -z "$(find "$kept/warned" -mmin -60 2>/dev/null)" ] || return 0
+    echo "toxi: checked build: ten to a hundred times slower, not for load; \`./build\` makes the proved program" >&2
+    : >"$kept/warned"
 }
 
 can_keep() {
-    if ! command -v rt >/dev/null; then
-        echo "toxi: no program was built, and the kit's \`rt\` isn't on the PATH" >&2
-        exit 1
-    fi
     command -v flock >/dev/null && mkdir -p "$kept" 2>/dev/null && (: >>"$kept/lock") 2>/dev/null
 }
 
@@ -52,7 +51,7 @@ share_compile() {
 # meanwhile. Fails where no program is seen.
 compile() {
     # The call that held the lock may have made it.
-    program="$kept/toxi-$(sum_of_source)"
+    program="$kept/toxi-$(sum_of_program)"
     [ ! -x "$program" ] || return 0
     # Of a compile that was killed.
     rm -rf "$kept"/scratch.*
@@ -106,7 +105,7 @@ copied() {
 # take PROGRAM: keeps the copy of it in place of earlier ones. If the source has changed meanwhile, it is to be compiled again.
 take() {
     [ -n "$1" ] || return
-    sum="$(sum_of_source)"
+    sum="$(sum_of_program)"
     if [ "$program" = "$kept/toxi-$sum" ]; then
         rm -f "$kept"/toxi-*
         mv "$scratch/toxi" "$program"

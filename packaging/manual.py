@@ -1,5 +1,5 @@
 #!/usr/bin/env python3
-"""Prints the man page of a program, from its own help. Usage: packaging/manual.py PROGRAM"""
+"""Prints the man page of a program, from its own help. Usage: packaging/manual.py PROGRAM DATE"""
 import sys
 from typing import List
 
@@ -31,12 +31,12 @@ def options(found: Help) -> List[str]:
     return lines
 
 
-def page(program: str) -> str:
+def page(program: str, date: str) -> str:
     version = printed_by(program, "--version").split()[1]
     helps = helps_of(program)
     whole = helps[""]
     lines = [
-        f'.TH {NAME.upper()} 1 "" "{NAME} {version}"',
+        f'.TH {NAME.upper()} 1 "{date}" "{NAME} {version}"',
         ".SH NAME",
         f"{NAME} \\- {plain(whole.about)}",
         ".SH SYNOPSIS",
@@ -59,4 +59,4 @@ def page(program: str) -> str:
 
 
 if __name__ == "__main__":
-    print(page(sys.argv[1]), end="")
+    print(page(*sys.argv[1:]), end="")

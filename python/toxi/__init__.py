@@ -5,6 +5,8 @@
 
 The manual of toxics and faults is docs/PROFILE.md, that of rules docs/SCRIPTS.md.
 """
+__version__ = "0.3.0"
+
 from .errors import ToxiEnded, ToxiError, ToxiFault
 from .lines import Address, Link, Total
 from .picks import PickedToxic

@@ -13,6 +13,7 @@ from typing import Any, Callable, Generator, Iterable, Iterator, List, Optional,
 import pytest
 
 from .errors import ToxiError
+from .program import found_program
 from .proxies import Proxies
 from .rules import Rule
 from .served import Toxi
@@ -34,7 +35,8 @@ class Factory:
         """Starts a `Toxi` that ends with the test, with its logs beside its files. The options are those of `Toxi`."""
         folder = self._folder / f"toxi-{len(self._started) + 1}"
         options.setdefault("seed", self.seed)
-        options.setdefault("program", self._program)
+        if self._program is not None and options.get("program") is None:
+            options["program"] = found_program(self._program)
         options.setdefault("directory", folder)
         options.setdefault("log", folder / "logs")
         served = Toxi(proxies, rules, **options)
@@ -63,7 +65,7 @@ def pytest_addoption(parser: pytest.Parser) -> None:
     """`--toxi-seed` and `--toxi-program`."""
     group = parser.getgroup("toxi")
     group.addoption("--toxi-seed", type=int, metavar="N", help="the seed of the fixture `toxi`; else each test draws one")
-    group.addoption("--toxi-program", metavar="PATH", help="the program of the fixture `toxi`; else $TOXI, else `toxi`")
+    group.addoption("--toxi-program", metavar="PATH", help="the program of the fixture `toxi`; else $TOXI, the package's own, or that of the PATH")
 
 
 @pytest.fixture

@@ -1,7 +1,6 @@
 """`Toxi`: a `toxi serve` process in front of the services of a test."""
 import os
 import shlex
-import shutil
 import subprocess
 import tempfile
 from pathlib import Path
@@ -12,11 +11,14 @@ from .errors import ToxiEnded, ToxiError, error_of
 from .lines import Address, Link, Total, parse, printed
 from .picks import PickedToxic, picked
 from .process import Process
+from .program import found_program
 from .proxies import Proxies, enabled_names, populate_text
 from .rules import Rule, script_text
 
 Line = TypeVar("Line", Link, Total)
 STREAMS = ("upstream", "downstream")
+# What a clone's ./toxi says of itself.
+CHECKED_BUILD = "toxi: checked build"
 
 
 class Toxi:
@@ -26,7 +28,8 @@ class Toxi:
     file. `rules` has `Rule` objects or is the text of a script. The same seed makes the connection of a number meet the
     same toxics with the same draws.
 
-    `program` is the path of the program, else `$TOXI`, else `toxi` on the PATH. The files are written into `directory`,
+    `program` is the path of the program, else `$TOXI`, else the package's own, else `toxi` on the PATH; where it isn't given, the
+    program must be of this package's version. The files are written into `directory`,
     or into a new one that goes away at the end. `links`, `workers` and `connect_timeout` (milliseconds) are the options
     of `serve`. With `log` each stream of each link is logged in that folder, which is made or must be empty. The program has
     `start_timeout` seconds until it listens: a clone's ./toxi compiles itself first.
@@ -191,7 +194,8 @@ class Toxi:
     def report(self) -> str:
         """What a person needs after a failed test: the seed, the command, the line of each link, and how its logs are judged."""
         judged = [] if self._log is None else [self._replay_line(self._log)]
-        return "\n".join([f"seed {self.seed}", shlex.join(self.command), *self.lines(), *self._running().said, *judged])
+        said = [line for line in self._running().said if not line.startswith(CHECKED_BUILD)]
+        return "\n".join([f"seed {self.seed}", shlex.join(self.command), *self.lines(), *said, *judged])
 
     def _replay_line(self, folder: Path) -> str:
         return f"find {shlex.quote(str(folder))} -name '*.log' | {shlex.quote(self._program_path())} replay -"
@@ -212,10 +216,7 @@ class Toxi:
         return error_of(process.said, process.status, self._rules)
 
     def _program_path(self) -> str:
-        program = self._program or os.environ.get("TOXI") or shutil.which("toxi")
-        if not program:
-            raise ToxiError("no program `toxi`: put it on the PATH, set $TOXI to its path, or give `program`")
-        return os.fspath(program)
+        return found_program() if self._program is None else os.fspath(self._program)
 
     def _file_arguments(self) -> List[str]:
         config, script = (str(self._folder / name) for name in ("proxies.json", "script.toml"))

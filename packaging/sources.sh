@@ -1,0 +1,17 @@
+# Sourced by tree, ../package and the tests, where `root` is the repository: what is packed beside the program.
+
+# The pages of the manual. The others are for those who change the program.
+PAGES="CI CLOCK CONTAINERS DRAW FAULTS FROM-TOXIPROXY MEANING PERFORMANCE PROFILE REPLAY REPORT SCRIPTS TESTING-WITH-TOXI TOXICS"
+# Folders that are packed as they are.
+FOLDERS="docs/pictures examples python/toxi"
+
+# files_of NAME..: the files of the repository that have these names or are below them, without what a tool has left there.
+files_of() {
+    (cd "$root" && find "$@" -type f ! -path '*/__pycache__/*' ! -path 'python/build/*' ! -path '*.egg-info/*')
+}
+
+# sum_of_package: the sum of what is packed beside the program, and of what packs it.
+sum_of_package() {
+    files_of toxi package packaging LICENSE CHANGELOG.md SECURITY.md python $FOLDERS $(printf 'docs/%s.md ' $PAGES) |
+        LC_ALL=C sort -u | (cd "$root" && tr '\n' '\0' | xargs -0 sha256sum) | sha256sum | cut -c 1-64
+}

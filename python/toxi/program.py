@@ -1,0 +1,46 @@
+"""The program `toxi`: where it is, and whether it is of the package's version."""
+import functools
+import os
+import re
+import shutil
+import subprocess
+from pathlib import Path
+from typing import Optional
+
+from . import __version__
+from .errors import ToxiError
+
+# The wheel has it there.
+OWN = Path(__file__).parent / "bin" / "toxi"
+# A clone's ./toxi compiles itself first, in seconds.
+VERSION_LIMIT = 300
+
+
+def found_program(told: Optional[str] = None) -> str:
+    """The path of the program: the one that the command line tells, else `$TOXI`, else the package's own, else `toxi` on the PATH.
+
+    Raises `ToxiError` where there is none, or it is of another version than this package.
+    """
+    program = told or os.environ.get("TOXI") or (str(OWN) if OWN.exists() else shutil.which("toxi"))
+    if program is None:
+        raise ToxiError(f"no program `toxi`: none was given by `program` or --toxi-program, $TOXI isn't set, {OWN} isn't there, and the PATH has none")
+    path = shutil.which(program)
+    if path is None:
+        raise ToxiError(f"{program} can't be started")
+    version = _version_of(path, os.stat(path).st_mtime_ns)
+    if version != __version__:
+        raise ToxiError(f"{program} is of version {version}, and the package toxi of {__version__}")
+    return program
+
+
+@functools.lru_cache(maxsize=None)
+def _version_of(path: str, changed: int) -> str:
+    """The version that a program tells. It is asked once for a path and a time of change, in nanoseconds."""
+    try:
+        ran = subprocess.run([path, "--version"], stdin=subprocess.DEVNULL, capture_output=True, encoding="utf-8", errors="replace", timeout=VERSION_LIMIT, check=False)
+    except (OSError, subprocess.TimeoutExpired):
+        raise ToxiError(f"{path} can't be started") from None
+    told = re.match(r"toxi (\d\S*)", ran.stdout)
+    if told is None:
+        raise ToxiError(f"{path} isn't the program `toxi`: it doesn't tell a version")
+    return told[1]
