@@ -89,6 +89,8 @@ def refused(program, folder, variable):
             check(client.recv(1) == b"", "bytes where nothing could be had")
         check(toxi.line() == "link shop 2 up 0 broken down 0 broken", "the second link isn't broken")
         os.remove(flag)
+        # It may have been connected before something was refused.
+        toxi.drop_waiting()
         carries_a_link(toxi, 3)
         toxi.tell(limit=ALWAYS)
     for stream in ("upstream", "downstream"):

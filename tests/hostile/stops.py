@@ -154,6 +154,14 @@ class Stopped:
         server.settimeout(LIMIT)
         return client, server
 
+    def drop_waiting(self):
+        """Closes what has reached the upstream and wasn't taken there."""
+        self.upstream.settimeout(0)
+        with contextlib.suppress(BlockingIOError):
+            while True:
+                self.upstream.accept()[0].close()
+        self.upstream.settimeout(LIMIT)
+
     def tell(self, told=signal.SIGTERM, limit=SOON):
         """Sends a signal, and checks that it ends in time with status 0. Returns its lines."""
         since = time.monotonic()
