@@ -24,13 +24,13 @@ def get(address, timeout=10):
 
 
 def test_slow_answer_times_out(toxi, shop):
-    served = toxi({"shop": shop}, [Rule("shop", toxics=[Latency(latency=2000)])])
+    served = toxi({"shop": shop}, [Rule("shop", [Latency(latency=2000)])])
     with pytest.raises(OSError, match="timed out"):
         get(served.address("shop"), timeout=0.5)
 
 
 def test_second_try_works(toxi, shop):
-    served = toxi({"shop": shop}, [Rule("shop", last=1, toxics=[ResetPeer(timeout=0)])])
+    served = toxi({"shop": shop}, [Rule("shop", [ResetPeer(timeout=0)], last=1)])
     with pytest.raises(OSError):
         get(served.address("shop"))
     assert get(served.address("shop")) == 200

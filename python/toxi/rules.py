@@ -1,22 +1,37 @@
 """Rules as dataclasses, and the script that they are, a document of TOML in version 2."""
 import json
+import math
 from dataclasses import dataclass
-from typing import Iterable, List, Optional, Sequence
+from typing import Iterable, List, Optional, Tuple
 
-from .toxics import Toxic
+from .reprs import repr_without_defaults
+from .toxics import Toxic, Toxicity
 
 
-@dataclass(frozen=True)
+@dataclass(frozen=True, init=False, repr=False)
 class Rule:
-    """The toxics that the connections `first` to `last` of a proxy meet. Without `last` there is no upper end.
+    """The toxics that the connections `first` to `last` of a proxy meet, counted from 1. Without `last` there is no upper end.
 
-    A connection meets the first rule that covers it, and no other.
+    A connection meets the first rule that covers it, and no other. Raises `TypeError` where `toxics` isn't some toxics.
     """
 
     proxy: str
+    toxics: Tuple[Toxic, ...] = ()
     first: int = 1
     last: Optional[int] = None
-    toxics: Sequence[Toxic] = ()
+
+    def __init__(self, proxy: str, toxics: Iterable[Toxic] = (), *, first: int = 1, last: Optional[int] = None) -> None:
+        if not isinstance(toxics, Iterable):
+            raise TypeError(f"the toxics of a rule are a list: Rule({proxy!r}, [..], first=1, last=2), not {toxics!r}")
+        kept = tuple(toxics)
+        for toxic in kept:
+            if not isinstance(toxic, Toxic):
+                raise TypeError(f"{toxic!r} is no toxic")
+        for name, value in (("proxy", proxy), ("toxics", kept), ("first", first), ("last", last)):
+            object.__setattr__(self, name, value)
+
+    def __repr__(self) -> str:
+        return repr_without_defaults(self)
 
 
 def script_text(rules: Iterable[Rule]) -> str:
@@ -37,9 +52,17 @@ def _toxic_lines(toxic: Toxic) -> List[str]:
         lines.append(f"name = {toml_value(toxic.name)}")
     lines.append(f"stream = {toml_value(toxic.stream)}")
     if toxic.toxicity is not None:
-        lines.append(f"toxicity = {toml_value(toxic.toxicity)}")
+        lines.append(f"toxicity = {toml_value(_toxicity(toxic.toxicity))}")
     attributes = ", ".join(f"{name} = {toml_value(value)}" for name, value in toxic.attributes().items())
     return [*lines, f"attributes = {{ {attributes} }}"]
+
+
+def _toxicity(value: Toxicity) -> Toxicity:
+    """A float as the text of its thousandths: 0.1 + 0.2 is `0.3`. One that isn't thousandths stays as it is, and the program refuses it."""
+    if not isinstance(value, float):
+        return value
+    rounded = round(value, 3)
+    return repr(rounded if math.isclose(value, rounded, abs_tol=1e-9) else value)
 
 
 def toml_value(value: object) -> str:

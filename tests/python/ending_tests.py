@@ -7,7 +7,7 @@ import tempfile
 import time
 import unittest
 
-from toxi import Latency, Link, Proxy, Rule, Slicer, Toxi, ToxiEnded, ToxiError, ToxiFault, script_text
+from toxi import Latency, Link, Proxy, Rule, Slicer, Toxi, ToxiEnded, ToxiError, ToxiFault
 from toxi.lines import parse
 
 PATIENCE = 20
@@ -125,7 +125,7 @@ class FaultTests(unittest.TestCase):
         return caught.exception
 
     def test_a_rule_names_its_place(self):
-        rules = [Rule("shop", last=2), Rule("shop", toxics=[Latency(latency=1), Slicer(average_size=4, size_variation=4)])]
+        rules = [Rule("shop", last=2), Rule("shop", [Latency(latency=1), Slicer(average_size=4, size_variation=4)])]
         fault = self.fault(NOWHERE, rules)
         self.assertEqual((fault.line, fault.code), ("S6 Variation 2 2", "S6"))
         self.assertIn("toxic 2 of rule 2: Slicer(", str(fault))
@@ -159,7 +159,7 @@ class TextTests(unittest.TestCase):
         names = ("a b", 'quo"te\\', "new\nline", "ünï\U0001f600", "\x7f", "[[rule]]", "shop 3")
         proxies = [Proxy(name, "127.0.0.1:1") for name in names] + [Proxy("off", "127.0.0.1:1", enabled=False)]
         toxic = Latency(latency=1, name="slow one", stream="upstream", toxicity="0.25")
-        with Toxi(proxies, [Rule(name, toxics=[toxic]) for name in names]) as toxi:
+        with Toxi(proxies, [Rule(name, [toxic]) for name in names]) as toxi:
             self.assertEqual(len({toxi.address(name) for name in names}), len(names))
             for name in names:
                 (picked,) = toxi.pick(name, 1, "upstream")
@@ -172,10 +172,6 @@ class TextTests(unittest.TestCase):
         self.assertEqual(parse(str(link)), link)
         self.assertEqual(str(parse("listening a b [::1]:80")[1]), "[::1]:80")
         self.assertIsNone(parse("link a"))
-
-    def test_attributes_are_given_by_keyword(self):
-        self.assertRaises(TypeError, Latency, 100)
-        self.assertIn("toxicity = 300", script_text([Rule("a", toxics=[Latency(latency=1, toxicity=300)])]))
 
     def test_no_enabled_proxy(self):
         with Toxi([Proxy("shop", "127.0.0.1:1", enabled=False)]) as toxi:

@@ -45,40 +45,40 @@ class HttpTests(unittest.TestCase):
         self.assertGreater(link.down, 100_000)
 
     def test_slow_answer_times_out(self):
-        toxi = self.served(Rule("shop", toxics=[Latency(latency=LATE)]))
+        toxi = self.served(Rule("shop", [Latency(latency=LATE)]))
         with self.assertRaisesRegex(OSError, "timed out"):
             get(toxi, 1, timeout=0.3)
 
     def test_slow_answer_comes_no_sooner(self):
-        toxi = self.served(Rule("shop", toxics=[Latency(latency=150)]))
+        toxi = self.served(Rule("shop", [Latency(latency=150)]))
         begun = time.monotonic()
         self.assertEqual(get(toxi, 1), b"x")
         self.assertGreaterEqual(time.monotonic() - begun, 0.15)
 
     def test_silence_times_out(self):
-        toxi = self.served(Rule("shop", toxics=[Timeout(timeout=0)]))
+        toxi = self.served(Rule("shop", [Timeout(timeout=0)]))
         with self.assertRaisesRegex(OSError, "timed out"):
             get(toxi, 1, timeout=0.3)
 
     def test_reset_is_a_connection_error(self):
-        toxi = self.served(Rule("shop", toxics=[ResetPeer(timeout=0)]))
+        toxi = self.served(Rule("shop", [ResetPeer(timeout=0)]))
         with self.assertRaises((ConnectionResetError, urllib.error.URLError)):
             get(toxi, 1)
         self.assertEqual(toxi.wait_for_link("shop", 1, PATIENCE).down_end, "reset")
 
     def test_answer_is_cut(self):
-        toxi = self.served(Rule("shop", toxics=[LimitData(bytes=1000)]))
+        toxi = self.served(Rule("shop", [LimitData(bytes=1000)]))
         with self.assertRaises(http.client.IncompleteRead) as caught:
             get(toxi, 5000)
         self.assertLess(len(caught.exception.partial), 1000)
         self.assertEqual(toxi.wait_for_link("shop", 1, PATIENCE).down, 1000)
 
     def test_third_try_works(self):
-        toxi = self.served(Rule("shop", last=2, toxics=[ResetPeer(timeout=0)]))
+        toxi = self.served(Rule("shop", [ResetPeer(timeout=0)], last=2))
         self.assertEqual([succeeds(toxi) for _ in range(3)], [False, False, True])
 
     def test_a_seed_gives_its_sequence_again(self):
-        flaky = Rule("shop", toxics=[LimitData(bytes=0, toxicity="0.333")])
+        flaky = Rule("shop", [LimitData(bytes=0, toxicity="0.333")])
         seen = []
         for seed in (7, 7, 8):
             toxi = self.served(flaky, seed=seed)
@@ -91,13 +91,13 @@ class HttpTests(unittest.TestCase):
         self.assertEqual(seen[2][:6], [not cut for cut in applied])
 
     def test_bandwidth_takes_its_time(self):
-        toxi = self.served(Rule("shop", toxics=[Bandwidth(rate=200)]))
+        toxi = self.served(Rule("shop", [Bandwidth(rate=200)]))
         begun = time.monotonic()
         self.assertEqual(len(get(toxi, 100_000)), 100_000)
         self.assertGreaterEqual(time.monotonic() - begun, 0.5)
 
     def test_slow_close_of_the_upstream(self):
-        toxi = self.served(Rule("shop", toxics=[SlowClose(delay=200)]))
+        toxi = self.served(Rule("shop", [SlowClose(delay=200)]))
         begun = time.monotonic()
         get(toxi, 1)
         toxi.wait_for_link("shop", 1, PATIENCE)
@@ -112,7 +112,7 @@ class HttpTests(unittest.TestCase):
         self.assertEqual(total.down, sum(link.down for link in toxi.links("shop")))
 
     def test_a_line_is_a_link(self):
-        toxi = self.served(Rule("shop", toxics=[LimitData(bytes=3)]))
+        toxi = self.served(Rule("shop", [LimitData(bytes=3)]))
         with self.assertRaises(CUT):
             get(toxi, 1)
         link = toxi.wait_for_link("shop", 1, PATIENCE)

@@ -11,7 +11,7 @@ RED = """
 from toxi import Rule, ResetPeer
 import socket
 def test_red(toxi):
-    served = toxi({"shop": "127.0.0.1:1"}, [Rule("shop", toxics=[ResetPeer(timeout=0, toxicity=500)])])
+    served = toxi({"shop": "127.0.0.1:1"}, [Rule("shop", [ResetPeer(timeout=0, toxicity=500)])])
     socket.create_connection(served.address("shop")).close()
     served.wait_for_link("shop", 1, 20)
     assert False

@@ -53,7 +53,7 @@ def shop(toxi, upstream):
 
     def start(*toxics, seed=None, **covered):
         options = {} if seed is None else {"seed": seed}
-        return toxi({"shop": upstream}, [Rule("shop", toxics=toxics, **covered)], **options)
+        return toxi({"shop": upstream}, [Rule("shop", toxics, **covered)], **options)
 
     return start
 
