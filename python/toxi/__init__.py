@@ -1,13 +1,13 @@
 """Starts `toxi serve`, a TCP fault proxy, in front of the services of a test.
 
-    with Toxi({"shop": "127.0.0.1:8080"}, [Rule("shop", toxics=[Latency(latency=100)])], seed=7) as toxi:
+    with Toxi({"shop": "127.0.0.1:8080"}, [Rule("shop", [Latency(latency=100)])], seed=7) as toxi:
         client = connect(toxi.address("shop"))
 
 The manual of toxics and faults is docs/PROFILE.md, that of rules docs/SCRIPTS.md.
 """
 __version__ = "0.3.0"
 
-from .errors import ToxiEnded, ToxiError, ToxiFault
+from .errors import ToxiEnded, ToxiError, ToxiFault, ToxiWarning
 from .lines import Address, Link, Total
 from .picks import PickedToxic
 from .proxies import Proxy
@@ -33,6 +33,7 @@ __all__ = [
     "ToxiEnded",
     "ToxiError",
     "ToxiFault",
+    "ToxiWarning",
     "Toxic",
     "script_text",
 ]

@@ -1,16 +1,16 @@
-"""What can go wrong, and where in the rules a fault stands."""
+"""What can go wrong."""
 import re
-from typing import List, Optional, Sequence, Union
+from typing import Optional, Sequence
 
-from .rules import Rule
+from .places import Rules, place_of
 
 FAULT = re.compile(r"toxi: ([A-Z]\d)(?: (.*))?")
-# A fault of a script: the rule and the toxic, from 1, behind the name; 0 stands for the document or the rule itself.
+# A fault of a script: the rule and the toxic behind the name.
 PLACED = re.compile(r"S\d \w+ (\d+) (\d+)(?: (\w+))?")
 
 
 class ToxiError(Exception):
-    """The program couldn't be started, or ended as it should not."""
+    """The program couldn't be started, or ended as it should not, or a rule is for no proxy."""
 
 
 class ToxiEnded(ToxiError):
@@ -30,40 +30,15 @@ class ToxiFault(ToxiError):
         self.place = place
 
 
-def error_of(said: Sequence[str], status: Optional[int], rules: Union[str, Sequence[Rule]]) -> ToxiError:
+class ToxiWarning(UserWarning):
+    """A rule or a toxic has no effect, or not the whole one. The text is the line of `toxi check`, with its place in the rules."""
+
+
+def error_of(said: Sequence[str], status: Optional[int], rules: Rules) -> ToxiError:
     """The error of a program that ended with this status and these lines on standard error."""
     for line in reversed(said):
-        found = FAULT.fullmatch(line)
-        if found:
+        if FAULT.fullmatch(line):
             fault = line[len("toxi: ") :]
-            return ToxiFault(fault, _place(fault, rules))
+            found = PLACED.fullmatch(fault)
+            return ToxiFault(fault, place_of(rules, int(found[1]), int(found[2])) if found else None)
     return ToxiEnded(f"toxi ended with status {status}: " + ("\n".join(said) or "nothing on standard error"))
-
-
-def _place(fault: str, rules: Union[str, Sequence[Rule]]) -> Optional[str]:
-    found = PLACED.fullmatch(fault)
-    if not found:
-        return None
-    rule, toxic = int(found[1]), int(found[2])
-    if rule == 0:
-        return "the script itself"
-    place = f"toxic {toxic} of rule {rule}" if toxic else f"rule {rule}"
-    shown = _shown_in_text(rules, rule, toxic) if isinstance(rules, str) else _shown_in_rules(rules, rule, toxic)
-    return f"{place}: {shown}" if shown else place
-
-
-def _shown_in_rules(rules: Sequence[Rule], rule: int, toxic: int) -> str:
-    return repr(rules[rule - 1].toxics[toxic - 1] if toxic else rules[rule - 1])
-
-
-def _shown_in_text(text: str, rule: int, toxic: int) -> str:
-    """The line of the table's header, if the script is written with headers."""
-    headers: List[List[int]] = []
-    for number, line in enumerate(text.split("\n"), 1):
-        if re.match(r"\s*\[\[\s*rule\s*\]\]", line):
-            headers.append([number])
-        elif re.match(r"\s*\[\[\s*rule\s*\.\s*toxic\s*\]\]", line) and headers:
-            headers[-1].append(number)
-    if rule <= len(headers) and toxic < len(headers[rule - 1]):
-        return f"line {headers[rule - 1][toxic]} of the script"
-    return ""

@@ -1,13 +1,12 @@
 """A child process that is read line by line and never outlives the tests."""
+import contextlib
 import shutil
 import signal
 import subprocess
 import threading
 import time
 import weakref
-from typing import IO, Callable, List, Optional, Sequence
-
-from .errors import ToxiError
+from typing import IO, Callable, Iterator, List, Optional, Sequence
 
 # The program looks for these signals itself when they are blocked, and then ends with its totals.
 STOPPING = {signal.SIGTERM, signal.SIGINT}
@@ -16,15 +15,15 @@ STOP_LIMIT = 10
 
 
 class Process:
-    """A running program. Its lines are read by threads, so that it never waits for its output to be read."""
+    """A running program. Its lines are read by threads, so that it never waits for its output to be read.
 
-    def __init__(self, command: Sequence[str]) -> None:
-        if shutil.which(command[0]) is None:
-            raise ToxiError(f"{command[0]} can't be started")
-        mask = signal.pthread_sigmask(signal.SIG_BLOCK, STOPPING)
-        try:
+    They go to `lines`, and those of standard error to `said`.
+    """
+
+    def __init__(self, command: Sequence[str], lines: List[str], said: List[str]) -> None:
+        with signals_blocked():
             self._child = subprocess.Popen(
-                [*_tied_to_parent(), *command],
+                [*tied_to_parent(), *command],
                 stdin=subprocess.DEVNULL,
                 stdout=subprocess.PIPE,
                 stderr=subprocess.PIPE,
@@ -33,12 +32,8 @@ class Process:
             )
             # Runs at the interpreter's exit too.
             self._kill = weakref.finalize(self, _kill, self._child)
-        finally:
-            signal.pthread_sigmask(signal.SIG_SETMASK, mask)
-        self.lines: List[str] = []
-        self.said: List[str] = []
         self._changed = threading.Condition()
-        self._readers = [self._reader(self._child.stdout, self.lines), self._reader(self._child.stderr, self.said)]
+        self._readers = [self._reader(self._child.stdout, lines), self._reader(self._child.stderr, said)]
 
     def _reader(self, stream: Optional[IO[str]], lines: List[str]) -> threading.Thread:
         assert stream is not None
@@ -75,10 +70,14 @@ class Process:
             reader.join(STOP_LIMIT)
         return status
 
+    def terminate(self) -> None:
+        """Sends SIGTERM, if it still runs."""
+        self._child.terminate()
+
     def stop(self) -> int:
         """Ends it by SIGTERM, and by SIGKILL if that takes too long. Returns its status."""
         try:
-            self._child.terminate()
+            self.terminate()
             self.wait(STOP_LIMIT)
         except subprocess.TimeoutExpired:
             pass
@@ -100,7 +99,17 @@ def _kill(child: "subprocess.Popen[str]") -> None:
     child.wait()
 
 
-def _tied_to_parent() -> List[str]:
+@contextlib.contextmanager
+def signals_blocked() -> Iterator[None]:
+    """Blocks the signals that end the program. A child that is started meanwhile has them blocked."""
+    mask = signal.pthread_sigmask(signal.SIG_BLOCK, STOPPING)
+    try:
+        yield
+    finally:
+        signal.pthread_sigmask(signal.SIG_SETMASK, mask)
+
+
+def tied_to_parent() -> List[str]:
     """A command before the command, with which the system kills the child when its parent dies.
 
     The system takes the thread that started the child for its parent, so this is for the main thread alone.

@@ -17,20 +17,26 @@ VERSION_LIMIT = 300
 
 
 def found_program(told: Optional[str] = None) -> str:
-    """The path of the program: the one that the command line tells, else `$TOXI`, else the package's own, else `toxi` on the PATH.
+    """The path of the program: the one that is told, else `$TOXI`, else the package's own, else `toxi` on the PATH.
 
     Raises `ToxiError` where there is none, or it is of another version than this package.
     """
     program = told or os.environ.get("TOXI") or (str(OWN) if OWN.exists() else shutil.which("toxi"))
     if program is None:
-        raise ToxiError(f"no program `toxi`: none was given by `program` or --toxi-program, $TOXI isn't set, {OWN} isn't there, and the PATH has none")
-    path = shutil.which(program)
-    if path is None:
-        raise ToxiError(f"{program} can't be started")
+        raise ToxiError(f"no program `toxi`: none was given by `program`, --toxi-program or the ini's toxi_program, $TOXI isn't set, {OWN} isn't there, and the PATH has none")
+    path = startable(program)
     version = _version_of(path, os.stat(path).st_mtime_ns)
     if version != __version__:
         raise ToxiError(f"{program} is of version {version}, and the package toxi of {__version__}")
     return program
+
+
+def startable(program: str) -> str:
+    """The path of a program that can be started. Raises `ToxiError` where it can't."""
+    path = shutil.which(program)
+    if path is None:
+        raise ToxiError(f"{program} can't be started")
+    return path
 
 
 @functools.lru_cache(maxsize=None)

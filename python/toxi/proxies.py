@@ -1,7 +1,9 @@
 """Proxies, and the populate file that they are."""
 import json
 from dataclasses import asdict, dataclass
-from typing import Iterable, List, Mapping, Union
+from typing import Dict, Iterable, List, Mapping, Union
+
+from .lines import Address, printed
 
 
 @dataclass(frozen=True)
@@ -26,10 +28,26 @@ def populate_text(proxies: Proxies) -> str:
     return json.dumps([asdict(proxy) for proxy in proxies], ensure_ascii=False, indent=1) + "\n"
 
 
+def enabled_by_name(populate: str) -> Dict[str, bool]:
+    """Whether each proxy is enabled, in the order of the file. Empty where the program will refuse the file."""
+    try:
+        return {proxy["name"]: proxy.get("enabled") is not False for proxy in json.loads(populate)}
+    except (ValueError, TypeError, KeyError, AttributeError):
+        return {}
+
+
 def enabled_names(populate: str) -> List[str]:
     """The names of the enabled proxies in the order of the file. Empty where the program will refuse the file."""
-    try:
-        proxies = {proxy["name"]: proxy.get("enabled") is not False for proxy in json.loads(populate)}
-    except (ValueError, TypeError, KeyError, AttributeError):
-        return []
-    return [name for name, enabled in proxies.items() if enabled]
+    return [name for name, enabled in enabled_by_name(populate).items() if enabled]
+
+
+def listening_at(populate: str, addresses: Mapping[str, Address]) -> str:
+    """A populate file that was served, with the addresses that its proxies had, by their printed names."""
+    if not addresses:
+        return populate
+    proxies = json.loads(populate)
+    for proxy in proxies:
+        address = addresses.get(printed(proxy["name"]))
+        if address is not None:
+            proxy["listen"] = str(address)
+    return json.dumps(proxies, ensure_ascii=False, indent=1) + "\n"

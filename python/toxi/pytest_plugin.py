@@ -1,7 +1,7 @@
 """A pytest plugin: the fixture `toxi` starts proxies for a test, and a red test tells how to see the same fault again.
 
     def test_slow_answer(toxi):
-        served = toxi({"shop": "127.0.0.1:8080"}, [Rule("shop", toxics=[Latency(latency=100)])])
+        served = toxi({"shop": "127.0.0.1:8080"}, [Rule("shop", [Latency(latency=100)])])
         connect(served.address("shop"))
 """
 import os

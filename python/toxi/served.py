@@ -1,27 +1,21 @@
 """`Toxi`: a `toxi serve` process in front of the services of a test."""
-import os
-import shlex
 import subprocess
-import tempfile
+import time
 from pathlib import Path
 from types import TracebackType
-from typing import Dict, Iterable, List, Optional, Sequence, Type, TypeVar, Union
+from typing import Iterable, List, Optional, Type, Union
 
-from .errors import ToxiEnded, ToxiError, error_of
-from .lines import Address, Link, Total, parse, printed
+from .base import HOLD_PAUSE, STREAMS, StrPath, ToxiBase
+from .commands import answer_of
+from .errors import ToxiError, error_of
+from .lines import Link, Total
 from .picks import PickedToxic, picked
-from .process import Process
-from .program import found_program
-from .proxies import Proxies, enabled_names, populate_text
-from .rules import Rule, script_text
-
-Line = TypeVar("Line", Link, Total)
-STREAMS = ("upstream", "downstream")
-# What a clone's ./toxi says of itself.
-CHECKED_BUILD = "toxi: checked build"
+from .process import STOP_LIMIT, Process
+from .rules import Rule
+from .runs import Run, names_of, written_page
 
 
-class Toxi:
+class Toxi(ToxiBase):
     """Starts `toxi serve` and ends it with the `with` statement, whatever happens in between.
 
     `proxies` maps names to upstreams such as `127.0.0.1:8080`, or has `Proxy` objects, or is the text of a populate
@@ -33,202 +27,138 @@ class Toxi:
     or into a new one that goes away at the end. `links`, `workers` and `connect_timeout` (milliseconds) are the options
     of `serve`. With `log` each stream of each link is logged in that folder, which is made or must be empty. The program has
     `start_timeout` seconds until it listens: a clone's ./toxi compiles itself first.
+
+    Raises `ToxiFault` at the start where the program refuses its files, and `ToxiError` where a rule is for a proxy that isn't
+    there. Rules and toxics without effect are `ToxiWarning`s.
     """
 
-    def __init__(
-        self,
-        proxies: Proxies,
-        rules: Union[str, Iterable[Rule]] = (),
-        *,
-        seed: int = 1,
-        program: Union[str, "os.PathLike[str]", None] = None,
-        directory: Union[str, "os.PathLike[str]", None] = None,
-        links: Optional[int] = None,
-        workers: Optional[int] = None,
-        connect_timeout: Optional[int] = None,
-        log: Union[str, "os.PathLike[str]", None] = None,
-        start_timeout: float = 300,
-    ) -> None:
-        self._populate = populate_text(proxies)
-        self._rules: Union[str, Sequence[Rule]] = rules if isinstance(rules, str) else list(rules)
-        self.seed = seed
-        self._program = program
-        self._directory = directory
-        self._start_timeout = start_timeout
-        self._log = None if log is None else Path(log)
-        self._options: List[str] = []
-        numbers = (("--links", links), ("--workers", workers), ("--connect-timeout", connect_timeout))
-        for option, value in (*numbers, ("--log", self._log)):
-            if value is not None:
-                self._options += [option, str(value)]
-        self._own_directory: Optional["tempfile.TemporaryDirectory[str]"] = None
-        self._process: Optional[Process] = None
-        self._stopped = False
-        self._addresses: Dict[str, Address] = {}
+    _process: Optional[Process] = None
 
     def __enter__(self) -> "Toxi":
-        self.start()
+        if not self._begun:
+            self.start()
+        self._require_started()
         return self
 
     def __exit__(
         self, kind: Optional[Type[BaseException]], error: Optional[BaseException], trace: Optional[TracebackType]
     ) -> None:
-        failed = not self._stopped and self._running().status not in (None, 0)
+        status = self._running().status
+        failed = not self._stopped and status not in (None, 0)
         self.stop()
         if failed and kind is None:
-            raise self._error()
+            raise self._error(status)
 
     def start(self) -> None:
-        """Starts the program and waits until every enabled proxy listens. `with` calls it."""
-        if self._process is not None:
-            raise ToxiError("it was started before")
-        self._write_files()
-        names = enabled_names(self._populate)
+        """Starts the program and waits until every enabled proxy listens. `with` calls it unless it was started."""
+        self._begin()
         try:
-            self._process = process = Process(self.command)
-            listens = process.wait_until(lambda: len(self._listening()) >= max(len(names), 1), self._start_timeout)
-            if not listens and process.writes:
-                raise ToxiError(f"toxi doesn't listen within {self._start_timeout} s")
-            # Without an enabled proxy it ends at once.
-            if not listens and (names or process.wait(self._start_timeout) != 0):
-                process.stop()
-                raise self._error()
-            self._addresses = self._listening()
+            self._serve(self._checked(self._new_run()))
         except BaseException:
             self.stop()
             raise
 
     def stop(self) -> None:
-        """Ends the program. Links that still live are broken, and have their lines. A second call does nothing."""
+        """Ends the program, and gives its ports up. Links that still live are broken, and have their lines. A second call does nothing."""
         self._stopped = True
         if self._process is not None:
             self._process.stop()
-        if self._own_directory is not None:
-            self._own_directory.cleanup()
-            self._own_directory = None
+        self._clean_up()
 
-    @property
-    def command(self) -> List[str]:
-        """The command that serves, with its files in the directory."""
-        return [self._program_path(), "serve", *self._file_arguments(), *self._options]
+    def restart(self, rules: Union[str, Iterable[Rule], None] = None, seed: Optional[int] = None) -> None:
+        """Serves other rules, or under another seed, at the same addresses. Links that live are broken, and the next is number 1.
 
-    def address(self, proxy: str) -> Address:
-        """Where a proxy listens."""
-        return self._addresses[printed(proxy)]
+        What isn't given stays. Its files and logs have the number of the run in their names. Rules that are wrong raise what they raise
+        at the start, and what runs goes on.
+        """
+        self._require_started()
+        run = self._checked(self._new_run(rules, seed))
+        self._end_run()
+        self._serve(run)
 
-    def lines(self) -> List[str]:
-        """The lines of the program so far, as it printed them."""
-        return list(self._running().lines)
+    def down(self) -> None:
+        """Takes the service down: links that live are broken, and connects are refused. The ports stay its own. A second call does nothing."""
+        self._require_started()
+        self._end_run()
 
-    def links(self, proxy: Optional[str] = None) -> List[Link]:
-        """The links that have ended so far, or those of a proxy, in the order of their ends."""
-        return [link for link in self._parsed(Link) if proxy is None or link.proxy == printed(proxy)]
-
-    def totals(self) -> List[Total]:
-        """The totals of the proxies that have ended."""
-        return self._parsed(Total)
+    def up(self) -> None:
+        """Takes the service up again, at the same addresses under the same rules and seed. The next link is number 1. If it is up, nothing is done."""
+        self._require_started()
+        if self._running().status is not None:
+            self.restart()
 
     def wait_for_link(self, proxy: str, number: int, timeout: float = 5) -> Link:
-        """Waits until the connection of this number, from 1, has ended. Raises `TimeoutError` or `ToxiEnded`."""
-        process = self._running()
+        """Waits until the connection of this number, from 1, has ended, for at most `timeout` seconds.
 
-        def found() -> List[Link]:
-            return [link for link in self.links(proxy) if link.number == number]
-
-        if not process.wait_until(lambda: bool(found()), timeout):
-            what = f"link {number} of {proxy}; its lines are " + repr(self.lines())
-            if process.status is not None:
-                raise ToxiEnded(f"toxi has ended without {what}")
-            raise TimeoutError(f"not within {timeout} s: {what}")
-        return found()[0]
+        Raises `TimeoutError`, or `ToxiEnded` if it can't come, or `KeyError` for a proxy that isn't there.
+        """
+        self._running().wait_until(lambda: self._found_link(proxy, number) is not None, timeout)
+        link = self._found_link(proxy, number)
+        if link is None:
+            raise self._no_link(proxy, number, timeout, self._running().status)
+        return link
 
     def wait(self, timeout: float = 10) -> List[Total]:
-        """Waits until the program ends by itself, which it does with `links`. Returns its totals."""
+        """Waits until the program ends by itself, which it does with `links`, for at most `timeout` seconds. Returns its totals."""
         try:
             self._running().wait(timeout)
         except subprocess.TimeoutExpired:
-            raise TimeoutError(f"toxi didn't end within {timeout} s; its lines are {self.lines()!r}") from None
+            raise self._no_end(timeout) from None
         return self.totals()
 
     def pick(self, proxy: str, number: int, stream: Optional[str] = None) -> List[PickedToxic]:
-        """The toxics of the connection of this number, applied or not, on both streams or on one."""
+        """The toxics of the connection of this number, from 1, applied or not, on both streams or on one."""
         toxics: List[PickedToxic] = []
         for each in STREAMS if stream is None else (stream,):
-            command = [self._program_path(), "pick", *self._file_arguments(), "--proxy", proxy]
-            ran = subprocess.run(
-                [*command, "--conn", str(number), "--stream", each],
-                stdin=subprocess.DEVNULL,
-                capture_output=True,
-                encoding="utf-8",
-                check=False,
-            )
-            if ran.returncode != 0:
-                raise error_of(ran.stderr.splitlines(), ran.returncode, self._rules)
-            toxics += picked(each, ran.stdout)
+            answer = answer_of(self._run.pick_command(proxy, number, each))
+            if answer.status != 0:
+                raise error_of(answer.faults, answer.status, self._run.rules)
+            toxics += picked(each, answer.printed)
         return toxics
 
-    def logs(self) -> List[Path]:
-        """The log of each stream of a link so far, which `toxi replay` judges. None without `log`."""
-        return [] if self._log is None else sorted(self._log.glob("*.log"))
-
-    def page(self, path: Union[str, "os.PathLike[str]", None] = None) -> Path:
+    def page(self, path: Optional[StrPath] = None) -> Path:
         """Writes the page of its logs so far, as `toxi report` prints it, and returns where: `report.html` beside the logs, unless told."""
-        if self._log is None:
-            raise ToxiError("it keeps no logs: give `log`")
-        target = self._log.parent / "report.html" if path is None else Path(path)
-        names = "".join(f"{name}\n" for name in self.logs())
-        with target.open("wb") as page:
-            ran = subprocess.run(
-                [self._program_path(), "report", "-"],
-                input=names.encode(errors="surrogateescape"),
-                stdout=page,
-                stderr=subprocess.PIPE,
-                check=False,
-            )
-        # G3: logs are unfaithful. The page shows them.
-        said = ran.stderr.decode(errors="replace")
-        if ran.returncode != 0 and "G3 " not in said:
-            raise ToxiError(f"no page: {said.strip() or ran.returncode}")
-        return target
-
-    def report(self) -> str:
-        """What a person needs after a failed test: the seed, the command, the line of each link, and how its logs are judged."""
-        judged = [] if self._log is None else [self._replay_line(self._log)]
-        said = [line for line in self._running().said if not line.startswith(CHECKED_BUILD)]
-        return "\n".join([f"seed {self.seed}", shlex.join(self.command), *self.lines(), *said, *judged])
-
-    def _replay_line(self, folder: Path) -> str:
-        return f"find {shlex.quote(str(folder))} -name '*.log' | {shlex.quote(self._program_path())} replay -"
+        return page_of(self._run, path)
 
     def _running(self) -> Process:
         if self._process is None:
             raise ToxiError("it wasn't started")
         return self._process
 
-    def _listening(self) -> Dict[str, Address]:
-        return dict(found for found in map(parse, self.lines()) if isinstance(found, tuple))
+    def _checked(self, run: Run) -> Run:
+        """A run whose rules were checked."""
+        try:
+            self._judge(run, answer_of(run.check_command(), timeout=self._start_timeout))
+        except TimeoutError:
+            raise self._late() from None
+        return run
 
-    def _parsed(self, kind: Type[Line]) -> List[Line]:
-        return [found for found in map(parse, self.lines()) if isinstance(found, kind)]
+    def _serve(self, run: Run) -> None:
+        self._serving(run)
+        self._process = process = Process(run.serve_command(), run.lines, run.said)
+        if process.wait_until(self._listens, self._start_timeout):
+            self._addresses = run.listening()
+            return
+        late = process.writes
+        # Without an enabled proxy it ends at once.
+        if late or process.wait(self._start_timeout) != 0 or self._enabled():
+            status = process.stop()
+            raise self._late() if late else self._error(status)
 
-    def _error(self) -> ToxiError:
+    def _end_run(self) -> None:
+        """Ends the program, and takes its ports as soon as it stops listening."""
         process = self._running()
-        return error_of(process.said, process.status, self._rules)
+        if process.status not in (None, 0):
+            raise self._error(process.status)
+        process.terminate()
+        end = time.monotonic() + STOP_LIMIT
+        while not self._hold() and process.status is None and time.monotonic() < end:
+            time.sleep(HOLD_PAUSE)
+        process.stop()
+        self._require_held()
 
-    def _program_path(self) -> str:
-        return found_program() if self._program is None else os.fspath(self._program)
 
-    def _file_arguments(self) -> List[str]:
-        config, script = (str(self._folder / name) for name in ("proxies.json", "script.toml"))
-        return ["--config", config, "--script", script, "--seed", str(self.seed)]
-
-    def _write_files(self) -> None:
-        if self._directory is None:
-            self._own_directory = tempfile.TemporaryDirectory(prefix="toxi-")
-            self._folder = Path(self._own_directory.name)
-        else:
-            self._folder = Path(self._directory)
-        self._folder.mkdir(parents=True, exist_ok=True)
-        script = self._rules if isinstance(self._rules, str) else script_text(self._rules)
-        for name, text in (("proxies.json", self._populate), ("script.toml", script)):
-            (self._folder / name).write_bytes(text.encode())
+def page_of(run: Run, path: Optional[StrPath] = None, since: float = 0) -> Path:
+    """Writes the page of a run's logs that were written at this time, in seconds of the epoch, or later. Returns where."""
+    target = run.page_path() if path is None else Path(path)
+    return written_page(answer_of(run.report_command(), names_of(run.logs(since))), target)

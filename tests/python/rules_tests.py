@@ -1,10 +1,12 @@
-"""Rules as they are written in Python. Needs nothing installed."""
+"""Rules as they are written in Python, what is wrong with them, and names of proxies. Needs nothing installed."""
 import unittest
+import warnings
 
-from toxi import Latency, ResetPeer, Rule, Toxi, ToxiFault, script_text
+from toxi import Latency, Proxy, ResetPeer, Rule, Toxi, ToxiError, ToxiFault, ToxiWarning, script_text
 
 # Nothing listens there: port 1 of this machine.
 NOWHERE = {"shop": "127.0.0.1:1"}
+MISSPELT = "[[rule]]\nproxy = 'shpo'\nfirst = 1\n"
 
 
 class WrittenTests(unittest.TestCase):
@@ -31,7 +33,7 @@ class WrittenTests(unittest.TestCase):
         for toxicity, text in written:
             self.assertIn(f"toxicity = {text}\n", script_text([Rule("shop", [Latency(latency=1, toxicity=toxicity)])]))
         toxics = [Latency(latency=1, toxicity=toxicity, name=str(toxicity)) for toxicity, _ in written]
-        with Toxi(NOWHERE, [Rule("shop", toxics)]) as toxi:
+        with self.assertWarns(ToxiWarning), Toxi(NOWHERE, [Rule("shop", toxics)]) as toxi:
             picked = [toxic.attributes["toxicity"] for toxic in toxi.pick("shop", 1, "downstream")]
         self.assertEqual(picked, [1, 300, 0, 1000, 500, 0, 2, 300])
 
@@ -42,3 +44,45 @@ class WrittenTests(unittest.TestCase):
             with self.assertRaises(ToxiFault) as caught:
                 Toxi(NOWHERE, [Rule("shop", [Latency(latency=1, toxicity=toxicity)])]).start()
             self.assertEqual(caught.exception.line, "S7 ToxicityNotThousandths 1 1")
+
+
+class CheckTests(unittest.TestCase):
+    def test_a_rule_for_no_proxy_is_an_error(self):
+        for rules, place in (([Rule("shop"), Rule("shpo")], "rule 2: Rule(proxy='shpo')"), (MISSPELT, "rule 1: line 1 of the script")):
+            with self.assertRaises(ToxiError) as caught:
+                Toxi(NOWHERE, rules).start()
+            self.assertIn(f"never applies: no proxy shpo (shop?), at {place}", str(caught.exception))
+
+    def test_what_has_no_effect_is_a_warning(self):
+        with self.assertWarns(ToxiWarning) as caught, Toxi(NOWHERE, [Rule("shop"), Rule("shop", [Latency(latency=1)])]):
+            pass
+        self.assertEqual(str(caught.warning).split(", at ")[0], "rule 2 never applies: rule 1 covers its connections")
+        self.assertEqual(caught.filename, __file__)
+
+    def test_a_warning_may_be_an_error(self):
+        with warnings.catch_warnings():
+            warnings.simplefilter("error", ToxiWarning)
+            with self.assertRaisesRegex(ToxiWarning, r"it delays nothing, at toxic 1 of rule 1: Latency\(\)"):
+                Toxi(NOWHERE, [Rule("shop", [Latency()])]).start()
+            with Toxi(NOWHERE, [Rule("shop", [Latency(latency=1)])]):
+                pass
+
+
+class NameTests(unittest.TestCase):
+    def test_one_proxy_needs_no_name(self):
+        with Toxi(NOWHERE) as toxi:
+            host, port = toxi.address()
+            self.assertEqual((host, port), toxi.address("shop"))
+            self.assertEqual((str(toxi.address()), toxi.url(), toxi.url("shop")), (f"{host}:{port}", *[f"http://{host}:{port}"] * 2))
+
+    def test_an_unknown_name_lists_the_names(self):
+        proxies = [Proxy("shop", "127.0.0.1:1"), Proxy("mail", "127.0.0.1:1"), Proxy("off", "127.0.0.1:1", enabled=False)]
+        with Toxi(proxies) as toxi:
+            for call in (toxi.address, toxi.url, toxi.links, lambda name: toxi.wait_for_link(name, 1, 20)):
+                with self.assertRaisesRegex(KeyError, "no proxy 'shpo'; there are 'shop', 'mail'"):
+                    call("shpo")
+            for call in (toxi.address, toxi.url):
+                with self.assertRaisesRegex(KeyError, "name one of these proxies: 'shop', 'mail'"):
+                    call()
+            self.assertRaises(KeyError, toxi.address, "off")
+            self.assertEqual((toxi.links("off"), toxi.links()), ([], []))
