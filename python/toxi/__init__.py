@@ -8,6 +8,7 @@ The manual of toxics and faults is docs/PROFILE.md, that of rules docs/SCRIPTS.m
 __version__ = "0.3.0"
 
 from .errors import ToxiEnded, ToxiError, ToxiFault, ToxiWarning
+from .factory import ToxiFactory
 from .lines import Address, Link, Total
 from .picks import PickedToxic
 from .proxies import Proxy
@@ -32,6 +33,7 @@ __all__ = [
     "Toxi",
     "ToxiEnded",
     "ToxiError",
+    "ToxiFactory",
     "ToxiFault",
     "ToxiWarning",
     "Toxic",

@@ -62,6 +62,11 @@ class ToxiBase:
         return self._seed
 
     @property
+    def stopped(self) -> bool:
+        """Whether `stop` was called, or its `with` statement has ended."""
+        return self._stopped
+
+    @property
     def command(self) -> List[str]:
         """The command that serves, with its files in the directory."""
         return self._run.serve_command()

@@ -1,86 +1,80 @@
-"""A pytest plugin: the fixture `toxi` starts proxies for a test, and a red test tells how to see the same fault again.
+"""A pytest plugin: fixtures that start proxies, and a red test tells how to see the same fault again.
 
-    def test_slow_answer(toxi):
+    def test_slow_answer(toxi: ToxiFactory) -> None:
         served = toxi({"shop": "127.0.0.1:8080"}, [Rule("shop", [Latency(latency=100)])])
         connect(served.address("shop"))
 """
-import os
 import random
-import shlex
+import time
 from pathlib import Path
-from typing import Any, Callable, Generator, Iterable, Iterator, List, Optional, Union
+from typing import Any, Dict, Generator, Iterator, List, Optional
 
 import pytest
 
-from .errors import ToxiError
-from .program import found_program
-from .proxies import Proxies
-from .rules import Rule
-from .served import Toxi
+from .artifacts import attempt_folder
+from .factory import Begun, ToxiFactory
+from .pytest_report import Fixture, Section
+from .pytest_settings import add_settings, settings_of
 
 # The command line's seeds are 64 bits. Drawn ones are short enough to be typed.
 DRAWN_BITS = 32
-
-
-class Factory:
-    """Starts the proxies of one test under its seed."""
-
-    def __init__(self, seed: int, program: Optional[str], folder: Path) -> None:
-        self.seed = seed
-        self._program = program
-        self._folder = folder
-        self._started: List[Toxi] = []
-
-    def __call__(self, proxies: Proxies, rules: Union[str, Iterable[Rule]] = (), **options: Any) -> Toxi:
-        """Starts a `Toxi` that ends with the test, with its logs beside its files. The options are those of `Toxi`."""
-        folder = self._folder / f"toxi-{len(self._started) + 1}"
-        options.setdefault("seed", self.seed)
-        if self._program is not None and options.get("program") is None:
-            options["program"] = found_program(self._program)
-        options.setdefault("directory", folder)
-        options.setdefault("log", folder / "logs")
-        served = Toxi(proxies, rules, **options)
-        served.start()
-        self._started.append(served)
-        return served
-
-    def stop(self) -> None:
-        """Ends all of them."""
-        for served in self._started:
-            served.stop()
-
-    def report(self) -> str:
-        """Their reports, one after the other."""
-        return "\n".join(served.report() for served in self._started)
-
-    def pages(self) -> List[str]:
-        """A line for each that has logs: where its page is."""
-        return [_page_line(served) for served in self._started if served.logs()]
-
-
-FACTORY = pytest.StashKey[Factory]()
+# The line of a link comes milliseconds after its end, and the end of its log within 0.1 s. In seconds.
+SETTLE = 0.2
+FIXTURE = pytest.StashKey[Fixture]()
+BEGUN = pytest.StashKey[Dict[ToxiFactory, Begun]]()
+KEPT = pytest.StashKey[Path]()
 
 
 def pytest_addoption(parser: pytest.Parser) -> None:
-    """`--toxi-seed` and `--toxi-program`."""
-    group = parser.getgroup("toxi")
-    group.addoption("--toxi-seed", type=int, metavar="N", help="the seed of the fixture `toxi`; else each test draws one")
-    group.addoption("--toxi-program", metavar="PATH", help="the program of the fixture `toxi`; else $TOXI, the package's own, or that of the PATH")
+    """`--toxi-seed`, `--toxi-workers`, `--toxi-program` and `--toxi-artifacts`, and the keys of the ini."""
+    add_settings(parser)
 
 
 @pytest.fixture
-def toxi(request: pytest.FixtureRequest, tmp_path: Path) -> Iterator[Callable[..., Toxi]]:
-    """A factory: `toxi(proxies, rules)` starts a `Toxi` with files in `tmp_path`. `toxi.seed` is the test's seed."""
-    seed = request.config.getoption("--toxi-seed")
-    if seed is None:
-        seed = random.SystemRandom().getrandbits(DRAWN_BITS)
-    factory = Factory(seed, request.config.getoption("--toxi-program"), tmp_path)
-    request.node.stash[FACTORY] = factory
-    request.node.user_properties.append(("toxi_seed", seed))
+def toxi(request: pytest.FixtureRequest, tmp_path: Path) -> Iterator[ToxiFactory]:
+    """A factory: `toxi(proxies, rules)` starts a `Toxi` that ends with the test, with files in `tmp_path`. `toxi.seed` is the test's seed."""
+    yield from _factory(request, tmp_path)
+
+
+@pytest.fixture(scope="module")
+def toxi_module(request: pytest.FixtureRequest, tmp_path_factory: pytest.TempPathFactory) -> Iterator[ToxiFactory]:
+    """As `toxi`, for a module: what it starts ends with the module's last test, or with a `with` statement."""
+    yield from _factory(request, tmp_path_factory.mktemp("toxi_module"))
+
+
+@pytest.fixture(scope="session")
+def toxi_session(request: pytest.FixtureRequest, tmp_path_factory: pytest.TempPathFactory) -> Iterator[ToxiFactory]:
+    """As `toxi`, for the session: what it starts ends with the last test, or with a `with` statement."""
+    yield from _factory(request, tmp_path_factory.mktemp("toxi_session"))
+
+
+def _factory(request: pytest.FixtureRequest, folder: Path) -> Iterator[ToxiFactory]:
+    settings = settings_of(request.config)
+    seed = random.SystemRandom().getrandbits(DRAWN_BITS) if settings.seed is None else settings.seed
+    factory = ToxiFactory(seed, folder, settings.program, settings.workers)
+    name = request.fixturename
+    assert name is not None
+    request.node.stash[FIXTURE] = Fixture(name, factory, request.scope != "function")
     try:
         yield factory
     finally:
         factory.stop()
+
+
+def _fixtures_of(item: pytest.Item) -> List[Fixture]:
+    """The factories that a test uses and that were set up."""
+    held = [node.stash[FIXTURE] for node in item.listchain() if FIXTURE in node.stash]
+    return [fixture for fixture in held if fixture.name in getattr(item, "fixturenames", ())]
+
+
+@pytest.hookimpl(tryfirst=True)
+def pytest_runtest_setup(item: pytest.Item) -> None:
+    """Notes how far the proxies of wider fixtures are, before anything of the test runs. What an earlier attempt left is forgotten."""
+    if FIXTURE in item.stash:
+        del item.stash[FIXTURE]
+    if KEPT in item.stash:
+        del item.stash[KEPT]
+    item.stash[BEGUN] = {fixture.factory: fixture.factory.begun() for fixture in _fixtures_of(item)}
 
 
 @pytest.hookimpl(hookwrapper=True)
@@ -88,28 +82,35 @@ def pytest_runtest_makereport(item: pytest.Item) -> Generator[None, Any, None]:
     """Adds to a test's report what is needed to see the same again. pytest shows it of red tests, and of all with `-rP`."""
     outcome = yield
     report = outcome.get_result()
-    factory = item.stash.get(FACTORY, None)
-    if factory is None or not (report.failed or report.when == "call"):
+    fixtures = _fixtures_of(item)
+    if report.when == "setup":
+        for fixture in fixtures:
+            fixture.modules[item.nodeid.split("::")[0]] = None
+            item.user_properties.append((f"{fixture.name}_seed", fixture.factory.seed))
+    if not fixtures or not (report.failed or report.when == "call"):
         return
-    # Links that still live get their lines. A debugger may want them alive.
-    if report.failed and not item.config.getoption("usepdb", False):
-        factory.stop()
-    lines = [_command(item, factory.seed), factory.report(), *(factory.pages() if report.failed else [])]
-    report.sections.append(("toxi", "\n".join(lines)))
+    if report.failed:
+        _settle(item, fixtures)
+    kept = _kept(item) if report.failed else None
+    for fixture in fixtures:
+        section = Section(item, fixture, item.stash[BEGUN].get(fixture.factory, Begun()))
+        report.sections.append((fixture.name, section.text(report.failed, kept)))
 
 
-def _page_line(served: Toxi) -> str:
-    """Writes the page of its logs. A report must not fail, so what goes wrong is told in place of the path."""
-    try:
-        return f"page {served.page()}"
-    except (OSError, ToxiError) as error:
-        return f"page not written: {error}"
+def _settle(item: pytest.Item, fixtures: List[Fixture]) -> None:
+    """Ends the links of the test's own proxies, so that they get their lines. A debugger may want them alive. Wider proxies go on."""
+    for fixture in fixtures:
+        if fixture.is_wide:
+            time.sleep(SETTLE)
+        elif not item.config.getoption("usepdb", False):
+            fixture.factory.stop()
 
 
-def _command(item: pytest.Item, seed: int) -> str:
-    """The command that runs the test again under its seed, from where pytest was started."""
-    path, *names = item.nodeid.split("::")
-    path = os.path.relpath(item.config.rootpath / path, item.config.invocation_params.dir)
-    command = ["pytest", "::".join([path, *names]), "--toxi-seed", str(seed)]
-    program = item.config.getoption("--toxi-program")
-    return shlex.join([*command, "--toxi-program", program] if program else command)
+def _kept(item: pytest.Item) -> Optional[Path]:
+    """Where the files of this attempt of a test are kept."""
+    folder = settings_of(item.config).artifacts
+    if folder is None:
+        return None
+    if KEPT not in item.stash:
+        item.stash[KEPT] = attempt_folder(folder, item.nodeid)
+    return item.stash[KEPT]

@@ -1,8 +1,9 @@
 """One start of `toxi serve`: its files, its commands, and what it printed."""
+import re
 import shlex
 from dataclasses import dataclass, field
 from pathlib import Path
-from typing import Dict, List, NamedTuple, Optional, Sequence, Type, TypeVar
+from typing import Dict, List, NamedTuple, Optional, Sequence, Tuple, Type, TypeVar
 
 from .commands import ERRORS, Answer
 from .errors import ToxiError
@@ -11,6 +12,8 @@ from .places import Rules
 from .rules import script_text
 
 Line = TypeVar("Line", Link, Total)
+# The second line of a log.
+LOGGED = re.compile(r"link (.*) (\d+) \w+\n")
 # What a clone's ./toxi says of itself.
 CHECKED_BUILD = "toxi: checked build"
 # The fault of `report` where logs are unfaithful. The page shows them.
@@ -92,9 +95,13 @@ class Run:
         """The lines of a kind so far."""
         return [found for found in map(parse, self.lines) if isinstance(found, kind)]
 
-    def logs(self, since: float = 0) -> List[Path]:
-        """The logs so far that were written at this time, in seconds of the epoch, or later."""
-        return [] if self.log is None else sorted(log for log in self.log.glob("*.log") if log.stat().st_mtime >= since)
+    def logs(self, since: Position = Position()) -> List[Path]:
+        """The logs so far, but for those of links that had ended at a position of this run."""
+        if self.log is None:
+            return []
+        logs = sorted(self.log.glob("*.log"))
+        ended = {(link.proxy, link.number) for link in map(parse, self.lines[: self._before(since).lines]) if isinstance(link, Link)}
+        return [log for log in logs if logged_link(log) not in ended] if ended else logs
 
     def page_path(self) -> Path:
         """Where its page is written unless a path is told: beside its logs."""
@@ -106,12 +113,24 @@ class Run:
         """How much it has printed so far."""
         return Position(self.number, len(self.lines), len(self.said))
 
+    def _before(self, since: Position) -> Position:
+        """A position of this run: its start, for one of an earlier run."""
+        return since if since.run == self.number else Position()
+
     def report(self, since: Position = Position()) -> str:
         """Its seed, its command, its lines behind a position, if that is one of this run, and how its logs are judged."""
-        before = since if since.run == self.number else Position()
+        before = self._before(since)
         judged = [] if self.log is None else [f"find {shlex.quote(str(self.log))} -name '*.log' | {shlex.quote(self.program)} replay -"]
         said = [line for line in self.said[before.said :] if not line.startswith(CHECKED_BUILD)]
         return "\n".join([f"seed {self.seed}", shlex.join(self.serve_command()), *self.lines[before.lines :], *said, *judged])
+
+
+def logged_link(log: Path) -> Optional[Tuple[str, int]]:
+    """The proxy and the number of a log's link, which stand in its second line. None where it isn't written yet."""
+    with log.open(encoding="utf-8", errors=ERRORS) as lines:
+        next(lines, "")
+        found = LOGGED.fullmatch(next(lines, ""))
+    return (found[1], int(found[2])) if found else None
 
 
 def names_of(logs: Sequence[Path]) -> str:

@@ -12,7 +12,7 @@ from .lines import Link, Total
 from .picks import PickedToxic, picked
 from .process import STOP_LIMIT, Process
 from .rules import Rule
-from .runs import Run, names_of, written_page
+from .runs import Position, Run, names_of, written_page
 
 
 class Toxi(ToxiBase):
@@ -158,7 +158,7 @@ class Toxi(ToxiBase):
         self._require_held()
 
 
-def page_of(run: Run, path: Optional[StrPath] = None, since: float = 0) -> Path:
-    """Writes the page of a run's logs that were written at this time, in seconds of the epoch, or later. Returns where."""
+def page_of(run: Run, path: Optional[StrPath] = None, since: Position = Position()) -> Path:
+    """Writes the page of a run's logs, but for those of links that had ended at a position. Returns where."""
     target = run.page_path() if path is None else Path(path)
     return written_page(answer_of(run.report_command(), names_of(run.logs(since))), target)

@@ -1,9 +1,8 @@
-"""The pytest plugin: a red test's report, and the seeds. A pytest of its own runs small tests."""
+"""The pytest plugin: a red test's report, and the seeds."""
 import os
 import re
 import shlex
 import subprocess
-import sys
 
 import pytest
 
@@ -20,18 +19,12 @@ def test_green(toxi):
 def test_without():
     assert False
 """
-PYTEST = [sys.executable, "-B", "-m", "pytest", "-p", "toxi.pytest_plugin", "-p", "no:cacheprovider"]
 
 
 @pytest.fixture
-def run(tmp_path):
-    (tmp_path / "sub").mkdir()
-    (tmp_path / "sub" / "test_red.py").write_text(RED)
-    (tmp_path / "pytest.ini").write_text("[pytest]\n")
-
+def run(run_pytest, tmp_path):
     def start(*arguments, folder=tmp_path):
-        command = [*PYTEST, f"--basetemp={tmp_path / 'base'}", *arguments]
-        return subprocess.run(command, cwd=folder, capture_output=True, text=True, check=False).stdout
+        return run_pytest({"sub/test_red.py": RED}, *arguments, folder=folder)
 
     return start
 

@@ -1,0 +1,104 @@
+"""`ToxiFactory`: what the fixtures `toxi`, `toxi_module` and `toxi_session` are."""
+from dataclasses import dataclass, field
+from pathlib import Path
+from typing import Dict, Iterable, List, Optional, Union
+
+from .base import START_LIMIT, StrPath
+from .program import found_program
+from .proxies import Proxies
+from .rules import Rule
+from .runs import Position, Run
+from .served import Toxi
+
+
+@dataclass(frozen=True)
+class Begun:
+    """How far the proxies of a factory were at an instant: how many were started, and where those that lived stood."""
+
+    started: int = 0
+    positions: Dict[Toxi, Position] = field(default_factory=dict)
+
+
+@dataclass(frozen=True)
+class Shown:
+    """A `Toxi` that a test may have used: its number in its factory, from 1, and where it stood when the test began."""
+
+    number: int
+    served: Toxi
+    since: Position
+
+    @property
+    def runs(self) -> List[Run]:
+        """Its runs since then."""
+        return list(self.served.runs[self.since.run - 1 :])
+
+
+class ToxiFactory:
+    """Starts proxies under one seed, `seed`. They end with the scope of the fixture, or where a `with` statement of one ends.
+
+    def test_slow_answer(toxi: ToxiFactory) -> None:
+        served = toxi({"shop": "127.0.0.1:8080"}, [Rule("shop", [Latency(latency=100)])])
+    """
+
+    def __init__(self, seed: int, folder: Path, program: Optional[str] = None, workers: Optional[int] = None) -> None:
+        self.seed = seed
+        self._folder = folder
+        self._program = program
+        self._workers = workers
+        self._started: List[Toxi] = []
+
+    def __call__(
+        self,
+        proxies: Proxies,
+        rules: Union[str, Iterable[Rule]] = (),
+        *,
+        seed: Optional[int] = None,
+        program: Optional[StrPath] = None,
+        directory: Optional[StrPath] = None,
+        links: Optional[int] = None,
+        workers: Optional[int] = None,
+        connect_timeout: Optional[int] = None,
+        log: Optional[StrPath] = None,
+        start_timeout: float = START_LIMIT,
+    ) -> Toxi:
+        """Starts a `Toxi`, whose options these are. `connect_timeout` is in milliseconds, `start_timeout` in seconds.
+
+        What isn't given is the fixture's: the seed, the program, the number of workers, and folders for its files and its logs.
+        """
+        folder = self._folder / f"toxi-{len(self._started) + 1}"
+        if program is None and self._program is not None:
+            program = found_program(self._program)
+        served = Toxi(
+            proxies,
+            rules,
+            seed=self.seed if seed is None else seed,
+            program=program,
+            directory=folder if directory is None else directory,
+            links=links,
+            workers=self._workers if workers is None else workers,
+            connect_timeout=connect_timeout,
+            log=folder / "logs" if log is None else log,
+            start_timeout=start_timeout,
+        )
+        served.start()
+        self._started.append(served)
+        return served
+
+    def stop(self) -> None:
+        """Ends all of them."""
+        for served in self._started:
+            served.stop()
+
+    def begun(self) -> Begun:
+        """How far they are now."""
+        lives = {served: served.runs[-1].position() for served in self._started if not served.stopped}
+        return Begun(len(self._started), lives)
+
+    def shown(self, begun: Begun) -> List[Shown]:
+        """Those that have lived since."""
+        each = enumerate(self._started, 1)
+        return [
+            Shown(number, served, begun.positions.get(served, Position()))
+            for number, served in each
+            if number > begun.started or served in begun.positions
+        ]
