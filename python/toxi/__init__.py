@@ -7,6 +7,7 @@ The manual of toxics and faults is docs/PROFILE.md, that of rules docs/SCRIPTS.m
 """
 __version__ = "0.3.0"
 
+from .async_served import AsyncToxi
 from .errors import ToxiEnded, ToxiError, ToxiFault, ToxiWarning
 from .factory import ToxiFactory
 from .lines import Address, Link, Total
@@ -18,6 +19,7 @@ from .toxics import Bandwidth, Latency, LimitData, ResetPeer, Slicer, SlowClose,
 
 __all__ = [
     "Address",
+    "AsyncToxi",
     "Bandwidth",
     "Latency",
     "LimitData",

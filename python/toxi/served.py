@@ -95,7 +95,7 @@ class Toxi(ToxiBase):
         self._running().wait_until(lambda: self._found_link(proxy, number) is not None, timeout)
         link = self._found_link(proxy, number)
         if link is None:
-            raise self._no_link(proxy, number, timeout, self._running().status)
+            raise self._no_link(proxy, number, timeout, self._running().writes)
         return link
 
     def wait(self, timeout: float = 10) -> List[Total]:
