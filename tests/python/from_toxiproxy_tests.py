@@ -143,25 +143,86 @@ class FromToxiproxyTests(unittest.TestCase):
         for command in ("toxic add -t latency mail", "toxic add shop", "create a", "create -u $HOST a", "create 'a"):
             self.assertEqual(self.convert(f"{CREATE}toxiproxy-cli {command}\n")[0], 3)
 
-    def test_http_calls_are_named(self):
-        change = "curl -X POST localhost:8474/proxies/shop/toxics -d '{\"type\": \"latency\"}'"
-        self.assertEqual(self.convert(f"{CREATE}{change}\n"), (3, ["line 2: a call of the HTTP interface isn't read"]))
-        for change in (
-            "http POST localhost:8474/proxies name=shop upstream=localhost:6379",
-            "http :8474/proxies/shop/toxics type=latency attributes:='{}'",
-            "xh DELETE http://localhost:8474/proxies/shop",
-            "http :8474/populate < proxies.json",
-            "echo '{}' | http :8474/proxies/shop",
+    def each_toxic_of(self, create, calls):
+        """Converts a script that creates the proxy and adds each toxic by one of the calls in turn. A call gets its URL and its body."""
+        text = create
+        for stream in STREAMS:
+            for place, (kind, attributes, _) in enumerate(TOXICS):
+                body = {"type": kind, "stream": stream, "name": f"{stream}{place}", "attributes": attributes}
+                text += calls[place % len(calls)]("localhost:8474/proxies/shop/toxics", body) + "\n"
+        self.assertEqual(self.convert(text), (0, []), text)
+        for stream in STREAMS:
+            self.check_each_toxic(stream)
+
+    def test_each_toxic_of_curl(self):
+        create = "#!/bin/sh\ncurl -sSf -X POST \"$API/proxies\" -H 'Content-Type: application/json' -o /dev/null -d '{\n  \"name\": \"shop\",\n"
+        create += '  "listen": "127.0.0.1:26379", "upstream": "127.0.0.1:6379"\n}\' || exit 1\n'
+        calls = (
+            lambda url, body: f"docker exec t /usr/bin/curl -fsXPOST http://{url}/ --data-raw {shlex.quote(json.dumps(body, indent=1))} > log 2>&1",
+            lambda url, body: f"curl {url} -d @- <<EOF && echo done\n{json.dumps(body, indent=1)}\nEOF",
+            lambda url, body: f'curl --fail --json "{json.dumps(body)}" {url}'.replace('"', '\\"').replace('\\"{', '"{').replace('}\\" l', '}" l'),
+            lambda url, body: f"cat <<- 'END' | curl --request post \\\n --data-binary @- {url}\n{json.dumps(body)}\n\tEND",
+        )
+        self.each_toxic_of(create, calls)
+
+    def test_each_toxic_of_httpie(self):
+        def items(url, body):
+            nested = " ".join(f"'attributes[{key}]:={value}'" for key, value in body["attributes"].items())
+            return f"http --check-status -b POST {url} Accept:application/json type={body['type']} stream={body['stream']} name={body['name']} {nested}"
+
+        calls = (
+            items,
+            lambda url, body: f"echo {shlex.quote(json.dumps(body))} | http {url} | jq .",
+            lambda url, body: f"https --timeout 5 POST {url} <<< {shlex.quote(json.dumps(body))}",
+            lambda url, body: f"xh {url} type={body['type']} stream={body['stream']} name={body['name']} attributes:={shlex.quote(json.dumps(body['attributes']))}",
+            lambda url, body: f"http --raw {shlex.quote(json.dumps(body))} {url}",
+        )
+        self.each_toxic_of("http :8474/proxies name=shop listen=127.0.0.1:26379 upstream=127.0.0.1:6379 enabled:=true\n", calls)
+
+    def test_populate_and_toxicities_of_calls(self):
+        body = json.dumps([SHOP, {"name": "mail", "upstream": "localhost:25", "enabled": False}])
+        text = f"curl -X POST localhost:8474/populate -d '{body}'\nhttp :8474/proxies/mail/toxics type=timeout toxicity:=0.25\n"
+        self.assertEqual(self.convert(text)[0], 3)
+        with open(os.path.join(self.folder, "s.toml")) as file:
+            self.assertIn('toxicity = "0.25"', file.read())
+        with open(os.path.join(self.folder, "p.json")) as file:
+            self.assertEqual([(proxy["name"], proxy["enabled"]) for proxy in json.load(file)], [("shop", True), ("mail", False)])
+
+    def test_calls_that_have_no_counterpart(self):
+        for call, named in (
+            ("curl -X DELETE localhost:8474/proxies/shop", "`DELETE /proxies/shop` changes a proxy while it runs"),
+            ("curl -d '{}' localhost:8474/proxies/shop/toxics/slow", "`POST /proxies/shop/toxics/slow` changes a proxy while it runs"),
+            ("curl -XPOST localhost:8474/reset", "`POST /reset` changes a proxy while it runs"),
+            ("xh PATCH :8474/proxies/shop enabled:=false", "`PATCH /proxies/shop` changes a proxy while it runs"),
+            ("echo '{}' | http :8474/proxies/shop", "`POST /proxies/shop` changes a proxy while it runs"),
+            ("curl localhost:8474/populate -d @proxies.json", "the body is in proxies.json, which isn't read"),
+            ("http :8474/populate < proxies.json", "the body is in proxies.json, which isn't read"),
+            ("http :8474/populate @proxies.json", "`@proxies.json` can't be read"),
+            ("curl localhost:8474/proxies -d '{'", "`{` isn't JSON"),
+            ("curl localhost:8474/proxies -d '[]'", "`POST /proxies` has another body than an object"),
+            ("curl localhost:8474/proxies -d '{\"name\": \"a\"}'", "`POST /proxies` without a name or an upstream"),
+            ('curl localhost:8474/proxies -d "{\\"name\\": \\"$NAME\\"}"', "a variable of the shell isn't known here"),
+            ("http :8474/proxies/mail/toxics type=latency", "`POST /proxies/mail/toxics` without a type, or for a proxy that wasn't created"),
+            ("http :8474/proxies/shop/toxics a=b a[b]=c", "`a[b]` can't be read"),
+            ("wget --post-data '{}' localhost:8474/proxies", "a call by wget isn't read"),
         ):
-            self.assertEqual(self.convert(f"{CREATE}{change}\n"), (3, ["line 2: a call of the HTTP interface isn't read"]), change)
+            self.assertEqual(self.convert(f"{CREATE}{call}\n"), (3, [f"line 2: {named}"]), call)
         for reading in (
             "curl localhost:8474/proxies",
+            "curl -G -d a=1 localhost:8474/proxies",
             "curl -d a=1 localhost/orders",
             "http :8474/proxies",
             "http GET localhost:8474/proxies q==a",
             "http POST :80/a b=c",
+            "until curl -sf localhost:8474/version; do sleep 1; done",
+            "wget localhost:8474/proxies",
         ):
             self.assertEqual(self.convert(f"{CREATE}{reading}\n"), (0, []), reading)
+
+    def test_an_open_quote_takes_no_command_away(self):
+        for line in ("cat <<EOF\ndon't curl it\nEOF", "# don't curl it", "echo it\\'s curl now"):
+            self.assertEqual(self.convert(f"{line}\n{CREATE}echo 'done'\n")[1][1:], [], line)
+            self.assertEqual(self.picked(), [FIRST + "enabled"], line)
 
     def test_commands_of_a_variable_are_named(self):
         for command, named in (
