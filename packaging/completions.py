@@ -1,6 +1,6 @@
 #!/usr/bin/env python3
-"""Prints the completions of a shell for a program, from its own help. Usage: packaging/completions.py PROGRAM bash|zsh|fish"""
-import sys
+"""Prints the completions of a shell for a program, from its own help."""
+import argparse
 from typing import Dict, List
 
 from program_help import TOPICS, Help, Option, helps_of
@@ -135,5 +135,16 @@ def fish_quoted(text: str) -> str:
     return "'" + text.replace("\\", "\\\\").replace("'", "\\'") + "'"
 
 
+SHELLS = {"bash": bash, "zsh": zsh, "fish": fish}
+
+
+def main() -> None:
+    parser = argparse.ArgumentParser(description=__doc__)
+    parser.add_argument("program", metavar="PROGRAM", help="the path of the program")
+    parser.add_argument("shell", choices=SHELLS, help="the shell that reads them")
+    arguments = parser.parse_args()
+    print(SHELLS[arguments.shell](helps_of(arguments.program)), end="")
+
+
 if __name__ == "__main__":
-    print({"bash": bash, "zsh": zsh, "fish": fish}[sys.argv[2]](helps_of(sys.argv[1])), end="")
+    main()

@@ -1,6 +1,6 @@
 #!/usr/bin/env python3
-"""Prints the man page of a program, from its own help. Usage: packaging/manual.py PROGRAM DATE"""
-import sys
+"""Prints the man page of a program, from its own help."""
+import argparse
 from typing import List
 
 from program_help import TOPICS, Help, helps_of, printed_by
@@ -58,5 +58,13 @@ def page(program: str, date: str) -> str:
     return "\n".join([*lines, ""])
 
 
+def main() -> None:
+    parser = argparse.ArgumentParser(description=__doc__)
+    parser.add_argument("program", metavar="PROGRAM", help="the path of the program")
+    parser.add_argument("date", metavar="DATE", help="the date that the page shows")
+    arguments = parser.parse_args()
+    print(page(arguments.program, arguments.date), end="")
+
+
 if __name__ == "__main__":
-    print(page(*sys.argv[1:]), end="")
+    main()

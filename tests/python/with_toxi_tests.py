@@ -82,6 +82,11 @@ class WithToxiTests(unittest.TestCase):
         ran = self.run_it("sh", "-c", 'env | grep -c "^TOXI_A[0-9]*=127.0.0.1:[1-9]"; echo "$1"', "sh", "a  b")
         self.assertEqual((ran.returncode, ran.stdout), (0, "64\na  b\n"))
 
+    def test_options_of_the_command_are_its_own(self):
+        self.proxies(["a"])
+        ran = self.run_it("echo", "--", "--log", "x", "-h")
+        self.assertEqual((ran.returncode, ran.stdout), (0, "-- --log x -h\n"))
+
     def test_statuses(self):
         self.proxies(["a"])
         for command, status in (("exit 7", 7), ("kill -9 $$", 137), ("exit 0", 0)):
