@@ -1,4 +1,4 @@
-// Starts `toxi serve`, a TCP fault proxy, in front of the services of a test. It is one file, to be copied whole. It needs Node.js 18.
+// Starts `toxi serve`, a TCP fault proxy, in front of the services of a test. It is one file, to be copied whole.
 "use strict";
 
 const { spawn } = require("node:child_process");

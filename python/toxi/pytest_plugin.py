@@ -92,8 +92,9 @@ def pytest_runtest_makereport(item: pytest.Item) -> Generator[None, Any, None]:
     if report.failed:
         _settle(item, fixtures)
     kept = _kept(item) if report.failed else None
+    begun: Dict[ToxiFactory, Begun] = item.stash.get(BEGUN, {})
     for fixture in fixtures:
-        section = Section(item, fixture, item.stash[BEGUN].get(fixture.factory, Begun()))
+        section = Section(item, fixture, begun.get(fixture.factory, Begun()))
         report.sections.append((fixture.name, section.text(report.failed, kept)))
 
 

@@ -82,6 +82,16 @@ class WithToxiTests(unittest.TestCase):
         ran = self.run_it("sh", "-c", 'env | grep -c "^TOXI_A[0-9]*=127.0.0.1:[1-9]"; echo "$1"', "sh", "a  b")
         self.assertEqual((ran.returncode, ran.stdout), (0, "64\na  b\n"))
 
+    def test_rules_without_effect_and_for_no_proxy(self):
+        self.proxies(["a"])
+        self.write("twice.toml", "[[rule]]\nproxy = 'a'\nfirst = 1\n" * 2)
+        ran = self.run_it("true", script="twice.toml")
+        told = "with-toxi: rule 2 never applies: rule 1 covers its connections, at rule 2: line 4 of the script\n"
+        self.assertEqual((ran.returncode, ran.stderr), (0, told))
+        ran = self.run_it("true", script="cut.toml")
+        self.assertEqual((ran.returncode, ran.stdout), (1, ""))
+        self.assertIn("with-toxi: rule 1 never applies: no proxy my-shop.1, at rule 1: line 1 of the script\n", ran.stderr)
+
     def test_options_of_the_command_are_its_own(self):
         self.proxies(["a"])
         ran = self.run_it("echo", "--", "--log", "x", "-h")
