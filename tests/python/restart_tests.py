@@ -145,6 +145,18 @@ class RestartTests(unittest.TestCase):
             self.assertEqual([toxi.address(name) for name in names], before)
             self.assertFalse(any(map(refused, before)))
 
+    def test_a_port_that_is_gone_is_an_error(self):
+        """With `links` the program gives its port up by itself."""
+        toxi = self.served(links=1)
+        get(toxi, 1)
+        toxi.wait(PATIENCE)
+        with socket.create_server(toxi.address()):
+            for call in (toxi.down, toxi.up):
+                self.assertRaisesRegex(ToxiError, f"another process has taken a port of {toxi.address()}", call)
+        toxi.up()
+        get(toxi, 1)
+        self.assertEqual([total.links for total in toxi.wait(PATIENCE)], [1])
+
     def test_it_must_run(self):
         toxi = Toxi(self.upstream)
         for call in (toxi.restart, toxi.down, toxi.up):

@@ -74,6 +74,18 @@ def test_the_command_of_a_session_has_the_modules_before(run_pytest):
     assert [line for line in lines if line.startswith("link ")] == [line for line in again if line.startswith("link ")]
 
 
+def test_proxies_that_ended_before_are_not_shown(run_pytest):
+    test = """
+@pytest.mark.parametrize("number", [1, 2])
+def test_each(toxi_session, number):
+    with toxi_session(NOWHERE) as served:
+        visit(served)
+    assert number == 1
+"""
+    lines = section_of(run_pytest({"test_each.py": CLIENT + test}), "toxi_session")
+    assert len([line for line in lines if line.startswith("link ")]) == 1
+
+
 def test_with_ends_what_a_factory_started(run_pytest):
     test = """
 def test_with(toxi_session):
