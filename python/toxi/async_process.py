@@ -41,8 +41,14 @@ class AsyncProcess:
 
     @property
     def status(self) -> Optional[int]:
-        """The status of a process that has ended: negative for a signal. None while it runs."""
+        """The status of a process that has ended: negative for a signal. None while it runs, and a moment longer."""
         return self._child.returncode
+
+    async def settled_status(self) -> Optional[int]:
+        """As `status`, but waited for once the lines have ended."""
+        if not self.writes:
+            await self.wait(STOP_LIMIT)
+        return self.status
 
     @property
     def writes(self) -> bool:

@@ -32,7 +32,7 @@ class AsyncToxi(ToxiBase):
     async def __aexit__(
         self, kind: Optional[Type[BaseException]], error: Optional[BaseException], trace: Optional[TracebackType]
     ) -> None:
-        status = self._running().status
+        status = await self._running().settled_status()
         failed = not self._stopped and status not in (None, 0)
         await self.stop()
         if failed and kind is None:
@@ -69,7 +69,7 @@ class AsyncToxi(ToxiBase):
     async def up(self) -> None:
         """Takes the service up again, as `Toxi.up`."""
         self._require_started()
-        if self._running().status is not None:
+        if await self._running().settled_status() is not None:
             await self.restart()
 
     async def wait_for_link(self, proxy: str, number: int, timeout: float = 5) -> Link:
@@ -133,8 +133,9 @@ class AsyncToxi(ToxiBase):
     async def _end_run(self) -> None:
         """Ends the program, and takes its ports as soon as it stops listening."""
         process = self._running()
-        if process.status not in (None, 0):
-            raise self._error(process.status)
+        status = await process.settled_status()
+        if status not in (None, 0):
+            raise self._error(status)
         process.terminate()
         end = time.monotonic() + STOP_LIMIT
         while not self._hold() and process.status is None and time.monotonic() < end:

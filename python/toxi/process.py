@@ -43,8 +43,11 @@ class Process:
 
     @property
     def status(self) -> Optional[int]:
-        """The status of a process that has ended: negative for a signal. None while it runs."""
-        return self._child.poll()
+        """The status of a process that has ended: negative for a signal. None while it runs. It is waited for once the lines have ended."""
+        try:
+            return self._child.poll() if self.writes else self._child.wait(STOP_LIMIT)
+        except subprocess.TimeoutExpired:
+            return None
 
     @property
     def writes(self) -> bool:

@@ -5,18 +5,20 @@ import shlex
 import signal
 import subprocess
 import tempfile
-import time
 import unittest
 
 from services import http_service
-from toxi import AsyncToxi, LimitData, Proxy, ResetPeer, Rule, Timeout, ToxiEnded, ToxiError, ToxiFault, ToxiWarning
+from toxi import AsyncToxi, LimitData, Proxy, ResetPeer, Rule, ToxiEnded, ToxiError, ToxiFault, ToxiWarning
 
 PATIENCE = 20
 NOWHERE = {"shop": "127.0.0.1:1"}
 CUT = [Rule("shop", [LimitData(bytes=0)])]
 TICK = 0.01
-# A program that takes its time for everything.
-SLOW = "#!/bin/sh\nsleep 0.3\nexec {} \"$@\"\n"
+# A program that goes on once another task of the loop writes into a pipe. It says so if that takes too long.
+WAITING = """#!/bin/sh
+timeout 20 sh -c 'read _ < {folder}/pipe' || touch {folder}/blocked
+exec {program} "$@"
+"""
 
 
 async def fetched(toxi):
@@ -97,37 +99,42 @@ class AsyncTests(unittest.IsolatedAsyncioTestCase):
         await task
 
     async def test_nothing_blocks_the_loop(self):
-        ticks = 0
+        released = 0
 
-        async def tick():
-            nonlocal ticks
+        async def release(pipe):
+            nonlocal released
             while True:
+                try:
+                    writer = os.open(pipe, os.O_WRONLY | os.O_NONBLOCK)
+                except OSError:
+                    # No program waits.
+                    await asyncio.sleep(TICK)
+                    continue
+                os.write(writer, b"\n")
+                os.close(writer)
+                released += 1
                 await asyncio.sleep(TICK)
-                ticks += 1
 
         with tempfile.TemporaryDirectory() as folder:
-            slow = os.path.join(folder, "toxi")
-            with open(slow, "w") as file:
-                file.write(SLOW.format(shlex.quote(os.environ["TOXI"])))
-            os.chmod(slow, 0o755)
-            self.enter_environment(TOXI=slow)
-            task = asyncio.create_task(tick())
-            toxi = AsyncToxi(self.upstream, [Rule("shop", [Timeout()])], log=os.path.join(folder, "logs"))
-            for call in (toxi.start, toxi.restart, lambda: toxi.pick("shop", 1, "upstream"), toxi.page, self.waiting(toxi)):
-                before, begun = ticks, time.monotonic()
-                await call()
-                self.assertGreater(time.monotonic() - begun, 0.25)
-                # A blocked loop has none or one. A busy machine may leave some out.
-                self.assertGreater(ticks - before, 5)
-            await toxi.stop()
+            program = os.path.join(folder, "toxi")
+            with open(program, "w") as file:
+                file.write(WAITING.format(folder=shlex.quote(folder), program=shlex.quote(os.environ["TOXI"])))
+            os.chmod(program, 0o755)
+            os.mkfifo(os.path.join(folder, "pipe"))
+            self.enter_environment(TOXI=program)
+            task = asyncio.create_task(release(os.path.join(folder, "pipe")))
+            async with AsyncToxi(self.upstream, CUT, log=os.path.join(folder, "logs")) as toxi:
+                await toxi.restart()
+                await toxi.pick("shop", 1, "upstream")
+                waits = asyncio.create_task(toxi.wait_for_link("shop", 1, PATIENCE))
+                await asyncio.sleep(TICK)
+                self.assertEqual(await fetched(toxi), b"")
+                self.assertEqual((await waits).down_end, "closed")
+                await toxi.page()
             task.cancel()
-
-    def waiting(self, toxi):
-        async def call():
-            with self.assertRaises(TimeoutError):
-                await toxi.wait_for_link("shop", 1, 0.3)
-
-        return call
+            self.assertFalse(os.path.exists(os.path.join(folder, "blocked")))
+            # Its version, two checks, two starts, a pick and a page.
+            self.assertGreaterEqual(released, 7)
 
     def enter_environment(self, **changed):
         before = dict(os.environ)

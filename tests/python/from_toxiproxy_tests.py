@@ -221,8 +221,10 @@ class FromToxiproxyTests(unittest.TestCase):
 
     def test_an_open_quote_takes_no_command_away(self):
         for line in ("cat <<EOF\ndon't curl it\nEOF", "# don't curl it", "echo it\\'s curl now"):
-            self.assertEqual(self.convert(f"{line}\n{CREATE}echo 'done'\n")[1][1:], [], line)
-            self.assertEqual(self.picked(), [FIRST + "enabled"], line)
+            for last in ("echo 'done'", "# it's"):
+                status, missing = self.convert(f"{line}\n{CREATE}{last}\n")
+                self.assertIn((status, missing), ((0, []), (3, ["line 2: its quotes can't be read"])), line)
+                self.assertEqual(self.picked(), [FIRST + "enabled"], line)
 
     def test_commands_of_a_variable_are_named(self):
         for command, named in (
