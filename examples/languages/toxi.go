@@ -52,7 +52,8 @@ func Start(program string, upstreams map[string]string, script string, seed uint
 	return toxi, nil
 }
 
-func (toxi *Toxi) start(program string, upstreams map[string]string, script string, seed uint64) error {
+// writeFiles writes the populate file and the script, and returns their paths.
+func (toxi *Toxi) writeFiles(upstreams map[string]string, script string) (string, string, error) {
 	type proxy struct {
 		Name     string `json:"name"`
 		Upstream string `json:"upstream"`
@@ -64,13 +65,18 @@ func (toxi *Toxi) start(program string, upstreams map[string]string, script stri
 	}
 	populate, err := json.Marshal(proxies)
 	if err != nil {
-		return err
+		return "", "", err
 	}
 	config, rules := filepath.Join(toxi.folder, "proxies.json"), filepath.Join(toxi.folder, "script.toml")
 	if err := os.WriteFile(config, populate, 0o600); err != nil {
-		return err
+		return "", "", err
 	}
-	if err := os.WriteFile(rules, []byte(script), 0o600); err != nil {
+	return config, rules, os.WriteFile(rules, []byte(script), 0o600)
+}
+
+func (toxi *Toxi) start(program string, upstreams map[string]string, script string, seed uint64) error {
+	config, rules, err := toxi.writeFiles(upstreams, script)
+	if err != nil {
 		return err
 	}
 	toxi.process = exec.Command(program, "serve", "--config", config, "--script", rules, "--seed", strconv.FormatUint(seed, 10))

@@ -99,7 +99,8 @@ impl Drop for Toxi {
 
 type Started = (Child, HashMap<String, String>, BufReader<ChildStdout>);
 
-fn start_in(folder: &Path, program: &str, upstreams: &[(&str, &str)], script: &str, seed: u64) -> Result<Started> {
+/// Writes the populate file and the script. Returns their paths.
+fn write_files(folder: &Path, upstreams: &[(&str, &str)], script: &str) -> Result<(PathBuf, PathBuf)> {
     let (config, rules) = (folder.join("proxies.json"), folder.join("script.toml"));
     let proxy = |(name, upstream): &(&str, &str)| format!(r#"{{"name": "{name}", "upstream": "{upstream}", "listen": "127.0.0.1:0"}}"#);
     fs::write(
@@ -107,6 +108,11 @@ fn start_in(folder: &Path, program: &str, upstreams: &[(&str, &str)], script: &s
         format!("[{}]\n", upstreams.iter().map(proxy).collect::<Vec<_>>().join(",\n")),
     )?;
     fs::write(&rules, script)?;
+    Ok((config, rules))
+}
+
+fn start_in(folder: &Path, program: &str, upstreams: &[(&str, &str)], script: &str, seed: u64) -> Result<Started> {
+    let (config, rules) = write_files(folder, upstreams, script)?;
     let mut process = Command::new(program)
         .arg("serve")
         .arg("--config")
