@@ -1,13 +1,10 @@
 #!/usr/bin/env python3
 """Makes the wheel of the Python package with the program in it, and prints its name. What it says of itself is that of python/pyproject.toml. The same input
-gives the same wheel.
-
-Usage: packaging/wheel.py PROGRAM NOTICES DATE FOLDER, where NOTICES is the file of licences, and DATE the time of each file.
-"""
+gives the same wheel."""
+import argparse
 import ast
 import base64
 import hashlib
-import sys
 import tomllib
 import zipfile
 from pathlib import Path
@@ -77,18 +74,27 @@ def put(wheel, name, content, mode, date):
     wheel.writestr(info, content, zipfile.ZIP_DEFLATED, 9)
 
 
+def arguments():
+    parser = argparse.ArgumentParser(description=__doc__)
+    parser.add_argument("program", type=Path, help="the path of the program")
+    parser.add_argument("notices", type=Path, help="the file with the licences of what the program links")
+    parser.add_argument("date", help="the time of each file, as 2026-11-28")
+    parser.add_argument("folder", type=Path, help="where the wheel is put")
+    return parser.parse_args()
+
+
 def main():
-    program, notices, date, folder = sys.argv[1:]
+    given = arguments()
     project = tomllib.loads((ROOT / "python" / "pyproject.toml").read_text())["project"]
     version = version_of(PACKAGE)
     name = f"{project['name']}-{version}-{TAG}.whl"
     record = f"{project['name']}-{version}.dist-info/RECORD"
     lines = ""
-    with zipfile.ZipFile(Path(folder, name), "w") as wheel:
-        for file, content, mode in contents(project, version, Path(program), Path(notices)):
-            put(wheel, file, content, mode, date)
+    with zipfile.ZipFile(given.folder / name, "w") as wheel:
+        for file, content, mode in contents(project, version, given.program, given.notices):
+            put(wheel, file, content, mode, given.date)
             lines += recorded(file, content)
-        put(wheel, record, f"{lines}{record},,\n".encode(), FILE, date)
+        put(wheel, record, f"{lines}{record},,\n".encode(), FILE, given.date)
     print(name)
 
 
