@@ -85,7 +85,7 @@ def pytest_runtest_makereport(item: pytest.Item) -> Generator[None, Any, None]:
     fixtures = _fixtures_of(item)
     if report.when == "setup":
         for fixture in fixtures:
-            fixture.modules[item.nodeid.split("::")[0]] = None
+            fixture.modules[item.path] = None
             item.user_properties.append((f"{fixture.name}_seed", fixture.factory.seed))
     if not fixtures or not (report.failed or report.when == "call"):
         return

@@ -26,7 +26,7 @@ class Fixture:
     name: str
     factory: ToxiFactory
     is_wide: bool
-    modules: Dict[str, None] = field(default_factory=dict)
+    modules: Dict[Path, None] = field(default_factory=dict)
 
 
 @dataclass(frozen=True)
@@ -57,19 +57,21 @@ class Section:
         Under a wider fixture a link's number depends on the tests before, so it runs the whole module, and before it those that used the
         same proxies.
         """
-        path, *names = self.item.nodeid.split("::")
-        words = ["::".join([self._from_here(path), *names])]
+        # A test's id has its file relative to pytest's root, or not if it lies elsewhere.
+        names = self.item.nodeid.split("::")[1:]
+        words = ["::".join([self._from_here(self.item.path), *names])]
         if self.fixture.is_wide:
             before = self.fixture.modules if any(each.served in self.begun.positions for each in shown) else ()
-            words = list(map(self._from_here, dict.fromkeys([*before, path])))
+            words = list(map(self._from_here, dict.fromkeys([*before, self.item.path])))
         words += ["--toxi-seed", str(self.fixture.factory.seed)]
         for option in PASSED_ON:
             value = self.item.config.getoption(option)
-            words += [] if value is None else [option, str(value)]
+            # pytest takes a path that stands alone for one of its own when it looks for its ini.
+            words += [] if value is None else [f"{option}={value}"]
         return shlex.join(["pytest", *words])
 
-    def _from_here(self, path: str) -> str:
-        return os.path.relpath(self.item.config.rootpath / path, self.item.config.invocation_params.dir)
+    def _from_here(self, path: Path) -> str:
+        return os.path.relpath(path, self.item.config.invocation_params.dir)
 
     def _pages(self, shown: Shown) -> List[str]:
         """A line for each run that has logs: where its page is."""
