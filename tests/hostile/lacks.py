@@ -8,7 +8,7 @@ from registry import start
 from served import Engine
 from shim import environment
 from stops import ALWAYS, Stopped, ended_links, log_of
-from waiting import LIMIT, Failed, check
+from waiting import LIMIT, Failed, check, wait_until
 
 CLIENTS = 60
 # A link takes two descriptors. With so many more than at rest one is carried after the other, or more at once.
@@ -36,9 +36,8 @@ def begin_to_talk(toxi, count, failures):
     return clients
 
 
-def serve_at_limits(toxi):
-    """At each limit of descriptors all clients are served that come at once."""
-    at_rest = toxi.descriptors()
+def serve_at_limits(toxi, at_rest):
+    """At each limit of descriptors, above so many at rest, all clients are served that come at once."""
     for more in FEW_DESCRIPTORS:
         toxi.allow_descriptors(at_rest + more)
         failures = []
@@ -54,7 +53,8 @@ def clients_wait_for_descriptors(program, folder):
     the same."""
     with Stopped(program, folder) as toxi:
         toxi.echo_first_bytes()
-        serve_at_limits(toxi)
+        at_rest = toxi.descriptors()
+        serve_at_limits(toxi, at_rest)
         toxi.allow_descriptors(toxi.descriptors())
         failures = []
         waiting = begin_to_talk(toxi, 8, failures)
@@ -64,7 +64,9 @@ def clients_wait_for_descriptors(program, folder):
         for client in waiting:
             client.join()
         check(not failures, f"a client that has waited isn't served: {failures[:1]}")
-        toxi.allow_descriptors(toxi.descriptors())
+        # A link that lives at the signal is broken by it.
+        wait_until(lambda: toxi.descriptors() <= at_rest, "the end of all links")
+        toxi.allow_descriptors(at_rest)
         lines = toxi.tell(limit=ALWAYS)
         broken = [line[0] for line in ended_links(lines).values() if "broken" in line[0]]
         check(not broken, f"{len(broken)} links are broken, the first `{broken[:1]}`")
