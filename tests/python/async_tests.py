@@ -19,6 +19,8 @@ WAITING = """#!/bin/sh
 timeout 20 sh -c 'read _ < {folder}/pipe' || touch {folder}/blocked
 exec {program} "$@"
 """
+# A program that finds nothing wrong with rules, and never listens.
+SILENT = "#!/bin/sh\n[ $1 = check ] || exec sleep 60\n"
 
 
 async def fetched(toxi):
@@ -166,7 +168,13 @@ class AsyncTests(unittest.IsolatedAsyncioTestCase):
             await toxi.restart()
 
     async def test_a_cancelled_start_and_an_exception_leave_nothing(self):
-        toxi = AsyncToxi(NOWHERE)
+        folder = tempfile.TemporaryDirectory()
+        self.addCleanup(folder.cleanup)
+        program = os.path.join(folder.name, "toxi")
+        with open(program, "w") as file:
+            file.write(SILENT)
+        os.chmod(program, 0o755)
+        toxi = AsyncToxi(NOWHERE, program=program)
         task = asyncio.create_task(toxi.start())
         while toxi._process is None and not task.done():
             await asyncio.sleep(0)
