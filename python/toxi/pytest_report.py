@@ -57,7 +57,7 @@ class Section:
         Under a wider fixture a link's number depends on the tests before, so it runs the whole module, and before it those that used the
         same proxies.
         """
-        # A test's id has its file relative to pytest's root, or not if it lies elsewhere.
+        # The path in the id of a test outside pytest's root isn't relative to that root.
         names = self.item.nodeid.split("::")[1:]
         words = ["::".join([self._from_here(self.item.path), *names])]
         if self.fixture.is_wide:
@@ -66,7 +66,7 @@ class Section:
         words += ["--toxi-seed", str(self.fixture.factory.seed)]
         for option in PASSED_ON:
             value = self.item.config.getoption(option)
-            # pytest takes a path that stands alone for one of its own when it looks for its ini.
+            # Behind a space pytest takes the path for that of a test when it looks for its ini.
             words += [] if value is None else [f"{option}={value}"]
         return shlex.join(["pytest", *words])
 
