@@ -1,5 +1,5 @@
-# Sourced by ../toxi where ./build has made no program: the kit's unproved program of the same source, compiled once and kept in out/unproved. It is named by
-# the sum of its source, so that it is compiled again when a source has changed.
+# Sourced by ../toxi where ./build has made no program and the released one is of another source: the kit's unproved program of the present one, compiled once and
+# kept in out/unproved. It is named by the sum of its source, so that it is compiled again when a source has changed.
 kept="$root/out/unproved"
 scratch=
 try=
@@ -18,7 +18,8 @@ keep_unproved() {
 warn() {
     [ -z "$(find "$kept/warned" -mmin -60 2>/dev/null)" ] || return 0
     echo "toxi: checked build: ten to a hundred times slower, not for load; \`./build\` makes the proved program" >&2
-    : >"$kept/warned"
+    # A special command whose redirection fails would end the shell.
+    (: >"$kept/warned") 2>/dev/null || true
 }
 
 can_keep() {
