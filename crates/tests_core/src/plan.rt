@@ -1,6 +1,7 @@
 //! Tests of compiled plans: runners, lent slices and `deliver`, beside the stages one after another.
 mod cases;
 pub mod demands;
+mod later_cases;
 mod orders;
 pub mod outcomes;
 mod plans;

@@ -19,5 +19,8 @@ pub mod Checked
 pub mod RuleRunsTold
 pub mod Silencing
 pub mod SamePlan
+pub mod Through
+pub mod FinalsKept
 pub mod SlicedLast
+pub mod NoTime
 pub mod Unchanged

@@ -1,5 +1,5 @@
 -- The runs of a proxy, by the steps of its index.
-use Rattle.std.proofs.Common.{◌≡◌, ℕ, ◌+◌, ◌<◌, ◌^◌, List, [], ◌∷◌, length, Option, None, Some, arith, sym, ap, subst}
+use Rattle.std.proofs.Common.{◌≡◌, ℕ, ◌+◌, ◌<◌, ◌^◌, List, length, Option, Some, arith, sym, ap, subst}
 use Rattle.std.specs.Prelude.{option_map}
 use Rattle.tox_script.specs.Rule.{Rules}
 use Rattle.tox_script.specs.declared.index.step.Step.{Step}

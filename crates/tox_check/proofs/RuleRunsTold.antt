@@ -1,10 +1,9 @@
 -- What is told of the runs of a rule.
-use Rattle.std.proofs.Common.{◌≡◌, ◌≢◌, ℕ, ◌-◌, List, [], ◌∷◌, length, take, refl, sym, ap, ◌∙◌}
+use Rattle.std.proofs.Common.{◌≡◌, ◌≢◌, ℕ, ◌-◌, List, [], ◌∷◌, length, take, refl, ap, ◌∙◌}
 use Rattle.tox_check.specs.Coverage.{own_of, taken_of}
 use Rattle.tox_check.specs.Lines.{coverage_told, met_told}
 use Rattle.tox_check.specs.Listed.{IsListed}
-use Rattle.tox_check.specs.Sentences.{covered_text, partly_text}
-use Rattle.tox_check.specs.Summary.{greatest, least}
+use Rattle.tox_check.specs.Sentences.{partly_text}
 use Rattle.tox_check.specs.RuleRuns.{HasRuns}
 use Rattle.tox_check.specs.declared.listed.Listed.{Listed}
 use Rattle.tox_check.specs.declared.run.Run.{Run}

@@ -11,7 +11,7 @@ use Rattle.tox_defs.specs.declared.chain.Entry.{Entry}
 use Rattle.tox_defs.specs.declared.toxic.Toxic.{Toxic}
 use Rattle.tox_defs.specs.declared.toxic.Toxic.TheVariants.{Latency, Bandwidth, SlowClose, Timeout, ResetPeer, Slicer, LimitData}
 use Rattle.tox_defs.specs.declared.operations.op.Op.{Op}
-use Rattle.tox_defs.specs.declared.operations.op.Op.TheVariants.{Delay, Pace, Slow, Mute, Cutoff, Slicing, Limit}
+use Rattle.tox_defs.specs.declared.operations.op.Op.TheVariants.{Delay, Pace, Slow, Mute, Cutoff, Slicing, Limit, Halt}
 use Rattle.tox_defs.specs.chain.Applied.{is_applied}
 use Rattle.tox_defs.specs.chain.Chain.{Toxics, IsChain}
 use Rattle.tox_defs.specs.Flow.{applied_from, chain_draws, chain_flow}
@@ -22,7 +22,7 @@ use Rattle.tox_compile.specs.Meaning.{means}
 use Rattle.tox_compile.specs.Normal.{after_mute, normal_form, vanishes, with_op}
 use Rattle.tox_compile.proofs.NormalForms.{means-normal_form}
 use Rattle.tox_check.proofs.Silencing.{always, is_chain-without, never, without}
-use Rattle.tox_check.specs.Idle.{ChangesNothing, does_nothing, drops_all, is_lost, is_timeout, needs_data, silenced}
+use Rattle.tox_check.specs.Idle.{ChangesNothing, does_nothing, drops_all, drops_data, is_lost, needs_data, silenced}
 
 -- the operations so far with those of the applied ones of some entries
 abbrev folded : Draws → List Op → ℕ → List Entry → List Op
@@ -55,14 +55,14 @@ entry-same false ops place entry same = refl
 
 -- what does nothing is left out
 nothing-same : (ops : List Op) (place : ℕ) (toxic : Toxic) → does_nothing toxic ≡ true → with_op ops (op_of place toxic) ≡ ops
-nothing-same ops place (Latency latency zero until) is = rw is refl
-nothing-same ops place (Latency latency (suc jitter) until) is =
+nothing-same ops place (Latency latency zero until from) is = rw is refl
+nothing-same ops place (Latency latency (suc jitter) until from) is =
     let none : suc jitter ≡ 0 = eqb-true (suc jitter) 0 (and_parts (latency == 0) (suc jitter == 0) is).1 in absurd (omega arith)
 nothing-same ops place (SlowClose delay) is = rw is refl
-nothing-same ops place (Bandwidth rate until) is = absurd (cc)
-nothing-same ops place (Timeout timeout) is = absurd (cc)
-nothing-same ops place (ResetPeer timeout) is = absurd (cc)
-nothing-same ops place (Slicer average variation delay until) is = absurd (cc)
+nothing-same ops place (Bandwidth rate until from) is = absurd (cc)
+nothing-same ops place (Timeout timeout from after) is = absurd (cc)
+nothing-same ops place (ResetPeer timeout after) is = absurd (cc)
+nothing-same ops place (Slicer average variation delay until from) is = absurd (cc)
 nothing-same ops place (LimitData bytes) is = absurd (cc)
 
 -- one mute alone
@@ -75,42 +75,43 @@ mute-kept ops place toxic (end, is) = rw is (kept (op_of place toxic))
   where
     kept : (op : Op) → IsMute (with_op (Mute end ∷ []) op)
     kept (Mute other) = (other, refl)
-    kept (Delay fixed latency jitter lane until) = by (vanishes (Delay fixed latency jitter lane until)) refl
+    kept (Delay fixed latency jitter lane until from) = by (vanishes (Delay fixed latency jitter lane until from)) refl
       where
-        by : (e : Bool) → vanishes (Delay fixed latency jitter lane until) ≡ e → IsMute (with_op (Mute end ∷ []) (Delay fixed latency jitter lane until))
+        by : (e : Bool) → vanishes (Delay fixed latency jitter lane until from) ≡ e → IsMute (with_op (Mute end ∷ []) (Delay fixed latency jitter lane until from))
         by true e = rw e (end, refl)
-        by false e = rw e (after_mute (Delay fixed latency jitter lane until) end, refl)
+        by false e = rw e (after_mute (Delay fixed latency jitter lane until from) end, refl)
     kept (Slow millis) = by (vanishes (Slow millis)) refl
       where
         by : (e : Bool) → vanishes (Slow millis) ≡ e → IsMute (with_op (Mute end ∷ []) (Slow millis))
         by true e = rw e (end, refl)
         by false e = rw e (after_mute (Slow millis) end, refl)
-    kept (Pace rate until) = (after_mute (Pace rate until) end, refl)
+    kept (Pace rate until from) = (after_mute (Pace rate until from) end, refl)
     kept (Cutoff instant) = (after_mute (Cutoff instant) end, refl)
-    kept (Slicing average variation micros lane until) = (after_mute (Slicing average variation micros lane until) end, refl)
+    kept (Slicing average variation micros lane until from) = (after_mute (Slicing average variation micros lane until from) end, refl)
     kept (Limit bytes) = (after_mute (Limit bytes) end, refl)
+    kept (Halt at after ending) = (after_mute (Halt at after ending) end, refl)
 
 from_start : (t : ℕ) → max 0 t ≡ t
 from_start t = omega arith
 
 -- what works on data alone finds none behind a mute
 data-same : (ops : List Op) (place : ℕ) (toxic : Toxic) → IsMute ops → needs_data toxic ≡ true → with_op ops (op_of place toxic) ≡ ops
-data-same ops place (Bandwidth rate until) (end, is) needs = rw is (ap (λ (e : Ending). Mute e ∷ []) (same end))
+data-same ops place (Bandwidth rate until from) (end, is) needs = rw is (ap (λ (e : Ending). Mute e ∷ []) (same end))
   where
-    same : (end : Ending) → after_mute (Pace rate until) end ≡ end
+    same : (end : Ending) → after_mute (Pace rate until from) end ≡ end
     same StillOpen = refl
     same (Closed t) = ap (λ (u : ℕ). Closed u) (from_start t)
     same (Reset t) = ap (λ (u : ℕ). Reset u) (from_start t)
-data-same ops place (Slicer average variation delay until) (end, is) needs = rw is (ap (λ (e : Ending). Mute e ∷ []) (same end))
+data-same ops place (Slicer average variation delay until from) (end, is) needs = rw is (ap (λ (e : Ending). Mute e ∷ []) (same end))
   where
-    same : (end : Ending) → after_mute (Slicing average variation delay place until) end ≡ end
+    same : (end : Ending) → after_mute (Slicing average variation delay place until from) end ≡ end
     same StillOpen = refl
     same (Closed t) = ap (λ (u : ℕ). Closed u) (from_start t)
     same (Reset t) = ap (λ (u : ℕ). Reset u) (from_start t)
-data-same ops place (Latency latency jitter until) muted needs = absurd (cc)
+data-same ops place (Latency latency jitter until from) muted needs = absurd (cc)
 data-same ops place (SlowClose delay) muted needs = absurd (cc)
-data-same ops place (Timeout timeout) muted needs = absurd (cc)
-data-same ops place (ResetPeer timeout) muted needs = absurd (cc)
+data-same ops place (Timeout timeout from after) muted needs = absurd (cc)
+data-same ops place (ResetPeer timeout after) muted needs = absurd (cc)
 data-same ops place (LimitData bytes) muted needs = absurd (cc)
 
 -- the toxic of this place changes the operations of no such list
@@ -141,18 +142,22 @@ skipped Fits draws ops place (suc k) (first ∷ entries) entry keeps skips fits 
     ∙ sym (folded-cons draws ops place first (silenced k entries))
 
 -- what drops all is applied
-drops-all : (draws : Draws) (place : ℕ) (entry : Entry) → drops_all entry ≡ true → (is_timeout entry.toxic ≡ true) × (is_applied entry place draws ≡ true)
+drops-all : (draws : Draws) (place : ℕ) (entry : Entry) → drops_all entry ≡ true → (drops_data entry.toxic ≡ true) × (is_applied entry place draws ≡ true)
 drops-all draws place entry drops =
-    let both = and_parts (is_timeout entry.toxic) (entry.toxicity == 1000) drops in (both.0, always entry place draws (eqb-true entry.toxicity 1000 both.1))
+    let both = and_parts (drops_data entry.toxic) (entry.toxicity == 1000) drops in (both.0, always entry place draws (eqb-true entry.toxicity 1000 both.1))
 
--- a timeout leaves a mute alone, whatever came before
-muted : (ops more : List Op) (place : ℕ) (toxic : Toxic) → is_timeout toxic ≡ true → IsMute (with_op ops (op_of place toxic)) × (with_op ops (op_of place toxic) ≡ with_op more (op_of place toxic))
-muted ops more place (Timeout timeout) is = ((timeout_ending timeout, refl), refl)
-muted ops more place (Latency latency jitter until) is = absurd (cc)
+-- what drops all data leaves a mute alone, whatever came before
+muted : (ops more : List Op) (place : ℕ) (toxic : Toxic) → drops_data toxic ≡ true → IsMute (with_op ops (op_of place toxic)) × (with_op ops (op_of place toxic) ≡ with_op more (op_of place toxic))
+muted ops more place (Timeout timeout zero zero) is = ((timeout_ending timeout, refl), refl)
+muted ops more place (Timeout timeout zero (suc after)) is =
+    let none : suc after ≡ 0 = eqb-true (suc after) 0 (and_parts (0 == 0) (suc after == 0) is).1 in absurd (omega arith)
+muted ops more place (Timeout timeout (suc from) after) is =
+    let none : suc from ≡ 0 = eqb-true (suc from) 0 (and_parts (suc from == 0) (after == 0) is).0 in absurd (omega arith)
+muted ops more place (Latency latency jitter until from) is = absurd (cc)
 muted ops more place (SlowClose delay) is = absurd (cc)
-muted ops more place (Bandwidth rate until) is = absurd (cc)
-muted ops more place (ResetPeer timeout) is = absurd (cc)
-muted ops more place (Slicer average variation delay until) is = absurd (cc)
+muted ops more place (Bandwidth rate until from) is = absurd (cc)
+muted ops more place (ResetPeer timeout after) is = absurd (cc)
+muted ops more place (Slicer average variation delay until from) is = absurd (cc)
 muted ops more place (LimitData bytes) is = absurd (cc)
 
 -- what needs data has none behind a toxic that drops all

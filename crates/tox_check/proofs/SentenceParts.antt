@@ -1,8 +1,7 @@
 -- Sentences, in the parts in which they are printed.
-use Rattle.std.proofs.Common.{◌≡◌, ◌≢◌, ℕ, ◌<◌, ◌≤◌, cond, eqb, List, [], ◌++◌, append-nil, codes, decimal, Option, sym, ap, ◌∙◌}
-use Rattle.std.proofs.lemmas.Bool.{eq-eqb, le-leb, lt-leb, ne_eqb}
+use Rattle.std.proofs.Common.{◌≡◌, ℕ, List, [], ◌++◌, append-nil, codes, decimal, Option, ap}
 use Rattle.tox_text.specs.Names.{visible_name}
-use Rattle.tox_check.specs.Sentences.{more_text, near_text, range_text, run_end, sentence, told, unknown_text}
+use Rattle.tox_check.specs.Sentences.{near_text, range_text, run_end, sentence, told, unknown_text}
 use Rattle.tox_check.specs.declared.run.Run.{Run}
 use Rattle.tox_check.specs.declared.warning.Warning.{Warning}
 

@@ -1,5 +1,5 @@
 -- A slicer without delay that is the last of its stream moves no byte: its pieces leave when their chunk came.
-use Rattle.std.proofs.Common.{◌≡◌, ℕ, zero, suc, ◌+◌, ◌-◌, ◌*◌, ◌<◌, ◌≤◌, min, max, Bool, true, false, List, [], ◌∷◌, ◌++◌, length, map, replicate, Some, append_assoc, arith, refl, ap, ap₂, sym, ◌∙◌, subst, if◌then◌else◌}
+use Rattle.std.proofs.Common.{◌≡◌, ℕ, zero, suc, ◌+◌, ◌-◌, ◌<◌, ◌≤◌, min, max, Bool, true, false, List, [], ◌∷◌, ◌++◌, length, replicate, Some, append_assoc, arith, refl, ap, ap₂, sym, ◌∙◌, subst, if◌then◌else◌}
 use Rattle.std.specs.Prelude.{All, nat_le}
 use Rattle.std.specs.List.{slice_get}
 use Rattle.std.proofs.lemmas.Bool.{and_parts, eqb-true, leb-false, leb-true}
@@ -8,7 +8,7 @@ use Rattle.std.proofs.lemmas.List.Elements.{All-head, All-tail}
 use Rattle.tox_time.specs.declared.streams.span.Span.{Span}
 use Rattle.tox_time.specs.declared.streams.item.Item.{Item}
 use Rattle.tox_time.specs.declared.streams.item.Item.TheVariants.{Chunk, Closed, Reset, Quiet}
-use Rattle.tox_time.specs.declared.streams.ending.Ending.TheVariants.{Closed as ClosedAt, Reset as ResetAt}
+use Rattle.tox_time.specs.declared.streams.ending.Ending.TheVariants.{StillOpen, Closed as ClosedAt, Reset as ResetAt}
 use Rattle.tox_time.specs.Time.{IsInstant, plus}
 use Rattle.tox_time.specs.streams.Stream.{IsStream, IsStreamFrom, arrived, has_final, latest_from, span_len}
 use Rattle.tox_time.specs.streams.Table.{SameResult, ending, table}
@@ -19,9 +19,9 @@ use Rattle.tox_defs.specs.declared.chain.Entry.{Entry}
 use Rattle.tox_defs.specs.declared.operations.state.State.{State}
 use Rattle.tox_defs.specs.chain.Applied.{is_applied}
 use Rattle.tox_defs.specs.chain.Chain.{Toxics, IsChain, IsEntry}
-use Rattle.tox_defs.specs.Flow.{applied_from, chain_draws, placed_reaction}
-use Rattle.tox_defs.specs.stage.Reaction.{Reaction, chunk_count, counted, flow_from, flow_through}
-use Rattle.tox_defs.specs.operations.Until.{late_answer, until as stopping}
+use Rattle.tox_defs.specs.Flow.{chain_draws}
+use Rattle.tox_defs.specs.stage.Reaction.{Reaction, chunk_count, counted, flow_from}
+use Rattle.tox_defs.specs.operations.During.{during, is_outside, uncounted_answer}
 use Rattle.tox_defs.specs.toxics.Pieces.{cut, leave, pieces_of}
 use Rattle.tox_defs.specs.toxics.Slicer.{slicing_gives}
 use Rattle.tox_defs.specs.toxics.Varied.{varied}
@@ -30,8 +30,8 @@ use Rattle.tox_defs.specs.Laws.{toxic_flow}
 use Rattle.tox_defs.proofs.Drawn.{varied-positive}
 use Rattle.tox_defs.proofs.InRange.{both_tests}
 use Rattle.tox_defs.proofs.OpenStates.{has_final-leave, open_state}
-use Rattle.tox_defs.proofs.ToxicStreams.{IsStream-toxic_flow}
-use Rattle.tox_check.proofs.Silencing.{never}
+use Rattle.tox_check.proofs.FinalsKept.{final-kept, slicing-orders}
+use Rattle.tox_check.proofs.Through.{through, through-cons, through-silenced, through_one, through_one-stream}
 use Rattle.tox_check.specs.Idle.{ChangesNothing, cuts_last, only_cuts, silenced}
 
 -- the pieces of a chunk, without a wait
@@ -71,10 +71,10 @@ abbrev Same : Reaction → List Item → Type 0
 Same reaction items = (p c n b : ℕ) (position since : ℕ) → p ≤ since → IsStreamFrom position since items → SameResult (flow_from reaction (open_state p c n b) items) items
 
 -- one chunk
-chunk-same : (late : Bool) (reaction : Reaction) (size : ℕ → ℕ) → ((n : ℕ) → 0 < size n) → (span : Span) (t : ℕ) (items : List Item) (p c n b : ℕ) → p ≤ t → IsInstant t
+chunk-same : (outside : Bool) (reaction : Reaction) (size : ℕ → ℕ) → ((n : ℕ) → 0 < size n) → (span : Span) (t : ℕ) (items : List Item) (p c n b : ℕ) → p ≤ t → IsInstant t
     → ((q c n b : ℕ) → q ≤ t → SameResult (flow_from reaction (open_state q c n b) items) items)
-    → SameResult ((if late then late_answer (open_state p c n b) (Chunk span t) else counted (slicing_gives size 0) (open_state p c n b) (Chunk span t)).given
-    ++ flow_from reaction (if late then late_answer (open_state p c n b) (Chunk span t) else counted (slicing_gives size 0) (open_state p c n b) (Chunk span t)).state items) (Chunk span t ∷ items)
+    → SameResult ((if outside then uncounted_answer (open_state p c n b) (Chunk span t) else counted (slicing_gives size 0) (open_state p c n b) (Chunk span t)).given
+    ++ flow_from reaction (if outside then uncounted_answer (open_state p c n b) (Chunk span t) else counted (slicing_gives size 0) (open_state p c n b) (Chunk span t)).state items) (Chunk span t ∷ items)
 chunk-same true reaction size some span t items p c n b before instant others =
     let at : max p t ≡ t = omega (arith, before) in
     let later = others (max p t) c n b (omega (arith, before)) in
@@ -95,70 +95,42 @@ chunk-same false reaction size some span t items p c n b before instant others =
           endings = ending-leaving (pieces_of size n span) p t _ ∙ later.endings;
         })
 
--- a slicing without a wait
-sliced-never : (size : ℕ → ℕ) → ((n : ℕ) → 0 < size n) → (items : List Item) → Same (counted (slicing_gives size 0)) items
-sliced-never size some [] p c n b position since before stream = absurd stream
-sliced-never size some (Chunk span t ∷ items) p c n b position since before stream =
-    chunk-same false (counted (slicing_gives size 0)) size some span t items p c n b (omega (arith, before, stream.2)) stream.3
-    (λ q c n b early. sliced-never size some items q c n b span.stop t early stream.4)
-sliced-never size some (Closed t ∷ items) p c n b position since before stream =
-    let same : max p t ≡ t = omega (arith, before, stream.0) in rw stream.2 (record { tables = refl; endings = ap (λ (at : ℕ). ClosedAt at) same })
-sliced-never size some (Reset t ∷ items) p c n b position since before stream =
-    let same : max p t ≡ t = omega (arith, before, stream.0) in rw stream.2 (record { tables = refl; endings = ap (λ (at : ℕ). ResetAt at) same })
-sliced-never size some (Quiet ∷ items) p c n b position since before stream = rw stream (record { tables = refl; endings = refl })
-
--- whenever it stops
-sliced : (size : ℕ → ℕ) → ((n : ℕ) → 0 < size n) → (millis : ℕ) (items : List Item) → Same (stopping millis (counted (slicing_gives size 0))) items
-sliced size some zero items p c n b position since before stream = sliced-never size some items p c n b position since before stream
-sliced size some (suc millis) [] p c n b position since before stream = absurd stream
-sliced size some (suc millis) (Chunk span t ∷ items) p c n b position since before stream =
-    chunk-same (nat_le (1000 * suc millis) t) (stopping (suc millis) (counted (slicing_gives size 0))) size some span t items p c n b (omega (arith, before, stream.2)) stream.3
-    (λ q c n b early. sliced size some (suc millis) items q c n b span.stop t early stream.4)
-sliced size some (suc millis) (Closed t ∷ items) p c n b position since before stream =
-    let same : max p t ≡ t = omega (arith, before, stream.0) in rw stream.2 (record { tables = refl; endings = ap (λ (at : ℕ). ClosedAt at) same })
-sliced size some (suc millis) (Reset t ∷ items) p c n b position since before stream =
-    let same : max p t ≡ t = omega (arith, before, stream.0) in rw stream.2 (record { tables = refl; endings = ap (λ (at : ℕ). ResetAt at) same })
-sliced size some (suc millis) (Quiet ∷ items) p c n b position since before stream = rw stream (record { tables = refl; endings = refl })
+-- a slicing without a wait, whatever its time
+sliced : (size : ℕ → ℕ) → ((n : ℕ) → 0 < size n) → (from until : ℕ) (items : List Item) → Same (during from until (counted (slicing_gives size 0))) items
+sliced size some from until [] p c n b position since before stream = absurd stream
+sliced size some from until (Chunk span t ∷ items) p c n b position since before stream =
+    chunk-same (is_outside from until (Chunk span t)) (during from until (counted (slicing_gives size 0))) size some span t items p c n b (omega (arith, before, stream.2)) stream.3
+    (λ q c n b early. sliced size some from until items q c n b span.stop t early stream.4)
+sliced size some from until (Closed t ∷ items) p c n b position since before stream =
+    let same : max p t ≡ t = omega (arith, before, stream.0) in
+    let kept = final-kept from until (slicing_gives size 0) (ClosedAt t) p c n b (slicing-orders size 0) (ap (λ (at : ℕ). Closed at) same) in
+    rw stream.2 (record { tables = ap table kept; endings = ap ending kept })
+sliced size some from until (Reset t ∷ items) p c n b position since before stream =
+    let same : max p t ≡ t = omega (arith, before, stream.0) in
+    let kept = final-kept from until (slicing_gives size 0) (ResetAt t) p c n b (slicing-orders size 0) (ap (λ (at : ℕ). Reset at) same) in
+    rw stream.2 (record { tables = ap table kept; endings = ap ending kept })
+sliced size some from until (Quiet ∷ items) p c n b position since before stream =
+    let kept = final-kept from until (slicing_gives size 0) StillOpen p c n b (slicing-orders size 0) refl in
+    rw stream (record { tables = ap table kept; endings = ap ending kept })
 
 -- a slicer without delay keeps the table and the ending of each stream
-pub slicer-same : (average variation until : ℕ) (words : ℕ → ℕ) (items : List Item) → IsInRange (Slicer average variation 0 until) → IsStream items
-    → SameResult (toxic_flow (Slicer average variation 0 until) words items) items
-slicer-same average variation until words items fits stream =
-    let within = both_tests (is_within (Slicer average variation 0 until)) (nat_le average variation) fits in
+pub slicer-same : (average variation until from : ℕ) (words : ℕ → ℕ) (items : List Item) → IsInRange (Slicer average variation 0 until from) → IsStream items
+    → SameResult (toxic_flow (Slicer average variation 0 until from) words items) items
+slicer-same average variation until from words items fits stream =
+    let within = both_tests (is_within (Slicer average variation 0 until from)) (nat_le average variation) fits in
     let less = leb-false average variation within.1 in
-    sliced (λ piece. varied average variation (words (1 + piece))) (λ piece. varied-positive average variation (words (1 + piece)) less) until items 0 0 0 0 0 0 (omega arith) stream
-
--- what the applied ones of some entries make of a list
-abbrev through : Draws → ℕ → List Entry → List Item → List Item
-through draws place entries items = flow_through (map (placed_reaction draws) (applied_from place entries draws)) items
-
--- what one entry makes of it, applied or not
-abbrev through_one : Bool → Toxic → (ℕ → ℕ) → List Item → List Item
-through_one true toxic words items = toxic_flow toxic words items
-through_one false toxic words items = items
-
-through-cons : (draws : Draws) (place : ℕ) (entry : Entry) (entries : List Entry) (items : List Item)
-    → through draws place (entry ∷ entries) items ≡ through draws (place + 1) entries (through_one (is_applied entry place draws) entry.toxic (draws place) items)
-through-cons draws place entry entries items = by (is_applied entry place draws) refl
-  where
-    by : (e : Bool) → is_applied entry place draws ≡ e → through draws place (entry ∷ entries) items ≡ through draws (place + 1) entries (through_one e entry.toxic (draws place) items)
-    by true is = rw is refl
-    by false is = rw is refl
-
-through_one-stream : (e : Bool) (toxic : Toxic) (words : ℕ → ℕ) (items : List Item) → IsInRange toxic → IsStream items → IsStream (through_one e toxic words items)
-through_one-stream true toxic words items fits stream = IsStream-toxic_flow toxic words items fits stream
-through_one-stream false toxic words items fits stream = stream
+    sliced (λ piece. varied average variation (words (1 + piece))) (λ piece. varied-positive average variation (words (1 + piece)) less) from until items 0 0 0 0 0 0 (omega arith) stream
 
 only_cuts-same : (e : Bool) (toxic : Toxic) (words : ℕ → ℕ) (items : List Item) → only_cuts toxic ≡ true → IsInRange toxic → IsStream items → SameResult (through_one e toxic words items) items
 only_cuts-same false toxic words items cuts fits stream = record { tables = refl; endings = refl }
-only_cuts-same true (Slicer average variation zero until) words items cuts fits stream = slicer-same average variation until words items fits stream
-only_cuts-same true (Slicer average variation (suc delay) until) words items cuts fits stream =
+only_cuts-same true (Slicer average variation zero until from) words items cuts fits stream = slicer-same average variation until from words items fits stream
+only_cuts-same true (Slicer average variation (suc delay) until from) words items cuts fits stream =
     let none : suc delay ≡ 0 = eqb-true (suc delay) 0 cuts in absurd (omega arith)
-only_cuts-same true (Latency latency jitter until) words items cuts fits stream = absurd (cc)
-only_cuts-same true (Bandwidth rate until) words items cuts fits stream = absurd (cc)
+only_cuts-same true (Latency latency jitter until from) words items cuts fits stream = absurd (cc)
+only_cuts-same true (Bandwidth rate until from) words items cuts fits stream = absurd (cc)
 only_cuts-same true (SlowClose delay) words items cuts fits stream = absurd (cc)
-only_cuts-same true (Timeout timeout) words items cuts fits stream = absurd (cc)
-only_cuts-same true (ResetPeer timeout) words items cuts fits stream = absurd (cc)
+only_cuts-same true (Timeout timeout from after) words items cuts fits stream = absurd (cc)
+only_cuts-same true (ResetPeer timeout after) words items cuts fits stream = absurd (cc)
 only_cuts-same true (LimitData bytes) words items cuts fits stream = absurd (cc)
 
 -- the last entry
@@ -169,8 +141,7 @@ last-same draws place zero (first ∷ second ∷ entries) entry items fit cuts f
 last-same draws place zero (first ∷ []) entry items fit cuts found last stream =
     let same : first ≡ entry = cc in
     let cuts' : only_cuts first.toxic ≡ true = ap (λ (e : Entry). only_cuts e.toxic) same ∙ cuts in
-    let unlike : through draws place (silenced 0 (first ∷ [])) items ≡ items =
-    through-cons draws place (record { toxic = first.toxic; toxicity = 0 }) [] items ∙ ap (λ e. through_one e first.toxic (draws place) items) (never first.toxic place draws) in
+    let unlike : through draws place (silenced 0 (first ∷ [])) items ≡ items = through-silenced draws place first [] items in
     let here = only_cuts-same (is_applied first place draws) first.toxic (draws place) items cuts' (All-head IsEntry first [] fit).0 stream in
     record {
       tables = ap table (through-cons draws place first [] items) ∙ here.tables ∙ ap table (sym unlike);

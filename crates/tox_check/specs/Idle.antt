@@ -1,5 +1,5 @@
 -- Toxics that change nothing.
-use Rattle.std.specs.Prelude.{ℕ, zero, suc, ◌==◌, ◌&&◌, ◌||◌, Bool, true, false, List, [], ◌∷◌, drop, length, nat_le, slice_get, take, Option, None, Some, if◌then◌else◌}
+use Rattle.std.specs.Prelude.{ℕ, zero, suc, ◌==◌, ◌&&◌, ◌||◌, Bool, true, false, List, [], ◌∷◌, drop, length, nat_le, nat_lt, slice_get, take, Option, None, Some, if◌then◌else◌}
 use Rattle.std.specs.List.{list_any}
 use Rattle.tox_time.specs.declared.streams.item.Item.{Item}
 use Rattle.tox_time.specs.streams.Stream.{IsStream}
@@ -8,9 +8,9 @@ use Rattle.tox_defs.specs.declared.chain.Entry.{Entry}
 use Rattle.tox_defs.specs.declared.toxic.Toxic.{Toxic}
 use Rattle.tox_defs.specs.declared.toxic.Toxic.TheVariants.{Latency, Bandwidth, SlowClose, Timeout, Slicer}
 use Rattle.tox_defs.specs.chain.Chain.{Toxics}
-use Rattle.tox_defs.specs.Flow.{chain_flow}
+use Rattle.tox_defs.specs.Flow.{chain_flow, toxic_from, toxic_until}
 use Rattle.tox_check.specs.declared.idleness.Idleness.{Idleness}
-use Rattle.tox_check.specs.declared.idleness.Idleness.TheVariants.{DoesNothing, Lost, CutsLast}
+use Rattle.tox_check.specs.declared.idleness.Idleness.TheVariants.{DoesNothing, HasNoTime, Lost, CutsLast}
 
 -- the entries with the toxicity 0 at a place
 abbrev pub silenced : ℕ → List Entry → List Entry
@@ -27,24 +27,29 @@ ChangesNothing place chain =
 
 -- whether a toxic does nothing: a latency of 0 without jitter, or a slow_close of 0
 abbrev pub does_nothing : Toxic → Bool
-does_nothing (Latency latency jitter until) = latency == 0 && (jitter == 0)
+does_nothing (Latency latency jitter until from) = latency == 0 && (jitter == 0)
 does_nothing (SlowClose delay) = delay == 0
 does_nothing other = false
 
+-- whether every chunk is outside a toxic's time: it stops, and no later than it begins
+abbrev pub has_no_time : Toxic → Bool
+has_no_time toxic =
+    nat_lt 0 (toxic_until toxic) && nat_le (toxic_until toxic) (toxic_from toxic)
+
 -- whether a toxic works on data alone: a bandwidth, or a slicer
 abbrev pub needs_data : Toxic → Bool
-needs_data (Bandwidth rate until) = true
-needs_data (Slicer average variation delay until) = true
+needs_data (Bandwidth rate until from) = true
+needs_data (Slicer average variation delay until from) = true
 needs_data other = false
 
--- whether a toxic is a timeout, which drops all data
-abbrev pub is_timeout : Toxic → Bool
-is_timeout (Timeout timeout) = true
-is_timeout other = false
+-- whether a toxic drops all data: a timeout that begins at once
+abbrev pub drops_data : Toxic → Bool
+drops_data (Timeout timeout from after) = from == 0 && (after == 0)
+drops_data other = false
 
--- whether a toxic drops all data on each link: a timeout that is always applied
+-- whether an entry drops all data on each link: its toxic does, and is always applied
 abbrev pub drops_all : Entry → Bool
-drops_all entry = is_timeout entry.toxic && (entry.toxicity == 1000)
+drops_all entry = drops_data entry.toxic && (entry.toxicity == 1000)
 
 -- whether the toxic at a place has no data to work on, or its work is lost: a toxic before it, or one behind it, drops all
 abbrev pub is_lost : ℕ → Toxic → List Entry → Bool
@@ -54,7 +59,7 @@ is_lost place toxic entries =
 
 -- whether a toxic cuts chunks and holds none: a slicer without delay
 abbrev pub only_cuts : Toxic → Bool
-only_cuts (Slicer average variation delay until) = delay == 0
+only_cuts (Slicer average variation delay until from) = delay == 0
 only_cuts other = false
 
 -- whether the toxic at a place cuts chunks for none behind it
@@ -65,6 +70,7 @@ cuts_last place toxic entries = only_cuts toxic && nat_le (length entries) (suc 
 abbrev pub reason : ℕ → Toxic → List Entry → Option Idleness
 reason place toxic entries =
     if does_nothing toxic then Some DoesNothing
+    else if has_no_time toxic then Some HasNoTime
     else if is_lost place toxic entries then Some Lost
     else if cuts_last place toxic entries then Some CutsLast
     else None

@@ -3,7 +3,7 @@ use Rattle.std.specs.Prelude.{ℕ, ◌==◌, Bool, List, [], ◌∷◌, ◌++◌
 use Rattle.std.specs.List.{starts_with}
 use Rattle.tox_text.specs.Names.{visible_name}
 use Rattle.tox_check.specs.declared.idleness.Idleness.{Idleness}
-use Rattle.tox_check.specs.declared.idleness.Idleness.TheVariants.{DoesNothing, Lost, CutsLast}
+use Rattle.tox_check.specs.declared.idleness.Idleness.TheVariants.{DoesNothing, HasNoTime, Lost, CutsLast}
 use Rattle.tox_check.specs.declared.run.Run.{Run}
 use Rattle.tox_check.specs.declared.warning.Warning.{Warning}
 use Rattle.tox_check.specs.declared.warning.Warning.TheVariants.{UnknownProxy, Covered, Partly, NoToxicity, ChangesNothing, Disabled}
@@ -83,6 +83,7 @@ no_toxicity_text toxic = codes " toxic " ++ decimal toxic ++ codes " never appli
 -- why a toxic changes nothing
 abbrev pub reason_text : Idleness → List ℕ
 reason_text DoesNothing = codes "it delays nothing"
+reason_text HasNoTime = codes "it has stopped when it begins"
 reason_text Lost = codes "a timeout drops all data"
 reason_text CutsLast = codes "it cuts without delay, and is the last"
 

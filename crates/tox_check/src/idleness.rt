@@ -1,7 +1,7 @@
 //! Why a toxic of a chain changes nothing.
 ghost use Rattle.std.specs.Prelude.{◌≡◌, ◌<◌, length, IsSome};
 ghost use Rattle.std.specs.List.{list_any};
-ghost use Rattle.tox_check.specs.Idle.{ChangesNothing, cuts_last, does_nothing, drops_all, idleness_at, is_lost, needs_data, only_cuts, reason};
+ghost use Rattle.tox_check.specs.Idle.{ChangesNothing, cuts_last, does_nothing, drops_all, drops_data, has_no_time, idleness_at, is_lost, needs_data, only_cuts, reason};
 
 use tox_defs::{Chain, Entry, MAX_TOXICITY, Toxic};
 
@@ -10,7 +10,9 @@ use tox_defs::{Chain, Entry, MAX_TOXICITY, Toxic};
 pub enum Idleness {
     /// It is a latency of 0 without jitter, or a slow_close of 0.
     DoesNothing,
-    /// A timeout that is always applied drops all data: behind the toxic, or before it where it works on data alone.
+    /// It is a latency, bandwidth or slicer whose `until` is no later than its `from`.
+    HasNoTime,
+    /// A timeout that begins at once and is always applied drops all data: behind the toxic, or before it where it works on data alone.
     Lost,
     /// It is a slicer without delay, and no toxic stands behind it.
     CutsLast,
@@ -37,6 +39,8 @@ fn reason(place: usize, toxic: &Toxic, entries: &[Entry]) -> Option<Idleness>
 {
     if does_nothing(toxic) {
         Some(Idleness::DoesNothing)
+    } else if has_no_time(toxic) {
+        Some(Idleness::HasNoTime)
     } else if is_lost(place, toxic, entries) {
         Some(Idleness::Lost)
     } else if cuts_last(place, toxic, entries) {
@@ -57,6 +61,18 @@ fn does_nothing(toxic: &Toxic) -> bool
             ..
         } => latency == 0 && jitter == 0,
         Toxic::SlowClose { delay } => delay == 0,
+        _ => false,
+    }
+}
+
+/// Whether every chunk is outside a toxic's time: it stops, and no later than it begins.
+fn has_no_time(toxic: &Toxic) -> bool
+    ensures { result ≡ has_no_time toxic.now }
+{
+    match *toxic {
+        Toxic::Latency { until, from, .. }
+        | Toxic::Bandwidth { until, from, .. }
+        | Toxic::Slicer { until, from, .. } => 0 < until && until <= from,
         _ => false,
     }
 }
@@ -84,11 +100,21 @@ fn some_drops_all(entries: &[Entry]) -> bool
     entries.iter().any(|entry| drops_all(entry))
 }
 
-/// Whether a toxic drops all data on each link: a timeout that is always applied.
+/// Whether an entry drops all data on each link: its toxic does, and is always applied.
 fn drops_all(entry: &Entry) -> bool
     ensures { result ≡ drops_all entry.now }
 {
-    matches!(entry.toxic, Toxic::Timeout { .. }) && entry.toxicity == MAX_TOXICITY
+    drops_data(&entry.toxic) && entry.toxicity == MAX_TOXICITY
+}
+
+/// Whether a toxic drops all data: a timeout that begins at once.
+fn drops_data(toxic: &Toxic) -> bool
+    ensures { result ≡ drops_data toxic.now }
+{
+    match *toxic {
+        Toxic::Timeout { from, after, .. } => from == 0 && after == 0,
+        _ => false,
+    }
 }
 
 /// Whether the toxic at a place cuts chunks for none behind it.

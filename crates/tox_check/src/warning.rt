@@ -231,6 +231,7 @@ fn reason_text(why: Idleness) -> &'static str
 {
     match why {
         Idleness::DoesNothing => "it delays nothing",
+        Idleness::HasNoTime => "it has stopped when it begins",
         Idleness::Lost => "a timeout drops all data",
         Idleness::CutsLast => "it cuts without delay, and is the last",
     }

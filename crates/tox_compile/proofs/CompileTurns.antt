@@ -7,6 +7,7 @@ use Rattle.tox_words.specs.declared.lanes.Lanes.{Lanes}
 use Rattle.tox_defs.specs.declared.chain.applied.Placed.{Placed}
 use Rattle.tox_defs.specs.declared.operations.op.Op.{Op}
 use Rattle.tox_defs.specs.Flow.{IsPlaced}
+use Rattle.tox_defs.specs.operations.Op.{millis_of}
 use Rattle.tox_defs.proofs.ToxicProofs.{toxic_facts}
 use Rattle.tox_compile.specs.Compiled.{op_of_placed}
 use Rattle.tox_compile.specs.Normal.{with_op}
@@ -37,6 +38,16 @@ compiles-more lanes toxics count ops toxic d here is placed so_far =
       few = omega (arith, most, so_far.few);
       sums = subst (λ most. AddAtMost most (with_op ops (op_of_placed toxic))) more (with_op_adds (3_600_000 * count) 3_600_000 ops (op_of_placed toxic) so_far.sums hour);
     }
+
+-- what it adds fits
+pub sums_fit : (lanes : Lanes) (toxics : List Placed) (count : ℕ) (ops : List Op) (toxic d : Placed) → count < length toxics → length toxics ≤ 32 → toxic ≡ get_or toxics count d
+    → All (IsPlaced lanes) toxics → Compiles toxics count ops → All (λ last. millis_of last + millis_of (op_of_placed toxic) < 4294967296) ops
+sums_fit lanes toxics count ops toxic d here few is placed so_far =
+    λ place other within.
+    let in_range : IsPlaced lanes toxic = subst (IsPlaced lanes) (sym is) (placed count d here) in
+    let hour = (toxic_facts toxic.toxic).delays toxic.place in_range.0 in
+    let so_many = so_far.sums place other within in
+    omega (arith, hour, so_many, here, few)
 
 -- behind the last toxic the operations are those of all
 pub compiled : (toxics : List Placed) (count : ℕ) (ops : List Op) → length toxics ≤ count → Compiles toxics count ops → ops ≡ fold with_op [] (map op_of_placed toxics)

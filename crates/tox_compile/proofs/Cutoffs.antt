@@ -7,7 +7,8 @@ use Rattle.tox_time.specs.declared.streams.item.Item.TheVariants.{Chunk, Closed,
 use Rattle.tox_time.specs.streams.Stream.{span_len, IsStreamFrom}
 use Rattle.tox_defs.specs.declared.operations.state.State.{State}
 use Rattle.tox_defs.specs.stage.Reaction.{state_after, counted, flow_from}
-use Rattle.tox_defs.specs.toxics.ResetPeer.{cutoff_gives, is_before}
+use Rattle.tox_defs.specs.toxics.Halt.{is_before}
+use Rattle.tox_defs.specs.toxics.ResetPeer.{cutoff_gives}
 use Rattle.tox_defs.proofs.FlowLemmas.{flow_from-done}
 use Rattle.tox_defs.proofs.OpenStates.{open_state}
 

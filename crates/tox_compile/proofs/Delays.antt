@@ -1,13 +1,16 @@
 -- Delays: two add where one of them is the same for all chunks, and one of nothing does nothing.
-use Rattle.std.proofs.Common.{◌≡◌, ℕ, zero, suc, ◌+◌, ◌*◌, ◌≤◌, max, Bool, true, false, ◌++◌, ◌∙◌, if◌then◌else◌, List, [], ◌∷◌, refl, arith, ap}
-use Rattle.std.specs.Prelude.{nat_le}
+use Rattle.std.proofs.Common.{◌≡◌, ℕ, ◌+◌, ◌≤◌, max, Bool, true, false, ◌++◌, ◌∙◌, if◌then◌else◌, List, [], ◌∷◌, refl, arith, ap}
 use Rattle.tox_time.specs.declared.streams.span.Span.{Span}
 use Rattle.tox_time.specs.declared.streams.item.Item.{Item}
 use Rattle.tox_time.specs.declared.streams.item.Item.TheVariants.{Chunk, Closed, Reset, Quiet}
 use Rattle.tox_time.specs.Time.{horizon, plus}
 use Rattle.tox_time.specs.streams.Stream.{span_len, IsStreamFrom}
-use Rattle.tox_defs.specs.stage.Reaction.{Reaction, counted, flow_from}
-use Rattle.tox_defs.specs.operations.Until.{late_answer, until}
+use Rattle.tox_time.specs.declared.streams.ending.Ending.{Ending}
+use Rattle.tox_time.specs.declared.streams.ending.Ending.TheVariants.{StillOpen, Closed as ClosedAt, Reset as ResetAt}
+use Rattle.tox_time.specs.streams.Table.{final_of}
+use Rattle.tox_defs.specs.stage.Reaction.{Answer, Reaction, counted, flow_from}
+use Rattle.tox_defs.specs.operations.During.{during, is_outside, uncounted_answer}
+use Rattle.tox_defs.proofs.Windows.{during-inside, is_outside-final}
 use Rattle.tox_defs.specs.toxics.Latency.{delay_gives}
 use Rattle.tox_defs.proofs.OpenStates.{open_state}
 
@@ -39,38 +42,29 @@ delays_join_first first second both sum (Reset t ∷ items) c p1 n1 b1 p2 n2 b2 
     let same : max p2 (max p1 t) ≡ max p2 t = omega arith in rw stream.2 (ap (λ at. Reset at ∷ []) same)
 delays_join_first first second both sum (Quiet ∷ items) c p1 n1 b1 p2 n2 b2 n b position since order fits kept stream = rw stream refl
 
--- a delay of nothing
-delay_vanishes-never : (wait : ℕ → ℕ) → ((i : ℕ) → wait i ≡ 0) → (items : List Item) (p c n b position since : ℕ) → p ≤ since → IsStreamFrom position since items → flow_from (counted (delay_gives wait)) (open_state p c n b) items ≡ items
-delay_vanishes-never wait none [] p c n b position since before stream = refl
-delay_vanishes-never wait none (Chunk span t ∷ items) p c n b position since before stream =
-    let same : max p (plus t (wait c)) ≡ t = omega (arith, none c, before, stream.2, stream.3) in
-    let others = delay_vanishes-never wait none items (max p (plus t (wait c))) (c + 1) (n + 1) (b + (span_len span + 0)) span.stop t (omega (arith, same)) stream.4 in
-    cc
-delay_vanishes-never wait none (Closed t ∷ items) p c n b position since before stream =
-    let same : max p t ≡ t = omega (arith, before, stream.0) in rw stream.2 (ap (λ at. Closed at ∷ []) same)
-delay_vanishes-never wait none (Reset t ∷ items) p c n b position since before stream =
-    let same : max p t ≡ t = omega (arith, before, stream.0) in rw stream.2 (ap (λ at. Reset at ∷ []) same)
-delay_vanishes-never wait none (Quiet ∷ items) p c n b position since before stream = rw stream refl
-
--- a chunk leaves at its instant, late or not
-vanishes_at_chunk : (late : Bool) (reaction : Reaction) (wait : ℕ → ℕ) (span : Span) (t : ℕ) (items : List Item) (p c n b : ℕ) → max p t ≡ t → max p (plus t (wait c)) ≡ t
+-- a chunk leaves at its instant, outside the time of the delay or not
+vanishes_at_chunk : (outside : Bool) (reaction : Reaction) (wait : ℕ → ℕ) (span : Span) (t : ℕ) (items : List Item) (p c n b : ℕ) → max p t ≡ t → max p (plus t (wait c)) ≡ t
     → ((c n b : ℕ) → flow_from reaction (open_state t c n b) items ≡ items)
-    → (if late then late_answer (open_state p c n b) (Chunk span t) else counted (delay_gives wait) (open_state p c n b) (Chunk span t)).given
-    ++ flow_from reaction (if late then late_answer (open_state p c n b) (Chunk span t) else counted (delay_gives wait) (open_state p c n b) (Chunk span t)).state items ≡ Chunk span t ∷ items
-vanishes_at_chunk true reaction wait span t items p c n b late early others =
-    ap (λ at. Chunk span at ∷ flow_from reaction (open_state at c n b) items) late ∙ ap (λ items. Chunk span t ∷ items) (others c n b)
-vanishes_at_chunk false reaction wait span t items p c n b late early others =
-    ap (λ at. Chunk span at ∷ flow_from reaction (open_state at (c + 1) (n + 1) (b + (span_len span + 0))) items) early ∙ ap (λ items. Chunk span t ∷ items) (others (c + 1) (n + 1) (b + (span_len span + 0)))
+    → (if outside then uncounted_answer (open_state p c n b) (Chunk span t) else counted (delay_gives wait) (open_state p c n b) (Chunk span t)).given
+    ++ flow_from reaction (if outside then uncounted_answer (open_state p c n b) (Chunk span t) else counted (delay_gives wait) (open_state p c n b) (Chunk span t)).state items ≡ Chunk span t ∷ items
+vanishes_at_chunk true reaction wait span t items p c n b at_once delayed others =
+    ap (λ at. Chunk span at ∷ flow_from reaction (open_state at c n b) items) at_once ∙ ap (λ items. Chunk span t ∷ items) (others c n b)
+vanishes_at_chunk false reaction wait span t items p c n b at_once delayed others =
+    ap (λ at. Chunk span at ∷ flow_from reaction (open_state at (c + 1) (n + 1) (b + (span_len span + 0))) items) delayed ∙ ap (λ items. Chunk span t ∷ items) (others (c + 1) (n + 1) (b + (span_len span + 0)))
 
--- whenever it stops
-pub delay_vanishes : (wait : ℕ → ℕ) → ((i : ℕ) → wait i ≡ 0) → (millis : ℕ) (items : List Item) (p c n b position since : ℕ) → p ≤ since → IsStreamFrom position since items → flow_from (until millis (counted (delay_gives wait))) (open_state p c n b) items ≡ items
-delay_vanishes wait none zero items p c n b position since before stream = delay_vanishes-never wait none items p c n b position since before stream
-delay_vanishes wait none (suc millis) [] p c n b position since before stream = refl
-delay_vanishes wait none (suc millis) (Chunk span t ∷ items) p c n b position since before stream =
-    vanishes_at_chunk (nat_le (1000 * suc millis) t) (until (suc millis) (counted (delay_gives wait))) wait span t items p c n b (omega (arith, before, stream.2)) (omega (arith, none c, before, stream.2, stream.3))
-    (λ c n b. delay_vanishes wait none (suc millis) items t c n b span.stop t (omega arith) stream.4)
-delay_vanishes wait none (suc millis) (Closed t ∷ items) p c n b position since before stream =
-    let same : max p t ≡ t = omega (arith, before, stream.0) in rw stream.2 (ap (λ at. Closed at ∷ []) same)
-delay_vanishes wait none (suc millis) (Reset t ∷ items) p c n b position since before stream =
-    let same : max p t ≡ t = omega (arith, before, stream.0) in rw stream.2 (ap (λ at. Reset at ∷ []) same)
-delay_vanishes wait none (suc millis) (Quiet ∷ items) p c n b position since before stream = rw stream refl
+-- an ending is within the time of every delay
+vanishes_at_end : (wait : ℕ → ℕ) (from until : ℕ) (end : Ending) (p c n b : ℕ) → flow_from (during from until (counted (delay_gives wait))) (open_state p c n b) (final_of end ∷ []) ≡ delay_gives wait (open_state p c n b) (final_of end) ++ []
+vanishes_at_end wait from until end p c n b =
+    ap (λ (answer : Answer). answer.given ++ []) (during-inside from until (counted (delay_gives wait)) (open_state p c n b) (final_of end) (is_outside-final from until end))
+
+-- whenever it begins and stops
+pub delay_vanishes : (wait : ℕ → ℕ) → ((i : ℕ) → wait i ≡ 0) → (from until : ℕ) (items : List Item) (p c n b position since : ℕ) → p ≤ since → IsStreamFrom position since items → flow_from (during from until (counted (delay_gives wait))) (open_state p c n b) items ≡ items
+delay_vanishes wait none from until [] p c n b position since before stream = refl
+delay_vanishes wait none from until (Chunk span t ∷ items) p c n b position since before stream =
+    vanishes_at_chunk (is_outside from until (Chunk span t)) (during from until (counted (delay_gives wait))) wait span t items p c n b (omega (arith, before, stream.2)) (omega (arith, none c, before, stream.2, stream.3))
+    (λ c n b. delay_vanishes wait none from until items t c n b span.stop t (omega arith) stream.4)
+delay_vanishes wait none from until (Closed t ∷ items) p c n b position since before stream =
+    let same : max p t ≡ t = omega (arith, before, stream.0) in rw stream.2 (vanishes_at_end wait from until (ClosedAt t) p c n b ∙ ap (λ at. Closed at ∷ []) same)
+delay_vanishes wait none from until (Reset t ∷ items) p c n b position since before stream =
+    let same : max p t ≡ t = omega (arith, before, stream.0) in rw stream.2 (vanishes_at_end wait from until (ResetAt t) p c n b ∙ ap (λ at. Reset at ∷ []) same)
+delay_vanishes wait none from until (Quiet ∷ items) p c n b position since before stream = rw stream (vanishes_at_end wait from until StillOpen p c n b)

@@ -38,36 +38,36 @@ IsJoint draws first second None = Unit {0}
 IsJoint draws first second (Some joint) = DoesAs draws first second joint
 
 -- without jitter a delay is the same for all chunks
-pub giving-fixed : (fixed latency jitter lane until : ℕ) (draws : Draws) → IsNormal latency jitter → jitter ≡ 0 → op_giving (Delay fixed latency jitter lane until) draws ≡ delay_gives (λ _. 1000 * fixed)
-giving-fixed fixed latency zero lane until draws normal none =
+pub giving-fixed : (fixed latency jitter lane until from : ℕ) (draws : Draws) → IsNormal latency jitter → jitter ≡ 0 → op_giving (Delay fixed latency jitter lane until from) draws ≡ delay_gives (λ _. 1000 * fixed)
+giving-fixed fixed latency zero lane until from draws normal none =
     let waits : (chunk : ℕ) → 1000 * (fixed + varied latency 0 (draws lane (1 + chunk))) ≡ 1000 * fixed = λ chunk. omega (arith, normal) in
     ap delay_gives (fun_ext waits)
-giving-fixed fixed latency (suc jitter) lane until draws normal none = absurd (omega arith)
+giving-fixed fixed latency (suc jitter) lane until from draws normal none = absurd (omega arith)
 
 joint_second : (draws : Draws) (fixed latency jitter lane more latency' jitter' lane' : ℕ) → IsNormal latency jitter → IsNormal latency' jitter' → jitter' ≡ 0
-    → DoesAs draws (Delay fixed latency jitter lane 0) (Delay more latency' jitter' lane' 0) (Delay (fixed + more) latency jitter lane 0)
+    → DoesAs draws (Delay fixed latency jitter lane 0 0) (Delay more latency' jitter' lane' 0 0) (Delay (fixed + more) latency jitter lane 0 0)
 joint_second draws fixed latency jitter lane more latency' jitter' lane' normal normal' none = record {
   is_op = normal;
   same = λ items stream.
-      let first : List Item = flow (op_reaction (Delay fixed latency jitter lane 0) draws) items in
+      let first : List Item = flow (op_reaction (Delay fixed latency jitter lane 0 0) draws) items in
       let whole = delays_join_second (λ chunk. 1000 * (fixed + varied latency jitter (draws lane (1 + chunk)))) (1000 * more) (λ chunk. 1000 * (fixed + more + varied latency jitter (draws lane (1 + chunk)))) (λ i. omega arith) items 0 0 0 0 0 0 0 0 0 0 0 (omega arith) (omega arith) (omega arith) stream in
-      sym (ap (λ giving. flow (counted giving) first) (giving-fixed more latency' jitter' lane' 0 draws normal' none) ∙ whole);
+      sym (ap (λ giving. flow (counted giving) first) (giving-fixed more latency' jitter' lane' 0 0 draws normal' none) ∙ whole);
 }
 
 joint_first : (draws : Draws) (fixed latency jitter lane more latency' jitter' lane' : ℕ) → IsNormal latency jitter → IsNormal latency' jitter' → jitter ≡ 0
-    → DoesAs draws (Delay fixed latency jitter lane 0) (Delay more latency' jitter' lane' 0) (Delay (fixed + more) latency' jitter' lane' 0)
+    → DoesAs draws (Delay fixed latency jitter lane 0 0) (Delay more latency' jitter' lane' 0 0) (Delay (fixed + more) latency' jitter' lane' 0 0)
 joint_first draws fixed latency jitter lane more latency' jitter' lane' normal normal' none = record {
   is_op = normal';
   same = λ items stream.
-      let second : List Item → List Item = λ xs. flow (op_reaction (Delay more latency' jitter' lane' 0) draws) xs in
+      let second : List Item → List Item = λ xs. flow (op_reaction (Delay more latency' jitter' lane' 0 0) draws) xs in
       let whole = delays_join_first (1000 * fixed) (λ chunk. 1000 * (more + varied latency' jitter' (draws lane' (1 + chunk)))) (λ chunk. 1000 * (fixed + more + varied latency' jitter' (draws lane' (1 + chunk)))) (λ i. omega arith) items 0 0 0 0 0 0 0 0 0 0 0 (omega arith) (omega arith) (omega arith) stream in
-      sym (ap (λ giving. second (flow (counted giving) items)) (giving-fixed fixed latency jitter lane 0 draws normal none) ∙ whole);
+      sym (ap (λ giving. second (flow (counted giving) items)) (giving-fixed fixed latency jitter lane 0 0 draws normal none) ∙ whole);
 }
 
 -- two delays, by whether the second has jitter, and whether the first has
 joint_delays : (draws : Draws) (fixed latency jitter lane more latency' jitter' lane' : ℕ) (none' none : Bool) → (jitter' == 0) ≡ none' → (jitter == 0) ≡ none → IsNormal latency jitter → IsNormal latency' jitter'
-    → IsJoint draws (Delay fixed latency jitter lane 0) (Delay more latency' jitter' lane' 0)
-    (if none' then Some (Delay (fixed + more) latency jitter lane 0) else if none then Some (Delay (fixed + more) latency' jitter' lane' 0) else None)
+    → IsJoint draws (Delay fixed latency jitter lane 0 0) (Delay more latency' jitter' lane' 0 0)
+    (if none' then Some (Delay (fixed + more) latency jitter lane 0 0) else if none then Some (Delay (fixed + more) latency' jitter' lane' 0 0) else None)
 joint_delays draws fixed latency jitter lane more latency' jitter' lane' true none e' e normal normal' = joint_second draws fixed latency jitter lane more latency' jitter' lane' normal normal' (eqb-true jitter' 0 e')
 joint_delays draws fixed latency jitter lane more latency' jitter' lane' false true e' e normal normal' = joint_first draws fixed latency jitter lane more latency' jitter' lane' normal normal' (eqb-true jitter 0 e)
 joint_delays draws fixed latency jitter lane more latency' jitter' lane' false false e' e normal normal' = tt
@@ -93,9 +93,11 @@ joint_mute draws end op in_time fits = record {
 }
 
 pub is_joint : (draws : Draws) (first second : Op) → IsOp first → IsOp second → IsJoint draws first second (joined first second)
-is_joint draws (Delay fixed latency jitter lane (suc until)) (Delay more latency' jitter' lane' until') fits fits' = rw (eqb-suc-zero until) tt
-is_joint draws (Delay fixed latency jitter lane zero) (Delay more latency' jitter' lane' (suc until)) fits fits' = rw (eqb-suc-zero until) tt
-is_joint draws (Delay fixed latency jitter lane zero) (Delay more latency' jitter' lane' zero) fits fits' = joint_delays draws fixed latency jitter lane more latency' jitter' lane' (jitter' == 0) (jitter == 0) refl refl fits fits'
+is_joint draws (Delay fixed latency jitter lane (suc until) from) (Delay more latency' jitter' lane' until' from') fits fits' = rw (eqb-suc-zero until) tt
+is_joint draws (Delay fixed latency jitter lane zero (suc from)) (Delay more latency' jitter' lane' until' from') fits fits' = rw (eqb-suc-zero from) tt
+is_joint draws (Delay fixed latency jitter lane zero zero) (Delay more latency' jitter' lane' (suc until) from') fits fits' = rw (eqb-suc-zero until) tt
+is_joint draws (Delay fixed latency jitter lane zero zero) (Delay more latency' jitter' lane' zero (suc from)) fits fits' = rw (eqb-suc-zero from) tt
+is_joint draws (Delay fixed latency jitter lane zero zero) (Delay more latency' jitter' lane' zero zero) fits fits' = joint_delays draws fixed latency jitter lane more latency' jitter' lane' (jitter' == 0) (jitter == 0) refl refl fits fits'
 is_joint draws (Slow millis) (Slow more) fits fits' =
     record { is_op = tt; same = λ items stream. sym (slows_join (1000 * millis) (1000 * more) (1000 * (millis + more)) (omega arith) items 0 0 0 0 0 0 0 0 0 0 0 0 0 0 stream) }
 is_joint draws (Limit bytes) (Limit other) fits fits' = record { is_op = tt; same = λ items stream. sym (limits_join bytes other items 0 0 0 0 0 0 0 0 0 0 0 0 stream) }

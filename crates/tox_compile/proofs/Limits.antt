@@ -9,7 +9,9 @@ use Rattle.tox_time.specs.declared.streams.item.Item.TheVariants.{Chunk, Closed,
 use Rattle.tox_time.specs.streams.Stream.{span_len, IsStreamFrom}
 use Rattle.tox_defs.specs.declared.operations.state.State.{State}
 use Rattle.tox_defs.specs.stage.Reaction.{state_after, counted, flow_from}
-use Rattle.tox_defs.specs.toxics.LimitData.{limit_gives, first_bytes}
+use Rattle.tox_time.specs.declared.streams.ending.Ending.TheVariants.{Closed as ClosedAt}
+use Rattle.tox_defs.specs.toxics.FirstBytes.{first_bytes}
+use Rattle.tox_defs.specs.toxics.LimitData.{limit_gives}
 use Rattle.tox_defs.proofs.FlowLemmas.{flow_from-done}
 use Rattle.tox_defs.proofs.OpenStates.{open_state, has_final-first_bytes}
 
@@ -20,7 +22,7 @@ limit_passes bytes span t items p c n b e = rw e refl
 limit_ends : (bytes : ℕ) (span : Span) (t : ℕ) (items : List Item) (p c n b : ℕ) → nat_lt (span_len span) (bytes - b) ≡ false → flow_from (counted (limit_gives bytes)) (open_state p c n b) (Chunk span t ∷ items) ≡ first_bytes (bytes - b) span t ++ (Closed t ∷ [])
 limit_ends bytes span t items p c n b e =
     let state : State = state_after (open_state p c n b) (Chunk span t) (first_bytes (bytes - b) span t ++ (Closed t ∷ [])) in
-    rw e (rw (flow_from-done (counted (limit_gives bytes)) state items (has_final-first_bytes (bytes - b) span t)) (append-nil (first_bytes (bytes - b) span t ++ (Closed t ∷ []))))
+    rw e (rw (flow_from-done (counted (limit_gives bytes)) state items (has_final-first_bytes (bytes - b) span t (ClosedAt t))) (append-nil (first_bytes (bytes - b) span t ++ (Closed t ∷ []))))
 
 first_bytes-start : (n : ℕ) (span other : Span) (t : ℕ) → span.start ≡ other.start → first_bytes n span t ≡ first_bytes n other t
 first_bytes-start zero span other t same = refl

@@ -8,10 +8,10 @@ use Rattle.tox_time.specs.streams.Stream.{IsStream}
 use Rattle.tox_time.specs.streams.Table.{final_of}
 use Rattle.tox_words.specs.Draw.{Draws}
 use Rattle.tox_defs.specs.declared.operations.op.Op.{Op}
-use Rattle.tox_defs.specs.declared.operations.op.Op.TheVariants.{Delay, Pace, Slow, Mute, Cutoff, Slicing, Limit}
+use Rattle.tox_defs.specs.declared.operations.op.Op.TheVariants.{Delay, Pace, Slow, Mute, Cutoff, Slicing, Limit, Halt}
 use Rattle.tox_defs.specs.chain.Chain.{Toxics, IsChain}
 use Rattle.tox_defs.specs.stage.Reaction.{counted, flow, flow_through}
-use Rattle.tox_defs.specs.operations.Until.{until as stopping}
+use Rattle.tox_defs.specs.operations.During.{during}
 use Rattle.tox_defs.specs.Flow.{chain_draws, chain_flow}
 use Rattle.tox_defs.specs.operations.Op.{op_reaction, IsOp}
 use Rattle.tox_defs.specs.toxics.Latency.{IsNormal}
@@ -57,23 +57,24 @@ takes_last draws (first ∷ second ∷ ops) op fits fits' =
     }
 
 -- a delay that does nothing
-delay_same : (draws : Draws) (fixed latency jitter lane until : ℕ) (items : List Item) → IsNormal latency jitter → fixed ≡ 0 → jitter ≡ 0 → IsStream items
-    → flow (op_reaction (Delay fixed latency jitter lane until) draws) items ≡ items
-delay_same draws fixed latency jitter lane until items normal none no_jitter stream =
-    ap (λ giving. flow (stopping until (counted giving)) items) (giving-fixed fixed latency jitter lane until draws normal no_jitter)
-    ∙ delay_vanishes (λ chunk. 1000 * fixed) (λ i. omega arith) until items 0 0 0 0 0 0 (omega arith) stream
+delay_same : (draws : Draws) (fixed latency jitter lane until from : ℕ) (items : List Item) → IsNormal latency jitter → fixed ≡ 0 → jitter ≡ 0 → IsStream items
+    → flow (op_reaction (Delay fixed latency jitter lane until from) draws) items ≡ items
+delay_same draws fixed latency jitter lane until from items normal none no_jitter stream =
+    ap (λ giving. flow (during from until (counted giving)) items) (giving-fixed fixed latency jitter lane until from draws normal no_jitter)
+    ∙ delay_vanishes (λ chunk. 1000 * fixed) (λ i. omega arith) from until items 0 0 0 0 0 0 (omega arith) stream
 
 -- what vanishes changes no stream
 vanishes_same : (draws : Draws) (op : Op) (items : List Item) → vanishes op ≡ true → IsOp op → IsStream items → flow (op_reaction op draws) items ≡ items
-vanishes_same draws (Delay fixed latency jitter lane until) items e fits stream =
-    let none = and_parts (fixed == 0) (jitter == 0) e in delay_same draws fixed latency jitter lane until items fits (eqb-true fixed 0 none.0) (eqb-true jitter 0 none.1) stream
+vanishes_same draws (Delay fixed latency jitter lane until from) items e fits stream =
+    let none = and_parts (fixed == 0) (jitter == 0) e in delay_same draws fixed latency jitter lane until from items fits (eqb-true fixed 0 none.0) (eqb-true jitter 0 none.1) stream
 vanishes_same draws (Slow millis) items e fits stream =
     let none : millis ≡ 0 = eqb-true millis 0 e in ap (λ millis. flow (op_reaction (Slow millis) draws) items) none ∙ slow_vanishes items 0 0 0 0 0 0 stream
-vanishes_same draws (Pace rate until) items e fits stream = absurd (cc)
+vanishes_same draws (Pace rate until from) items e fits stream = absurd (cc)
 vanishes_same draws (Mute end) items e fits stream = absurd (cc)
 vanishes_same draws (Cutoff instant) items e fits stream = absurd (cc)
-vanishes_same draws (Slicing average variation micros lane until) items e fits stream = absurd (cc)
+vanishes_same draws (Slicing average variation micros lane until from) items e fits stream = absurd (cc)
 vanishes_same draws (Limit bytes) items e fits stream = absurd (cc)
+vanishes_same draws (Halt at after end) items e fits stream = absurd (cc)
 
 takes_by : (draws : Draws) (ops : List Op) (op : Op) (e : Bool) → vanishes op ≡ e → All IsOp ops → IsOp op → TakesIn draws ops op (if e then ops else with_last ops op)
 takes_by draws ops op true e fits fits' =
@@ -87,12 +88,13 @@ takes_op draws ops (Mute end) fits fits' = record {
       flow_from-muted (final_of end) items 0 0 0 0 0 0 stream
       ∙ sym (flow_from-muted (final_of end) (given_by draws ops items) 0 0 0 0 0 0 (IsStream-given_by draws ops items fits stream));
 }
-takes_op draws ops (Delay fixed latency jitter lane until) fits fits' = takes_by draws ops (Delay fixed latency jitter lane until) (vanishes (Delay fixed latency jitter lane until)) refl fits fits'
-takes_op draws ops (Pace rate until) fits fits' = takes_by draws ops (Pace rate until) false refl fits fits'
+takes_op draws ops (Delay fixed latency jitter lane until from) fits fits' = takes_by draws ops (Delay fixed latency jitter lane until from) (vanishes (Delay fixed latency jitter lane until from)) refl fits fits'
+takes_op draws ops (Pace rate until from) fits fits' = takes_by draws ops (Pace rate until from) false refl fits fits'
 takes_op draws ops (Slow millis) fits fits' = takes_by draws ops (Slow millis) (vanishes (Slow millis)) refl fits fits'
 takes_op draws ops (Cutoff instant) fits fits' = takes_by draws ops (Cutoff instant) false refl fits fits'
-takes_op draws ops (Slicing average variation micros lane until) fits fits' = takes_by draws ops (Slicing average variation micros lane until) false refl fits fits'
+takes_op draws ops (Slicing average variation micros lane until from) fits fits' = takes_by draws ops (Slicing average variation micros lane until from) false refl fits fits'
 takes_op draws ops (Limit bytes) fits fits' = takes_by draws ops (Limit bytes) false refl fits fits'
+takes_op draws ops (Halt at after end) fits fits' = takes_by draws ops (Halt at after end) false refl fits fits'
 
 -- all taken in, one after the other
 given_by-fold : (draws : Draws) (before ops : List Op) (items : List Item) → All IsOp before → All IsOp ops → IsStream items

@@ -4,7 +4,7 @@ use Rattle.std.specs.Prelude.{◌==◌, All}
 use Rattle.std.proofs.Math.Dec.{eqb-suc-zero}
 use Rattle.std.proofs.lemmas.List.Elements.{All-nil, All-cons, All-head, All-tail}
 use Rattle.tox_defs.specs.declared.operations.op.Op.{Op}
-use Rattle.tox_defs.specs.declared.operations.op.Op.TheVariants.{Delay, Pace, Slow, Mute, Cutoff, Slicing, Limit}
+use Rattle.tox_defs.specs.declared.operations.op.Op.TheVariants.{Delay, Pace, Slow, Mute, Cutoff, Slicing, Limit, Halt}
 use Rattle.tox_defs.specs.operations.Op.{is_mute, millis_of}
 use Rattle.tox_compile.specs.Normal.{vanishes, after_mute, joined, one_or_two, with_last, with_op}
 
@@ -15,22 +15,24 @@ with_last-append (first ∷ []) last op = refl
 with_last-append (first ∷ second ∷ front) last op = ap (λ ops. first ∷ ops) (with_last-append (second ∷ front) last op)
 
 pub with_op-vanishing : (ops : List Op) (op : Op) → vanishes op ≡ true → with_op ops op ≡ ops
-with_op-vanishing ops (Delay fixed latency jitter lane until) e = ap (λ none. if none then ops else with_last ops (Delay fixed latency jitter lane until)) e
+with_op-vanishing ops (Delay fixed latency jitter lane until from) e = ap (λ none. if none then ops else with_last ops (Delay fixed latency jitter lane until from)) e
 with_op-vanishing ops (Slow millis) e = ap (λ none. if none then ops else with_last ops (Slow millis)) e
-with_op-vanishing ops (Pace rate until) e = absurd (cc)
+with_op-vanishing ops (Pace rate until from) e = absurd (cc)
 with_op-vanishing ops (Mute end) e = absurd (cc)
 with_op-vanishing ops (Cutoff instant) e = absurd (cc)
-with_op-vanishing ops (Slicing average variation micros lane until) e = absurd (cc)
+with_op-vanishing ops (Slicing average variation micros lane until from) e = absurd (cc)
 with_op-vanishing ops (Limit bytes) e = absurd (cc)
+with_op-vanishing ops (Halt at after end) e = absurd (cc)
 
 pub with_op-staying : (ops : List Op) (op : Op) → is_mute op ≡ false → vanishes op ≡ false → with_op ops op ≡ with_last ops op
-with_op-staying ops (Delay fixed latency jitter lane until) heard e = ap (λ none. if none then ops else with_last ops (Delay fixed latency jitter lane until)) e
+with_op-staying ops (Delay fixed latency jitter lane until from) heard e = ap (λ none. if none then ops else with_last ops (Delay fixed latency jitter lane until from)) e
 with_op-staying ops (Slow millis) heard e = ap (λ none. if none then ops else with_last ops (Slow millis)) e
-with_op-staying ops (Pace rate until) heard e = refl
+with_op-staying ops (Pace rate until from) heard e = refl
 with_op-staying ops (Mute end) heard e = absurd (cc)
 with_op-staying ops (Cutoff instant) heard e = refl
-with_op-staying ops (Slicing average variation micros lane until) heard e = refl
+with_op-staying ops (Slicing average variation micros lane until from) heard e = refl
 with_op-staying ops (Limit bytes) heard e = refl
+with_op-staying ops (Halt at after end) heard e = refl
 
 length-one_or_two : (one : Option Op) (last op : Op) → length (one_or_two one last op) ≤ 2
 length-one_or_two (Some one) last op = omega arith
@@ -48,12 +50,13 @@ length-by ops op false = length-with_last ops op
 -- at most one more
 pub length-with_op : (ops : List Op) (op : Op) → length (with_op ops op) ≤ length ops + 1
 length-with_op ops (Mute end) = omega arith
-length-with_op ops (Delay fixed latency jitter lane until) = length-by ops (Delay fixed latency jitter lane until) (vanishes (Delay fixed latency jitter lane until))
+length-with_op ops (Delay fixed latency jitter lane until from) = length-by ops (Delay fixed latency jitter lane until from) (vanishes (Delay fixed latency jitter lane until from))
 length-with_op ops (Slow millis) = length-by ops (Slow millis) (vanishes (Slow millis))
-length-with_op ops (Pace rate until) = length-with_last ops (Pace rate until)
+length-with_op ops (Pace rate until from) = length-with_last ops (Pace rate until from)
 length-with_op ops (Cutoff instant) = length-with_last ops (Cutoff instant)
-length-with_op ops (Slicing average variation micros lane until) = length-with_last ops (Slicing average variation micros lane until)
+length-with_op ops (Slicing average variation micros lane until from) = length-with_last ops (Slicing average variation micros lane until from)
 length-with_op ops (Limit bytes) = length-with_last ops (Limit bytes)
+length-with_op ops (Halt at after end) = length-with_last ops (Halt at after end)
 
 -- operations that each add at most so many milliseconds
 abbrev pub AddAtMost : ℕ → List Op → Type 0
@@ -66,19 +69,23 @@ two_add : (most : ℕ) (first second : Op) → millis_of first ≤ most → mill
 two_add most first second fits fits' = All-cons (λ op. millis_of op ≤ most) first (second ∷ []) fits (one_adds most second fits')
 
 delays_add : (most n fixed latency jitter lane more latency' jitter' lane' : ℕ) (none' none : Bool) → fixed ≤ most → more ≤ n
-    → AddAtMost (most + n) (one_or_two (if none' then Some (Delay (fixed + more) latency jitter lane 0) else if none then Some (Delay (fixed + more) latency' jitter' lane' 0) else None)
-    (Delay fixed latency jitter lane 0) (Delay more latency' jitter' lane' 0))
-delays_add most n fixed latency jitter lane more latency' jitter' lane' true none fits fits' = one_adds (most + n) (Delay (fixed + more) latency jitter lane 0) (omega (arith, fits, fits'))
-delays_add most n fixed latency jitter lane more latency' jitter' lane' false true fits fits' = one_adds (most + n) (Delay (fixed + more) latency' jitter' lane' 0) (omega (arith, fits, fits'))
+    → AddAtMost (most + n) (one_or_two (if none' then Some (Delay (fixed + more) latency jitter lane 0 0) else if none then Some (Delay (fixed + more) latency' jitter' lane' 0 0) else None)
+    (Delay fixed latency jitter lane 0 0) (Delay more latency' jitter' lane' 0 0))
+delays_add most n fixed latency jitter lane more latency' jitter' lane' true none fits fits' = one_adds (most + n) (Delay (fixed + more) latency jitter lane 0 0) (omega (arith, fits, fits'))
+delays_add most n fixed latency jitter lane more latency' jitter' lane' false true fits fits' = one_adds (most + n) (Delay (fixed + more) latency' jitter' lane' 0 0) (omega (arith, fits, fits'))
 delays_add most n fixed latency jitter lane more latency' jitter' lane' false false fits fits' =
-    two_add (most + n) (Delay fixed latency jitter lane 0) (Delay more latency' jitter' lane' 0) (omega (arith, fits)) (omega (arith, fits'))
+    two_add (most + n) (Delay fixed latency jitter lane 0 0) (Delay more latency' jitter' lane' 0 0) (omega (arith, fits)) (omega (arith, fits'))
 
 joined_adds : (most n : ℕ) (first second : Op) → millis_of first ≤ most → millis_of second ≤ n → AddAtMost (most + n) (one_or_two (joined first second) first second)
-joined_adds most n (Delay fixed latency jitter lane zero) (Delay more latency' jitter' lane' zero) fits fits' = delays_add most n fixed latency jitter lane more latency' jitter' lane' (jitter' == 0) (jitter == 0) fits fits'
-joined_adds most n (Delay fixed latency jitter lane zero) (Delay more latency' jitter' lane' (suc until)) fits fits' =
-    rw (eqb-suc-zero until) (two_add (most + n) (Delay fixed latency jitter lane 0) (Delay more latency' jitter' lane' (suc until)) (omega (arith, fits)) (omega (arith, fits')))
-joined_adds most n (Delay fixed latency jitter lane (suc until)) (Delay more latency' jitter' lane' until') fits fits' =
-    rw (eqb-suc-zero until) (two_add (most + n) (Delay fixed latency jitter lane (suc until)) (Delay more latency' jitter' lane' until') (omega (arith, fits)) (omega (arith, fits')))
+joined_adds most n (Delay fixed latency jitter lane zero zero) (Delay more latency' jitter' lane' zero zero) fits fits' = delays_add most n fixed latency jitter lane more latency' jitter' lane' (jitter' == 0) (jitter == 0) fits fits'
+joined_adds most n (Delay fixed latency jitter lane (suc until) from) (Delay more latency' jitter' lane' until' from') fits fits' =
+    rw (eqb-suc-zero until) (two_add (most + n) (Delay fixed latency jitter lane (suc until) from) (Delay more latency' jitter' lane' until' from') (omega (arith, fits)) (omega (arith, fits')))
+joined_adds most n (Delay fixed latency jitter lane zero (suc from)) (Delay more latency' jitter' lane' until' from') fits fits' =
+    rw (eqb-suc-zero from) (two_add (most + n) (Delay fixed latency jitter lane 0 (suc from)) (Delay more latency' jitter' lane' until' from') (omega (arith, fits)) (omega (arith, fits')))
+joined_adds most n (Delay fixed latency jitter lane zero zero) (Delay more latency' jitter' lane' (suc until) from') fits fits' =
+    rw (eqb-suc-zero until) (two_add (most + n) (Delay fixed latency jitter lane 0 0) (Delay more latency' jitter' lane' (suc until) from') (omega (arith, fits)) (omega (arith, fits')))
+joined_adds most n (Delay fixed latency jitter lane zero zero) (Delay more latency' jitter' lane' zero (suc from)) fits fits' =
+    rw (eqb-suc-zero from) (two_add (most + n) (Delay fixed latency jitter lane 0 0) (Delay more latency' jitter' lane' 0 (suc from)) (omega (arith, fits)) (omega (arith, fits')))
 joined_adds most n (Slow millis) (Slow more) fits fits' = one_adds (most + n) (Slow (millis + more)) (omega (arith, fits, fits'))
 joined_adds most n (Limit bytes) (Limit other) fits fits' = one_adds (most + n) (Limit (min bytes other)) (omega arith)
 joined_adds most n (Cutoff instant) (Cutoff other) fits fits' = one_adds (most + n) (Cutoff (min instant other)) (omega arith)
@@ -106,9 +113,10 @@ adds_by most n ops op false fits fits' = with_last_adds most n ops op fits fits'
 -- each adds at most what the new one adds more
 pub with_op_adds : (most n : ℕ) (ops : List Op) (op : Op) → AddAtMost most ops → millis_of op ≤ n → AddAtMost (most + n) (with_op ops op)
 with_op_adds most n ops (Mute end) fits fits' = one_adds (most + n) (Mute end) (omega arith)
-with_op_adds most n ops (Delay fixed latency jitter lane until) fits fits' = adds_by most n ops (Delay fixed latency jitter lane until) (vanishes (Delay fixed latency jitter lane until)) fits fits'
+with_op_adds most n ops (Delay fixed latency jitter lane until from) fits fits' = adds_by most n ops (Delay fixed latency jitter lane until from) (vanishes (Delay fixed latency jitter lane until from)) fits fits'
 with_op_adds most n ops (Slow millis) fits fits' = adds_by most n ops (Slow millis) (vanishes (Slow millis)) fits fits'
-with_op_adds most n ops (Pace rate until) fits fits' = with_last_adds most n ops (Pace rate until) fits fits'
+with_op_adds most n ops (Pace rate until from) fits fits' = with_last_adds most n ops (Pace rate until from) fits fits'
 with_op_adds most n ops (Cutoff instant) fits fits' = with_last_adds most n ops (Cutoff instant) fits fits'
-with_op_adds most n ops (Slicing average variation micros lane until) fits fits' = with_last_adds most n ops (Slicing average variation micros lane until) fits fits'
+with_op_adds most n ops (Slicing average variation micros lane until from) fits fits' = with_last_adds most n ops (Slicing average variation micros lane until from) fits fits'
 with_op_adds most n ops (Limit bytes) fits fits' = with_last_adds most n ops (Limit bytes) fits fits'
+with_op_adds most n ops (Halt at after end) fits fits' = with_last_adds most n ops (Halt at after end) fits fits'

@@ -6,8 +6,8 @@ use Rattle.tox_defs.specs.declared.operations.op.Op.TheVariants.{Delay, Slicing}
 
 -- whether an operation draws words: a delay that has jitter does, and a slicing whose sizes vary
 abbrev pub op_draws : Op → Bool
-op_draws (Delay fixed latency jitter lane until) = nat_lt 0 jitter
-op_draws (Slicing average variation micros lane until) = nat_lt 0 variation
+op_draws (Delay fixed latency jitter lane until from) = nat_lt 0 jitter
+op_draws (Slicing average variation micros lane until from) = nat_lt 0 variation
 op_draws op = false
 
 -- whether some operation draws words

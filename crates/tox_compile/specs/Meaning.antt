@@ -4,7 +4,7 @@ use Rattle.tox_time.specs.declared.streams.item.Item.{Item}
 use Rattle.tox_words.specs.declared.lanes.Lanes.{Lanes}
 use Rattle.tox_words.specs.Draw.{Draws, draw_in}
 use Rattle.tox_defs.specs.declared.operations.op.Op.{Op}
-use Rattle.tox_defs.specs.declared.operations.op.Op.TheVariants.{Mute, Cutoff}
+use Rattle.tox_defs.specs.declared.operations.op.Op.TheVariants.{Mute, Cutoff, Halt}
 use Rattle.tox_defs.specs.chain.Chain.{max_toxics}
 use Rattle.tox_defs.specs.stage.Reaction.{Reaction, flow_through}
 use Rattle.tox_defs.specs.operations.Op.{op_reaction, IsOp}
@@ -32,9 +32,10 @@ abbrev pub earlier : ℕ → Option ℕ → Option ℕ
 earlier instant None = Some instant
 earlier instant (Some other) = Some (min instant other)
 
--- the start where some operation mutes, else the earliest cutoff, else none
+-- the start where some operation mutes, else the earliest cutoff or instant of a halt, else none
 abbrev pub deadline_of : List Op → Option ℕ
 deadline_of [] = None
 deadline_of (Mute end ∷ ops) = Some 0
 deadline_of (Cutoff instant ∷ ops) = earlier instant (deadline_of ops)
+deadline_of (Halt (Some at) after end ∷ ops) = earlier at (deadline_of ops)
 deadline_of (op ∷ ops) = deadline_of ops

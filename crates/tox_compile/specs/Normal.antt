@@ -11,7 +11,7 @@ use Rattle.tox_compile.specs.Compiled.{applied_ops}
 
 -- whether an operation does nothing: a delay of zero without jitter, or a slow close of zero
 abbrev pub vanishes : Op → Bool
-vanishes (Delay fixed latency jitter lane until) = fixed == 0 && (jitter == 0)
+vanishes (Delay fixed latency jitter lane until from) = fixed == 0 && (jitter == 0)
 vanishes (Slow millis) = millis == 0
 vanishes op = false
 
@@ -19,17 +19,22 @@ vanishes op = false
 abbrev pub after_mute : Op → Ending → Ending
 after_mute op end = ending (op_giving op (λ _ _. 0) first_state (final_of end))
 
--- the one delay that stands for two that never stop, where at most one of them has jitter
+-- whether an operation works from the start of a link to its end
+abbrev pub is_always : ℕ → ℕ → Bool
+is_always until from = until == 0 && (from == 0)
+
+-- the one delay that stands for two that always work, where at most one of them has jitter
 abbrev pub one_delay : ℕ → ℕ → ℕ → ℕ → ℕ → ℕ → ℕ → ℕ → Option Op
 one_delay fixed latency jitter lane more latency' jitter' lane' =
-    if jitter' == 0 then Some (Delay (fixed + more) latency jitter lane 0)
-    else if jitter == 0 then Some (Delay (fixed + more) latency' jitter' lane' 0)
+    if jitter' == 0 then Some (Delay (fixed + more) latency jitter lane 0 0)
+    else if jitter == 0 then Some (Delay (fixed + more) latency' jitter' lane' 0 0)
     else None
 
 -- the one operation that stands for two neighbours, where a rule joins them
 abbrev pub joined : Op → Op → Option Op
-joined (Delay fixed latency jitter lane until) (Delay more latency' jitter' lane' until') =
-    if until == 0 && (until' == 0) then one_delay fixed latency jitter lane more latency' jitter' lane'
+joined (Delay fixed latency jitter lane until from) (Delay more latency' jitter' lane' until' from') =
+    if is_always until from && is_always until' from'
+    then one_delay fixed latency jitter lane more latency' jitter' lane'
     else None
 joined (Slow millis) (Slow more) = Some (Slow (millis + more))
 joined (Limit bytes) (Limit other) = Some (Limit (min bytes other))

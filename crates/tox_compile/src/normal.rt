@@ -59,11 +59,16 @@ fn joined(first: &Op, second: &Op) -> Option<Op>
 {
     match (first, second) {
         (
-            Op::Delay { until: 0, .. },
+            Op::Delay {
+                until: 0,
+                from: 0,
+                ..
+            },
             Op::Delay {
                 fixed,
                 jitter: 0,
                 until: 0,
+                from: 0,
                 ..
             },
         ) => Some(with_more(first, *fixed)),
@@ -72,9 +77,14 @@ fn joined(first: &Op, second: &Op) -> Option<Op>
                 fixed,
                 jitter: 0,
                 until: 0,
+                from: 0,
                 ..
             },
-            Op::Delay { until: 0, .. },
+            Op::Delay {
+                until: 0,
+                from: 0,
+                ..
+            },
         ) => Some(with_more(second, *fixed)),
         (Op::Slow { .. }, Op::Slow { millis }) => Some(with_more(first, *millis)),
         (Op::Limit { bytes }, Op::Limit { bytes: other }) => Some(Op::Limit {
@@ -102,12 +112,14 @@ fn with_more(op: &Op, more: u32) -> Op
             jitter,
             lane,
             until,
+            from,
         } => Op::Delay {
             fixed: fixed + more,
             latency: *latency,
             jitter: *jitter,
             lane: *lane,
             until: *until,
+            from: *from,
         },
         Op::Slow { millis } => Op::Slow {
             millis: millis + more,

@@ -56,7 +56,8 @@ impl Plan {
         &self.ops
     }
 
-    /// The instant from which arrivals change nothing: 0 if an operation drops all data, else the earliest cutoff.
+    /// The instant from which arrivals change nothing: 0 if an operation drops all data, else the earliest
+    /// cutoff or instant of a halt.
     pub fn deadline(&self) -> Option<Micros>
         ensures { result ≡ deadline_of self.now.ops }
     {
@@ -98,6 +99,7 @@ fn deadline_of(ops: &[Op]) -> Option<Micros>
     match op {
         Op::Mute { .. } => Some(Micros::ZERO),
         Op::Cutoff { instant } => Some(earlier(*instant, deadline_of(others))),
+        Op::Halt { at: Some(at), .. } => Some(earlier(*at, deadline_of(others))),
         _ => deadline_of(others),
     }
 }

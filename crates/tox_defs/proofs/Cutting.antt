@@ -79,7 +79,7 @@ cut_goes_on giving state rest behind piece items others running first later =
     }
 
 -- the last piece
-cut_ends : (giving : Giving) (state : State) (rest piece : Slice) (items : List Item) → state.done ≡ false
+pub cut_ends : (giving : Giving) (state : State) (rest piece : Slice) (items : List Item) → state.done ≡ false
     → giving state (as_chunk rest) ≡ as_chunk piece ∷ []
     → Continues (counted giving) state (as_chunk rest ∷ items) (as_chunk piece ∷ []) (with_chunk (with_piece state piece)) items
 cut_ends giving state rest piece items running only =

@@ -1,8 +1,9 @@
 pub mod FlowLemmas
 pub mod Drawn
 pub mod Cutting
+pub mod Uncut
 pub mod OpCursors
-pub mod Stopping
+pub mod Windows
 pub mod Stages
 pub mod OpenStates
 pub mod KeepingStreams

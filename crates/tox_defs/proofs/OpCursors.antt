@@ -10,10 +10,10 @@ use Rattle.tox_time.specs.streams.Table.{final_of}
 use Rattle.tox_words.specs.Draw.{Draws}
 use Rattle.tox_defs.specs.declared.operations.state.State.{State}
 use Rattle.tox_defs.specs.declared.operations.op_cursor.OpCursor.{OpCursor}
-use Rattle.tox_defs.specs.declared.operations.look.Look.TheVariants.{Piece, LastPiece, Ended, Late}
+use Rattle.tox_defs.specs.declared.operations.look.Look.TheVariants.{Piece, LastPiece, Ended, Uncounted}
 use Rattle.tox_defs.specs.stage.Reaction.{flow_from, state_from, with_piece, with_chunk, with_ending}
 use Rattle.tox_defs.specs.operations.Op.{op_reaction}
-use Rattle.tox_defs.specs.operations.Until.{with_previous}
+use Rattle.tox_defs.specs.operations.During.{with_previous}
 use Rattle.tox_defs.specs.operations.Look.{as_chunk, rest_of, Finds, after_piece_of, IsFront}
 use Rattle.tox_defs.specs.operations.OpCursor.{ending_or, ended_or, cursor_gives, cursor_leaves, IsSoundCursor, IsNextPiece, GivesOnlyEnding}
 use Rattle.tox_defs.proofs.FlowLemmas.{flow_from-done}
@@ -100,10 +100,10 @@ cursor_at_piece draws start cursor piece running some sound finds front =
     }
 
 -- a cursor whose look found that the rest is late
-pub cursor_at_late : (draws : Draws) (start : ℕ) (cursor : OpCursor) (piece : Slice) → cursor.ending ≡ None → start < cursor.stop → IsSoundCursor start cursor
-    → ((items : List Item) → Finds (op_reaction cursor.op draws) cursor.state (rest_at start cursor) items (Late piece)) → piece.span ≡ (rest_at start cursor).span
+pub cursor_at_uncounted : (draws : Draws) (start : ℕ) (cursor : OpCursor) (piece : Slice) → cursor.ending ≡ None → start < cursor.stop → IsSoundCursor start cursor
+    → ((items : List Item) → Finds (op_reaction cursor.op draws) cursor.state (rest_at start cursor) items (Uncounted piece)) → piece.span ≡ (rest_at start cursor).span
     → IsNextPiece draws start cursor (record { op = cursor.op; state = with_previous cursor.state piece.instant; stop = cursor.stop; instant = cursor.instant; ending = cursor.ending }) piece
-cursor_at_late draws start cursor piece running some sound finds whole =
+cursor_at_uncounted draws start cursor piece running some sound finds whole =
     let begins : piece.span.start ≡ start = ap (λ span. span.start) whole in
     let stops : piece.span.stop ≡ cursor.stop = ap (λ span. span.stop) whole in
     let later : OpCursor = record { op = cursor.op; state = with_previous cursor.state piece.instant; stop = cursor.stop; instant = cursor.instant; ending = cursor.ending } in

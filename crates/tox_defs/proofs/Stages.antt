@@ -12,13 +12,13 @@ use Rattle.tox_defs.specs.declared.operations.state.State.{State}
 use Rattle.tox_defs.specs.declared.operations.op_cursor.OpCursor.{OpCursor}
 use Rattle.tox_time.specs.declared.streams.position.StreamPosition.{StreamPosition}
 use Rattle.tox_defs.specs.stage.Reaction.{Reaction, counted, react, flow_from, state_from, state_after, with_ending}
-use Rattle.tox_defs.specs.operations.Op.{op_giving, op_reaction, op_until}
+use Rattle.tox_defs.specs.operations.Op.{op_from, op_giving, op_reaction, op_until}
 use Rattle.tox_time.specs.streams.StreamPosition.{position_after}
 use Rattle.tox_defs.specs.operations.Look.{rest_of}
 use Rattle.tox_defs.specs.operations.OpCursor.{cursor_gives, cursor_leaves}
 use Rattle.tox_defs.specs.stage.Stage.{Staged, taken}
 use Rattle.tox_defs.proofs.FlowLemmas.{state_same, react-running}
-use Rattle.tox_defs.proofs.Stopping.{is_late-final, until-early}
+use Rattle.tox_defs.proofs.Windows.{is_outside-final, during-inside}
 use Rattle.tox_defs.proofs.OpCursors.{rest_of-read, rest_of-unread, cursor_gives-running, cursor_leaves-running}
 
 -- an ending that is given for an ending counts nothing
@@ -52,7 +52,7 @@ took_final drawing start cursor place self item ending last running read undone 
     let reacts : react (op_reaction cursor.op (draws_of drawing)) cursor.state item ≡ record { state = with_ending cursor.state last; given = final_of last ∷ [] }
     = react-running (op_reaction cursor.op (draws_of drawing)) cursor.state item undone
     ∙ ap (λ item. op_reaction cursor.op (draws_of drawing) cursor.state item) is
-    ∙ until-early (op_until cursor.op) (counted (op_giving cursor.op (draws_of drawing))) cursor.state (final_of ending) (is_late-final (op_until cursor.op) ending)
+    ∙ during-inside (op_from cursor.op) (op_until cursor.op) (counted (op_giving cursor.op (draws_of drawing))) cursor.state (final_of ending) (is_outside-final (op_from cursor.op) (op_until cursor.op) ending)
     ∙ ap (λ given. record { state = state_after cursor.state (final_of ending) given; given = given }) (gives (draws_of drawing))
     ∙ ap (λ state. record { state = state; given = final_of last ∷ [] }) (state_after-final cursor.state ending last) in
     ap (λ answer. make answer.state answer.given) (sym reacts)

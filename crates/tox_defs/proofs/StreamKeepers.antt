@@ -17,6 +17,10 @@ Whatever given taken = Unit {0}
 abbrev pub NotAfter : ℕ → ℕ → Type 0
 NotAfter given taken = given ≤ taken
 
+-- an instant not after another, nor after a bound
+abbrev pub NotAfterEither : ℕ → ℕ → ℕ → Type 0
+NotAfterEither bound given taken = (given ≤ taken) × (given ≤ bound)
+
 -- a final that leaves in order
 pub in_order_final : (previous position since : ℕ) (item : Item) → previous ≤ horizon → is_final item ≡ true → CanFollow position since item → IsStreamFrom position previous (in_order previous item ∷ [])
 in_order_final previous position since (Chunk span t) fits final follows = absurd (cc)

@@ -10,7 +10,7 @@ use Rattle.tox_defs.specs.chain.Applied.{is_applied}
 use Rattle.tox_defs.specs.chain.Chain.{Toxics}
 use Rattle.tox_defs.specs.Toxic.{IsInRange}
 use Rattle.tox_defs.specs.stage.Reaction.{Giving, Reaction, counted, flow_through}
-use Rattle.tox_defs.specs.operations.Until.{until}
+use Rattle.tox_defs.specs.operations.During.{during}
 use Rattle.tox_defs.specs.toxics.{meaning_of}
 
 -- what a toxic gives, by the words of its lane
@@ -21,9 +21,14 @@ toxic_giving toxic words = (meaning_of toxic).gives words
 abbrev pub toxic_until : Toxic → ℕ
 toxic_until toxic = (meaning_of toxic).until
 
+-- the milliseconds before which a toxic lets chunks pass; 0: it never does
+abbrev pub toxic_from : Toxic → ℕ
+toxic_from toxic = (meaning_of toxic).from
+
 -- the reaction of a toxic, by the words of its lane
 abbrev pub toxic_reaction : Toxic → (ℕ → ℕ) → Reaction
-toxic_reaction toxic words = until (toxic_until toxic) (counted (toxic_giving toxic words))
+toxic_reaction toxic words =
+    during (toxic_from toxic) (toxic_until toxic) (counted (toxic_giving toxic words))
 
 -- attributes in their ranges, and a place that a chain of so many lanes has
 abbrev pub IsPlaced : Lanes → Placed → Type 0

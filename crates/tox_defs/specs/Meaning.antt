@@ -13,12 +13,13 @@ pub record Description : Type 0 where
   pub limits : List Limits
   pub values : List ℕ
 
--- all that there is to know of a toxic: the toxic of its type with other values, the milliseconds from which
--- on it lets chunks pass (0: it never does), what it gives by the words of its lane, its operation at a
--- place, and the law of what it gives for an arrival list
+-- all that there is to know of a toxic: the toxic of its type with other values, the milliseconds before which
+-- and from which on it lets chunks pass (0: it never does), what it gives by the words of its lane, its operation
+-- at a place, and the law of what it gives for an arrival list
 pub record Meaning : Type 1 where
   pub description : Description
   pub with_values : List ℕ → Toxic
+  pub from : ℕ
   pub until : ℕ
   pub gives : (ℕ → ℕ) → Giving
   pub op : ℕ → Op

@@ -41,7 +41,7 @@ is_within toxic = are_in (limits_of toxic) (values_of toxic)
 
 -- whether sizes vary by their average or more
 abbrev pub is_varied_too_much : Toxic → Bool
-is_varied_too_much (Slicer average_size size_variation delay until) =
+is_varied_too_much (Slicer average_size size_variation delay until from) =
     is_slicer_varied_too_much average_size size_variation
 is_varied_too_much toxic = false
 

@@ -1,5 +1,5 @@
 -- Operations.
-pub mod Until
+pub mod During
 pub mod Op
 pub mod Look
 pub mod OpCursor

@@ -35,7 +35,7 @@ impl Toxic {
     /// The names of the attributes, at most [`MAX_ATTRIBUTES`], in their order.
     pub fn attributes(&self) -> &'static [&'static str]
         ensures names { map (λ name. name.now) result.now ≡ attributes_of self.now }
-        ensures few { length result.now ≤ 4 }
+        ensures few { length result.now ≤ 5 }
     {
         self.description().attributes
     }

@@ -40,7 +40,7 @@ impl Default for Entry {
     ghost use Rattle.std.specs.Prelude.{◌≡◌};
     ghost use Rattle.tox_defs.specs.declared.toxic.Toxic.TheVariants.{Latency};
 
-    ghost is_default = { λ entry. entry ≡ record { toxic = Latency 0 0 0; toxicity = 0 } };
+    ghost is_default = { λ entry. entry ≡ record { toxic = Latency 0 0 0 0; toxicity = 0 } };
 
     /// A latency of zero that no link meets.
     fn default() -> Self {
@@ -49,6 +49,7 @@ impl Default for Entry {
                 latency: 0,
                 jitter: 0,
                 until: 0,
+                from: 0,
             },
             toxicity: 0,
         }

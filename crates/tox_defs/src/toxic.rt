@@ -9,8 +9,9 @@ use crate::toxics::{bandwidth, latency, limit_data, reset_peer, slicer, slow_clo
 
 /// A fault that a link can meet, with the attributes of Toxiproxy's toxic of the same name.
 ///
-/// Times are in milliseconds, except a slicer's `delay` in microseconds. Sizes are in bytes. A chunk that comes at
-/// or past `until` (0 to 3,600,000; 0: never) leaves whole and in order, and the toxic doesn't count it.
+/// Times are in milliseconds, except a slicer's `delay` in microseconds. Sizes are in bytes. A chunk that comes before
+/// `from`, or at or past `until` (each 0 to 3,600,000; 0: never), leaves whole and in order, and the toxic doesn't count it.
+/// A timeout with `from` or `after` above 0, or a reset_peer with `after`, begins later: until then all passes.
 #[derive(Clone, Copy, Debug, PartialEq, Eq)]
 pub enum Toxic {
     /// Delays all data by `latency` plus or minus `jitter`: each 0 to 3,600,000.
@@ -18,23 +19,30 @@ pub enum Toxic {
         latency: u32,
         jitter: u32,
         until: u32,
+        from: u32,
     },
     /// Limits a connection to `rate` KB/s (1 KB is 1000 bytes): 1 to 1,000,000.
     Bandwidth {
         rate: u32,
         until: u32,
+        from: u32,
     },
     /// Delays the closing by `delay`: 0 to 3,600,000.
     SlowClose {
         delay: u32,
     },
-    /// Drops all data and closes after `timeout`: 0 to 3,600,000. With 0 it never closes.
+    /// Drops all data and closes after `timeout`: 0 to 3,600,000. With 0 it never closes. It begins at `from`, or once
+    /// `after` bytes (0 to 2^40) have passed, if that is sooner.
     Timeout {
         timeout: u32,
+        from: u32,
+        after: u64,
     },
-    /// Resets the connection `timeout` after its start: 0 to 3,600,000.
+    /// Resets the connection `timeout` after its start: 0 to 3,600,000. With `after` (0 to 2^40) it does so once that many
+    /// bytes have passed, and not before.
     ResetPeer {
         timeout: u32,
+        after: u64,
     },
     /// Cuts data into pieces near `average_size` (1 to 1,000,000), varied by `size_variation` (below it),
     /// with `delay` microseconds (0 to 3,600,000,000) before each.
@@ -43,6 +51,7 @@ pub enum Toxic {
         size_variation: u32,
         delay: u64,
         until: u32,
+        from: u32,
     },
     /// Closes the connection once `bytes` have passed: 0 to 2^40.
     LimitData {
@@ -57,16 +66,29 @@ impl Toxic {
             latency: 0,
             jitter: 0,
             until: 0,
+            from: 0,
         },
-        Toxic::Bandwidth { rate: 0, until: 0 },
+        Toxic::Bandwidth {
+            rate: 0,
+            until: 0,
+            from: 0,
+        },
         Toxic::SlowClose { delay: 0 },
-        Toxic::Timeout { timeout: 0 },
-        Toxic::ResetPeer { timeout: 0 },
+        Toxic::Timeout {
+            timeout: 0,
+            from: 0,
+            after: 0,
+        },
+        Toxic::ResetPeer {
+            timeout: 0,
+            after: 0,
+        },
         Toxic::Slicer {
             average_size: 0,
             size_variation: 0,
             delay: 0,
             until: 0,
+            from: 0,
         },
         Toxic::LimitData { bytes: 0 },
     ];
@@ -74,24 +96,30 @@ impl Toxic {
     /// The name of the type, and the attributes.
     pub(crate) fn description(&self) -> Description
         ensures described { description_view result ≡ (meaning_of self.now).description }
-        ensures few { length result.attributes.now ≤ 4 }
+        ensures few { length result.attributes.now ≤ 5 }
     {
         match *self {
             Toxic::Latency {
                 latency,
                 jitter,
                 until,
-            } => latency::description(latency, jitter, until),
-            Toxic::Bandwidth { rate, until } => bandwidth::description(rate, until),
+                from,
+            } => latency::description(latency, jitter, until, from),
+            Toxic::Bandwidth { rate, until, from } => bandwidth::description(rate, until, from),
             Toxic::SlowClose { delay } => slow_close::description(delay),
-            Toxic::Timeout { timeout } => timeout::description(timeout),
-            Toxic::ResetPeer { timeout } => reset_peer::description(timeout),
+            Toxic::Timeout {
+                timeout,
+                from,
+                after,
+            } => timeout::description(timeout, from, after),
+            Toxic::ResetPeer { timeout, after } => reset_peer::description(timeout, after),
             Toxic::Slicer {
                 average_size,
                 size_variation,
                 delay,
                 until,
-            } => slicer::description(average_size, size_variation, delay, until),
+                from,
+            } => slicer::description(average_size, size_variation, delay, until, from),
             Toxic::LimitData { bytes } => limit_data::description(bytes),
         }
     }

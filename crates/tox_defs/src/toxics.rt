@@ -1,5 +1,7 @@
 //! The seven toxics, each in a file of its own: its name, its attributes with their ranges, its operation, and what that operation finds.
 pub(crate) mod bandwidth;
+pub(crate) mod first_bytes;
+pub(crate) mod halt;
 pub(crate) mod latency;
 pub(crate) mod limit_data;
 pub(crate) mod ordered;

@@ -1,5 +1,5 @@
 -- The table of a toxic, in the parts in which it is printed.
-use Rattle.std.proofs.Common.{◌≡◌, ℕ, List, [], ◌∷◌, ◌++◌, codes, decimal, append_assoc, append-nil}
+use Rattle.std.proofs.Common.{◌≡◌, ℕ, List, [], ◌++◌, codes, decimal, append_assoc, append-nil}
 use Rattle.tox_time.specs.streams.StreamName.{stream_name}
 use Rattle.tox_defs.specs.Toxic.{name_of}
 use Rattle.tox_inline.specs.Texts.{short_name, toxic_head}

@@ -1,5 +1,5 @@
 -- What a command line sets up.
-use Rattle.std.specs.Prelude.{◌≡◌, ◌≢◌, ℕ, List, Result, Ok, Err}
+use Rattle.std.specs.Prelude.{◌≡◌, List, Result, Ok, Err}
 use Rattle.tox_config.specs.ConfigFaults.{IsConfigFault}
 use Rattle.tox_config.specs.Populate.{populate}
 use Rattle.tox_config.specs.Proxy.{Proxy}

@@ -1,6 +1,7 @@
 -- The two files that mean what a command line says.
-use Rattle.std.specs.Prelude.{ℕ, List, ◌++◌, codes, decimal, flat_map}
+use Rattle.std.specs.Prelude.{ℕ, ◌==◌, ◌&&◌, ◌||◌, Bool, List, [], ◌++◌, codes, decimal, flat_map, if◌then◌else◌}
 use Rattle.std.specs.List.{zip}
+use Rattle.std.specs.Str.{bytes_eq}
 use Rattle.tox_time.specs.declared.streams.stream.Stream.{Stream}
 use Rattle.tox_time.specs.declared.streams.stream.Stream.TheVariants.{Upstream, Downstream}
 use Rattle.tox_time.specs.streams.StreamName.{stream_name}
@@ -27,9 +28,15 @@ toxic_head toxic =
     ++ stream_name toxic.stream ++ codes "\"\ntoxicity = " ++ decimal toxic.entry.toxicity
     ++ codes "\n\n[rule.toxic.attributes]\n"
 
--- an attribute and its value
+-- whether an attribute says when a toxic begins
+abbrev pub says_begin : List ℕ → Bool
+says_begin name = bytes_eq name (codes "from") || bytes_eq name (codes "after")
+
+-- an attribute and its value; one that says when a toxic begins is left out where it is 0
 abbrev pub attribute_line : List ℕ × ℕ → List ℕ
-attribute_line pair = pair.0 ++ codes " = " ++ decimal pair.1 ++ codes "\n"
+attribute_line pair =
+    if says_begin pair.0 && pair.1 == 0 then []
+    else (pair.0 ++ codes " = " ++ decimal pair.1 ++ codes "\n")
 
 -- the table of a toxic
 abbrev pub toxic_text : NumberedToxic → List ℕ

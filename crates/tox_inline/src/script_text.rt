@@ -1,7 +1,7 @@
 //! The script that means what a command line says.
 ghost use Rattle.std.specs.Prelude.{◌≡◌, ◌≤◌, false, flat_map, length, map};
 ghost use Rattle.std.specs.List.{zip};
-ghost use Rattle.tox_inline.specs.Texts.{attribute_line, script_text, short_name, toxic_head, toxic_text};
+ghost use Rattle.tox_inline.specs.Texts.{attribute_line, says_begin, script_text, short_name, toxic_head, toxic_text};
 ghost use Rattle.tox_text.specs.Writing.{Prints, Writes};
 
 use crate::toxics::NumberedToxic;
@@ -110,7 +110,7 @@ fn short_name(stream: Stream) -> &'static str
     }
 }
 
-/// Prints a line for each attribute.
+/// Prints the lines of the attributes.
 fn print_attributes<W: Sink>(
     buffer: &mut Buffer,
     writer: &mut W,
@@ -129,6 +129,7 @@ fn print_attributes<W: Sink>(
     Ok(())
 }
 
+/// Prints the line of an attribute, but for one of 0 that says when a toxic begins.
 fn print_attribute<W: Sink>(
     buffer: &mut Buffer,
     writer: &mut W,
@@ -139,5 +140,15 @@ fn print_attribute<W: Sink>(
     ensures { Prints result (W.written writer.old) buffer.old (W.written writer.new) buffer.new
         (W.failed writer.new) (attribute_line (key.now, value)) }
 {
+    if value == 0 && says_begin(key) {
+        return Ok(());
+    }
     buffer.print(writer, &[Word(key), Word(" = "), Number(value), Word("\n")])
+}
+
+/// Whether an attribute says when a toxic begins.
+fn says_begin(key: &str) -> bool
+    ensures { result ≡ says_begin key.now }
+{
+    key == "from" || key == "after"
 }

@@ -30,10 +30,10 @@ emptied-instant core emptied none =
     ap next_instant (output-emptied core emptied none (Quiet ∷ [])) ∙ ap (λ ts. slice_get ts 0) (no_chunk-table (to_come core.runner (Quiet ∷ [])) emptied.drained.none)
 
 -- so it hasn't ended while its runner hasn't
-pub emptied-unended : (core : CoreView) (now : ℕ) → IsEmptied core → core.end ≡ None → IsUnended (to_come core.runner) now → IsUnended (remaining_output core) now
+pub emptied-unended : (core : CoreView) (now : ℕ) → IsEmptied core → core.end ≡ None → IsUnended (ops_of core.runner.cursors) (to_come core.runner) now → IsUnended (ops_of core.runner.cursors) (remaining_output core) now
 emptied-unended core now emptied none unended = record {
   quiet = subst (λ items. IsOpenAt now (ending items)) (sym (output-emptied core emptied none (Quiet ∷ []))) unended.quiet;
-  closed = subst (λ items. ending items ≢ StillOpen) (sym (output-emptied core emptied none (Closed now ∷ []))) unended.closed;
+  closed = λ closes. subst (λ items. ending items ≢ StillOpen) (sym (output-emptied core emptied none (Closed now ∷ []))) (unended.closed closes);
 }
 
 -- while a piece waits no ending is known
@@ -54,7 +54,7 @@ unknown-runner core unknown = by core.waiting
 
 -- an emptied core before its deadline stays as it is, while its source goes on and its runner knows no ending
 pub settled-still : (core : CoreView) (now : ℕ) → IsCore core → IsEmptied core → core.end ≡ None → (core.runner.idle ≡ true → core.runner.finished ≡ true → ⊥) → IsBeforeDeadline now (core_deadline core)
-    → (core.runner.idle ≡ true → (t : ℕ) → IsBeforeDeadline t (core_deadline core) → IsUnended (to_come core.runner) t) → Settled core core now
+    → (core.runner.idle ≡ true → (t : ℕ) → IsBeforeDeadline t (core_deadline core) → IsUnended (ops_of core.runner.cursors) (to_come core.runner) t) → Settled core core now
 settled-still core now invariant emptied none going before unended = record {
   leaves = record { output = λ position since items later stream. same-of _ _ refl; position = refl };
   emptied = emptied;

@@ -114,10 +114,10 @@ module _ (given now : ℕ) (end : Option ℕ) (so_far : StreamPosition) (ended :
   known None none was = absurd (let both : true ≡ false = sym was ∙ none in cc)
   known (Some t) some was = refl
 
-  unended : (end : Option ℕ) → core_ending (plain_core given None end so_far) ≡ None → IsUnended (remaining_output (plain_core given None end (record so_far { latest = now }))) now
+  unended : (end : Option ℕ) → core_ending (plain_core given None end so_far) ≡ None → IsUnended [] (remaining_output (plain_core given None end (record so_far { latest = now }))) now
   unended None unknown = record {
     quiet = subst (λ items. IsOpenAt now (ending items)) (sym (plain-read given None so_far (Quiet ∷ []))) tt;
-    closed = subst (λ items. ending items ≢ StillOpen) (sym (plain-read given None so_far (Closed now ∷ []))) (λ same. cc);
+    closed = λ closes. subst (λ items. ending items ≢ StillOpen) (sym (plain-read given None so_far (Closed now ∷ []))) (λ same. cc);
   }
   unended (Some t) unknown = absurd (cc)
 

@@ -1,5 +1,5 @@
 -- A line more is heard.
-use Rattle.std.proofs.Common.{◌≡◌, ℕ, All, Bool, true, false, List, [], ◌∷◌, ◌++◌, ◌+◌, ◌-◌, ◌<◌, ◌≤◌, ◌^◌, length, string_bytes, codes, Option, Some, None, inl, inr, refl, sym, ap, ap₂, subst, ◌∙◌, append_assoc, append-nil, arith}
+use Rattle.std.proofs.Common.{◌≡◌, ℕ, All, Bool, true, false, List, [], ◌∷◌, ◌++◌, ◌+◌, ◌-◌, ◌<◌, ◌≤◌, ◌^◌, length, string_bytes, Option, Some, None, inl, inr, refl, sym, ap, ap₂, subst, ◌∙◌, append_assoc, append-nil, arith}
 use Rattle.std.specs.Prelude.{◌⊎◌}
 use Rattle.std.specs.Io.KnownBytes.{IsAtEnd, prepend_known}
 use Rattle.std.proofs.lemmas.List.{length-append}
@@ -17,6 +17,8 @@ use Rattle.std.proofs.lemmas.List.Elements.{All-append, All-cons, All-head, All-
 use Rattle.tox_time.specs.declared.streams.item.Item.{Item}
 use Rattle.tox_time.specs.declared.streams.slice.Slice.{Slice}
 use Rattle.tox_time.specs.declared.streams.ending.Ending.{Ending}
+use Rattle.tox_time.specs.declared.streams.ending.Ending.TheVariants.{StillOpen}
+use Rattle.tox_log.specs.LastText.{last_line}
 use Rattle.tox_link.specs.declared.notes.LinkEvent.{LinkEvent}
 use Rattle.tox_link.specs.declared.notes.LinkEvent.TheVariants.{Piece, SourceEnd, Wrote}
 use Rattle.tox_link.specs.log.Log.{IsGapless, has_source_end, reading_of, said}
@@ -27,7 +29,7 @@ use Rattle.tox_log.specs.declared.replay.Hearing.{Hearing}
 use Rattle.tox_log.specs.Numbers.{Lacks}
 use Rattle.tox_log.specs.Reading.{LacksLine, is_last, to_hand, IsLineNumber, next_number}
 use Rattle.tox_log.specs.declared.event_line.LogLine.{LogLine}
-use Rattle.tox_log.specs.declared.event_line.LogLine.TheVariants.{Event, SourceReset, Last}
+use Rattle.tox_log.specs.declared.event_line.LogLine.TheVariants.{Event, Last}
 use Rattle.tox_log.specs.declared.last_line.BreakCause.{BreakCause}
 use Rattle.tox_log.specs.declared.last_line.LastLine.TheVariants.{Ended, Broken}
 use Rattle.tox_log.specs.EventLines.{event_lines, logged_line, logged_text}
@@ -196,7 +198,7 @@ pub says-event : (start : ℕ) (means : List Item → List Item) (text : List �
 says-event start means text old new event line is going whole goes writable heard =
     let lines : List ℕ = text ++ (line_words line ++ 10 ∷ []) in
     let more : HasHeard means lines new = subst (λ line. HasHeard means (text ++ (line_words line ++ 10 ∷ [])) new) is (hears-event means text old new event (subst IsWritable (sym is) writable) heard goes) in
-    let going_on : HasNoEnding means lines false new None = (refl, more) in
+    let going_on : HasNoEnding means lines false new None = inl (refl, more) in
     subst (SaysSo start means lines false new) (sym going) (subst (HasNoEnding means lines false new) (sym whole) going_on)
 
 -- an event that no faithful log has here
@@ -262,6 +264,31 @@ says-broken start means text old new cause bytes going broken judge reset writes
     let stopped : HasNoEnding means lines true new (Some cause) = (refl, record { front = text; bytes = bytes; heard = same-heard means text old new judge reset writes late heard; lines = refl }) in
     subst (SaysSo start means lines true new) (sym going) (subst (HasNoEnding means lines true new) (sym broken) stopped)
 
+-- the last line tells of an open link, and the judge stays one after the events
+pub says-open : (start : ℕ) (means : List Item → List Item) (text : List ℕ) (old : Hearing) (judge : Judge) (reading : ℕ) → old.verdict ≡ Unfinished → old.broken ≡ None
+    → ((told : ℕ → Bool) (log : List LinkEvent) → Judged means told old.judge log → Judged means told judge log) → HasHeard means text old
+    → SaysOf start means (text ++ (line_words (Last (Ended reading StillOpen)) ++ 10 ∷ [])) true (record old { judge = judge })
+says-open start means text old judge reading going whole stays heard =
+    let lines : List ℕ = text ++ (line_words (Last (Ended reading StillOpen)) ++ 10 ∷ []) in
+    let new : Hearing = record old { judge = judge } in
+    let left : HasNoEnding means lines true new None = inr (
+      refl,
+      record {
+        front = text;
+        reading = reading;
+        heard = record {
+          events = heard.events;
+          written = heard.written;
+          lines = heard.lines;
+          judged = λ told all. stays told heard.events (heard.judged told all);
+          count = heard.count;
+          late = heard.late;
+        };
+        lines = refl;
+      },
+    ) in
+    subst (SaysSo start means lines true new) (sym going) (subst (HasNoEnding means lines true new) (sym whole) left)
+
 -- the last line tells the ending
 pub says-ended : (start : ℕ) (means : List Item → List Item) (text : List ℕ) (old new : Hearing) (reading : ℕ) (last : Ending) → new.broken ≡ None → new.source_reset ≡ old.source_reset → new.writes ≡ old.writes
     → KeepsMore old.late (ending_late reading last) new.late → HasHeard means text old
@@ -316,7 +343,11 @@ says-skipped start means text line over now hearing (Unfaithful number) known go
 says-next : (start : ℕ) (means : List Item → List Item) (text : List ℕ) (old new : Hearing) (line : LogLine) (number : ℕ) (broken : Option BreakCause) → old.broken ≡ broken → IsWritable line → HearsLine old line number new
     → ((heard : HasHeard means text old) → IsLineNumber number (start + length heard.events))
     → HasNoEnding means text false old broken → SaysOf start means (text ++ (line_words line ++ 10 ∷ [])) (is_last line) new
-says-next start means text old new line number None whole writable hears at says = hears start means text writable whole says.1 (at says.1)
+says-next start means text old new line number None whole writable hears at (inl says) = hears start means text writable whole says.1 (at says.1)
+says-next start means text old new line number None whole writable hears at (inr says) = absurd (not-over says.0)
+  where
+    not-over : false ≡ true → ⊥
+    not-over same = cc
 says-next start means text old new line number (Some cause) whole writable hears at says = absurd (not-over says.0)
   where
     not-over : false ≡ true → ⊥
@@ -357,15 +388,31 @@ behind-header before (Some bytes) header torn lines (Some left) lacks none given
 -- how far a log came that tells no ending
 stopped-so : (means : List Item → List Item) (text : List ℕ) (over : Bool) (hearing : Hearing) (broken : Option BreakCause) → HasNoEnding means text over hearing broken
     → (late : List ℕ) × KeepsLate late hearing.late × HasStopped means text broken hearing.judge.heard hearing.judge.said hearing.judge.ended hearing.source_reset hearing.writes late
-stopped-so means text over hearing None says =
+stopped-so means text over hearing None (inl says) =
     let heard = says.1 in (
       lates heard.events,
       heard.late,
       record {
         events = heard.events;
-        bytes = 0;
+        last = [];
         lines = heard.lines ∙ sym (append-nil (event_lines hearing.source_reset heard.events));
+        tells = inl refl;
         counts = counts-of means text hearing heard;
+        values = refl;
+        faithful = λ told all. (heard.judged told all).faithful;
+      },
+    )
+stopped-so means text over hearing None (inr says) =
+    let left = says.1 in
+    let heard = left.heard in (
+      lates heard.events,
+      heard.late,
+      record {
+        events = heard.events;
+        last = last_line (Ended left.reading StillOpen);
+        lines = rw (sym heard.lines) left.lines;
+        tells = inr (left.reading, refl);
+        counts = counts-of means left.front hearing heard;
         values = refl;
         faithful = λ told all. (heard.judged told all).faithful;
       },
@@ -377,8 +424,9 @@ stopped-so means text over hearing (Some cause) says =
       heard.late,
       record {
         events = heard.events;
-        bytes = broken.bytes;
+        last = last_line (Broken cause broken.bytes);
         lines = rw (sym heard.lines) broken.lines;
+        tells = (broken.bytes, refl);
         counts = counts-of means broken.front hearing heard;
         values = refl;
         faithful = λ told all. (heard.judged told all).faithful;

@@ -311,7 +311,7 @@ ended-reports old new last reading stays heard_same latest_is ended_same none on
 
 -- a judge is held while the clock goes on
 pub begins-held : (judge : Judge) (later : ℕ) → judge.latest ≤ later → KeepsUp judge → KeepsUp (record judge { latest = later })
-begins-held judge later goes_on held = record { ended = held.ended; latest = omega (arith, held.latest, goes_on); live = held.live; rest = held.rest; within = held.within }
+begins-held judge later goes_on held = record { ended = held.ended; latest = omega (arith, held.latest, goes_on); live = held.live; rest = held.rest; opens = held.opens; within = held.within }
 
 -- all of a slice is said
 pub said-all : (means : List Item → List Item) (told : ℕ → Bool) (judge : Judge) (slice : Slice) (reading : ℕ) (log : List LinkEvent) → judge.latest ≡ reading → judge.said ≡ slice.span.stop

@@ -10,7 +10,9 @@ use Rattle.tox_time.specs.declared.streams.ending.Ending.{Ending}
 use Rattle.tox_time.specs.declared.streams.ending.Ending.TheVariants.{StillOpen, Closed as ClosedAt, Reset as ResetAt}
 use Rattle.tox_time.specs.streams.Stream.{span_len}
 use Rattle.tox_time.specs.streams.Table.{table, slices_table, ending, final_of}
-use Rattle.tox_plan.specs.Unended.{IsOpenAt, IsUnended}
+use Rattle.std.specs.List.{list_any}
+use Rattle.tox_defs.specs.declared.operations.op.Op.{Op}
+use Rattle.tox_plan.specs.Unended.{IsOpenAt, IsUnended, leaves_open}
 use Rattle.tox_plan.proofs.Endings.{final-ending}
 use Rattle.tox_link.specs.declared.notes.LinkEvent.{LinkEvent}
 use Rattle.tox_link.specs.declared.ring.message.ReadEnd.{ReadEnd}
@@ -52,7 +54,7 @@ idle-gives_none ended now deadline (Some (ResetAt t)) = by (nat_le t now)
 -- an ending that a reading hasn't passed, and that is reached then, is none
 open-reached : (now : ℕ) (last : Ending) → IsOpenAt now last → IsReached now last → last ≡ StillOpen
 open-reached now StillOpen open_yet reached = refl
-open-reached now (ClosedAt t) open_yet reached = absurd open_yet
+open-reached now (ClosedAt t) open_yet reached = absurd (omega (arith, open_yet, reached))
 open-reached now (ResetAt t) open_yet reached = absurd (omega (arith, open_yet, reached))
 
 -- a link that reports its end has said all
@@ -73,11 +75,13 @@ module _ (means : List Item → List Item) (told : ℕ → Bool) (old new : Judg
   closed-end : ending (remaining_output new.core (Closed reading ∷ [])) ≡ last
   closed-end = sym (after.endings (Closed reading ∷ []) (omega (arith, latest_is), fits, refl)) ∙ (report.settled (Closed reading ∷ []) (omega arith, fits, refl)).endings ∙ report.ends
 
-  -- knows an ending, since its core has ended
-  pub report-ended : IsUnended (remaining_output new.core) reading → ⊥
-  report-ended unended =
-      let still_open : last ≡ StillOpen = open-reached reading last (subst (IsOpenAt reading) quiet-end unended.quiet) report.reached in
-      unended.closed (closed-end ∙ still_open)
+  -- tells of an open link, if its core hasn't ended
+  pub report-open : (ops : List Op) → IsUnended ops (remaining_output new.core) reading → last ≡ StillOpen
+  report-open ops unended = open-reached reading last (subst (IsOpenAt reading) quiet-end unended.quiet) report.reached
+
+  -- and its plan leaves it open
+  pub report-ended : (ops : List Op) → IsUnended ops (remaining_output new.core) reading → list_any leaves_open ops ≡ false → ⊥
+  report-ended ops unended closes = unended.closed closes (closed-end ∙ report-open ops unended)
 
   -- and it is this one
   pub report-ending : (known : Ending) → ((items : List Item) → remaining_output new.core items ≡ final_of known ∷ []) → known ≡ last

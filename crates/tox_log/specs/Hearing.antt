@@ -1,5 +1,5 @@
 -- What a verdict says of the lines that were read.
-use Rattle.std.specs.Prelude.{◌≡◌, ℕ, ◌+◌, Bool, true, false, List, [], ◌∷◌, ◌++◌, All, length, string_bytes, Option, Some, None}
+use Rattle.std.specs.Prelude.{◌≡◌, ℕ, ◌+◌, ◌⊎◌, Bool, true, false, List, [], ◌∷◌, ◌++◌, All, length, string_bytes, Option, Some, None}
 use Rattle.std.specs.Io.KnownBytes.{prepend_known}
 use Rattle.tox_time.specs.streams.Stream.{IsStream}
 use Rattle.tox_words.specs.Seeded.{seeded_words}
@@ -10,6 +10,7 @@ use Rattle.tox_log.specs.declared.replay.JudgedLog.{JudgedLog}
 use Rattle.tox_log.specs.HeaderText.{header_text}
 use Rattle.tox_time.specs.declared.streams.item.Item.{Item}
 use Rattle.tox_time.specs.declared.streams.ending.Ending.{Ending}
+use Rattle.tox_time.specs.declared.streams.ending.Ending.TheVariants.{StillOpen}
 use Rattle.tox_link.specs.declared.notes.LinkEvent.{LinkEvent}
 use Rattle.tox_link.specs.declared.notes.LinkEvent.TheVariants.{SourceEnd}
 use Rattle.tox_time.specs.streams.Table.{slices_table}
@@ -57,9 +58,18 @@ pub record HasBroken (means : List Item → List Item) (text : List ℕ) (hearin
   pub heard : HasHeard means front hearing
   pub lines : text ≡ front ++ last_line (Broken cause bytes)
 
--- the lines that were read so far tell no ending: they have a last line exactly if there is a cause, which is that of the line
+-- the text is the lines of such events, and a last line that tells of an open link
+pub record HasOpenEnd (means : List Item → List Item) (text : List ℕ) (hearing : Hearing) : Type 0 where
+  pub front : List ℕ
+  pub reading : ℕ
+  pub heard : HasHeard means front hearing
+  pub lines : text ≡ front ++ last_line (Ended reading StillOpen)
+
+-- the lines that were read so far tell no ending that is settled: they have a last line exactly if there is a cause, which is that of
+-- the line, or if they tell of an open link
 abbrev pub HasNoEnding : (List Item → List Item) → List ℕ → Bool → Hearing → Option BreakCause → Type 0
-HasNoEnding means text over hearing None = (over ≡ false) × HasHeard means text hearing
+HasNoEnding means text over hearing None =
+    ((over ≡ false) × HasHeard means text hearing) ⊎ ((over ≡ true) × HasOpenEnd means text hearing)
 HasNoEnding means text over hearing (Some cause) = (over ≡ true) × HasBroken means text hearing cause
 
 -- the text is the lines of events and a last line with this ending, and the link with these events reports so: it took and wrote so
@@ -167,22 +177,23 @@ pub record IsRefusedText (given : Option (List ℕ)) (judged : JudgedLog) (numbe
   pub refusal : HasRefusal means lines (4 + length judged.chain.entries) number
   pub whole : judged.broken ≡ None
 
--- a last line that the stream broke off, if there is a cause
-abbrev pub broken_line : Option BreakCause → ℕ → List ℕ
-broken_line None bytes = []
-broken_line (Some cause) bytes = last_line (Broken cause bytes)
+-- no last line, or one that tells of an open link; with a cause it tells that the stream broke off
+abbrev pub TellsNoEnding : Option BreakCause → List ℕ → Type 0
+TellsNoEnding None last = (last ≡ []) ⊎ ((reading : ℕ) × (last ≡ last_line (Ended reading StillOpen)))
+TellsNoEnding (Some cause) last = (bytes : ℕ) × (last ≡ last_line (Broken cause bytes))
 
--- the text is the lines of events that are faithful, and no last line or one with this cause; and these are the events' counts, and
--- how late its writes were
+-- the text is the lines of events that are faithful, and no last line or one that tells no settled ending; and these are the events'
+-- counts, and how late its writes were
 pub record HasStopped (means : List Item → List Item) (text : List ℕ) (broken : Option BreakCause) (taken written : ℕ) (ended reset : Bool) (writes : ℕ) (late : List ℕ) : Type 0 where
   pub events : List LinkEvent
-  pub bytes : ℕ
-  pub lines : text ≡ event_lines reset events ++ broken_line broken bytes
+  pub last : List ℕ
+  pub lines : text ≡ event_lines reset events ++ last
+  pub tells : TellsNoEnding broken last
   pub counts : AreCounts events taken written ended writes
   pub values : late ≡ lates events
   pub faithful : (told : ℕ → Bool) → IsTold told events → IsFaithful means (λ t. told t ≡ true) events
 
--- behind the header stand the lines of faithful events, and no last line with an ending
+-- behind the header stand the lines of faithful events, and no last line with a settled ending
 pub record IsUnfinishedText (given : Option (List ℕ)) (judged : JudgedLog) : Type 0 where
   pub lines : List ℕ
   pub means : List Item → List Item

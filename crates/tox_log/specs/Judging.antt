@@ -6,7 +6,9 @@ use Rattle.tox_time.specs.declared.streams.item.Item.TheVariants.{Quiet}
 use Rattle.tox_time.specs.streams.Stream.{IsPrefix, IsStreamFrom, span_len}
 use Rattle.tox_time.specs.declared.streams.ending.Ending.{Ending}
 use Rattle.tox_time.specs.streams.Table.{table, slices_table, ending}
-use Rattle.tox_plan.specs.Unended.{IsUnended}
+use Rattle.std.specs.List.{list_any}
+use Rattle.tox_plan.specs.OpCursors.{ops_of}
+use Rattle.tox_plan.specs.Unended.{IsUnended, leaves_open}
 use Rattle.tox_link.specs.declared.link_core.act.Act.{Act}
 use Rattle.tox_link.specs.declared.link_core.act.Act.TheVariants.{Write, WaitUntil, WaitForInput, End}
 use Rattle.tox_link.specs.declared.notes.LinkEvent.{LinkEvent}
@@ -40,12 +42,14 @@ abbrev pub IsRest : Option Slice → ℕ → ℕ → Type 0
 IsRest None said_to position = said_to ≡ position
 IsRest (Some slice) said_to position = (slice.span.start ≡ said_to) × (said_to < slice.span.stop) × (slice.span.stop ≡ position)
 
--- the core has heard of all that was heard, until its ending is known, and what is left of a slice lies in the runner's piece
+-- the core has heard of all that was heard, until its ending is known, what is left of a slice lies in the runner's piece, and the
+-- judge knows whether its plan may leave the link open
 pub record KeepsUp (judge : Judge) : Type 0 where
   pub ended : judge.core.ended ≡ judge.ended
   pub latest : judge.core.latest ≤ judge.latest
   pub live : core_ending judge.core ≡ None → judge.heard ≡ judge.core.bytes
   pub rest : IsRest judge.rest judge.said (core_position judge.core)
+  pub opens : judge.opens ≡ list_any leaves_open (ops_of judge.core.runner.cursors)
   pub within : judge.ended ≡ false → IfSome judge.rest (λ slice. slice.span.stop ≤ judge.core.runner.piece.span.stop)
 
 -- what was said up to a position, what the core gave since then, and what is to come are together what the plan means for what was
@@ -102,7 +106,7 @@ Refuses judge event = (means : List Item → List Item) (told : ℕ → Bool) (l
 
 -- all is said, and a link whose core knows no ending hasn't ended at a reading
 abbrev pub HasSaidAll : Judge → ℕ → Type 0
-HasSaidAll judge reading = (judge.rest ≡ None) × (core_ending judge.core ≡ None → IsUnended (remaining_output judge.core) reading)
+HasSaidAll judge reading = (judge.rest ≡ None) × (core_ending judge.core ≡ None → IsUnended (ops_of judge.core.runner.cursors) (remaining_output judge.core) reading)
 
 -- no link with this log reports this ending at a reading
 abbrev pub HasNoReport : (List Item → List Item) → (ℕ → Bool) → List LinkEvent → ℕ → Ending → Type 0

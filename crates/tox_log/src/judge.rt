@@ -5,15 +5,19 @@ ghost use Rattle.tox_time.specs.declared.streams.item.Item.{Item as OneItem};
 ghost use Rattle.tox_compile.specs.Meaning.{means};
 ghost use Rattle.tox_link.specs.declared.notes.LinkEvent.{LinkEvent as OneEvent};
 ghost use Rattle.tox_link.specs.link_core.Core.{core_ending, kept_count, remaining_output};
-ghost use Rattle.tox_time.specs.declared.streams.ending.Ending.{Ending as OneEnding};
+ghost use Rattle.tox_time.specs.declared.streams.ending.Ending.{Ending as EndingType};
+ghost use Rattle.tox_time.specs.declared.streams.ending.Ending.TheVariants as OneEnding;
 ghost use Rattle.tox_time.specs.streams.Table.{final_of};
 ghost use Rattle.tox_link.specs.log.Log.{waiting_pieces};
 ghost use Rattle.tox_link.specs.log.Logged.{IsReached};
 ghost use Rattle.tox_link.specs.Reports.{ReportsAt};
+ghost use Rattle.std.specs.List.{list_any};
+ghost use Rattle.tox_plan.specs.Unended.{leaves_open};
+ghost use Rattle.tox_log.specs.declared.judge.EndingJudged.TheVariants as TheJudged;
 ghost use Rattle.tox_log.specs.Judging.{Expects, HasSaidAll, HoldsUnsaid, KeepsUp, Judged, Refuses, RefusesEnding, Stays, Hears, SaysPart, next_table, part_from, slice_in, source_heard};
 
 use std::alloc::{AllocError, Global};
-use tox_compile::Plan;
+use tox_compile::{Op, Plan};
 use tox_link::{Act, LinkCore};
 use tox_time::{Ending, MAX_BYTES, Micros, Slice};
 use tox_words::Words;
@@ -38,6 +42,19 @@ pub(crate) struct Judge {
     pub(crate) latest: Micros,
     /// Whether the source's end was heard.
     pub(crate) ended: bool,
+    /// Whether an operation of the plan leaves the link open from an instant on.
+    pub(crate) opens: bool,
+}
+
+/// What a judge makes of the ending that a log tells.
+#[derive(Clone, Copy)]
+pub(crate) enum EndingJudged {
+    /// All was said, the ending is settled and reached, and it is the plan's.
+    Reported,
+    /// No link with this log reports it.
+    Refused,
+    /// The plan may leave the link open, but hasn't done so yet.
+    Early,
 }
 
 /// The judge of a log under this plan. Nothing was heard yet.
@@ -48,6 +65,7 @@ pub(crate) fn begin(alloc: Global, plan: Plan, words: Words) -> Result<Judge, Al
     ensures judged { IfOk result (λ judge. (told : ℕ → Bool)
         → Judged (means plan words) told judge []) }
 {
+    let opens = may_leave_open(plan.ops());
     let core = LinkCore::owning(alloc, plan, words)?;
     Ok(Judge {
         core,
@@ -56,7 +74,29 @@ pub(crate) fn begin(alloc: Global, plan: Plan, words: Words) -> Result<Judge, Al
         said: 0,
         latest: Micros::ZERO,
         ended: false,
+        opens,
     })
+}
+
+/// Whether some of these operations leaves a link open from an instant on.
+fn may_leave_open(ops: &[Op]) -> bool
+    ensures { result ≡ list_any leaves_open ops.now }
+{
+    ops.iter().any(leaves_open)
+}
+
+/// Whether an operation leaves a link open from an instant on.
+fn leaves_open(op: &Op) -> bool
+    ensures { result ≡ leaves_open op.now }
+{
+    matches!(
+        op,
+        Op::Halt {
+            at: Some(_),
+            ending: Ending::StillOpen,
+            ..
+        }
+    )
 }
 
 /// Whether a piece may be heard next: a log's reader hands out no other.
@@ -128,7 +168,7 @@ fn skip_piece(judge: &mut Judge, len: u64, instant: &Micros)
     requires fits { IsInstant instant.now × (0 < len) × (judge.old.heard + len ≤ 2 ^ 40) }
     requires going { judge.old.ended ≡ false }
     requires over { IsSome (core_ending judge.old.core) }
-    requires only { (last : OneEnding) × ((items : List OneItem)
+    requires only { (last : EndingType) × ((items : List OneItem)
         → remaining_output judge.old.core items ≡ final_of last ∷ []) }
     ensures held { KeepsUp judge.new }
     ensures counts { (judge.new.heard ≡ judge.old.heard + len) × (judge.new.latest ≡ instant.now)
@@ -299,26 +339,47 @@ fn slice_in(act: &Act) -> Option<Slice>
     }
 }
 
-/// Whether the stream ended so at a reading: all was said, the ending is settled and reached, and it is the plan's.
-pub(crate) fn has_ended(judge: &mut Judge, ending: &Ending, reading: &Micros) -> bool
+/// Judges an ending that a log tells at a reading.
+pub(crate) fn judge_ending(judge: &mut Judge, ending: &Ending, reading: &Micros) -> EndingJudged
     requires held { KeepsUp judge.old }
     requires later { judge.old.latest ≤ reading.now }
     requires fits { IsInstant reading.now }
     ensures held { KeepsUp judge.new }
     ensures counts { (judge.new.heard ≡ judge.old.heard) × (judge.new.said ≡ judge.old.said)
         × (judge.new.ended ≡ judge.old.ended) }
-    ensures reports { IsTrue result
+    ensures latest { judge.new.latest ≡ reading.now }
+    ensures stays { (means : List OneItem → List OneItem) (told : ℕ → Bool) (log : List OneEvent)
+        → Judged means told judge.old log → Judged means told judge.new log }
+    ensures reports { result ≡ TheJudged.Reported
         → (means : List OneItem → List OneItem) (told : ℕ → Bool) (log : List OneEvent)
         → told reading.now ≡ true → Judged means told judge.old log
         → ReportsAt means (λ t. told t ≡ true) log judge.old.heard judge.old.said ending.now
         (source_heard judge.old.ended) reading.now }
-    ensures refuses { result ≡ false → RefusesEnding judge.old reading.now ending.now }
+    ensures refuses { result ≡ TheJudged.Refused → RefusesEnding judge.old reading.now ending.now }
+    ensures early { result ≡ TheJudged.Early → ending.now ≡ OneEnding.StillOpen }
 {
     look(judge, reading);
     let Some(last) = judge.core.ending() else {
-        return false;
+        return judge_unknown(judge.opens && judge.rest.is_none(), ending);
     };
-    is_end(&judge.rest, &last, ending, reading)
+    if is_end(&judge.rest, &last, ending, reading) {
+        EndingJudged::Reported
+    } else {
+        EndingJudged::Refused
+    }
+}
+
+/// Judges an ending while the core knows none, where all was said and the plan may leave the link open, or not. Before it does, no
+/// close may be able to end the link any more.
+fn judge_unknown(opens: bool, ending: &Ending) -> EndingJudged
+    ensures refuses { result ≡ TheJudged.Refused ↔ (ending.now ≡ OneEnding.StillOpen → opens ≡ false) }
+    ensures early { result ≡ TheJudged.Early ↔ ((ending.now ≡ OneEnding.StillOpen) × (opens ≡ true)) }
+{
+    if opens && *ending == Ending::StillOpen {
+        EndingJudged::Early
+    } else {
+        EndingJudged::Refused
+    }
 }
 
 /// Whether nothing is left of a slice, and the last ending is this one and reached.

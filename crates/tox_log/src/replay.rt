@@ -23,8 +23,8 @@ use crate::event_line::LogLine;
 use crate::fault::{LogFault, ReplayFault};
 use crate::heading::Heading;
 use crate::judge::{
-    Judge, begin as begin_judge, has_ended, hear_end, hear_piece as judge_piece,
-    hear_wrote as judge_wrote, takes_at, takes_piece,
+    EndingJudged, Judge, begin as begin_judge, hear_end, hear_piece as judge_piece,
+    hear_wrote as judge_wrote, judge_ending, takes_at, takes_piece,
 };
 use crate::judged_text::print_judged;
 use crate::last_line::{BreakCause, LastLine};
@@ -336,14 +336,21 @@ fn hear_ending(
     ensures reads { AcceptsNext hearing.old
         (OneLine.Last (TheLast.Ended reading.now ending.now)) result }
     ensures fault { IfErr result IsNotTooDeep }
-    ensures over { OnOk result (hearing.new.verdict ≢ TheVerdict.Unfinished) }
+    ensures follows { OnOk result (ComesWith hearing.old
+        (OneLine.Last (TheLast.Ended reading.now ending.now)) hearing.new) }
+    ensures judges { OnOk result (JudgesWith hearing.old
+        (OneLine.Last (TheLast.Ended reading.now ending.now)) hearing.new) }
 {
     if !takes_at(&hearing.judge, reading) {
         return Err(LogFault::BadLine(number));
     }
-    if !has_ended(&mut hearing.judge, ending, reading) {
-        hearing.verdict = Verdict::Unfaithful(number);
-        return Ok(());
+    match judge_ending(&mut hearing.judge, ending, reading) {
+        EndingJudged::Reported => {}
+        EndingJudged::Refused => {
+            hearing.verdict = Verdict::Unfaithful(number);
+            return Ok(());
+        }
+        EndingJudged::Early => return Ok(()),
     }
     hearing.verdict = Verdict::Faithful(*ending);
     if let Some(late) = ending_late(ending, reading) {

@@ -8,11 +8,11 @@ use Rattle.tox_time.specs.streams.Table.{final_of}
 use Rattle.tox_words.specs.Draw.{Draws}
 use Rattle.tox_defs.specs.declared.operations.op_cursor.OpCursor.{OpCursor}
 use Rattle.tox_defs.specs.stage.Reaction.{Answer, counted, flow_from}
-use Rattle.tox_defs.specs.operations.Op.{op_giving, op_reaction, op_until}
+use Rattle.tox_defs.specs.operations.Op.{op_from, op_giving, op_reaction, op_until}
 use Rattle.tox_defs.specs.operations.Look.{as_chunk, rest_of}
 use Rattle.tox_defs.specs.operations.OpCursor.{cursor_gives}
 use Rattle.tox_defs.proofs.FlowLemmas.{flow_from-last, react-running}
-use Rattle.tox_defs.proofs.Stopping.{is_late-final, until-early}
+use Rattle.tox_defs.proofs.Windows.{during-inside, is_outside-final}
 use Rattle.tox_defs.proofs.OpCursors.{rest_of-read, rest_of-unread, cursor_gives-running}
 use Rattle.tox_plan.specs.OpCursors.{to_come_from, ops_of, AreNested, AreDrained, HaveEnded}
 
@@ -29,7 +29,7 @@ cursor_gives-final draws start cursor before last read running undone gives =
     ∙ ap (λ rest. flow_from (op_reaction cursor.op draws) cursor.state (rest ++ final_of before ∷ [])) (rest_of-read start cursor.stop cursor.instant (omega (arith, read)))
     ∙ flow_from-last (op_reaction cursor.op draws) cursor.state (final_of before) [] refl
     ∙ ap (λ (answer : Answer). answer.given) (react-running (op_reaction cursor.op draws) cursor.state (final_of before) undone
-    ∙ until-early (op_until cursor.op) (counted (op_giving cursor.op draws)) cursor.state (final_of before) (is_late-final (op_until cursor.op) before))
+    ∙ during-inside (op_from cursor.op) (op_until cursor.op) (counted (op_giving cursor.op draws)) cursor.state (final_of before) (is_outside-final (op_from cursor.op) (op_until cursor.op) before))
     ∙ gives
 
 -- a piece that comes from upstream is the next chunk of a cursor that has nothing left

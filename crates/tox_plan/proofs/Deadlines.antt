@@ -9,15 +9,18 @@ use Rattle.tox_time.specs.declared.streams.slice.Slice.{Slice}
 use Rattle.tox_time.specs.declared.streams.item.Item.{Item}
 use Rattle.tox_time.specs.declared.streams.item.Item.TheVariants.{Chunk, Closed, Reset, Quiet}
 use Rattle.tox_time.specs.declared.streams.ending.Ending.{Ending}
+use Rattle.tox_time.specs.declared.streams.ending.Ending.TheVariants.{StillOpen, Closed as ClosedAt, Reset as ResetAt}
+use Rattle.tox_time.specs.streams.Table.{final_of}
 use Rattle.tox_time.specs.streams.Stream.{has_final, IsStreamFrom}
 use Rattle.tox_words.specs.Draw.{Draws, draws_of}
 use Rattle.tox_defs.specs.declared.operations.op.Op.{Op}
-use Rattle.tox_defs.specs.declared.operations.op.Op.TheVariants.{Delay, Pace, Slow, Mute, Cutoff, Slicing, Limit}
+use Rattle.tox_defs.specs.declared.operations.op.Op.TheVariants.{Delay, Pace, Slow, Mute, Cutoff, Slicing, Limit, Halt}
 use Rattle.tox_defs.specs.declared.operations.op_cursor.OpCursor.{OpCursor}
 use Rattle.tox_defs.specs.declared.operations.state.State.{State}
-use Rattle.tox_defs.specs.stage.Reaction.{flow_from}
-use Rattle.tox_defs.specs.toxics.ResetPeer.{is_before, cutoff_gives}
-use Rattle.tox_defs.specs.operations.Op.{op_reaction, is_mute}
+use Rattle.tox_defs.specs.stage.Reaction.{counted, flow_from, state_after}
+use Rattle.tox_defs.specs.toxics.Halt.{halt_after, halt_gives, is_before, raised}
+use Rattle.tox_defs.specs.toxics.ResetPeer.{cutoff_gives}
+use Rattle.tox_defs.specs.operations.Op.{op_giving, op_reaction, is_mute}
 use Rattle.tox_defs.specs.operations.OpCursor.{cursor_gives}
 use Rattle.tox_defs.proofs.FlowLemmas.{Continues-counted, flow_from-done}
 use Rattle.tox_defs.proofs.OpCursors.{rest_of-read, cursor_gives-running}
@@ -28,14 +31,19 @@ use Rattle.tox_plan.proofs.Late.{AreLate, IsLateOp, late-stream, late-flow, fina
 use Rattle.tox_plan.proofs.CursorLemmas.{to_come_from-read}
 use Rattle.tox_plan.proofs.RunnerOutput.{to_come-unfound, to_come-ended, idle-unfound, idle-drained}
 
+-- so is each of these operations
+abbrev pub EachOp : (Op → Type 0) → List Op → Type 0
+EachOp Q [] = Unit {0}
+EachOp Q (op ∷ ops) = Q op × EachOp Q ops
+
 -- no operation cuts anything off before an instant
 abbrev pub AreLateOps : ℕ → List Op → Type 0
-AreLateOps d [] = Unit {0}
-AreLateOps d (op ∷ ops) = IsLateOp d op × AreLateOps d ops
+AreLateOps d ops = EachOp (IsLateOp d) ops
 
 -- an operation that lets nothing through from an instant on
 abbrev pub IsStop : ℕ → Op → Type 0
 IsStop d (Cutoff instant) = instant ≡ d
+IsStop d (Halt (Some at) after end) = at ≡ d
 IsStop d (Mute ending) = Unit {0}
 IsStop d op = ⊥
 
@@ -44,26 +52,30 @@ HaveStop d [] = ⊥
 HaveStop d (op ∷ ops) = IsStop d op ⊎ HaveStop d ops
 
 earlier-late : (d e : ℕ) (op : Op) → d ≤ e → IsLateOp e op → IsLateOp d op
-earlier-late d e (Delay fixed latency jitter lane until) before late = tt
-earlier-late d e (Pace rate until) before late = tt
+earlier-late d e (Delay fixed latency jitter lane until from) before late = tt
+earlier-late d e (Pace rate until from) before late = tt
 earlier-late d e (Slow millis) before late = tt
 earlier-late d e (Mute ending) before late = tt
 earlier-late d e (Cutoff instant) before late = omega (arith, before, late)
-earlier-late d e (Slicing average variation micros lane until) before late = tt
+earlier-late d e (Slicing average variation micros lane until from) before late = tt
 earlier-late d e (Limit bytes) before late = tt
+earlier-late d e (Halt None after end) before late = tt
+earlier-late d e (Halt (Some at) after end) before late = omega (arith, before, late)
 
 pub earlier-late_ops : (d e : ℕ) (ops : List Op) → d ≤ e → AreLateOps e ops → AreLateOps d ops
 earlier-late_ops d e [] before late = tt
 earlier-late_ops d e (op ∷ ops) before late = (earlier-late d e op before late.0, earlier-late_ops d e ops before late.1)
 
 late-start : (op : Op) → IsLateOp 0 op
-late-start (Delay fixed latency jitter lane until) = tt
-late-start (Pace rate until) = tt
+late-start (Delay fixed latency jitter lane until from) = tt
+late-start (Pace rate until from) = tt
 late-start (Slow millis) = tt
 late-start (Mute ending) = tt
 late-start (Cutoff instant) = omega arith
-late-start (Slicing average variation micros lane until) = tt
+late-start (Slicing average variation micros lane until from) = tt
 late-start (Limit bytes) = tt
+late-start (Halt None after end) = tt
+late-start (Halt (Some at) after end) = omega arith
 
 pub late_ops-start : (ops : List Op) → AreLateOps 0 ops
 late_ops-start [] = tt
@@ -76,19 +88,21 @@ earlier-some instant (Some e) none = absurd (cc)
 -- without a deadline no operation cuts anything off
 pub late_ops-none : (d : ℕ) (ops : List Op) → deadline_of ops ≡ None → AreLateOps d ops
 late_ops-none d [] none = tt
-late_ops-none d (Delay fixed latency jitter lane until ∷ ops) none = (tt, late_ops-none d ops none)
-late_ops-none d (Pace rate until ∷ ops) none = (tt, late_ops-none d ops none)
+late_ops-none d (Delay fixed latency jitter lane until from ∷ ops) none = (tt, late_ops-none d ops none)
+late_ops-none d (Pace rate until from ∷ ops) none = (tt, late_ops-none d ops none)
 late_ops-none d (Slow millis ∷ ops) none = (tt, late_ops-none d ops none)
 late_ops-none d (Mute ending ∷ ops) none = absurd (cc)
 late_ops-none d (Cutoff instant ∷ ops) none = absurd (earlier-some instant (deadline_of ops) none)
-late_ops-none d (Slicing average variation micros lane until ∷ ops) none = (tt, late_ops-none d ops none)
+late_ops-none d (Slicing average variation micros lane until from ∷ ops) none = (tt, late_ops-none d ops none)
 late_ops-none d (Limit bytes ∷ ops) none = (tt, late_ops-none d ops none)
+late_ops-none d (Halt None after end ∷ ops) none = (tt, late_ops-none d ops none)
+late_ops-none d (Halt (Some at) after end ∷ ops) none = absurd (earlier-some at (deadline_of ops) none)
 
--- the earliest of a cutoff and what the other operations say
-module _ (d instant : ℕ) (ops : List Op) (others : (e : ℕ) → deadline_of ops ≡ Some e → AreLateOps e ops × HaveStop e ops) where
-  first-cutoff : (other : Option ℕ) → deadline_of ops ≡ other → earlier instant other ≡ Some d → AreLateOps d (Cutoff instant ∷ ops) × HaveStop d (Cutoff instant ∷ ops)
-  first-cutoff None is first = let same : instant ≡ d = same_Some instant d first in ((omega (arith, same), late_ops-none d ops is), inl same)
-  first-cutoff (Some e) is first = by (nat_lt e instant) refl
+-- the earliest of an operation that stops everything from an instant on and what the other operations say
+module _ (d instant : ℕ) (op : Op) (ops : List Op) (late : (e : ℕ) → e ≤ instant → IsLateOp e op) (stop : instant ≡ d → IsStop d op) (others : (e : ℕ) → deadline_of ops ≡ Some e → AreLateOps e ops × HaveStop e ops) where
+  first-stop : (other : Option ℕ) → deadline_of ops ≡ other → earlier instant other ≡ Some d → AreLateOps d (op ∷ ops) × HaveStop d (op ∷ ops)
+  first-stop None is first = let same : instant ≡ d = same_Some instant d first in ((late d (omega (arith, same)), late_ops-none d ops is), inl (stop same))
+  first-stop (Some e) is first = by (nat_lt e instant) refl
     where
       same : min instant e ≡ d
       same = same_Some (min instant e) d first
@@ -96,24 +110,26 @@ module _ (d instant : ℕ) (ops : List Op) (others : (e : ℕ) → deadline_of o
       later : AreLateOps d ops
       later = earlier-late_ops d e ops (omega (arith, same)) (others e is).0
 
-      by : (b : Bool) → nat_lt e instant ≡ b → AreLateOps d (Cutoff instant ∷ ops) × HaveStop d (Cutoff instant ∷ ops)
-      by true below = let less : e < instant = ltb-true e instant below in ((omega (arith, same), later), inr (subst (λ e. HaveStop e ops) (omega (arith, same, less)) (others e is).1))
-      by false below = let not_less : instant ≤ e = ltb-false e instant below in ((omega (arith, same), later), inl (omega (arith, same, not_less)))
+      by : (b : Bool) → nat_lt e instant ≡ b → AreLateOps d (op ∷ ops) × HaveStop d (op ∷ ops)
+      by true below = let less : e < instant = ltb-true e instant below in ((late d (omega (arith, same)), later), inr (subst (λ e. HaveStop e ops) (omega (arith, same, less)) (others e is).1))
+      by false below = let not_less : instant ≤ e = ltb-false e instant below in ((late d (omega (arith, same)), later), inl (stop (omega (arith, same, not_less))))
 
 -- the deadline is the first instant from which on some operation stops everything
 pub stop-deadline : (d : ℕ) (ops : List Op) → deadline_of ops ≡ Some d → AreLateOps d ops × HaveStop d ops
 stop-deadline d [] is = absurd (cc)
-stop-deadline d (Delay fixed latency jitter lane until ∷ ops) is = let late = stop-deadline d ops is in ((tt, late.0), inr late.1)
-stop-deadline d (Pace rate until ∷ ops) is = let late = stop-deadline d ops is in ((tt, late.0), inr late.1)
+stop-deadline d (Delay fixed latency jitter lane until from ∷ ops) is = let late = stop-deadline d ops is in ((tt, late.0), inr late.1)
+stop-deadline d (Pace rate until from ∷ ops) is = let late = stop-deadline d ops is in ((tt, late.0), inr late.1)
 stop-deadline d (Slow millis ∷ ops) is = let late = stop-deadline d ops is in ((tt, late.0), inr late.1)
 stop-deadline d (Mute ending ∷ ops) is = (subst (λ d. AreLateOps d (Mute ending ∷ ops)) (same_Some 0 d is) (late_ops-start (Mute ending ∷ ops)), inl tt)
-stop-deadline d (Cutoff instant ∷ ops) is = first-cutoff d instant ops (λ e. stop-deadline e ops) (deadline_of ops) refl is
-stop-deadline d (Slicing average variation micros lane until ∷ ops) is = let late = stop-deadline d ops is in ((tt, late.0), inr late.1)
+stop-deadline d (Cutoff instant ∷ ops) is = first-stop d instant (Cutoff instant) ops (λ e before. before) (λ same. same) (λ e. stop-deadline e ops) (deadline_of ops) refl is
+stop-deadline d (Slicing average variation micros lane until from ∷ ops) is = let late = stop-deadline d ops is in ((tt, late.0), inr late.1)
 stop-deadline d (Limit bytes ∷ ops) is = let late = stop-deadline d ops is in ((tt, late.0), inr late.1)
+stop-deadline d (Halt None after end ∷ ops) is = let late = stop-deadline d ops is in ((tt, late.0), inr late.1)
+stop-deadline d (Halt (Some at) after end ∷ ops) is = first-stop d at (Halt (Some at) after end) ops (λ e before. before) (λ same. same) (λ e. stop-deadline e ops) (deadline_of ops) refl is
 
-pub late_ops-snoc : (d : ℕ) (ops : List Op) (op : Op) → AreLateOps d (ops ++ op ∷ []) → AreLateOps d ops × IsLateOp d op
-late_ops-snoc d [] op late = (tt, late.0)
-late_ops-snoc d (first ∷ ops) op late = let others = late_ops-snoc d ops op late.1 in ((late.0, others.0), others.1)
+pub each-snoc : (Q : Op → Type 0) (ops : List Op) (op : Op) → EachOp Q (ops ++ op ∷ []) → EachOp Q ops × Q op
+each-snoc Q [] op each = (tt, each.0)
+each-snoc Q (first ∷ ops) op each = let others = each-snoc Q ops op each.1 in ((each.0, others.0), others.1)
 
 stop-snoc : (d : ℕ) (ops : List Op) (op : Op) → HaveStop d (ops ++ op ∷ []) → HaveStop d ops ⊎ IsStop d op
 stop-snoc d [] op (inl stop) = inr stop
@@ -137,7 +153,7 @@ late-cursors : (d : ℕ) (draws : Draws) (start : ℕ) (cursors : List OpCursor)
     → AreLateOps d (ops_of cursors) → IsLater d items → IsLater d (to_come_from draws start cursors source items)
 late-cursors d draws start [] source items fits nested drained from later = subst (λ items. IsLater d items) (sym (to_come_from-read draws start source items drained)) later
 late-cursors d draws start (cursor ∷ cursors) source items fits nested drained from later =
-    let split = late_ops-snoc d (ops_of cursors) cursor.op from in
+    let split = each-snoc (IsLateOp d) (ops_of cursors) cursor.op from in
     let above : IsLater d (to_come_from draws cursor.stop cursors source items) = late-cursors d draws cursor.stop cursors source items fits nested.1 drained.2 split.0 later in
     subst (λ items. IsLater d items) (sym (gives-drained draws start cursor _ drained.0 drained.1))
     (record {
@@ -145,28 +161,52 @@ late-cursors d draws start (cursor ∷ cursors) source items fits nested drained
       final = final-flow cursor.op draws cursor.state _ (nested.0.sound.running drained.1) above.final;
     })
 
--- a cutoff makes of a late list the same as of a quiet source
+-- nothing of a late list comes before the instant
 late-before : (d : ℕ) (item : Item) (items : List Item) → AreLate d (item ∷ items) → is_before d item ≡ false
 late-before d (Chunk span t) items late = le-ltb t d late.0
 late-before d (Closed t) items late = le-ltb t d late.0
 late-before d (Reset t) items late = le-ltb t d late.0
 late-before d Quiet items late = refl
 
-cutoff-flow : (d : ℕ) (draws : Draws) (state : State) (items : List Item) → state.done ≡ false → IsLater d items → flow_from (op_reaction (Cutoff d) draws) state items ≡ Reset d ∷ []
-cutoff-flow d draws state [] running later = absurd (let none : false ≡ true = later.final in cc)
-cutoff-flow d draws state (item ∷ items) running later =
-    (Continues-counted (cutoff_gives d) state item items (Reset d ∷ []) running (ap (λ early. (if early then item else Reset d) ∷ []) (late-before d item items later.late))).gives
-    ∙ ap (λ more. Reset d ∷ more) (flow_from-done (op_reaction (Cutoff d) draws) _ items refl)
+-- what stops everything from an instant on gives one ending for every later list
+stop-giving : (d : ℕ) (op : Op) (draws : Draws) → is_mute op ≡ false → IsStop d op → (last : Ending) × ((state : State) (item : Item) → is_before d item ≡ false → op_giving op draws state item ≡ final_of last ∷ [])
+stop-giving d (Delay fixed latency jitter lane until from) draws loud stop = absurd stop
+stop-giving d (Pace rate until from) draws loud stop = absurd stop
+stop-giving d (Slow millis) draws loud stop = absurd stop
+stop-giving d (Mute ending) draws loud stop = absurd (cc)
+stop-giving d (Cutoff instant) draws loud stop =
+    (ResetAt d, λ state item past. ap (λ instant. cutoff_gives instant state item) stop ∙ ap (λ early. (if early then item else Reset d) ∷ []) past)
+stop-giving d (Slicing average variation micros lane until from) draws loud stop = absurd stop
+stop-giving d (Limit bytes) draws loud stop = absurd stop
+stop-giving d (Halt None after end) draws loud stop = absurd stop
+stop-giving d (Halt (Some at) after end) draws loud stop = (
+  raised end d,
+  λ state item past. ap (λ at. halt_gives (Some at) after end state item) stop ∙ ap (λ early. if early then halt_after after end state item else (final_of (raised end d) ∷ [])) past,
+)
 
--- drained cursors, one of which stops everything from an instant on, give the same for all later lists
-stop-cursor : (d : ℕ) (op : Op) → is_mute op ≡ false → IsStop d op → op ≡ Cutoff d
-stop-cursor d (Delay fixed latency jitter lane until) loud stop = absurd stop
-stop-cursor d (Pace rate until) loud stop = absurd stop
-stop-cursor d (Slow millis) loud stop = absurd stop
-stop-cursor d (Mute ending) loud stop = absurd (cc)
-stop-cursor d (Cutoff instant) loud stop = ap Cutoff stop
-stop-cursor d (Slicing average variation micros lane until) loud stop = absurd stop
-stop-cursor d (Limit bytes) loud stop = absurd stop
+-- it works at every instant
+stop-always : (d : ℕ) (op : Op) (draws : Draws) → is_mute op ≡ false → IsStop d op → op_reaction op draws ≡ counted (op_giving op draws)
+stop-always d (Delay fixed latency jitter lane until from) draws loud stop = absurd stop
+stop-always d (Pace rate until from) draws loud stop = absurd stop
+stop-always d (Slow millis) draws loud stop = absurd stop
+stop-always d (Mute ending) draws loud stop = absurd (cc)
+stop-always d (Cutoff instant) draws loud stop = refl
+stop-always d (Slicing average variation micros lane until from) draws loud stop = absurd stop
+stop-always d (Limit bytes) draws loud stop = absurd stop
+stop-always d (Halt at after end) draws loud stop = refl
+
+done-final : (state : State) (item : Item) (last : Ending) → (state_after state item (final_of last ∷ [])).done ≡ true
+done-final state item StillOpen = refl
+done-final state item (ClosedAt t) = refl
+done-final state item (ResetAt t) = refl
+
+stop-flow : (d : ℕ) (op : Op) (draws : Draws) (state : State) (items : List Item) (last : Ending) → op_reaction op draws ≡ counted (op_giving op draws) → ((state : State) (item : Item) → is_before d item ≡ false → op_giving op draws state item ≡ final_of last ∷ [])
+    → state.done ≡ false → IsLater d items → flow_from (op_reaction op draws) state items ≡ final_of last ∷ []
+stop-flow d op draws state [] last always gives running later = absurd (let none : false ≡ true = later.final in cc)
+stop-flow d op draws state (item ∷ items) last always gives running later =
+    ap (λ reaction. flow_from reaction state (item ∷ items)) always
+    ∙ (Continues-counted (op_giving op draws) state item items (final_of last ∷ []) running (gives state item (late-before d item items later.late))).gives
+    ∙ ap (λ more. final_of last ∷ more) (flow_from-done (counted (op_giving op draws)) _ items (done-final state item last))
 
 same-later : (d : ℕ) (draws : Draws) (start : ℕ) (cursors : List OpCursor) (source : Slice) (xs ys : List Item) → d ≤ horizon → AreNested start cursors source → AreDrained start cursors source
     → AreLateOps d (ops_of cursors) → HaveStop d (ops_of cursors) → IsLater d xs → IsLater d ys
@@ -179,13 +219,15 @@ same-later d draws start (cursor ∷ cursors) source xs ys fits nested drained f
     ]
   where
     split : AreLateOps d (ops_of cursors) × IsLateOp d cursor.op
-    split = late_ops-snoc d (ops_of cursors) cursor.op from
+    split = each-snoc (IsLateOp d) (ops_of cursors) cursor.op from
 
-    cut : IsStop d cursor.op → (items : List Item) → IsLater d items → to_come_from draws start (cursor ∷ cursors) source items ≡ Reset d ∷ []
+    cut : (here : IsStop d cursor.op) (items : List Item) → IsLater d items → to_come_from draws start (cursor ∷ cursors) source items ≡ final_of (stop-giving d cursor.op draws (nested.0.heard drained.1) here).0 ∷ []
     cut here items later =
+        let loud = nested.0.heard drained.1 in
+        let gives = stop-giving d cursor.op draws loud here in
         gives-drained draws start cursor _ drained.0 drained.1
-        ∙ ap (λ op. flow_from (op_reaction op draws) cursor.state (to_come_from draws cursor.stop cursors source items)) (stop-cursor d cursor.op (nested.0.heard drained.1) here)
-        ∙ cutoff-flow d draws cursor.state _ (nested.0.sound.running drained.1) (late-cursors d draws cursor.stop cursors source items fits nested.1 drained.2 split.0 later)
+        ∙ stop-flow d cursor.op draws cursor.state _ gives.0 (stop-always d cursor.op draws loud here) gives.1 (nested.0.sound.running drained.1)
+        (late-cursors d draws cursor.stop cursors source items fits nested.1 drained.2 split.0 later)
 
 -- a stream's instants are not beyond the horizon, unless the source is quiet
 begins-in-time : (d position since : ℕ) (items : List Item) → d ≤ since → IsStreamFrom position since items → (d ≤ horizon) ⊎ (items ≡ Quiet ∷ [])

@@ -1,5 +1,5 @@
--- Operations give nothing earlier than what they take, but for a cutoff.
-use Rattle.std.proofs.Common.{◌≡◌, ℕ, zero, suc, ◌+◌, ◌-◌, ◌*◌, ◌≤◌, max, if◌then◌else◌, Bool, true, false, List, [], ◌∷◌, ◌++◌, refl, ap, ◌∙◌, sym, subst, arith}
+-- Operations give nothing earlier than what they take, but for a cutoff or a halt.
+use Rattle.std.proofs.Common.{◌≡◌, ℕ, zero, suc, ◌+◌, ◌-◌, ◌*◌, ◌≤◌, max, if◌then◌else◌, Bool, true, false, List, [], ◌∷◌, ◌++◌, None, Some, refl, ap, ◌∙◌, sym, subst, arith}
 use Rattle.std.specs.Prelude.{nat_lt}
 use Rattle.std.specs.Int.{div_ceil}
 use Rattle.tox_time.specs.declared.streams.span.Span.{Span}
@@ -13,18 +13,18 @@ use Rattle.tox_time.specs.streams.Table.{final_of}
 use Rattle.tox_time.proofs.StreamLemmas.{has_final-append}
 use Rattle.tox_words.specs.Draw.{Draws}
 use Rattle.tox_defs.specs.declared.operations.op.Op.{Op}
-use Rattle.tox_defs.specs.declared.operations.op.Op.TheVariants.{Delay, Pace, Slow, Mute, Cutoff, Slicing, Limit}
+use Rattle.tox_defs.specs.declared.operations.op.Op.TheVariants.{Delay, Pace, Slow, Mute, Cutoff, Slicing, Limit, Halt}
 use Rattle.tox_defs.specs.declared.operations.state.State.{State}
 use Rattle.tox_defs.specs.stage.Reaction.{Answer, counted, flow_from, react}
-use Rattle.tox_defs.specs.operations.Until.{is_late, late_answer}
+use Rattle.tox_defs.specs.operations.During.{is_outside, uncounted_answer}
 use Rattle.tox_defs.specs.toxics.Ordered.{in_order}
-use Rattle.tox_defs.specs.toxics.LimitData.{first_bytes}
+use Rattle.tox_defs.specs.toxics.FirstBytes.{first_bytes}
 use Rattle.tox_defs.specs.toxics.Pieces.{leave, pieces_of}
-use Rattle.tox_defs.specs.toxics.ResetPeer.{is_before}
+use Rattle.tox_defs.specs.toxics.Halt.{halt_after, is_before, raised}
 use Rattle.tox_defs.specs.toxics.Varied.{varied}
-use Rattle.tox_defs.specs.operations.Op.{op_giving, op_reaction, op_until, is_mute}
+use Rattle.tox_defs.specs.operations.Op.{op_from, op_giving, op_reaction, op_until, is_mute}
 use Rattle.tox_defs.proofs.FlowLemmas.{react-running}
-use Rattle.tox_defs.proofs.Stopping.{is_late-final, until-early}
+use Rattle.tox_defs.proofs.Windows.{during-inside, is_outside-final}
 use Rattle.tox_plan.proofs.Endings.{giving-final}
 
 -- nothing in the list comes before an instant
@@ -73,9 +73,14 @@ late-leave d wait since t [] fits late = tt
 late-leave d wait since t (span ∷ spans) fits late =
     (omega (arith, fits, late), late-leave d wait (plus (max since t) (wait (span_len span))) t spans fits late)
 
-late-first_bytes : (d n : ℕ) (span : Span) (t : ℕ) → d ≤ t → AreLate d (first_bytes n span t ++ Closed t ∷ [])
-late-first_bytes d zero span t late = (late, tt)
-late-first_bytes d (suc n) span t late = (late, (late, tt))
+late-first_bytes : (d n : ℕ) (span : Span) (t : ℕ) (end : Ending) → d ≤ t → AreLate d (final_of end ∷ []) → AreLate d (first_bytes n span t ++ final_of end ∷ [])
+late-first_bytes d zero span t end late then_late = then_late
+late-first_bytes d (suc n) span t end late then_late = (late, then_late)
+
+late-raised : (d : ℕ) (end : Ending) (t : ℕ) → d ≤ t → AreLate d (final_of (raised end t) ∷ [])
+late-raised d StillOpen t late = tt
+late-raised d (ClosedAt end) t late = (omega (arith, late), tt)
+late-raised d (ResetAt end) t late = (omega (arith, late), tt)
 
 late-either : (d : ℕ) (b : Bool) (xs ys : List Item) → AreLate d xs → AreLate d ys → AreLate d (if b then xs else ys)
 late-either d true xs ys first second = first
@@ -85,46 +90,60 @@ late-cut_off : (d instant : ℕ) (b : Bool) (item : Item) → d ≤ instant → 
 late-cut_off d instant true item from late = late
 late-cut_off d instant false item from late = (from, tt)
 
+-- what a halt lets pass, and its ending behind that
+late-halt_after : (d after : ℕ) (end : Ending) (state : State) (item : Item) → AreLate d (item ∷ []) → AreLate d (halt_after after end state item)
+late-halt_after d zero end state item late = late
+late-halt_after d (suc bytes) end state (Chunk span t) late =
+    late-either d (nat_lt (span_len span) (suc bytes - state.passed)) (Chunk span t ∷ []) (first_bytes (suc bytes - state.passed) span t ++ (final_of (raised end t) ∷ [])) late
+    (late-first_bytes d (suc bytes - state.passed) span t (raised end t) late.0 (late-raised d end t late.0))
+late-halt_after d (suc bytes) end state (Closed t) late = late
+late-halt_after d (suc bytes) end state (Reset t) late = late
+late-halt_after d (suc bytes) end state Quiet late = tt
+
 -- an operation that cuts nothing off before an instant
 abbrev pub IsLateOp : ℕ → Op → Type 0
 IsLateOp d (Cutoff instant) = d ≤ instant
+IsLateOp d (Halt (Some at) after end) = d ≤ at
 IsLateOp d op = Unit {0}
 
 -- what an operation gives for an item
 late-giving : (d : ℕ) (op : Op) (draws : Draws) (state : State) (item : Item) → d ≤ horizon → is_mute op ≡ false → IsLateOp d op → AreLate d (item ∷ []) → AreLate d (op_giving op draws state item)
-late-giving d (Delay fixed latency jitter lane until) draws state (Chunk span t) fits loud from late = (omega (arith, fits, late.0), tt)
-late-giving d (Delay fixed latency jitter lane until) draws state (Closed t) fits loud from late = late-in_order d state.previous (Closed t) late
-late-giving d (Delay fixed latency jitter lane until) draws state (Reset t) fits loud from late = late-in_order d state.previous (Reset t) late
-late-giving d (Delay fixed latency jitter lane until) draws state Quiet fits loud from late = tt
-late-giving d (Pace rate until) draws state (Chunk span t) fits loud from late = late-leave d (λ n. div_ceil (1000 * n) rate) state.previous t (pieces_of (λ _. 100 * rate) 0 span) fits late.0
-late-giving d (Pace rate until) draws state (Closed t) fits loud from late = late-in_order d state.previous (Closed t) late
-late-giving d (Pace rate until) draws state (Reset t) fits loud from late = late-in_order d state.previous (Reset t) late
-late-giving d (Pace rate until) draws state Quiet fits loud from late = tt
-late-giving d (Slow millis) draws state (Chunk span t) fits loud from late = late
-late-giving d (Slow millis) draws state (Closed t) fits loud from late = (omega (arith, fits, late.0), tt)
-late-giving d (Slow millis) draws state (Reset t) fits loud from late = late
-late-giving d (Slow millis) draws state Quiet fits loud from late = tt
-late-giving d (Mute ending) draws state item fits loud from late = absurd (cc)
-late-giving d (Cutoff instant) draws state item fits loud from late = late-cut_off d instant (is_before instant item) item from late
-late-giving d (Slicing average variation micros lane until) draws state (Chunk span t) fits loud from late =
+late-giving d (Delay fixed latency jitter lane until from) draws state (Chunk span t) fits loud uncut late = (omega (arith, fits, late.0), tt)
+late-giving d (Delay fixed latency jitter lane until from) draws state (Closed t) fits loud uncut late = late-in_order d state.previous (Closed t) late
+late-giving d (Delay fixed latency jitter lane until from) draws state (Reset t) fits loud uncut late = late-in_order d state.previous (Reset t) late
+late-giving d (Delay fixed latency jitter lane until from) draws state Quiet fits loud uncut late = tt
+late-giving d (Pace rate until from) draws state (Chunk span t) fits loud uncut late = late-leave d (λ n. div_ceil (1000 * n) rate) state.previous t (pieces_of (λ _. 100 * rate) 0 span) fits late.0
+late-giving d (Pace rate until from) draws state (Closed t) fits loud uncut late = late-in_order d state.previous (Closed t) late
+late-giving d (Pace rate until from) draws state (Reset t) fits loud uncut late = late-in_order d state.previous (Reset t) late
+late-giving d (Pace rate until from) draws state Quiet fits loud uncut late = tt
+late-giving d (Slow millis) draws state (Chunk span t) fits loud uncut late = late
+late-giving d (Slow millis) draws state (Closed t) fits loud uncut late = (omega (arith, fits, late.0), tt)
+late-giving d (Slow millis) draws state (Reset t) fits loud uncut late = late
+late-giving d (Slow millis) draws state Quiet fits loud uncut late = tt
+late-giving d (Mute ending) draws state item fits loud uncut late = absurd (cc)
+late-giving d (Cutoff instant) draws state item fits loud uncut late = late-cut_off d instant (is_before instant item) item uncut late
+late-giving d (Slicing average variation micros lane until from) draws state (Chunk span t) fits loud uncut late =
     late-leave d (λ _. micros) state.previous t (pieces_of (λ piece. varied average variation (draws lane (1 + piece))) state.pieces span) fits late.0
-late-giving d (Slicing average variation micros lane until) draws state (Closed t) fits loud from late = late-in_order d state.previous (Closed t) late
-late-giving d (Slicing average variation micros lane until) draws state (Reset t) fits loud from late = late-in_order d state.previous (Reset t) late
-late-giving d (Slicing average variation micros lane until) draws state Quiet fits loud from late = tt
-late-giving d (Limit bytes) draws state (Chunk span t) fits loud from late =
-    late-either d (nat_lt (span_len span) (bytes - state.passed)) (Chunk span t ∷ []) (first_bytes (bytes - state.passed) span t ++ (Closed t ∷ [])) late (late-first_bytes d (bytes - state.passed) span t late.0)
-late-giving d (Limit bytes) draws state (Closed t) fits loud from late = late
-late-giving d (Limit bytes) draws state (Reset t) fits loud from late = late
-late-giving d (Limit bytes) draws state Quiet fits loud from late = tt
+late-giving d (Slicing average variation micros lane until from) draws state (Closed t) fits loud uncut late = late-in_order d state.previous (Closed t) late
+late-giving d (Slicing average variation micros lane until from) draws state (Reset t) fits loud uncut late = late-in_order d state.previous (Reset t) late
+late-giving d (Slicing average variation micros lane until from) draws state Quiet fits loud uncut late = tt
+late-giving d (Limit bytes) draws state (Chunk span t) fits loud uncut late =
+    late-either d (nat_lt (span_len span) (bytes - state.passed)) (Chunk span t ∷ []) (first_bytes (bytes - state.passed) span t ++ (Closed t ∷ [])) late (late-first_bytes d (bytes - state.passed) span t (ClosedAt t) late.0 (late.0, tt))
+late-giving d (Limit bytes) draws state (Closed t) fits loud uncut late = late
+late-giving d (Limit bytes) draws state (Reset t) fits loud uncut late = late
+late-giving d (Limit bytes) draws state Quiet fits loud uncut late = tt
+late-giving d (Halt None after end) draws state item fits loud uncut late = late-halt_after d after end state item late
+late-giving d (Halt (Some at) after end) draws state item fits loud uncut late =
+    late-either d (is_before at item) (halt_after after end state item) (final_of (raised end at) ∷ []) (late-halt_after d after end state item late) (late-raised d end at uncut)
 
-module _ (d : ℕ) (op : Op) (draws : Draws) (fits : d ≤ horizon) (loud : is_mute op ≡ false) (from : IsLateOp d op) where
-  late-answer : (stopped : Bool) (state : State) (item : Item) → AreLate d (item ∷ []) → AreLate d (if stopped then late_answer state item else counted (op_giving op draws) state item).given
+module _ (d : ℕ) (op : Op) (draws : Draws) (fits : d ≤ horizon) (loud : is_mute op ≡ false) (uncut : IsLateOp d op) where
+  late-answer : (outside : Bool) (state : State) (item : Item) → AreLate d (item ∷ []) → AreLate d (if outside then uncounted_answer state item else counted (op_giving op draws) state item).given
   late-answer true state item late = late-in_order d state.previous item late
-  late-answer false state item late = late-giving d op draws state item fits loud from late
+  late-answer false state item late = late-giving d op draws state item fits loud uncut late
 
   late-step : (done : Bool) (state : State) (item : Item) → AreLate d (item ∷ []) → AreLate d (if done then (record { state = state; given = [] }) else op_reaction op draws state item).given
   late-step true state item late = tt
-  late-step false state item late = late-answer (is_late (op_until op) item) state item late
+  late-step false state item late = late-answer (is_outside (op_from op) (op_until op) item) state item late
 
   -- what an operation gives for a list
   pub late-flow : (state : State) (items : List Item) → AreLate d items → AreLate d (flow_from (op_reaction op draws) state items)
@@ -148,7 +167,7 @@ has_final-ending (ResetAt t) = refl
 module _ (op : Op) (draws : Draws) where
   final-ending : (state : State) (ending : Ending) → has_final (op_reaction op draws state (final_of ending)).given ≡ true
   final-ending state ending =
-      ap (λ (answer : Answer). has_final answer.given) (until-early (op_until op) (counted (op_giving op draws)) state (final_of ending) (is_late-final (op_until op) ending))
+      ap (λ (answer : Answer). has_final answer.given) (during-inside (op_from op) (op_until op) (counted (op_giving op draws)) state (final_of ending) (is_outside-final (op_from op) (op_until op) ending))
       ∙ ap has_final (giving-final op draws state ending).1 ∙ has_final-ending (giving-final op draws state ending).0
 
   final-giving : (state : State) (ending : Ending) (items : List Item) → state.done ≡ false → has_final (flow_from (op_reaction op draws) state (final_of ending ∷ items)) ≡ true
@@ -157,9 +176,9 @@ module _ (op : Op) (draws : Draws) where
       ∙ has_final-early (op_reaction op draws state (final_of ending)).given _ (final-ending state ending)
 
   -- who gives no final for a chunk goes on
-  done-chunk : (stopped : Bool) (state : State) (span : Span) (t : ℕ) → state.done ≡ false
-      → (if stopped then late_answer state (Chunk span t) else counted (op_giving op draws) state (Chunk span t)).state.done
-      ≡ has_final (if stopped then late_answer state (Chunk span t) else counted (op_giving op draws) state (Chunk span t)).given
+  done-chunk : (outside : Bool) (state : State) (span : Span) (t : ℕ) → state.done ≡ false
+      → (if outside then uncounted_answer state (Chunk span t) else counted (op_giving op draws) state (Chunk span t)).state.done
+      ≡ has_final (if outside then uncounted_answer state (Chunk span t) else counted (op_giving op draws) state (Chunk span t)).given
   done-chunk true state span t running = running
   done-chunk false state span t running = refl
 
@@ -182,5 +201,5 @@ module _ (op : Op) (draws : Draws) where
   final-flow state (Quiet ∷ items) running final = final-giving state StillOpen items running
   final-flow state (Chunk span t ∷ items) running final =
       let answer : Answer = op_reaction op draws state (Chunk span t) in
-      let done = done-chunk (is_late (op_until op) (Chunk span t)) state span t running in
+      let done = done-chunk (is_outside (op_from op) (op_until op) (Chunk span t)) state span t running in
       final-step state (Chunk span t) items running (has_final answer.given) refl (λ none. final-flow answer.state items (done ∙ none) final)

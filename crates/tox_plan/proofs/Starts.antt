@@ -7,7 +7,7 @@ use Rattle.tox_time.specs.streams.Stream.{IsStream}
 use Rattle.tox_time.specs.streams.Table.{final_of}
 use Rattle.tox_words.specs.Draw.{Draws}
 use Rattle.tox_defs.specs.declared.operations.op.Op.{Op}
-use Rattle.tox_defs.specs.declared.operations.op.Op.TheVariants.{Delay, Pace, Slow, Mute, Cutoff, Slicing, Limit}
+use Rattle.tox_defs.specs.declared.operations.op.Op.TheVariants.{Delay, Pace, Slow, Mute, Cutoff, Slicing, Limit, Halt}
 use Rattle.tox_defs.specs.declared.operations.op_cursor.OpCursor.{OpCursor}
 use Rattle.tox_defs.specs.stage.Reaction.{flow, flow_through}
 use Rattle.tox_defs.specs.operations.Op.{IsOp, is_mute, op_reaction}
@@ -21,13 +21,14 @@ use Rattle.tox_plan.proofs.CursorLemmas.{ops_of-append}
 
 -- a cursor at its start gives its operation's flow of a stream
 cursor_gives-at_start : (op : Op) (draws : Draws) (items : List Item) → IsStream items → cursor_gives draws 0 (cursor_at_start op) items ≡ flow (op_reaction op draws) items
-cursor_gives-at_start (Delay fixed latency jitter lane until) draws items stream = refl
-cursor_gives-at_start (Pace rate until) draws items stream = refl
+cursor_gives-at_start (Delay fixed latency jitter lane until from) draws items stream = refl
+cursor_gives-at_start (Pace rate until from) draws items stream = refl
 cursor_gives-at_start (Slow millis) draws items stream = refl
 cursor_gives-at_start (Mute ending) draws items stream = sym (flow_from-muted (final_of ending) items 0 0 0 0 0 0 stream)
 cursor_gives-at_start (Cutoff instant) draws items stream = refl
-cursor_gives-at_start (Slicing average variation micros lane until) draws items stream = refl
+cursor_gives-at_start (Slicing average variation micros lane until from) draws items stream = refl
 cursor_gives-at_start (Limit bytes) draws items stream = refl
+cursor_gives-at_start (Halt at after end) draws items stream = refl
 
 -- one more cursor at the source's side takes what comes and gives it to the others
 to_come_from-snoc : (draws : Draws) (op : Op) (cursors : List OpCursor) (items : List Item) → AreRead 0 cursors no_piece
@@ -43,13 +44,14 @@ read-snoc op start [] zero read = (sym zero, refl)
 read-snoc op start (cursor ∷ cursors) zero read = (read.0, read-snoc op cursor.stop cursors (read.0 ∙ zero) read.1)
 
 heard-at_start : (op : Op) → ending_at_start op ≡ None → is_mute op ≡ false
-heard-at_start (Delay fixed latency jitter lane until) none = refl
-heard-at_start (Pace rate until) none = refl
+heard-at_start (Delay fixed latency jitter lane until from) none = refl
+heard-at_start (Pace rate until from) none = refl
 heard-at_start (Slow millis) none = refl
 heard-at_start (Mute ending) none = absurd (cc)
 heard-at_start (Cutoff instant) none = refl
-heard-at_start (Slicing average variation micros lane until) none = refl
+heard-at_start (Slicing average variation micros lane until from) none = refl
 heard-at_start (Limit bytes) none = refl
+heard-at_start (Halt at after end) none = refl
 
 IsCursor-at_start : (op : Op) (start : ℕ) → IsOp op → start ≡ 0 → IsCursor start (cursor_at_start op)
 IsCursor-at_start op start fits zero = record {

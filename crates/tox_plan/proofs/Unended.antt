@@ -1,24 +1,29 @@
 -- Before its deadline a link hasn't ended whose runner is idle and knows no ending.
-use Rattle.std.proofs.Common.{◌≡◌, ◌≢◌, ℕ, suc, ◌<◌, Bool, true, false, List, [], ◌∷◌, Option, Some, None, refl, ap, ◌∙◌, sym, subst, arith}
+use Rattle.std.proofs.Common.{◌≡◌, ◌≢◌, ℕ, zero, suc, ◌<◌, ◌≤◌, Bool, true, false, List, [], ◌∷◌, Option, Some, None, refl, ap, ◌∙◌, sym, subst, arith}
 use Rattle.std.specs.Prelude.{nat_lt, if◌then◌else◌}
+use Rattle.std.proofs.lemmas.Bool.{or_parts}
 use Rattle.tox_time.specs.declared.streams.item.Item.TheVariants.{Closed, Reset, Quiet}
 use Rattle.tox_time.specs.declared.streams.slice.Slice.{Slice}
 use Rattle.tox_time.specs.declared.streams.ending.Ending.{Ending}
 use Rattle.tox_time.specs.declared.streams.ending.Ending.TheVariants.{StillOpen, Closed as ClosedAt, Reset as ResetAt}
+use Rattle.tox_time.specs.Time.{horizon}
 use Rattle.tox_time.specs.streams.Table.{ending, final_of}
 use Rattle.tox_words.specs.Draw.{Draws, draws_of}
 use Rattle.tox_defs.specs.declared.operations.op.Op.{Op}
-use Rattle.tox_defs.specs.declared.operations.op.Op.TheVariants.{Delay, Pace, Slow, Mute, Cutoff, Slicing, Limit}
+use Rattle.tox_defs.specs.declared.operations.op.Op.TheVariants.{Delay, Pace, Slow, Mute, Cutoff, Slicing, Limit, Halt}
 use Rattle.tox_defs.specs.declared.operations.op_cursor.OpCursor.{OpCursor}
 use Rattle.tox_defs.specs.declared.operations.state.State.{State}
-use Rattle.tox_defs.specs.operations.Op.{op_giving, is_mute}
+use Rattle.tox_defs.specs.operations.Op.{IsOp, op_giving, is_mute}
+use Rattle.tox_defs.specs.toxics.Halt.{halt_gives, is_before, raised}
+use Rattle.tox_defs.proofs.ToxicProofs.Halting.{halt-final}
+use Rattle.std.specs.List.{list_any}
 use Rattle.tox_defs.specs.operations.OpCursor.{cursor_gives}
 use Rattle.tox_compile.specs.Meaning.{deadline_of}
 use Rattle.tox_plan.specs.OpCursors.{to_come_from, ops_of, AreNested, AreDrained}
 use Rattle.tox_plan.specs.RunnerView.{RunnerView, IsRunning, reader_at, to_come}
-use Rattle.tox_plan.specs.Unended.{IsBeforeDeadline, IsOpenAt, IsUnended}
+use Rattle.tox_plan.specs.Unended.{IsBeforeDeadline, IsOpenAt, IsUnended, leaves_open}
 use Rattle.tox_plan.proofs.CursorLemmas.{cursor_gives-final, to_come_from-read}
-use Rattle.tox_plan.proofs.Deadlines.{AreLateOps, earlier-late_ops, late_ops-none, late_ops-snoc, late_ops-start, stop-deadline}
+use Rattle.tox_plan.proofs.Deadlines.{AreLateOps, EachOp, each-snoc, earlier-late_ops, late_ops-none, stop-deadline}
 use Rattle.tox_plan.proofs.Endings.{final-ending, giving-final}
 use Rattle.tox_plan.proofs.Late.{IsLateOp}
 use Rattle.tox_plan.proofs.RunnerOutput.{idle-drained, idle-unfound, to_come-unfound}
@@ -31,79 +36,154 @@ late-before_deadline now ops before = by (deadline_of ops) refl before
     by None is before = late_ops-none (suc now) ops is
     by (Some d) is before = earlier-late_ops (suc now) d ops before (stop-deadline d ops is).0
 
--- of a link that stays open an operation makes one that does, or that a cutoff ends
-open-still : (now : ℕ) (op : Op) (draws : Draws) (state : State) → is_mute op ≡ false → IsLateOp (suc now) op → IsOpenAt now (ending (op_giving op draws state Quiet))
-open-still now (Delay fixed latency jitter lane until) draws state loud late = tt
-open-still now (Pace rate until) draws state loud late = tt
-open-still now (Slow millis) draws state loud late = tt
-open-still now (Mute last) draws state loud late = absurd (cc)
-open-still now (Cutoff instant) draws state loud late = late
-open-still now (Slicing average variation micros lane until) draws state loud late = tt
-open-still now (Limit bytes) draws state loud late = tt
+-- the link stays open, or ends later: a close by the horizon, which a slow close may raise it to
+abbrev IsOpenYet : ℕ → Ending → Type 0
+IsOpenYet now StillOpen = Unit {0}
+IsOpenYet now (ClosedAt t) = (now < t) × (now < horizon)
+IsOpenYet now (ResetAt t) = now < t
 
--- a later reset stays one
-open-reset : (now : ℕ) (op : Op) (draws : Draws) (state : State) (t : ℕ) → is_mute op ≡ false → IsLateOp (suc now) op → now < t → IsOpenAt now (ending (op_giving op draws state (Reset t)))
-open-reset now (Delay fixed latency jitter lane until) draws state t loud late later = omega (arith, later)
-open-reset now (Pace rate until) draws state t loud late later = omega (arith, later)
-open-reset now (Slow millis) draws state t loud late later = later
-open-reset now (Mute last) draws state t loud late later = absurd (cc)
-open-reset now (Cutoff instant) draws state t loud late later = by (nat_lt t instant)
+open-yet : (now : ℕ) (last : Ending) → IsOpenYet now last → IsOpenAt now last
+open-yet now StillOpen yet = tt
+open-yet now (ClosedAt t) yet = yet.0
+open-yet now (ResetAt t) yet = yet
+
+-- a raised ending is open before its instant
+open-raised : (now : ℕ) (end : Ending) (at : ℕ) → at ≤ horizon → now < at → IsOpenYet now (raised end at)
+open-raised now StillOpen at fits later = tt
+open-raised now (ClosedAt end) at fits later = (omega (arith, later), omega (arith, fits, later))
+open-raised now (ResetAt end) at fits later = omega (arith, later)
+
+-- of a link that stays open an operation makes one that does, or that ends later
+open-still : (now : ℕ) (op : Op) (draws : Draws) (state : State) → is_mute op ≡ false → IsOp op → IsLateOp (suc now) op → IsOpenYet now (ending (op_giving op draws state Quiet))
+open-still now (Delay fixed latency jitter lane until from) draws state loud fits late = tt
+open-still now (Pace rate until from) draws state loud fits late = tt
+open-still now (Slow millis) draws state loud fits late = tt
+open-still now (Mute last) draws state loud fits late = absurd (cc)
+open-still now (Cutoff instant) draws state loud fits late = late
+open-still now (Slicing average variation micros lane until from) draws state loud fits late = tt
+open-still now (Limit bytes) draws state loud fits late = tt
+open-still now (Halt None zero end) draws state loud fits late = tt
+open-still now (Halt None (suc bytes) end) draws state loud fits late = tt
+open-still now (Halt (Some at) after end) draws state loud fits late = subst (IsOpenYet now) (sym (final-ending (raised end at))) (open-raised now end at fits.0 late)
+
+either-open : (now : ℕ) (b : Bool) (one other : Ending) → IsOpenYet now one → IsOpenYet now other → IsOpenYet now (if b then one else other)
+either-open now true one other first second = first
+either-open now false one other first second = second
+
+open-halted : (now at after : ℕ) (end : Ending) (state : State) (last : Ending) → at ≤ horizon → now < at → IsOpenYet now last → IsOpenYet now (ending (halt_gives (Some at) after end state (final_of last)))
+open-halted now at after end state last fits late later =
+    let before : Bool = is_before at (final_of last) in
+    subst (IsOpenYet now) (sym (ap ending (halt-final at after end state last) ∙ final-ending (if before then last else raised end at)))
+    (either-open now before last (raised end at) later (open-raised now end at fits late))
+
+-- what ends later still does
+open-later : (now : ℕ) (op : Op) (draws : Draws) (state : State) (last : Ending) → last ≢ StillOpen → is_mute op ≡ false → IsOp op → IsLateOp (suc now) op → IsOpenYet now last → IsOpenYet now (ending (op_giving op draws state (final_of last)))
+open-later now op draws state StillOpen ends loud fits late later = absurd (ends refl)
+open-later now (Delay fixed latency jitter lane until from) draws state (ClosedAt t) ends loud fits late later = (omega (arith, later.0, later.1), later.1)
+open-later now (Delay fixed latency jitter lane until from) draws state (ResetAt t) ends loud fits late later = omega (arith, later)
+open-later now (Pace rate until from) draws state (ClosedAt t) ends loud fits late later = (omega (arith, later.0, later.1), later.1)
+open-later now (Pace rate until from) draws state (ResetAt t) ends loud fits late later = omega (arith, later)
+open-later now (Slow millis) draws state (ClosedAt t) ends loud fits late later = (omega (arith, later.0, later.1), later.1)
+open-later now (Slow millis) draws state (ResetAt t) ends loud fits late later = later
+open-later now (Mute last) draws state (ClosedAt t) ends loud fits late later = absurd (cc)
+open-later now (Mute last) draws state (ResetAt t) ends loud fits late later = absurd (cc)
+open-later now (Cutoff instant) draws state (ClosedAt t) ends loud fits late later = by (nat_lt t instant)
   where
-    by : (early : Bool) → IsOpenAt now (ending ((if early then Reset t else Reset instant) ∷ []))
+    by : (early : Bool) → IsOpenYet now (ending ((if early then Closed t else Reset instant) ∷ []))
     by true = later
     by false = late
-open-reset now (Slicing average variation micros lane until) draws state t loud late later = omega (arith, later)
-open-reset now (Limit bytes) draws state t loud late later = later
+open-later now (Cutoff instant) draws state (ResetAt t) ends loud fits late later = by (nat_lt t instant)
+  where
+    by : (early : Bool) → IsOpenYet now (ending ((if early then Reset t else Reset instant) ∷ []))
+    by true = later
+    by false = late
+open-later now (Slicing average variation micros lane until from) draws state (ClosedAt t) ends loud fits late later = (omega (arith, later.0, later.1), later.1)
+open-later now (Slicing average variation micros lane until from) draws state (ResetAt t) ends loud fits late later = omega (arith, later)
+open-later now (Limit bytes) draws state (ClosedAt t) ends loud fits late later = later
+open-later now (Limit bytes) draws state (ResetAt t) ends loud fits late later = later
+open-later now (Halt None zero end) draws state (ClosedAt t) ends loud fits late later = later
+open-later now (Halt None zero end) draws state (ResetAt t) ends loud fits late later = later
+open-later now (Halt None (suc bytes) end) draws state (ClosedAt t) ends loud fits late later = later
+open-later now (Halt None (suc bytes) end) draws state (ResetAt t) ends loud fits late later = later
+open-later now (Halt (Some at) after end) draws state (ClosedAt t) ends loud fits late later = open-halted now at after end state (ClosedAt t) fits.0 late later
+open-later now (Halt (Some at) after end) draws state (ResetAt t) ends loud fits late later = open-halted now at after end state (ResetAt t) fits.0 late later
 
-open-giving : (now : ℕ) (op : Op) (draws : Draws) (state : State) (last : Ending) → is_mute op ≡ false → IsLateOp (suc now) op → IsOpenAt now last → IsOpenAt now (ending (op_giving op draws state (final_of last)))
-open-giving now op draws state StillOpen loud late open_yet = open-still now op draws state loud late
-open-giving now op draws state (ClosedAt t) loud late open_yet = absurd open_yet
-open-giving now op draws state (ResetAt t) loud late open_yet = open-reset now op draws state t loud late open_yet
+open-giving : (now : ℕ) (op : Op) (draws : Draws) (state : State) (last : Ending) → is_mute op ≡ false → IsOp op → IsLateOp (suc now) op → IsOpenYet now last → IsOpenYet now (ending (op_giving op draws state (final_of last)))
+open-giving now op draws state StillOpen loud fits late open_yet = open-still now op draws state loud fits late
+open-giving now op draws state (ClosedAt t) loud fits late open_yet = open-later now op draws state (ClosedAt t) (λ same. cc) loud fits late open_yet
+open-giving now op draws state (ResetAt t) loud fits late open_yet = open-later now op draws state (ResetAt t) (λ same. cc) loud fits late open_yet
+
+-- a halt that leaves no link open ends what ends
+raised-ends : (end : Ending) (at after : ℕ) → leaves_open (Halt (Some at) after end) ≡ false → raised end at ≢ StillOpen
+raised-ends StillOpen at after closes same = absurd (let both : true ≡ false = closes in cc)
+raised-ends (ClosedAt end) at after closes same = cc
+raised-ends (ResetAt end) at after closes same = cc
+
+either-ends : (b : Bool) (one other : Ending) → one ≢ StillOpen → other ≢ StillOpen → (if b then one else other) ≢ StillOpen
+either-ends true one other first second = first
+either-ends false one other first second = second
+
+halted-ends : (at after : ℕ) (end : Ending) (state : State) (last : Ending) → leaves_open (Halt (Some at) after end) ≡ false → last ≢ StillOpen → ending (halt_gives (Some at) after end state (final_of last)) ≢ StillOpen
+halted-ends at after end state last closes ends same =
+    let before : Bool = is_before at (final_of last) in
+    either-ends before last (raised end at) ends (raised-ends end at after closes)
+    (sym (ap ending (halt-final at after end state last) ∙ final-ending (if before then last else raised end at)) ∙ same)
 
 -- a close stays a close, or a cutoff makes it a reset
-close-ends : (op : Op) (draws : Draws) (state : State) (t : ℕ) → is_mute op ≡ false → ending (op_giving op draws state (Closed t)) ≢ StillOpen
-close-ends (Delay fixed latency jitter lane until) draws state t loud same = cc
-close-ends (Pace rate until) draws state t loud same = cc
-close-ends (Slow millis) draws state t loud same = cc
-close-ends (Mute last) draws state t loud same = cc
-close-ends (Cutoff instant) draws state t loud same = by (nat_lt t instant) same
+close-ends : (op : Op) (draws : Draws) (state : State) (t : ℕ) → is_mute op ≡ false → leaves_open op ≡ false → ending (op_giving op draws state (Closed t)) ≢ StillOpen
+close-ends (Delay fixed latency jitter lane until from) draws state t loud closes same = cc
+close-ends (Pace rate until from) draws state t loud closes same = cc
+close-ends (Slow millis) draws state t loud closes same = cc
+close-ends (Mute last) draws state t loud closes same = cc
+close-ends (Cutoff instant) draws state t loud closes same = by (nat_lt t instant) same
   where
     by : (early : Bool) → ending ((if early then Closed t else Reset instant) ∷ []) ≢ StillOpen
     by true same = cc
     by false same = cc
-close-ends (Slicing average variation micros lane until) draws state t loud same = cc
-close-ends (Limit bytes) draws state t loud same = cc
+close-ends (Slicing average variation micros lane until from) draws state t loud closes same = cc
+close-ends (Limit bytes) draws state t loud closes same = cc
+close-ends (Halt None zero end) draws state t loud closes same = cc
+close-ends (Halt None (suc bytes) end) draws state t loud closes same = cc
+close-ends (Halt (Some at) after end) draws state t loud closes same = halted-ends at after end state (ClosedAt t) closes (λ is. cc) same
 
 -- a reset stays one
-reset-ends : (op : Op) (draws : Draws) (state : State) (t : ℕ) → is_mute op ≡ false → ending (op_giving op draws state (Reset t)) ≢ StillOpen
-reset-ends (Delay fixed latency jitter lane until) draws state t loud same = cc
-reset-ends (Pace rate until) draws state t loud same = cc
-reset-ends (Slow millis) draws state t loud same = cc
-reset-ends (Mute last) draws state t loud same = cc
-reset-ends (Cutoff instant) draws state t loud same = by (nat_lt t instant) same
+reset-ends : (op : Op) (draws : Draws) (state : State) (t : ℕ) → is_mute op ≡ false → leaves_open op ≡ false → ending (op_giving op draws state (Reset t)) ≢ StillOpen
+reset-ends (Delay fixed latency jitter lane until from) draws state t loud closes same = cc
+reset-ends (Pace rate until from) draws state t loud closes same = cc
+reset-ends (Slow millis) draws state t loud closes same = cc
+reset-ends (Mute last) draws state t loud closes same = cc
+reset-ends (Cutoff instant) draws state t loud closes same = by (nat_lt t instant) same
   where
     by : (early : Bool) → ending ((if early then Reset t else Reset instant) ∷ []) ≢ StillOpen
     by true same = cc
     by false same = cc
-reset-ends (Slicing average variation micros lane until) draws state t loud same = cc
-reset-ends (Limit bytes) draws state t loud same = cc
+reset-ends (Slicing average variation micros lane until from) draws state t loud closes same = cc
+reset-ends (Limit bytes) draws state t loud closes same = cc
+reset-ends (Halt None zero end) draws state t loud closes same = cc
+reset-ends (Halt None (suc bytes) end) draws state t loud closes same = cc
+reset-ends (Halt (Some at) after end) draws state t loud closes same = halted-ends at after end state (ResetAt t) closes (λ is. cc) same
 
-ends-giving : (op : Op) (draws : Draws) (state : State) (last : Ending) → is_mute op ≡ false → last ≢ StillOpen → ending (op_giving op draws state (final_of last)) ≢ StillOpen
-ends-giving op draws state StillOpen loud ends = absurd (ends refl)
-ends-giving op draws state (ClosedAt t) loud ends = close-ends op draws state t loud
-ends-giving op draws state (ResetAt t) loud ends = reset-ends op draws state t loud
+ends-giving : (op : Op) (draws : Draws) (state : State) (last : Ending) → is_mute op ≡ false → IsOp op → leaves_open op ≡ false → last ≢ StillOpen → ending (op_giving op draws state (final_of last)) ≢ StillOpen
+ends-giving op draws state StillOpen loud fits closes ends = absurd (ends refl)
+ends-giving op draws state (ClosedAt t) loud fits closes ends = close-ends op draws state t loud closes
+ends-giving op draws state (ResetAt t) loud fits closes ends = reset-ends op draws state t loud closes
 
--- what operations that cut nothing off before an instant keep of an ending, drained cursors keep
-module _ (P : Ending → Type 0) (d : ℕ) (keeps : (op : Op) (draws : Draws) (state : State) (last : Ending) → is_mute op ≡ false → IsLateOp d op → P last → P (ending (op_giving op draws state (final_of last)))) where
-  drained-keeps : (draws : Draws) (start : ℕ) (cursors : List OpCursor) (source : Slice) (end : Ending) → AreNested start cursors source → AreDrained start cursors source → AreLateOps d (ops_of cursors) → P end
+-- where none leaves a link open, each doesn't
+each-closes : (ops : List Op) → list_any leaves_open ops ≡ false → EachOp (λ op. leaves_open op ≡ false) ops
+each-closes [] none = tt
+each-closes (op ∷ ops) none = let parts = or_parts (leaves_open op) (list_any leaves_open ops) none in (parts.0, each-closes ops parts.1)
+
+-- what such operations keep of an ending, drained cursors keep
+module _ (P : Ending → Type 0) (Q : Op → Type 0) (keeps : (op : Op) (draws : Draws) (state : State) (last : Ending) → is_mute op ≡ false → IsOp op → Q op → P last → P (ending (op_giving op draws state (final_of last)))) where
+  drained-keeps : (draws : Draws) (start : ℕ) (cursors : List OpCursor) (source : Slice) (end : Ending) → AreNested start cursors source → AreDrained start cursors source → EachOp Q (ops_of cursors) → P end
       → (last : Ending) × P last × (to_come_from draws start cursors source (final_of end ∷ []) ≡ final_of last ∷ [])
   drained-keeps draws start [] source end nested drained late is = (end, is, to_come_from-read draws start source (final_of end ∷ []) drained)
   drained-keeps draws start (cursor ∷ cursors) source end nested drained late is =
-      let split = late_ops-snoc d (ops_of cursors) cursor.op late in
+      let split = each-snoc Q (ops_of cursors) cursor.op late in
       let above = drained-keeps draws cursor.stop cursors source end nested.1 drained.2 split.0 is in
       let last = giving-final cursor.op draws cursor.state above.0 in (
         last.0,
-        subst P (ap ending last.1 ∙ final-ending last.0) (keeps cursor.op draws cursor.state above.0 (nested.0.heard drained.1) split.1 above.1),
+        subst P (ap ending last.1 ∙ final-ending last.0) (keeps cursor.op draws cursor.state above.0 (nested.0.heard drained.1) nested.0.sound.operation split.1 above.1),
         ap (λ items. cursor_gives draws start cursor items) above.2
             ∙ cursor_gives-final draws start cursor above.0 last.0 drained.0 drained.1 (nested.0.sound.running drained.1) last.1,
       )
@@ -112,17 +192,17 @@ module _ (runner : RunnerView) (invariant : IsRunning runner) (idle : runner.idl
   unfound : runner.lookahead ≡ None
   unfound = idle-unfound runner invariant idle
 
-  runner-keeps : (P : Ending → Type 0) (d : ℕ) → ((op : Op) (draws : Draws) (state : State) (last : Ending) → is_mute op ≡ false → IsLateOp d op → P last → P (ending (op_giving op draws state (final_of last))))
-      → (end : Ending) → AreLateOps d (ops_of runner.cursors) → P end → P (ending (to_come runner (final_of end ∷ [])))
-  runner-keeps P d keeps end late is =
+  runner-keeps : (P : Ending → Type 0) (Q : Op → Type 0) → ((op : Op) (draws : Draws) (state : State) (last : Ending) → is_mute op ≡ false → IsOp op → Q op → P last → P (ending (op_giving op draws state (final_of last))))
+      → (end : Ending) → EachOp Q (ops_of runner.cursors) → P end → P (ending (to_come runner (final_of end ∷ [])))
+  runner-keeps P Q keeps end late is =
       let nested : AreNested runner.position runner.cursors runner.piece = subst (λ found. AreNested (reader_at runner.position found) runner.cursors runner.piece) unfound (invariant.nested unknown) in
-      let kept = drained-keeps P d keeps (draws_of runner.drawing) runner.position runner.cursors runner.piece end nested (idle-drained runner invariant idle unknown) late is in
+      let kept = drained-keeps P Q keeps (draws_of runner.drawing) runner.position runner.cursors runner.piece end nested (idle-drained runner invariant idle unknown) late is in
       subst P (sym (ap ending (to_come-unfound runner (final_of end ∷ []) unknown unfound ∙ kept.2) ∙ final-ending kept.0)) kept.1
 
-  pub unended-runner : (now : ℕ) → IsBeforeDeadline now (deadline_of (ops_of runner.cursors)) → IsUnended (to_come runner) now
+  pub unended-runner : (now : ℕ) → IsBeforeDeadline now (deadline_of (ops_of runner.cursors)) → IsUnended (ops_of runner.cursors) (to_come runner) now
   unended-runner now before = record {
-    quiet = runner-keeps (IsOpenAt now) (suc now) (open-giving now) StillOpen (late-before_deadline now (ops_of runner.cursors) before) tt;
-    closed = runner-keeps (λ last. last ≢ StillOpen) 0 (λ op draws state last loud late. ends-giving op draws state last loud) (ClosedAt now) (late_ops-start (ops_of runner.cursors)) closed_ends;
+    quiet = open-yet now _ (runner-keeps (IsOpenYet now) (IsLateOp (suc now)) (open-giving now) StillOpen (late-before_deadline now (ops_of runner.cursors) before) tt);
+    closed = λ none. runner-keeps (λ last. last ≢ StillOpen) (λ op. leaves_open op ≡ false) ends-giving (ClosedAt now) (each-closes (ops_of runner.cursors) none) closed_ends;
   }
     where
       closed_ends : ClosedAt now ≢ StillOpen

@@ -292,7 +292,7 @@ impl<'w> Runner<'w> {
             (λ ending. (items : List OneItem) → to_come self.now items ≡ final_of ending ∷ []) }
         ensures unended { result ≡ None → self.now.idle ≡ true → (now : ℕ)
             → IsBeforeDeadline now (deadline_of (ops_of self.now.cursors))
-            → IsUnended (to_come self.now) now }
+            → IsUnended (ops_of self.now.cursors) (to_come self.now) now }
     {
         if self.phase.is_idle() {
             self.phase.ending()

@@ -1,10 +1,10 @@
 //! By when a plan ends its stream, whatever arrives.
 ghost use Rattle.std.specs.Prelude.{◌≡◌, ◌<◌, ◌^◌, None, fold};
-ghost use Rattle.tox_sockets.specs.ResetDue.{after_op, later_by};
+ghost use Rattle.tox_sockets.specs.ResetDue.{after_op, later_by, not_before};
 
 use tox_compile::earlier;
 use tox_defs::Op;
-use tox_time::Micros;
+use tox_time::{Ending, Micros};
 
 /// The instant by which operations end every stream. None if no such instant is known: a stream may go on for ever, or how
 /// long its bytes take depends on their number.
@@ -40,6 +40,7 @@ fn after_op(due: Option<Micros>, op: &Op) -> Option<Micros>
             due,
             u64::from(*fixed) + u64::from(*latency) + u64::from(*jitter),
         ),
+        Op::Halt { ending, .. } => not_before(due, ending),
         Op::Pace { .. } | Op::Slicing { .. } | Op::Mute { .. } => None,
     }
 }
@@ -51,4 +52,15 @@ fn later_by(due: Option<Micros>, millis: u64) -> Option<Micros>
 {
     let due = due?;
     Some(due.after(1000 * millis))
+}
+
+/// The instant, if there is one, raised to that of an ending. None if the ending leaves the link open.
+fn not_before(due: Option<Micros>, ending: &Ending) -> Option<Micros>
+    ensures { result ≡ not_before due ending.now }
+{
+    let due = due?;
+    match ending {
+        Ending::StillOpen => None,
+        Ending::Closed(end) | Ending::Reset(end) => Some(due.later(*end)),
+    }
 }

@@ -1,6 +1,6 @@
 -- Each chunk that a chain gives lies in one arrival.
-use Rattle.std.proofs.Common.{◌≡◌, ℕ, zero, suc, ◌+◌, ◌-◌, ◌*◌, ◌<◌, ◌≤◌, min, max, Bool, true, false, List, [], ◌∷◌, ◌++◌, length, map, Some, refl, sym, subst, arith, if◌then◌else◌}
-use Rattle.std.specs.Prelude.{Any, nat_lt}
+use Rattle.std.proofs.Common.{◌≡◌, ℕ, zero, suc, ◌<◌, ◌≤◌, max, Bool, true, false, List, [], ◌∷◌, ◌++◌, length, map, Some, sym, subst, arith, if◌then◌else◌}
+use Rattle.std.specs.Prelude.{Any}
 use Rattle.std.specs.List.{slice_index_or}
 use Rattle.tox_time.specs.declared.streams.span.Span.{Span}
 use Rattle.tox_time.specs.declared.streams.slice.Slice.{Slice}
@@ -14,9 +14,9 @@ use Rattle.tox_defs.specs.declared.operations.state.State.{State}
 use Rattle.tox_defs.specs.chain.Chain.{Toxics}
 use Rattle.tox_defs.specs.stage.Reaction.{Answer, Giving, react, counted, flow_from, first_state, flow_through}
 use Rattle.tox_defs.specs.toxics.Ordered.{in_order}
-use Rattle.tox_defs.specs.operations.Until.{is_late, late_answer, until}
+use Rattle.tox_defs.specs.operations.During.{during, is_outside, uncounted_answer}
 use Rattle.tox_defs.specs.declared.chain.applied.Placed.{Placed}
-use Rattle.tox_defs.specs.Flow.{toxic_giving, toxic_reaction, toxic_until, applied, chain_draws, chain_flow}
+use Rattle.tox_defs.specs.Flow.{toxic_from, toxic_giving, toxic_reaction, toxic_until, applied, chain_draws, chain_flow}
 use Rattle.tox_defs.specs.Laws.{toxic_flow}
 use Rattle.tox_defs.proofs.ToxicProofs.{toxic_facts}
 use Rattle.tox_defs.proofs.Within.{GivesWithin, LieWithin, chunk_within, in_first}
@@ -85,30 +85,30 @@ in_order_within since (Closed t) items = tt
 in_order_within since (Reset t) items = tt
 in_order_within since Quiet items = tt
 
-stopped_within : (late : Bool) (giving : Giving) (state : State) (item : Item) (items : List Item) → GivesWithin giving
-    → LieWithin (item ∷ items) (if late then late_answer state item else counted giving state item).given
-stopped_within true giving state item items gives = in_order_within state.previous item items
-stopped_within false giving state item items gives = gives state item items
+either_within : (outside : Bool) (giving : Giving) (state : State) (item : Item) (items : List Item) → GivesWithin giving
+    → LieWithin (item ∷ items) (if outside then uncounted_answer state item else counted giving state item).given
+either_within true giving state item items gives = in_order_within state.previous item items
+either_within false giving state item items gives = gives state item items
 
-react_within : (done : Bool) (millis : ℕ) (giving : Giving) (state : State) (item : Item) (items : List Item) → GivesWithin giving
-    → LieWithin (item ∷ items) (if done then (record { state = state; given = [] }) else until millis (counted giving) state item).given
-react_within true millis giving state item items gives = tt
-react_within false millis giving state item items gives = stopped_within (is_late millis item) giving state item items gives
+react_within : (done : Bool) (from until : ℕ) (giving : Giving) (state : State) (item : Item) (items : List Item) → GivesWithin giving
+    → LieWithin (item ∷ items) (if done then (record { state = state; given = [] }) else during from until (counted giving) state item).given
+react_within true from until giving state item items gives = tt
+react_within false from until giving state item items gives = either_within (is_outside from until item) giving state item items gives
 
-flow_within : (millis : ℕ) (giving : Giving) → GivesWithin giving → (state : State) (items : List Item) → LieWithin items (flow_from (until millis (counted giving)) state items)
-flow_within millis giving gives state [] = tt
-flow_within millis giving gives state (item ∷ items) =
-    let answer : Answer = react (until millis (counted giving)) state item in
-    both_within (item ∷ items) answer.given (flow_from (until millis (counted giving)) answer.state items)
-    (react_within state.done millis giving state item items gives)
-    (later_within item items (flow_from (until millis (counted giving)) answer.state items) (flow_within millis giving gives answer.state items))
+flow_within : (from until : ℕ) (giving : Giving) → GivesWithin giving → (state : State) (items : List Item) → LieWithin items (flow_from (during from until (counted giving)) state items)
+flow_within from until giving gives state [] = tt
+flow_within from until giving gives state (item ∷ items) =
+    let answer : Answer = react (during from until (counted giving)) state item in
+    both_within (item ∷ items) answer.given (flow_from (during from until (counted giving)) answer.state items)
+    (react_within state.done from until giving state item items gives)
+    (later_within item items (flow_from (during from until (counted giving)) answer.state items) (flow_within from until giving gives answer.state items))
 
 toxics_within : (toxics : List Placed) (draws : Draws) (items : List Item) → LieWithin items (flow_through (map (λ placed. toxic_reaction placed.toxic (draws placed.place)) toxics) items)
 toxics_within [] draws items = themselves_within items
 toxics_within (placed ∷ toxics) draws items =
     let given = toxic_flow placed.toxic (draws placed.place) items in
     through_within items given (flow_through (map (λ placed. toxic_reaction placed.toxic (draws placed.place)) toxics) given)
-    (flow_within (toxic_until placed.toxic) (toxic_giving placed.toxic (draws placed.place)) ((toxic_facts placed.toxic).within (draws placed.place)) first_state items)
+    (flow_within (toxic_from placed.toxic) (toxic_until placed.toxic) (toxic_giving placed.toxic (draws placed.place)) ((toxic_facts placed.toxic).within (draws placed.place)) first_state items)
     (toxics_within toxics draws given)
 
 pub chain_within : (chain : Toxics) (words : List ℕ) (items : List Item) → LieWithin items (chain_flow chain words items)

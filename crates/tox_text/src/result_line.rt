@@ -1,6 +1,6 @@
 //! The lines of a result text.
 ghost use Rattle.std.specs.Prelude.{◌≡◌, ◌+◌, ◌<◌, ◌^◌, false, length};
-ghost use Rattle.tox_text.specs.ResultText.{bytes_line, ending_line};
+ghost use Rattle.tox_text.specs.ResultText.{bytes_line, ending_line, ending_words};
 ghost use Rattle.tox_text.specs.Writing.{Prints};
 
 use crate::buffer::Buffer;
@@ -43,16 +43,25 @@ pub fn print_ending<W: Sink>(
     ensures { Prints result (W.written writer.old) buffer.old (W.written writer.new) buffer.new
         (W.failed writer.new) (ending_line ending.now) }
 {
+    print_ending_words(buffer, writer, ending)?;
+    buffer.print(writer, &[Word("\n")])
+}
+
+/// Prints the words of an ending.
+pub(crate) fn print_ending_words<W: Sink>(
+    buffer: &mut Buffer,
+    writer: &mut W,
+    ending: &Ending,
+) -> Result<(), EndFault>
+    requires { W.failed writer.old ≡ false }
+    ensures { Prints result (W.written writer.old) buffer.old (W.written writer.new) buffer.new
+        (W.failed writer.new) (ending_words ending.now) }
+{
     match ending {
-        Ending::StillOpen => buffer.print(writer, &[Word("open\n")]),
+        Ending::StillOpen => buffer.print(writer, &[Word("open")]),
         Ending::Closed(instant) => {
-            buffer.print(
-                writer,
-                &[Word("closed "), Number(instant.get()), Word("\n")],
-            )
+            buffer.print(writer, &[Word("closed "), Number(instant.get())])
         }
-        Ending::Reset(instant) => {
-            buffer.print(writer, &[Word("reset "), Number(instant.get()), Word("\n")])
-        }
+        Ending::Reset(instant) => buffer.print(writer, &[Word("reset "), Number(instant.get())]),
     }
 }

@@ -1,7 +1,7 @@
 //! Toxics as short forms.
 ghost use Rattle.std.specs.Prelude.{◌≡◌, ◌≤◌, false, flat_map, length, map};
 ghost use Rattle.std.specs.List.{zip};
-ghost use Rattle.tox_defs.specs.short.Printed.{printed_short};
+ghost use Rattle.tox_defs.specs.short.Printed.{is_optional, printed_short};
 ghost use Rattle.tox_text.specs.ShortForm.{shown_before_comma};
 ghost use Rattle.tox_text.specs.Writing.{Prints};
 
@@ -27,7 +27,7 @@ pub fn print_short<W: Sink>(
     buffer.print(writer, &[Word("toxicity="), Number(toxicity)])
 }
 
-/// Prints each key with its value and a comma, but for an `until` of 0.
+/// Prints each key with its value and a comma, but for an optional one of 0.
 fn print_attributes<W: Sink>(
     buffer: &mut Buffer,
     writer: &mut W,
@@ -56,8 +56,15 @@ fn print_shown<W: Sink>(
     ensures { Prints result (W.written writer.old) buffer.old (W.written writer.new) buffer.new
         (W.failed writer.new) (shown_before_comma (key.now, value)) }
 {
-    if key == "until" && value == 0 {
+    if value == 0 && is_optional(key) {
         return Ok(());
     }
     buffer.print(writer, &[Word(key), Word("="), Number(value), Word(",")])
+}
+
+/// Whether an attribute is printed only where it isn't 0.
+fn is_optional(key: &str) -> bool
+    ensures { result ≡ is_optional key.now }
+{
+    key == "until" || key == "from" || key == "after"
 }

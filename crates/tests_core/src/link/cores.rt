@@ -104,3 +104,18 @@ const RESET: &[Step] = &[
 fn a_reset_comes_at_its_deadline(rt: HostRuntime) {
     follow(&rt, "reset_peer:timeout=20", RESET);
 }
+
+/// A piece comes before the timeout begins, and another one after that.
+const HALT: &[Step] = &[
+    Step::Piece(2, 0, Ok(())),
+    Step::Ask(0, Answer::Write(0, 2, 0)),
+    Step::Ask(0, Answer::WaitUntil(2000)),
+    Step::Ask(2000, Answer::WaitUntil(5000)),
+    Step::Piece(1, 2500, Err(ArrivalFault::AfterEnd)),
+    Step::Ask(5000, Answer::End(End::Closed(5000))),
+];
+
+#[test]
+fn a_later_timeout_waits_and_closes(rt: HostRuntime) {
+    follow(&rt, "timeout:timeout=5,from=2", HALT);
+}

@@ -12,7 +12,7 @@ use tox_time::{Arrivals, Ending, Micros, Slice, SliceList};
 use tox_words::Words;
 
 /// The toxics of drawn chains.
-const TOXICS: [&str; 10] = [
+const TOXICS: [&str; 16] = [
     "latency:latency=1",
     "latency:latency=2,jitter=2",
     "bandwidth:rate=2",
@@ -23,13 +23,19 @@ const TOXICS: [&str; 10] = [
     "slicer:average_size=20,size_variation=7,delay=300",
     "limit_data:bytes=90",
     "limit_data:bytes=0",
+    "latency:latency=2,until=9,from=3",
+    "bandwidth:rate=2,from=2",
+    "slicer:average_size=20,size_variation=7,delay=300,from=4",
+    "timeout:timeout=9,from=3",
+    "timeout:after=50",
+    "reset_peer:timeout=4,after=30",
 ];
 
 /// A chain of at most three toxics.
 pub fn drawn_chain(rt: &impl Abort, generator: &mut Lcg64Xsh32) -> Chain {
     let mut chain = Chain::new();
     for _ in 0..below(generator, 4) {
-        let drawn = below(generator, 10) as usize;
+        let drawn = below(generator, 16) as usize;
         let (toxic, toxicity) = read_short(TOXICS[drawn]).expect(rt, "a short form");
         assert!(rt; chain.push(toxic, toxicity).is_ok());
     }

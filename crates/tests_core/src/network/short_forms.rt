@@ -11,6 +11,7 @@ const READ: &[(&str, Toxic, u16)] = &[
             latency: 100,
             jitter: 0,
             until: 0,
+            from: 0,
         },
         1000,
     ),
@@ -20,8 +21,35 @@ const READ: &[(&str, Toxic, u16)] = &[
             latency: 0,
             jitter: 20,
             until: 0,
+            from: 0,
         },
         7,
+    ),
+    (
+        "bandwidth:from=3600000,rate=1",
+        Toxic::Bandwidth {
+            rate: 1,
+            until: 0,
+            from: 3_600_000,
+        },
+        1000,
+    ),
+    (
+        "timeout:after=1099511627776,from=2",
+        Toxic::Timeout {
+            timeout: 0,
+            from: 2,
+            after: 1_099_511_627_776,
+        },
+        1000,
+    ),
+    (
+        "reset_peer:timeout=5,after=3",
+        Toxic::ResetPeer {
+            timeout: 5,
+            after: 3,
+        },
+        1000,
     ),
     ("slow_close", Toxic::SlowClose { delay: 0 }, 1000),
     (
@@ -60,6 +88,30 @@ const REFUSED: &[(&str, ShortFault)] = &[
     (
         "latency:rate=1",
         ShortFault::Toxic(ToxicFault::UnknownAttribute),
+    ),
+    (
+        "slow_close:from=1",
+        ShortFault::Toxic(ToxicFault::UnknownAttribute),
+    ),
+    (
+        "limit_data:after=1",
+        ShortFault::Toxic(ToxicFault::UnknownAttribute),
+    ),
+    (
+        "latency:after=1",
+        ShortFault::Toxic(ToxicFault::UnknownAttribute),
+    ),
+    (
+        "reset_peer:from=1",
+        ShortFault::Toxic(ToxicFault::UnknownAttribute),
+    ),
+    (
+        "timeout:from=3600001",
+        ShortFault::Toxic(ToxicFault::OutOfRange),
+    ),
+    (
+        "reset_peer:after=1099511627777",
+        ShortFault::Toxic(ToxicFault::OutOfRange),
     ),
     ("bandwidth", ShortFault::Toxic(ToxicFault::OutOfRange)),
     (

@@ -18,7 +18,7 @@ use tox_time::{OpenGate, Outcome};
 /// What arrives in most cases.
 const ARRIVED: &str = "3@0 3@10 1@20000 eof@20005";
 
-/// No toxic, each toxic alone, and two in a row.
+/// No toxic, each toxic alone, those that begin later too, and some in a row.
 const CASES: &[(&str, &str)] = &[
     ("", "3@0 eof@5"),
     ("latency:latency=1,jitter=1", ARRIVED),
@@ -30,6 +30,30 @@ const CASES: &[(&str, &str)] = &[
     ("slicer:average_size=2,size_variation=1,delay=10", "5@0"),
     ("limit_data:bytes=4", ARRIVED),
     ("limit_data:bytes=4 latency:latency=1", ARRIVED),
+    ("latency:latency=1,jitter=1,from=1", ARRIVED),
+    ("latency:latency=10,until=6,from=5", "1@0 1@5000 1@6000"),
+    ("bandwidth:rate=1,from=1", ARRIVED),
+    (
+        "slicer:average_size=2,size_variation=1,delay=10,from=1",
+        "2@0 3@1000",
+    ),
+    ("timeout:timeout=50,from=20", ARRIVED),
+    ("timeout:timeout=1,from=2", "2@0 eof@1999"),
+    ("timeout:after=4", ARRIVED),
+    ("timeout:timeout=5,from=20,after=4", ARRIVED),
+    ("reset_peer:timeout=30,after=6", ARRIVED),
+    (
+        "latency:latency=1,from=1 timeout:from=20 bandwidth:rate=1,from=20",
+        ARRIVED,
+    ),
+    (
+        "slicer:average_size=2,delay=10,from=1 reset_peer:timeout=1,after=7 latency:latency=1,from=2",
+        ARRIVED,
+    ),
+    (
+        "reset_peer:timeout=9,after=5 timeout:timeout=2,after=4 slicer:average_size=1,delay=1,from=5",
+        ARRIVED,
+    ),
 ];
 
 /// Compares what running stages deliver over rings of `cap` items with what the plan does. A failure prints `cap`, and the

@@ -16,19 +16,24 @@ fn toxic(generator: &mut Lcg64Xsh32) -> Toxic {
             latency: below(generator, 4),
             jitter: below(generator, 3),
             until: below(generator, 6),
+            from: start(generator),
         },
         1 => Toxic::Bandwidth {
             rate: 1 + below(generator, 3),
             until: below(generator, 6),
+            from: start(generator),
         },
         2 => Toxic::SlowClose {
             delay: below(generator, 3),
         },
         3 => Toxic::Timeout {
             timeout: below(generator, 9),
+            from: start(generator),
+            after: bytes_before(generator),
         },
         4 => Toxic::ResetPeer {
             timeout: below(generator, 9),
+            after: bytes_before(generator),
         },
         5 => slicer(generator),
         _ => Toxic::LimitData {
@@ -44,10 +49,21 @@ fn slicer(generator: &mut Lcg64Xsh32) -> Toxic {
         size_variation: below(generator, average_size),
         delay: u64::from(below(generator, 900)),
         until: below(generator, 6),
+        from: start(generator),
     }
 }
 
-/// A chain of 16 or 32 lanes and up to 5 toxics, of which a timeout comes seldom.
+/// The milliseconds at which a toxic begins: as often as not none.
+fn start(generator: &mut Lcg64Xsh32) -> u32 {
+    below(generator, 12).saturating_sub(6)
+}
+
+/// The bytes behind which a toxic begins: as often as not none.
+fn bytes_before(generator: &mut Lcg64Xsh32) -> u64 {
+    u64::from(below(generator, 600).saturating_sub(300))
+}
+
+/// A chain of 16 or 32 lanes and up to 5 toxics, of which a timeout that begins at once comes seldom.
 fn chain(rt: &impl Abort, generator: &mut Lcg64Xsh32) -> Chain {
     let lanes = match below(generator, 2) {
         0 => Lanes::Sixteen,
@@ -60,15 +76,23 @@ fn chain(rt: &impl Abort, generator: &mut Lcg64Xsh32) -> Chain {
     chain
 }
 
-/// Adds a toxic to a chain, but of six timeouts about one.
+/// Adds a toxic to a chain, but of six timeouts that begin at once about one.
 fn push_toxic(rt: &impl Abort, generator: &mut Lcg64Xsh32, chain: &mut Chain) {
     let toxic = toxic(generator);
-    if matches!(toxic, Toxic::Timeout { .. }) && below(generator, 6) != 0 {
+    if drops_all(&toxic) && below(generator, 6) != 0 {
         return;
     }
     let toxicity = if below(generator, 4) == 0 { 500 } else { 1000 };
     demand(rt, toxic.check().is_ok());
     demand(rt, chain.push(toxic, toxicity).is_ok());
+}
+
+/// Whether a toxic is a timeout that begins at once.
+fn drops_all(toxic: &Toxic) -> bool {
+    match *toxic {
+        Toxic::Timeout { from, after, .. } => from == 0 && after == 0,
+        _ => false,
+    }
 }
 
 fn arrivals(rt: &(impl Abort + AllocGlobal), generator: &mut Lcg64Xsh32) -> Arrivals {

@@ -1,6 +1,7 @@
 //! Worked cases, by the compiled plan and by the stages.
 use crate::comparing::assert_equal_at;
 use crate::plan::cases::{CASES, Case};
+use crate::plan::later_cases::LATER_CASES;
 use crate::plan::outcomes::compare_outcomes;
 use crate::plan::settings::Setting;
 use crate::plan::staged::{outcome_of, staged_items};
@@ -30,6 +31,13 @@ fn compare(rt: &(impl Abort + AllocGlobal), case: &Case, number: u64) {
 #[test]
 fn plan_and_stages_give_the_worked_cases(rt: HostRuntime) {
     for (number, case) in CASES.iter().enumerate() {
+        compare(&rt, case, number as u64);
+    }
+}
+
+#[test]
+fn plan_and_stages_give_the_later_cases(rt: HostRuntime) {
+    for (number, case) in LATER_CASES.iter().enumerate() {
         compare(&rt, case, number as u64);
     }
 }

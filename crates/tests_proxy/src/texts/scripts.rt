@@ -14,6 +14,7 @@ const TOXICS: &[Entry] = &[
             latency: 100,
             jitter: 0,
             until: 0,
+            from: 0,
         },
         toxicity: 1000,
     },

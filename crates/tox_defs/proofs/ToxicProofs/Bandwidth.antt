@@ -28,7 +28,7 @@ use Rattle.tox_defs.specs.Laws.{HasLaw}
 use Rattle.tox_defs.specs.toxics.Ranges.{is_in, one_to_million}
 use Rattle.tox_defs.specs.Toxic.{IsInRange, is_within}
 use Rattle.tox_defs.proofs.InRange.{both_tests, in_bounds}
-use Rattle.tox_defs.proofs.Stopping.{until-passes, until_keeps}
+use Rattle.tox_defs.proofs.Windows.{during-passes, during_keeps}
 use Rattle.tox_defs.proofs.ToxicFacts.{ToxicFacts}
 use Rattle.tox_defs.proofs.Within.{GivesWithin, leave_within}
 use Rattle.std.proofs.lemmas.Bool.{and_parts}
@@ -201,23 +201,24 @@ bandwidth_within rate state (Closed t) items = tt
 bandwidth_within rate state (Reset t) items = tt
 bandwidth_within rate state Quiet items = tt
 
-rate-positive : (rate until : ℕ) → IsInRange (Bandwidth rate until) → 0 < rate
-rate-positive rate until fits =
-    let within = both_tests (is_within (Bandwidth rate until)) false fits in
+rate-positive : (rate until from : ℕ) → IsInRange (Bandwidth rate until from) → 0 < rate
+rate-positive rate until from fits =
+    let within = both_tests (is_within (Bandwidth rate until from)) false fits in
     (in_bounds one_to_million rate (and_parts (is_in one_to_million rate) _ within.0).0).0
 
-bandwidth_has_law : (rate until : ℕ) → 0 < rate → HasLaw (Bandwidth rate until)
-bandwidth_has_law rate zero positive never words items list = λ n before. bandwidth_law rate items n positive list.0 before
-bandwidth_has_law rate (suc until) positive never words items list = absurd (cc)
+bandwidth_has_law : (rate until from : ℕ) → 0 < rate → HasLaw (Bandwidth rate until from)
+bandwidth_has_law rate zero zero positive start never words items list = λ n before. bandwidth_law rate items n positive list.0 before
+bandwidth_has_law rate zero (suc from) positive start never words items list = absurd (cc)
+bandwidth_has_law rate (suc until) from positive start never words items list = absurd (cc)
 
-pub bandwidth_facts : (rate until : ℕ) → ToxicFacts (Bandwidth rate until)
-bandwidth_facts rate until = record {
+pub bandwidth_facts : (rate until from : ℕ) → ToxicFacts (Bandwidth rate until from)
+bandwidth_facts rate until from = record {
   reacts = λ place draws. refl;
-  is_op = λ place. rate-positive rate until;
+  is_op = λ place. rate-positive rate until from;
   delays = λ place fits. omega arith;
-  passes = λ words. until-passes until _ (paced-passes rate);
+  passes = λ words. during-passes from until _ (paced-passes rate);
   within = λ words. bandwidth_within rate;
-  law = λ fits. bandwidth_has_law rate until (rate-positive rate until fits);
+  law = λ fits. bandwidth_has_law rate until from (rate-positive rate until from fits);
   spelled = record { word = refl; named = refl; words = refl; known = refl; apart = refl; keys = refl; made = refl };
   short = λ inside. grind (arith, common_steps);
 }
@@ -227,8 +228,8 @@ pace_final rate state StillOpen = refl
 pace_final rate state (ClosedAt t) = refl
 pace_final rate state (ResetAt t) = refl
 
-pub pace_facts : (rate until : ℕ) → OpFacts (Pace rate until)
-pace_facts rate until = record {
-  streams = λ draws items fits stream. IsStreamFrom-flow Whatever _ (until_keeps until _ (paced_keeps rate fits)) items 0 0 0 0 0 0 (omega arith) tt stream;
+pub pace_facts : (rate until from : ℕ) → OpFacts (Pace rate until from)
+pace_facts rate until from = record {
+  streams = λ draws items fits stream. IsStreamFrom-flow Whatever _ (during_keeps from until _ (paced_keeps rate fits)) items 0 0 0 0 0 0 (omega arith) tt stream;
   final = λ draws. pace_final rate;
 }

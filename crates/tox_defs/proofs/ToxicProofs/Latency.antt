@@ -18,9 +18,9 @@ use Rattle.tox_defs.specs.Laws.{HasLaw}
 use Rattle.tox_defs.specs.operations.Op.{IsOp, millis_of, op_of, op_reaction}
 use Rattle.tox_defs.specs.toxics.Ranges.{is_in, up_to_hour}
 use Rattle.tox_defs.specs.Toxic.{IsInRange, is_within}
-use Rattle.tox_defs.specs.operations.Until.{until as stopping}
+use Rattle.tox_defs.specs.operations.During.{during}
 use Rattle.tox_defs.proofs.InRange.{both_tests, in_bounds}
-use Rattle.tox_defs.proofs.Stopping.{until-passes, until_keeps}
+use Rattle.tox_defs.proofs.Windows.{during-passes, during_keeps}
 use Rattle.tox_defs.proofs.ToxicFacts.{ToxicFacts}
 use Rattle.tox_defs.proofs.Within.{GivesWithin, chunk_within}
 use Rattle.tox_words.specs.Draw.{Draws}
@@ -58,11 +58,11 @@ map_replicate f zero t ts = refl
 map_replicate f (suc n) t ts = ap (λ us. f t ∷ us) (map_replicate f n t ts)
 
 -- a latency without jitter moves every instant by the same
-pub table-latency : (latency : ℕ) (words : ℕ → ℕ) (items : List Item) (previous chunks pieces passed position since : ℕ) → previous ≤ plus since (1000 * latency) → IsStreamFrom position since items → table (flow_from (toxic_reaction (Latency latency 0 0) words) (open_state previous chunks pieces passed) items) ≡ map (λ t. plus t (1000 * latency)) (table items)
+pub table-latency : (latency : ℕ) (words : ℕ → ℕ) (items : List Item) (previous chunks pieces passed position since : ℕ) → previous ≤ plus since (1000 * latency) → IsStreamFrom position since items → table (flow_from (toxic_reaction (Latency latency 0 0 0) words) (open_state previous chunks pieces passed) items) ≡ map (λ t. plus t (1000 * latency)) (table items)
 table-latency latency words [] previous chunks pieces passed position since order stream = refl
 table-latency latency words (Chunk span t ∷ items) previous chunks pieces passed position since order stream =
     let leaves : max previous (plus t (1000 * ((latency + words (1 + chunks) % 1) - 0))) ≡ plus t (1000 * latency) = omega (arith, stream.2) in
-    let others : table (flow_from (toxic_reaction (Latency latency 0 0) words) (open_state (max previous (plus t (1000 * ((latency + words (1 + chunks) % 1) - 0)))) (chunks + 1) (pieces + 1) (passed + (span_len span + 0))) items) ≡ map (λ t. plus t (1000 * latency)) (table items) =
+    let others : table (flow_from (toxic_reaction (Latency latency 0 0 0) words) (open_state (max previous (plus t (1000 * ((latency + words (1 + chunks) % 1) - 0)))) (chunks + 1) (pieces + 1) (passed + (span_len span + 0))) items) ≡ map (λ t. plus t (1000 * latency)) (table items) =
     table-latency latency words items (max previous (plus t (1000 * ((latency + words (1 + chunks) % 1) - 0)))) (chunks + 1) (pieces + 1) (passed + (span_len span + 0)) span.stop t (omega (arith, leaves)) stream.4 in
     rw (map_replicate (λ t. plus t (1000 * latency)) (span_len span) t (table items)) (cc (ap (λ at. replicate (span_len span) at) leaves, others))
 table-latency latency words (Closed t ∷ items) previous chunks pieces passed position since order stream = rw stream.2 refl
@@ -70,24 +70,24 @@ table-latency latency words (Reset t ∷ items) previous chunks pieces passed po
 table-latency latency words (Quiet ∷ items) previous chunks pieces passed position since order stream = rw stream refl
 
 -- its operation reacts as it does
-latency_reacts : (latency jitter until place : ℕ) (draws : Draws) → op_reaction (op_of place (Latency latency jitter until)) draws ≡ toxic_reaction (Latency latency jitter until) (draws place)
-latency_reacts latency zero until place draws =
+latency_reacts : (latency jitter until from place : ℕ) (draws : Draws) → op_reaction (op_of place (Latency latency jitter until from)) draws ≡ toxic_reaction (Latency latency jitter until from) (draws place)
+latency_reacts latency zero until from place draws =
     let waits : (chunk : ℕ) → 1000 * (latency + varied 0 0 (draws 0 (1 + chunk))) ≡ 1000 * varied latency 0 (draws place (1 + chunk)) = λ chunk. omega arith in
-    ap (λ wait. stopping until (counted (delay_gives wait))) (fun_ext waits)
-latency_reacts latency (suc jitter) until place draws =
+    ap (λ wait. during from until (counted (delay_gives wait))) (fun_ext waits)
+latency_reacts latency (suc jitter) until from place draws =
     let waits : (chunk : ℕ) → 1000 * (0 + varied latency (suc jitter) (draws place (1 + chunk))) ≡ 1000 * varied latency (suc jitter) (draws place (1 + chunk)) = λ chunk. omega arith in
-    ap (λ wait. stopping until (counted (delay_gives wait))) (fun_ext waits)
+    ap (λ wait. during from until (counted (delay_gives wait))) (fun_ext waits)
 
-latency_is_op : (latency jitter until place : ℕ) → IsOp (op_of place (Latency latency jitter until))
-latency_is_op latency zero until place = refl
-latency_is_op latency (suc jitter) until place = tt
+latency_is_op : (latency jitter until from place : ℕ) → IsOp (op_of place (Latency latency jitter until from))
+latency_is_op latency zero until from place = refl
+latency_is_op latency (suc jitter) until from place = tt
 
 -- without jitter it delays by the latency
-latency_delays : (latency jitter until place : ℕ) → IsInRange (Latency latency jitter until) → millis_of (op_of place (Latency latency jitter until)) ≤ 3_600_000
-latency_delays latency zero until place fits =
-    let within = both_tests (is_within (Latency latency 0 until)) false fits in
+latency_delays : (latency jitter until from place : ℕ) → IsInRange (Latency latency jitter until from) → millis_of (op_of place (Latency latency jitter until from)) ≤ 3_600_000
+latency_delays latency zero until from place fits =
+    let within = both_tests (is_within (Latency latency 0 until from)) false fits in
     (in_bounds up_to_hour latency (and_parts (is_in up_to_hour latency) _ within.0).0).1
-latency_delays latency (suc jitter) until place fits = omega arith
+latency_delays latency (suc jitter) until from place fits = omega arith
 
 latency_within : (latency jitter : ℕ) (words : ℕ → ℕ) → GivesWithin (latency_gives latency jitter words)
 latency_within latency jitter words state (Chunk span t) items =
@@ -96,19 +96,20 @@ latency_within latency jitter words state (Closed t) items = tt
 latency_within latency jitter words state (Reset t) items = tt
 latency_within latency jitter words state Quiet items = tt
 
-latency_law : (latency jitter until : ℕ) → HasLaw (Latency latency jitter until)
-latency_law latency zero zero never words items list = table-latency latency words items 0 0 0 0 0 0 (omega arith) list.0
-latency_law latency zero (suc until) never words items list = absurd (cc)
-latency_law latency (suc jitter) until never words items list = tt
+latency_law : (latency jitter until from : ℕ) → HasLaw (Latency latency jitter until from)
+latency_law latency zero zero zero start never words items list = table-latency latency words items 0 0 0 0 0 0 (omega arith) list.0
+latency_law latency zero zero (suc from) start never words items list = absurd (cc)
+latency_law latency zero (suc until) from start never words items list = absurd (cc)
+latency_law latency (suc jitter) until from start never words items list = tt
 
-pub latency_facts : (latency jitter until : ℕ) → ToxicFacts (Latency latency jitter until)
-latency_facts latency jitter until = record {
-  reacts = latency_reacts latency jitter until;
-  is_op = λ place fits. latency_is_op latency jitter until place;
-  delays = latency_delays latency jitter until;
-  passes = λ words. until-passes until _ (delayed-passes (λ chunk. 1000 * varied latency jitter (words (1 + chunk))));
+pub latency_facts : (latency jitter until from : ℕ) → ToxicFacts (Latency latency jitter until from)
+latency_facts latency jitter until from = record {
+  reacts = latency_reacts latency jitter until from;
+  is_op = λ place fits. latency_is_op latency jitter until from place;
+  delays = latency_delays latency jitter until from;
+  passes = λ words. during-passes from until _ (delayed-passes (λ chunk. 1000 * varied latency jitter (words (1 + chunk))));
   within = latency_within latency jitter;
-  law = λ fits. latency_law latency jitter until;
+  law = λ fits. latency_law latency jitter until from;
   spelled = record { word = refl; named = refl; words = refl; known = refl; apart = refl; keys = refl; made = refl };
   short = λ inside. grind (arith, common_steps);
 }
@@ -118,9 +119,9 @@ delay_final wait other state StillOpen = refl
 delay_final wait other state (ClosedAt t) = refl
 delay_final wait other state (ResetAt t) = refl
 
-pub delay_facts : (fixed latency jitter lane until : ℕ) → OpFacts (Delay fixed latency jitter lane until)
-delay_facts fixed latency jitter lane until = record {
+pub delay_facts : (fixed latency jitter lane until from : ℕ) → OpFacts (Delay fixed latency jitter lane until from)
+delay_facts fixed latency jitter lane until from = record {
   streams = λ draws items fits stream.
-      IsStreamFrom-flow Whatever _ (until_keeps until _ (delayed_keeps (λ chunk. 1000 * (fixed + varied latency jitter (draws lane (1 + chunk)))))) items 0 0 0 0 0 0 (omega arith) tt stream;
+      IsStreamFrom-flow Whatever _ (during_keeps from until _ (delayed_keeps (λ chunk. 1000 * (fixed + varied latency jitter (draws lane (1 + chunk)))))) items 0 0 0 0 0 0 (omega arith) tt stream;
   final = λ draws. delay_final (λ chunk. 1000 * (fixed + varied latency jitter (draws lane (1 + chunk)))) (λ chunk. 1000 * (fixed + varied latency jitter 0));
 }

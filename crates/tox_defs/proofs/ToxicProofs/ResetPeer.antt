@@ -1,8 +1,8 @@
 -- reset_peer: it keeps streams and bytes, and its law.
-use Rattle.std.proofs.Common.{◌≡◌, ℕ, ◌+◌, ◌<◌, ◌≤◌, Bool, true, false, List, [], ◌∷◌, refl, arith, inl, inr, ◌⊎◌, if◌then◌else◌, ◌*◌, ap, sym}
+use Rattle.std.proofs.Common.{◌≡◌, ℕ, zero, suc, ◌-◌, min, ◌∙◌, None, ◌+◌, ◌<◌, ◌≤◌, Bool, true, false, List, [], ◌∷◌, refl, arith, inl, inr, ◌⊎◌, if◌then◌else◌, ◌*◌, ap, sym}
 use Rattle.std.specs.Prelude.{nat_lt, All}
 use Rattle.std.proofs.lemmas.Bool.{ltb-true}
-use Rattle.std.proofs.lemmas.List.Elements.{All-append, All-cons, All-head, All-nil, All-replicate, All-tail}
+use Rattle.std.proofs.lemmas.List.Elements.{All-append, All-nil, All-replicate}
 use Rattle.tox_time.specs.Time.{horizon}
 use Rattle.tox_time.specs.declared.streams.span.Span.{Span}
 use Rattle.tox_time.specs.declared.streams.item.Item.{Item}
@@ -10,26 +10,29 @@ use Rattle.tox_time.specs.declared.streams.item.Item.TheVariants.{Chunk, Closed,
 use Rattle.tox_time.specs.streams.Stream.{span_len, is_final, IsStreamFrom, arrived}
 use Rattle.tox_time.specs.streams.Table.{table, ending, final_of}
 use Rattle.tox_defs.specs.stage.Reaction.{counted, flow_from}
-use Rattle.tox_defs.specs.toxics.ResetPeer.{cutoff_gives, is_before}
+use Rattle.tox_words.specs.Draw.{Draws}
+use Rattle.tox_defs.specs.Flow.{toxic_giving, toxic_reaction}
+use Rattle.tox_defs.specs.Laws.{HasLaw}
+use Rattle.tox_defs.specs.operations.Op.{IsOp, millis_of, op_of, op_reaction}
+use Rattle.tox_defs.specs.toxics.Halt.{is_before, raised}
+use Rattle.tox_defs.specs.toxics.ResetPeer.{cutoff_gives}
+use Rattle.tox_defs.proofs.ToxicProofs.FirstBytes.{length-bytes_table}
+use Rattle.tox_defs.proofs.ToxicProofs.Halting.{All-sooner, halt-passes, halt_within}
 use Rattle.tox_defs.proofs.OpenStates.{open_state}
 use Rattle.tox_defs.proofs.FlowLemmas.{flow_from-done}
 use Rattle.tox_defs.proofs.KeepingStreams.{counted_follows, CanFollow, GoesOn, EndsThere, KeepsStreams, IsStreamFrom-flow}
 use Rattle.tox_defs.specs.declared.operations.state.State.{State}
-use Rattle.tox_defs.proofs.StreamKeepers.{unchanged_final}
+use Rattle.tox_defs.proofs.StreamKeepers.{NotAfterEither, unchanged_final}
 use Rattle.tox_defs.proofs.PassedBytes.{PassesAtMost}
 use Rattle.tox_defs.specs.declared.toxic.Toxic.TheVariants.{ResetPeer}
 use Rattle.tox_defs.proofs.ToxicFacts.{ToxicFacts}
-use Rattle.tox_defs.proofs.Within.{LieWithin, item_within}
+use Rattle.tox_defs.proofs.Within.{GivesWithin, LieWithin, item_within}
 use Rattle.tox_time.specs.Time.{micros_of}
 use Rattle.std.proofs.lemmas.Grind.{common_steps}
 use Rattle.tox_time.specs.declared.streams.ending.Ending.{Ending}
 use Rattle.tox_time.specs.declared.streams.ending.Ending.TheVariants.{StillOpen, Closed as ClosedAt, Reset as ResetAt}
 use Rattle.tox_defs.proofs.OpFacts.{OpFacts}
 use Rattle.tox_defs.specs.declared.operations.op.Op.TheVariants.{Cutoff}
-
--- given instants are not after what was taken, nor after the cutoff
-abbrev pub NotAfterEither : ℕ → ℕ → ℕ → Type 0
-NotAfterEither instant given taken = (given ≤ taken) × (given ≤ instant)
 
 cut_off_chunk : (instant previous chunks pieces passed : ℕ) (span : Span) (t since : ℕ) (b : Bool) → nat_lt t instant ≡ b → NotAfterEither instant previous since → instant ≤ horizon → span.start < span.stop → since ≤ t → t ≤ horizon → GoesOn (NotAfterEither instant) (cutoff_gives instant (open_state previous chunks pieces passed) (Chunk span t)) span.start previous span.stop t ⊎ EndsThere (cutoff_gives instant (open_state previous chunks pieces passed) (Chunk span t)) span.start previous
 cut_off_chunk instant previous chunks pieces passed span t since true e before within some late fits =
@@ -83,21 +86,41 @@ cut_off_within : (before : Bool) (item : Item) (instant : ℕ) (items : List Ite
 cut_off_within true item instant items = item_within item items
 cut_off_within false item instant items = tt
 
--- what is before one instant is before a later one
-All-sooner : (instant later : ℕ) (ts : List ℕ) → instant ≤ later → All (λ at. at < instant) ts → All (λ at. at < later) ts
-All-sooner instant later [] order sooner = All-nil (λ at. at < later)
-All-sooner instant later (t ∷ ts) order sooner =
-    let first : t < instant = All-head (λ at. at < instant) t ts sooner in
-    All-cons (λ at. at < later) t ts (omega (arith, first, order)) (All-sooner instant later ts order (All-tail (λ at. at < instant) t ts sooner))
+reset_peer_reacts : (timeout after place : ℕ) (draws : Draws) → op_reaction (op_of place (ResetPeer timeout after)) draws ≡ toxic_reaction (ResetPeer timeout after) (draws place)
+reset_peer_reacts timeout zero place draws = refl
+reset_peer_reacts timeout (suc after) place draws = refl
 
-pub reset_peer_facts : (timeout : ℕ) → ToxicFacts (ResetPeer timeout)
-reset_peer_facts timeout = record {
-  reacts = λ place draws. refl;
-  is_op = λ place fits. omega arith;
-  delays = λ place fits. omega arith;
-  passes = λ words. cut_off-passes (micros_of timeout);
-  within = λ words state item items. cut_off_within (is_before (micros_of timeout) item) item (micros_of timeout) items;
-  law = λ fits never words items list. All-sooner (micros_of timeout) (1000 * timeout) _ (omega arith) (All-cut_table (micros_of timeout) items 0 0 0 0 0 0 list.0);
+reset_peer_is_op : (timeout after place : ℕ) → IsOp (op_of place (ResetPeer timeout after))
+reset_peer_is_op timeout zero place = omega arith
+reset_peer_is_op timeout (suc after) place = (tt, omega arith)
+
+reset_peer_delays : (timeout after place : ℕ) → millis_of (op_of place (ResetPeer timeout after)) ≤ 3_600_000
+reset_peer_delays timeout zero place = omega arith
+reset_peer_delays timeout (suc after) place = omega arith
+
+reset_peer_passes : (timeout after : ℕ) (words : ℕ → ℕ) → PassesAtMost (toxic_reaction (ResetPeer timeout after) words)
+reset_peer_passes timeout zero words = cut_off-passes (micros_of timeout)
+reset_peer_passes timeout (suc after) words = halt-passes None (suc after) (ResetAt (micros_of timeout))
+
+reset_peer_within : (timeout after : ℕ) (words : ℕ → ℕ) → GivesWithin (toxic_giving (ResetPeer timeout after) words)
+reset_peer_within timeout zero words state item items = cut_off_within (is_before (micros_of timeout) item) item (micros_of timeout) items
+reset_peer_within timeout (suc after) words state item items = halt_within None (suc after) (ResetAt (micros_of timeout)) state item items
+
+reset_peer_law : (timeout after : ℕ) → HasLaw (ResetPeer timeout after)
+reset_peer_law timeout zero start never words items list =
+    All-sooner (micros_of timeout) (1000 * timeout) _ (omega arith) (All-cut_table (micros_of timeout) items 0 0 0 0 0 0 list.0)
+reset_peer_law timeout (suc after) start never words items list =
+    let room : min (suc after - 0) (arrived items) ≡ min (suc after) (arrived items) = omega arith in
+    length-bytes_table (suc after) (raised (ResetAt (micros_of timeout))) items 0 0 0 0 0 0 (omega arith) list.0 ∙ room
+
+pub reset_peer_facts : (timeout after : ℕ) → ToxicFacts (ResetPeer timeout after)
+reset_peer_facts timeout after = record {
+  reacts = reset_peer_reacts timeout after;
+  is_op = λ place fits. reset_peer_is_op timeout after place;
+  delays = λ place fits. reset_peer_delays timeout after place;
+  passes = reset_peer_passes timeout after;
+  within = reset_peer_within timeout after;
+  law = λ fits. reset_peer_law timeout after;
   spelled = record { word = refl; named = refl; words = refl; known = refl; apart = refl; keys = refl; made = refl };
   short = λ inside. grind (arith, common_steps);
 }

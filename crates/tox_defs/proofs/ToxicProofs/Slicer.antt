@@ -26,7 +26,7 @@ use Rattle.tox_defs.specs.declared.toxic.Toxic.TheVariants.{Slicer}
 use Rattle.tox_defs.specs.Laws.{HasLaw}
 use Rattle.tox_defs.specs.Toxic.{IsInRange, is_within}
 use Rattle.tox_defs.proofs.InRange.{both_tests}
-use Rattle.tox_defs.proofs.Stopping.{until-passes, until_keeps}
+use Rattle.tox_defs.proofs.Windows.{during-passes, during_keeps}
 use Rattle.tox_defs.proofs.ToxicFacts.{ToxicFacts}
 use Rattle.tox_defs.proofs.Within.{GivesWithin, leave_within}
 use Rattle.std.proofs.lemmas.Grind.{common_steps}
@@ -114,24 +114,25 @@ slicer_within size micros state (Closed t) items = tt
 slicer_within size micros state (Reset t) items = tt
 slicer_within size micros state Quiet items = tt
 
-variation-below : (average variation delay until : ℕ) → IsInRange (Slicer average variation delay until) → variation < average
-variation-below average variation delay until fits =
-    let within = both_tests (is_within (Slicer average variation delay until)) (nat_le average variation) fits in
+variation-below : (average variation delay until from : ℕ) → IsInRange (Slicer average variation delay until from) → variation < average
+variation-below average variation delay until from fits =
+    let within = both_tests (is_within (Slicer average variation delay until from)) (nat_le average variation) fits in
     leb-false average variation within.1
 
-slicer_law : (average variation delay until : ℕ) → variation < average → HasLaw (Slicer average variation delay until)
-slicer_law average variation delay (suc until) less never words items list = absurd (cc)
-slicer_law average variation delay zero less never words items list =
+slicer_law : (average variation delay until from : ℕ) → variation < average → HasLaw (Slicer average variation delay until from)
+slicer_law average variation delay (suc until) from less start never words items list = absurd (cc)
+slicer_law average variation delay zero (suc from) less start never words items list = absurd (cc)
+slicer_law average variation delay zero zero less start never words items list =
     All-sliced items (average - variation) (average + variation) (λ piece. varied average variation (words (1 + piece))) delay (λ piece. varied-within average variation (words (1 + piece))) items 0 0 0 0 0 0 (λ stop here. here) list.0
 
-pub slicer_facts : (average variation delay until : ℕ) → ToxicFacts (Slicer average variation delay until)
-slicer_facts average variation delay until = record {
+pub slicer_facts : (average variation delay until from : ℕ) → ToxicFacts (Slicer average variation delay until from)
+slicer_facts average variation delay until from = record {
   reacts = λ place draws. refl;
-  is_op = λ place. variation-below average variation delay until;
+  is_op = λ place. variation-below average variation delay until from;
   delays = λ place fits. omega arith;
-  passes = λ words. until-passes until _ (sliced-passes (λ piece. varied average variation (words (1 + piece))) delay);
+  passes = λ words. during-passes from until _ (sliced-passes (λ piece. varied average variation (words (1 + piece))) delay);
   within = λ words. slicer_within (λ piece. varied average variation (words (1 + piece))) delay;
-  law = λ fits. slicer_law average variation delay until (variation-below average variation delay until fits);
+  law = λ fits. slicer_law average variation delay until from (variation-below average variation delay until from fits);
   spelled = record { word = refl; named = refl; words = refl; known = refl; apart = refl; keys = refl; made = refl };
   short = λ inside. grind (arith, common_steps);
 }
@@ -141,9 +142,9 @@ slicing_final size other micros state StillOpen = refl
 slicing_final size other micros state (ClosedAt t) = refl
 slicing_final size other micros state (ResetAt t) = refl
 
-pub slicing_facts : (average variation micros lane until : ℕ) → OpFacts (Slicing average variation micros lane until)
-slicing_facts average variation micros lane until = record {
+pub slicing_facts : (average variation micros lane until from : ℕ) → OpFacts (Slicing average variation micros lane until from)
+slicing_facts average variation micros lane until from = record {
   streams = λ draws items fits stream.
-      IsStreamFrom-flow Whatever _ (until_keeps until _ (sliced_keeps (λ piece. varied average variation (draws lane (1 + piece))) micros (λ piece. varied-positive average variation (draws lane (1 + piece)) fits))) items 0 0 0 0 0 0 (omega arith) tt stream;
+      IsStreamFrom-flow Whatever _ (during_keeps from until _ (sliced_keeps (λ piece. varied average variation (draws lane (1 + piece))) micros (λ piece. varied-positive average variation (draws lane (1 + piece)) fits))) items 0 0 0 0 0 0 (omega arith) tt stream;
   final = λ draws. slicing_final (λ piece. varied average variation (draws lane (1 + piece))) (λ piece. varied average variation 0) micros;
 }

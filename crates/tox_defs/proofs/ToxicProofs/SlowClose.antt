@@ -74,7 +74,7 @@ slow_close_facts delay = record {
   delays = λ place. slow_delays delay;
   passes = λ words. closed_later-passes (1000 * delay);
   within = λ words. slow_within (1000 * delay);
-  law = λ fits never words items list. table-slow_close delay words items 0 0 0 0 0 0 list.0;
+  law = λ fits start never words items list. table-slow_close delay words items 0 0 0 0 0 0 list.0;
   spelled = record { word = refl; named = refl; words = refl; known = refl; apart = refl; keys = refl; made = refl };
   short = λ inside. grind (arith, common_steps);
 }

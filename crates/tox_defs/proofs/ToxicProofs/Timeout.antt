@@ -1,20 +1,28 @@
 -- timeout: it gives its final alone, and its law.
-use Rattle.std.proofs.Common.{◌≡◌, ℕ, ◌+◌, List, [], ◌∷◌, refl, arith, zero, suc, ap, sym}
+use Rattle.std.proofs.Common.{◌≡◌, ℕ, ◌+◌, ◌-◌, ◌*◌, ◌≤◌, min, List, [], ◌∷◌, refl, arith, zero, suc, ap, sym, None, length, length-append}
+use Rattle.std.proofs.lemmas.List.{length-replicate}
 use Rattle.tox_time.specs.declared.streams.item.Item.{Item}
 use Rattle.tox_time.specs.declared.streams.item.Item.TheVariants.{Chunk, Closed, Reset, Quiet}
 use Rattle.tox_time.specs.streams.Stream.{IsStreamFrom, arrived}
 use Rattle.tox_time.specs.declared.streams.ending.Ending.{Ending}
 use Rattle.tox_time.specs.declared.streams.ending.Ending.TheVariants.{StillOpen, Closed as ClosedAt, Reset as ResetAt}
 use Rattle.tox_time.specs.streams.Table.{final_of, table, ending}
-use Rattle.tox_defs.specs.stage.Reaction.{counted, flow_from}
+use Rattle.tox_time.specs.Time.{micros_of}
+use Rattle.tox_words.specs.Draw.{Draws}
+use Rattle.tox_defs.specs.Flow.{toxic_giving, toxic_reaction}
+use Rattle.tox_defs.specs.stage.Reaction.{counted, first_state, flow, flow_from}
+use Rattle.tox_defs.specs.toxics.FirstBytes.{bytes_give}
+use Rattle.tox_defs.specs.toxics.Halt.{halt_gives, raised}
+use Rattle.tox_defs.proofs.ToxicProofs.FirstBytes.{length-bytes_table}
+use Rattle.tox_defs.proofs.ToxicProofs.Halting.{All-sooner, halt-passes, halt_within, halted-before, halted-few}
 use Rattle.tox_defs.specs.toxics.Timeout.{mute_gives}
 use Rattle.tox_defs.proofs.OpenStates.{open_state}
 use Rattle.tox_defs.proofs.FlowLemmas.{flow_from-last}
 use Rattle.tox_defs.proofs.PassedBytes.{PassesAtMost}
 use Rattle.tox_defs.specs.declared.toxic.Toxic.TheVariants.{Timeout}
 use Rattle.tox_defs.specs.Laws.{HasLaw}
-use Rattle.tox_defs.specs.operations.Op.{IsOp, op_of}
-use Rattle.tox_defs.specs.toxics.Timeout.{mute_gives, timeout_ending}
+use Rattle.tox_defs.specs.operations.Op.{EndsInTime, IsOp, millis_of, op_of, op_reaction}
+use Rattle.tox_defs.specs.toxics.Timeout.{LeavesAtMost, timeout_ending, timeout_start}
 use Rattle.tox_defs.proofs.ToxicFacts.{ToxicFacts}
 use Rattle.tox_defs.proofs.Within.{GivesWithin, final_within}
 use Rattle.std.proofs.lemmas.Grind.{common_steps}
@@ -57,22 +65,72 @@ muted_within ending state (Closed t) items = final_within (Closed t ∷ items) e
 muted_within ending state (Reset t) items = final_within (Reset t ∷ items) ending
 muted_within ending state Quiet items = final_within (Quiet ∷ items) ending
 
-timeout_is_op : (timeout place : ℕ) → IsOp (op_of place (Timeout timeout))
-timeout_is_op zero place = tt
-timeout_is_op (suc timeout) place = omega arith
+timeout_in_time : (timeout : ℕ) → EndsInTime (timeout_ending timeout)
+timeout_in_time zero = tt
+timeout_in_time (suc timeout) = omega arith
 
-timeout_law : (timeout : ℕ) → HasLaw (Timeout timeout)
-timeout_law zero never words items list = table-muted (final_of (timeout_ending zero)) items 0 0 0 0 0 0 refl list.0
-timeout_law (suc timeout) never words items list = table-muted (final_of (timeout_ending (suc timeout))) items 0 0 0 0 0 0 refl list.0
+timeout_reacts : (timeout from after place : ℕ) (draws : Draws) → op_reaction (op_of place (Timeout timeout from after)) draws ≡ toxic_reaction (Timeout timeout from after) (draws place)
+timeout_reacts timeout zero zero place draws = refl
+timeout_reacts timeout zero (suc after) place draws = refl
+timeout_reacts timeout (suc from) after place draws = refl
 
-pub timeout_facts : (timeout : ℕ) → ToxicFacts (Timeout timeout)
-timeout_facts timeout = record {
-  reacts = λ place draws. refl;
-  is_op = λ place fits. timeout_is_op timeout place;
-  delays = λ place fits. omega arith;
-  passes = λ words. muted-passes (timeout_ending timeout);
-  within = λ words. muted_within (timeout_ending timeout);
-  law = λ fits. timeout_law timeout;
+timeout_is_op : (timeout from after place : ℕ) → IsOp (op_of place (Timeout timeout from after))
+timeout_is_op timeout zero zero place = timeout_in_time timeout
+timeout_is_op timeout zero (suc after) place = (tt, timeout_in_time timeout)
+timeout_is_op timeout (suc from) after place = (omega arith, timeout_in_time timeout)
+
+timeout_delays : (timeout from after place : ℕ) → millis_of (op_of place (Timeout timeout from after)) ≤ 3_600_000
+timeout_delays timeout zero zero place = omega arith
+timeout_delays timeout zero (suc after) place = omega arith
+timeout_delays timeout (suc from) after place = omega arith
+
+timeout_passes : (timeout from after : ℕ) (words : ℕ → ℕ) → PassesAtMost (toxic_reaction (Timeout timeout from after) words)
+timeout_passes timeout zero zero words = muted-passes (timeout_ending timeout)
+timeout_passes timeout zero (suc after) words = halt-passes None (suc after) (timeout_ending timeout)
+timeout_passes timeout (suc from) after words = halt-passes (timeout_start (suc from)) after (timeout_ending timeout)
+
+timeout_within : (timeout from after : ℕ) (words : ℕ → ℕ) → GivesWithin (toxic_giving (Timeout timeout from after) words)
+timeout_within timeout zero zero words = muted_within (timeout_ending timeout)
+timeout_within timeout zero (suc after) words = halt_within None (suc after) (timeout_ending timeout)
+timeout_within timeout (suc from) after words = halt_within (timeout_start (suc from)) after (timeout_ending timeout)
+
+bare_ending : (timeout : ℕ) → table (final_of (timeout_ending timeout) ∷ []) ≡ []
+bare_ending zero = refl
+bare_ending (suc timeout) = refl
+
+length-table : (items : List Item) → length (table items) ≡ arrived items
+length-table [] = refl
+length-table (Chunk span t ∷ items) = simp (length-append, length-replicate) (rw (length-table items) refl)
+length-table (Closed t ∷ items) = length-table items
+length-table (Reset t ∷ items) = length-table items
+length-table (Quiet ∷ items) = length-table items
+
+behind_bytes : (timeout from after : ℕ) (items : List Item) → LeavesAtMost after (flow (counted (halt_gives (timeout_start (suc from)) after (timeout_ending timeout))) items)
+behind_bytes timeout from zero items = tt
+behind_bytes timeout from (suc after) items =
+    let few : 0 + arrived (flow (counted (halt_gives (timeout_start (suc from)) (suc after) (timeout_ending timeout))) items) ≤ suc after =
+    halted-few (micros_of (suc from)) after (timeout_ending timeout) first_state items (omega arith) in
+    omega (arith, few, length-table (flow (counted (halt_gives (timeout_start (suc from)) (suc after) (timeout_ending timeout))) items))
+
+timeout_law : (timeout from after : ℕ) → HasLaw (Timeout timeout from after)
+timeout_law timeout zero zero start never words items list = table-muted (final_of (timeout_ending timeout)) items 0 0 0 0 0 0 (bare_ending timeout) list.0
+timeout_law timeout zero (suc after) start never words items list =
+    let passed : length (table (flow (counted (bytes_give (suc after) (raised (timeout_ending timeout)))) items)) ≡ min (suc after - 0) (arrived items) =
+    length-bytes_table (suc after) (raised (timeout_ending timeout)) items 0 0 0 0 0 0 (omega arith) list.0 in
+    (tt, omega (arith, passed))
+timeout_law timeout (suc from) after start never words items list = (
+  All-sooner (micros_of (suc from)) (1000 * suc from) _ (omega arith) (halted-before (micros_of (suc from)) after (timeout_ending timeout) first_state items),
+  behind_bytes timeout from after items,
+)
+
+pub timeout_facts : (timeout from after : ℕ) → ToxicFacts (Timeout timeout from after)
+timeout_facts timeout from after = record {
+  reacts = timeout_reacts timeout from after;
+  is_op = λ place fits. timeout_is_op timeout from after place;
+  delays = λ place fits. timeout_delays timeout from after place;
+  passes = timeout_passes timeout from after;
+  within = timeout_within timeout from after;
+  law = λ fits. timeout_law timeout from after;
   spelled = record { word = refl; named = refl; words = refl; known = refl; apart = refl; keys = refl; made = refl };
   short = λ inside. grind (arith, common_steps);
 }

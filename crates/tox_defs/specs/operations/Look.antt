@@ -6,9 +6,9 @@ use Rattle.tox_time.specs.declared.streams.item.Item.TheVariants.{Chunk}
 use Rattle.tox_time.specs.streams.Table.{final_of}
 use Rattle.tox_defs.specs.declared.operations.state.State.{State}
 use Rattle.tox_defs.specs.declared.operations.look.Look.{Look}
-use Rattle.tox_defs.specs.declared.operations.look.Look.TheVariants.{Piece, LastPiece, Ended, Late}
+use Rattle.tox_defs.specs.declared.operations.look.Look.TheVariants.{Piece, LastPiece, Ended, Uncounted}
 use Rattle.tox_defs.specs.stage.Reaction.{Reaction, flow_from, state_from, with_piece, with_chunk, with_ending}
-use Rattle.tox_defs.specs.operations.Until.{with_previous}
+use Rattle.tox_defs.specs.operations.During.{with_previous}
 
 -- a slice as a chunk
 abbrev pub as_chunk : Slice → Item
@@ -42,9 +42,16 @@ Finds reaction state rest items (LastPiece piece ending) =
 Finds reaction state rest items (Ended ending) =
     Continues reaction state (as_chunk rest ∷ items) (final_of ending ∷ [])
     (with_ending (with_chunk state) ending) items
-Finds reaction state rest items (Late piece) =
+Finds reaction state rest items (Uncounted piece) =
     Continues reaction state (as_chunk rest ∷ items) (as_chunk piece ∷ [])
     (with_previous state piece.instant) items
+
+-- the look found all that is given for the rest, and cut no more from it than an ending does
+abbrev pub FindsAll : List Item → Slice → Look → Type 0
+FindsAll given rest (Piece piece) = (piece ≡ rest) × (given ≡ as_chunk rest ∷ [])
+FindsAll given rest (LastPiece piece ending) = given ≡ as_chunk piece ∷ final_of ending ∷ []
+FindsAll given rest (Ended ending) = given ≡ final_of ending ∷ []
+FindsAll given rest (Uncounted piece) = ⊥
 
 -- the piece begins where the rest does, isn't empty and lies in the rest
 pub record IsFront (rest piece : Slice) : Type 0 where
@@ -57,4 +64,4 @@ abbrev pub IsFrontOf : Slice → Look → Type 0
 IsFrontOf rest (Piece piece) = IsFront rest piece
 IsFrontOf rest (LastPiece piece ending) = IsFront rest piece
 IsFrontOf rest (Ended ending) = Unit {0}
-IsFrontOf rest (Late piece) = piece.span ≡ rest.span
+IsFrontOf rest (Uncounted piece) = piece.span ≡ rest.span

@@ -1,5 +1,5 @@
 -- The printed short form of a toxic with its toxicity.
-use Rattle.std.specs.Prelude.{ℕ, ◌==◌, ◌&&◌, Bool, not, List, [], ◌∷◌, ◌++◌, codes, filter, map}
+use Rattle.std.specs.Prelude.{ℕ, ◌==◌, ◌&&◌, ◌||◌, Bool, not, List, [], ◌∷◌, ◌++◌, codes, filter, map}
 use Rattle.std.specs.Fmt.{decimal}
 use Rattle.std.specs.List.{join_with_byte, zip}
 use Rattle.std.specs.Str.{bytes_eq}
@@ -10,9 +10,14 @@ use Rattle.tox_defs.specs.declared.toxic.Toxic.{Toxic}
 abbrev pub printed_pair : List ℕ × ℕ → List ℕ
 printed_pair pair = pair.0 ++ codes "=" ++ decimal pair.1
 
--- whether a pair is printed: all are but an `until` of 0
+-- whether an attribute is printed only where it isn't 0
+abbrev pub is_optional : List ℕ → Bool
+is_optional name =
+    bytes_eq name (codes "until") || bytes_eq name (codes "from") || bytes_eq name (codes "after")
+
+-- whether a pair is printed
 abbrev pub is_shown : List ℕ × ℕ → Bool
-is_shown pair = not (bytes_eq pair.0 (codes "until") && pair.1 == 0)
+is_shown pair = not (is_optional pair.0 && pair.1 == 0)
 
 -- the pairs of a toxic's attributes, in order, and of its toxicity
 abbrev pub printed_pairs : Toxic → ℕ → List (List ℕ)

@@ -14,19 +14,19 @@ use Rattle.tox_defs.specs.toxics.Ranges.{one_to_million, up_to_hour}
 use Rattle.tox_defs.specs.Meaning.{Description, Meaning}
 use Rattle.tox_defs.specs.stage.Reaction.{Giving}
 
--- its name, and its attributes: one to a million KB/s, which is bytes in a millisecond, and up to an
+-- its name, and its attributes: one to a million KB/s, which is bytes in a millisecond, and each up to an
 -- hour of milliseconds
-abbrev pub bandwidth_description : ℕ → ℕ → Description
-bandwidth_description rate until = record {
+abbrev pub bandwidth_description : ℕ → ℕ → ℕ → Description
+bandwidth_description rate until from = record {
   name = codes "bandwidth";
-  attributes = codes "rate" ∷ codes "until" ∷ [];
-  limits = one_to_million ∷ up_to_hour ∷ [];
-  values = rate ∷ until ∷ [];
+  attributes = codes "rate" ∷ codes "until" ∷ codes "from" ∷ [];
+  limits = one_to_million ∷ up_to_hour ∷ up_to_hour ∷ [];
+  values = rate ∷ until ∷ from ∷ [];
 }
 
 -- the bandwidth with these values of its attributes
 abbrev pub bandwidth_of : List ℕ → Toxic
-bandwidth_of values = Bandwidth (slice_index values 0) (slice_index values 1)
+bandwidth_of values = Bandwidth (slice_index values 0) (slice_index values 1) (slice_index values 2)
 
 -- pieces of 100 rate bytes, at `rate` bytes a millisecond
 abbrev pub pace_gives : ℕ → Giving
@@ -46,12 +46,13 @@ BandwidthLaw rate items given =
     → plus (first_instant items) (div_ceil (1000 * (n + 1)) rate) ≤ slice_index (table given) n
 
 -- what a bandwidth is
-abbrev pub bandwidth_meaning : ℕ → ℕ → Meaning
-bandwidth_meaning rate until = record {
-  description = bandwidth_description rate until;
+abbrev pub bandwidth_meaning : ℕ → ℕ → ℕ → Meaning
+bandwidth_meaning rate until from = record {
+  description = bandwidth_description rate until from;
   with_values = bandwidth_of;
+  from = from;
   until = until;
   gives = λ words. pace_gives rate;
-  op = λ place. Pace rate until;
+  op = λ place. Pace rate until from;
   law = BandwidthLaw rate;
 }

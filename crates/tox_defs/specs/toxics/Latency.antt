@@ -15,17 +15,18 @@ use Rattle.tox_defs.specs.stage.Reaction.{Giving}
 use Rattle.tox_defs.specs.toxics.Varied.{varied}
 
 -- its name, and its attributes: each up to an hour of milliseconds
-abbrev pub latency_description : ℕ → ℕ → ℕ → Description
-latency_description latency jitter until = record {
+abbrev pub latency_description : ℕ → ℕ → ℕ → ℕ → Description
+latency_description latency jitter until from = record {
   name = codes "latency";
-  attributes = codes "latency" ∷ codes "jitter" ∷ codes "until" ∷ [];
-  limits = up_to_hour ∷ up_to_hour ∷ up_to_hour ∷ [];
-  values = latency ∷ jitter ∷ until ∷ [];
+  attributes = codes "latency" ∷ codes "jitter" ∷ codes "until" ∷ codes "from" ∷ [];
+  limits = up_to_hour ∷ up_to_hour ∷ up_to_hour ∷ up_to_hour ∷ [];
+  values = latency ∷ jitter ∷ until ∷ from ∷ [];
 }
 
 -- the latency with these values of its attributes
 abbrev pub latency_of : List ℕ → Toxic
-latency_of values = Latency (slice_index values 0) (slice_index values 1) (slice_index values 2)
+latency_of values =
+    Latency (slice_index values 0) (slice_index values 1) (slice_index values 2) (slice_index values 3)
 
 -- each chunk leaves later by the wait of its number
 abbrev pub delay_gives : (ℕ → ℕ) → Giving
@@ -44,9 +45,9 @@ delay_op_gives fixed latency jitter words =
     delay_gives (λ chunk. 1000 * (fixed + varied latency jitter (words (1 + chunk))))
 
 -- its operation: without jitter the fixed part has all, and nothing is drawn
-abbrev pub delay_of : ℕ → ℕ → ℕ → ℕ → Op
-delay_of place latency zero until = Delay latency 0 0 0 until
-delay_of place latency (suc jitter) until = Delay 0 latency (suc jitter) place until
+abbrev pub delay_of : ℕ → ℕ → ℕ → ℕ → ℕ → Op
+delay_of place latency zero until from = Delay latency 0 0 0 until from
+delay_of place latency (suc jitter) until from = Delay 0 latency (suc jitter) place until from
 
 -- a delay without jitter has all in its fixed part
 abbrev pub IsNormal : ℕ → ℕ → Type 0
@@ -59,12 +60,13 @@ LatencyLaw latency zero items given = table given ≡ map (λ t. plus t (1000 * 
 LatencyLaw latency (suc jitter) items given = Unit {0}
 
 -- what a latency is
-abbrev pub latency_meaning : ℕ → ℕ → ℕ → Meaning
-latency_meaning latency jitter until = record {
-  description = latency_description latency jitter until;
+abbrev pub latency_meaning : ℕ → ℕ → ℕ → ℕ → Meaning
+latency_meaning latency jitter until from = record {
+  description = latency_description latency jitter until from;
   with_values = latency_of;
+  from = from;
   until = until;
   gives = latency_gives latency jitter;
-  op = λ place. delay_of place latency jitter until;
+  op = λ place. delay_of place latency jitter until from;
   law = LatencyLaw latency jitter;
 }

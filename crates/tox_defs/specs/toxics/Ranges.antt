@@ -1,5 +1,5 @@
 -- Ranges of attributes.
-use Rattle.std.specs.Prelude.{ℕ, ◌&&◌, Bool, List, min, nat_le}
+use Rattle.std.specs.Prelude.{ℕ, ◌&&◌, ◌^◌, Bool, List, min, nat_le}
 use Rattle.std.specs.List.{list_all, zip}
 use Rattle.tox_defs.specs.declared.attributes.limits.Limits.{Limits}
 
@@ -10,6 +10,10 @@ up_to_hour = record { least = 0; most = 3600000 }
 -- one to a million
 abbrev pub one_to_million : Limits
 one_to_million = record { least = 1; most = 1000000 }
+
+-- up to 2^40 bytes
+abbrev pub up_to_max_bytes : Limits
+up_to_max_bytes = record { least = 0; most = 2 ^ 40 }
 
 -- any number of 64 bits
 abbrev pub any_value : Limits

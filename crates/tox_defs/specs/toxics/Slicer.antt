@@ -14,19 +14,22 @@ use Rattle.tox_defs.specs.stage.Reaction.{Giving}
 use Rattle.tox_defs.specs.toxics.Varied.{varied}
 
 -- its name, and its attributes: one to a million bytes, any number of bytes, up to an hour of microseconds,
--- and up to an hour of milliseconds
-abbrev pub slicer_description : ℕ → ℕ → ℕ → ℕ → Description
-slicer_description average_size size_variation delay until = record {
+-- and twice up to an hour of milliseconds
+abbrev pub slicer_description : ℕ → ℕ → ℕ → ℕ → ℕ → Description
+slicer_description average_size size_variation delay until from = record {
   name = codes "slicer";
-  attributes = codes "average_size" ∷ codes "size_variation" ∷ codes "delay" ∷ codes "until" ∷ [];
-  limits = one_to_million ∷ any_value ∷ record { least = 0; most = 3600000000 } ∷ up_to_hour ∷ [];
-  values = average_size ∷ size_variation ∷ delay ∷ until ∷ [];
+  attributes =
+      codes "average_size" ∷ codes "size_variation" ∷ codes "delay" ∷ codes "until" ∷ codes "from" ∷ [];
+  limits =
+      one_to_million ∷ any_value ∷ record { least = 0; most = 3600000000 } ∷ up_to_hour ∷ up_to_hour ∷ [];
+  values = average_size ∷ size_variation ∷ delay ∷ until ∷ from ∷ [];
 }
 
 -- the slicer with these values of its attributes
 abbrev pub slicer_of : List ℕ → Toxic
 slicer_of values =
     Slicer (slice_index values 0) (slice_index values 1) (slice_index values 2) (slice_index values 3)
+    (slice_index values 4)
 
 -- whether sizes vary by their average or more
 abbrev pub is_slicer_varied_too_much : ℕ → ℕ → Bool
@@ -61,12 +64,13 @@ SlicerLaw average_size size_variation items given =
     All (IsSized items (average_size - size_variation) (average_size + size_variation)) given
 
 -- what a slicer is
-abbrev pub slicer_meaning : ℕ → ℕ → ℕ → ℕ → Meaning
-slicer_meaning average_size size_variation delay until = record {
-  description = slicer_description average_size size_variation delay until;
+abbrev pub slicer_meaning : ℕ → ℕ → ℕ → ℕ → ℕ → Meaning
+slicer_meaning average_size size_variation delay until from = record {
+  description = slicer_description average_size size_variation delay until from;
   with_values = slicer_of;
+  from = from;
   until = until;
   gives = slicer_gives average_size size_variation delay;
-  op = λ place. Slicing average_size size_variation delay place until;
+  op = λ place. Slicing average_size size_variation delay place until from;
   law = SlicerLaw average_size size_variation;
 }

@@ -38,6 +38,7 @@ abbrev pub slow_close_meaning : ℕ → Meaning
 slow_close_meaning delay = record {
   description = slow_close_description delay;
   with_values = slow_close_of;
+  from = 0;
   until = 0;
   gives = λ words. slow_gives (1000 * delay);
   op = λ place. Slow delay;

@@ -2,6 +2,8 @@
 ghost use Rattle.std.specs.Prelude.{◌≡◌};
 ghost use Rattle.tox_defs.specs.toxics.Ranges.{are_in, is_in};
 
+use tox_time::MAX_BYTES;
+
 /// The values that an attribute may have: `least..=most`.
 #[derive(Clone, Copy)]
 pub(crate) struct Limits {
@@ -19,6 +21,12 @@ pub(crate) const UP_TO_HOUR: Limits = Limits {
 pub(crate) const ONE_TO_MILLION: Limits = Limits {
     least: 1,
     most: 1_000_000,
+};
+
+/// Up to as many bytes as a link may carry.
+pub(crate) const UP_TO_MAX_BYTES: Limits = Limits {
+    least: 0,
+    most: MAX_BYTES,
 };
 
 /// Any number.

@@ -5,7 +5,7 @@ ghost use Rattle.tox_defs.specs.toxics.Ranges.{narrowed};
 use arrayvec::ArrayVec;
 
 /// The most attributes of a toxic.
-pub const MAX_ATTRIBUTES: usize = 4;
+pub const MAX_ATTRIBUTES: usize = 5;
 
 /// The value at a place, and 0 past the last one.
 pub(crate) fn value(values: &[u64], place: usize) -> u64
@@ -23,7 +23,7 @@ pub(crate) fn saturated(values: &[u64], place: usize) -> u32
 
 /// A list of these values.
 pub(crate) fn listed(values: &[u64]) -> ArrayVec<u64, MAX_ATTRIBUTES>
-    requires { length values.now ≤ 4 }
+    requires { length values.now ≤ 5 }
     ensures { result.items ≡ values.now }
 {
     let mut list = ArrayVec::new();

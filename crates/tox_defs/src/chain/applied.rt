@@ -19,7 +19,7 @@ impl Default for Placed {
     ghost use Rattle.std.specs.Prelude.{◌≡◌};
     ghost use Rattle.tox_defs.specs.declared.toxic.Toxic.TheVariants.{Latency};
 
-    ghost is_default = { λ placed. placed ≡ record { place = 0; toxic = Latency 0 0 0 } };
+    ghost is_default = { λ placed. placed ≡ record { place = 0; toxic = Latency 0 0 0 0 } };
 
     /// A latency of zero at place 0.
     fn default() -> Self {
@@ -29,6 +29,7 @@ impl Default for Placed {
                 latency: 0,
                 jitter: 0,
                 until: 0,
+                from: 0,
             },
         }
     }

@@ -5,10 +5,10 @@ ghost use Rattle.tox_words.specs.Draw.{draws_of};
 ghost use Rattle.tox_defs.specs.operations.Op.{IsOp, is_mute, op_reaction};
 ghost use Rattle.tox_defs.specs.operations.Look.{Finds, IsFrontOf};
 
+use crate::operations::during::{is_outside, uncounted};
 use crate::operations::op::Op;
 use crate::operations::state::State;
-use crate::operations::until::{is_late, late};
-use crate::toxics::{bandwidth, latency, limit_data, reset_peer, slicer, slow_close};
+use crate::toxics::{bandwidth, halt, latency, limit_data, reset_peer, slicer, slow_close};
 use tox_time::{Ending, Slice};
 use tox_words::Drawing;
 
@@ -22,12 +22,12 @@ pub(crate) enum Look {
     /// The ending, and no piece before it.
     Ended(Ending),
     /// The whole rest, which isn't counted.
-    Late(Slice),
+    Uncounted(Slice),
 }
 
 impl Op {
     /// Finds the next piece that the operation gives for the rest of a chunk. Not inlining this, the toxics' looks
-    /// and [`OpCursor::advance`](crate::OpCursor::advance) makes each look 25 % slower. Asking whether the rest is late before the
+    /// and [`OpCursor::advance`](crate::OpCursor::advance) makes each look 25 % slower. Asking whether the rest is outside before the
     /// dispatch, by another one, makes it 10 to 20 % slower.
     #[inline(always)]
     pub(crate) fn look(&self, state: &State, rest: &Slice, drawing: &Drawing<'_>) -> Look
@@ -48,15 +48,16 @@ impl Op {
                 jitter,
                 lane,
                 until,
+                from,
             } => {
-                if is_late(until, rest) {
-                    return late(state, rest);
+                if is_outside(from, until, rest) {
+                    return uncounted(state, rest);
                 }
                 latency::look(fixed, latency, jitter, lane, state, rest, drawing)
             }
-            Op::Pace { rate, until } => {
-                if is_late(until, rest) {
-                    return late(state, rest);
+            Op::Pace { rate, until, from } => {
+                if is_outside(from, until, rest) {
+                    return uncounted(state, rest);
                 }
                 bandwidth::look(rate, state, rest)
             }
@@ -69,13 +70,15 @@ impl Op {
                 micros,
                 lane,
                 until,
+                from,
             } => {
-                if is_late(until, rest) {
-                    return late(state, rest);
+                if is_outside(from, until, rest) {
+                    return uncounted(state, rest);
                 }
                 slicer::look(average, variation, micros, lane, state, rest, drawing)
             }
             Op::Limit { bytes } => limit_data::look(bytes, state, rest),
+            Op::Halt { at, after, ending } => halt::look(&at, after, &ending, state, rest),
         }
     }
 }

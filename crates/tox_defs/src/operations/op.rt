@@ -7,7 +7,9 @@ ghost use Rattle.tox_defs.specs.operations.Op.{is_mute, op_giving, op_of};
 use crate::operations::state::State;
 use crate::toxic::Toxic;
 use crate::toxics::ordered::in_order;
-use crate::toxics::{bandwidth, latency, limit_data, reset_peer, slicer, slow_close, timeout};
+use crate::toxics::{
+    bandwidth, halt, latency, limit_data, reset_peer, slicer, slow_close, timeout,
+};
 use tox_time::{Ending, Micros};
 
 /// What one stage does: a toxic at its place. A plan is a list of these.
@@ -15,18 +17,21 @@ use tox_time::{Ending, Micros};
 pub enum Op {
     /// Delays each chunk by `fixed` milliseconds and, if `jitter` isn't 0, by `latency` plus or minus `jitter`,
     /// drawn from `lane`. Without jitter `fixed` has the whole delay, and `latency` and `lane` are 0. Here, in
-    /// `Pace` and in `Slicing` a chunk at or past `until` milliseconds (0: never) leaves whole, in order and uncounted.
+    /// `Pace` and in `Slicing` a chunk before `from` milliseconds, or at or past `until` (0: never), leaves whole, in
+    /// order and uncounted.
     Delay {
         fixed: u32,
         latency: u32,
         jitter: u32,
         lane: usize,
         until: u32,
+        from: u32,
     },
     /// Passes `rate` bytes per millisecond.
     Pace {
         rate: u32,
         until: u32,
+        from: u32,
     },
     /// Closes `millis` milliseconds later.
     Slow {
@@ -48,10 +53,18 @@ pub enum Op {
         micros: u64,
         lane: usize,
         until: u32,
+        from: u32,
     },
     /// Closes after this many bytes.
     Limit {
         bytes: u64,
+    },
+    /// Ends with `ending`, which is raised to the instant at which it begins: at `at`, or once `after` bytes (0: any number)
+    /// have passed. Until then all passes.
+    Halt {
+        at: Option<Micros>,
+        after: u64,
+        ending: Ending,
     },
 }
 
@@ -77,17 +90,23 @@ impl Op {
                 latency,
                 jitter,
                 until,
-            } => latency::op(latency, jitter, until, place),
-            Toxic::Bandwidth { rate, until } => bandwidth::op(rate, until),
+                from,
+            } => latency::op(latency, jitter, until, from, place),
+            Toxic::Bandwidth { rate, until, from } => bandwidth::op(rate, until, from),
             Toxic::SlowClose { delay } => slow_close::op(delay),
-            Toxic::Timeout { timeout } => timeout::op(timeout),
-            Toxic::ResetPeer { timeout } => reset_peer::op(timeout),
+            Toxic::Timeout {
+                timeout,
+                from,
+                after,
+            } => timeout::op(timeout, from, after),
+            Toxic::ResetPeer { timeout, after } => reset_peer::op(timeout, after),
             Toxic::Slicer {
                 average_size,
                 size_variation,
                 delay,
                 until,
-            } => slicer::op(average_size, size_variation, delay, until, place),
+                from,
+            } => slicer::op(average_size, size_variation, delay, until, from, place),
             Toxic::LimitData { bytes } => limit_data::op(bytes),
         }
     }
@@ -105,6 +124,11 @@ impl Op {
             Op::Cutoff { instant } => reset_peer::map_ending(*instant, ending),
             Op::Slicing { .. } => in_order(state.previous, ending),
             Op::Limit { .. } => *ending,
+            Op::Halt {
+                at,
+                ending: last,
+                ..
+            } => halt::map_ending(at, last, ending),
         }
     }
 

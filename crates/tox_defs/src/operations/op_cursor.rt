@@ -76,8 +76,8 @@ impl OpCursor {
                 self.ending = Some(*ending);
                 Emission::End(*ending)
             }
-            Look::Late(piece) => {
-                self.state.add_late(piece);
+            Look::Uncounted(piece) => {
+                self.state.add_uncounted(piece);
                 Emission::Piece(*piece)
             }
         }

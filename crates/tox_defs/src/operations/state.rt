@@ -21,7 +21,7 @@ pub struct State {
 impl State {
     ghost use Rattle.tox_defs.specs.stage.Reaction.{with_piece, with_chunk, with_ending};
     ghost use Rattle.tox_defs.specs.operations.Look.{after_piece_of};
-    ghost use Rattle.tox_defs.specs.operations.Until.{with_previous};
+    ghost use Rattle.tox_defs.specs.operations.During.{with_previous};
 
     /// Counts a given piece.
     pub(crate) fn add_piece(&mut self, piece: &Slice)
@@ -58,7 +58,7 @@ impl State {
     }
 
     /// Notes a given chunk that isn't counted.
-    pub(crate) fn add_late(&mut self, piece: &Slice)
+    pub(crate) fn add_uncounted(&mut self, piece: &Slice)
         ensures { self.new ≡ with_previous self.old piece.now.instant }
     {
         self.previous = piece.instant;

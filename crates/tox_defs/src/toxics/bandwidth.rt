@@ -1,4 +1,4 @@
-//! bandwidth: limits a connection to `rate` KB/s, which is `rate` bytes in a millisecond, before `until`.
+//! bandwidth: limits a connection to `rate` KB/s, which is `rate` bytes in a millisecond, between `from` and `until`.
 ghost use Rattle.std.specs.Prelude.{◌≡◌, ◌<◌, List, false, [], ◌∷◌, ◌≤◌, length};
 ghost use Rattle.tox_time.specs.declared.streams.item.Item.{Item as OneItem};
 ghost use Rattle.tox_defs.specs.DescriptionInside.{description_view};
@@ -18,15 +18,15 @@ use crate::toxics::pieces::front;
 use tox_time::Slice;
 
 /// The name, and the attributes.
-pub(crate) fn description(rate: u32, until: u32) -> Description
-    ensures described { description_view result ≡ bandwidth_description rate until }
-    ensures few { length result.attributes.now ≤ 4 }
+pub(crate) fn description(rate: u32, until: u32, from: u32) -> Description
+    ensures described { description_view result ≡ bandwidth_description rate until from }
+    ensures few { length result.attributes.now ≤ 5 }
 {
     Description {
         name: "bandwidth",
-        attributes: &["rate", "until"],
-        limits: &[ONE_TO_MILLION, UP_TO_HOUR],
-        values: listed(&[u64::from(rate), u64::from(until)]),
+        attributes: &["rate", "until", "from"],
+        limits: &[ONE_TO_MILLION, UP_TO_HOUR, UP_TO_HOUR],
+        values: listed(&[u64::from(rate), u64::from(until), u64::from(from)]),
     }
 }
 
@@ -37,14 +37,15 @@ pub(crate) fn from_values(values: &[u64]) -> Toxic
     Toxic::Bandwidth {
         rate: saturated(values, 0),
         until: saturated(values, 1),
+        from: saturated(values, 2),
     }
 }
 
 /// The operation.
-pub(crate) fn op(rate: u32, until: u32) -> Op
-    ensures { result ≡ Op.Pace rate until }
+pub(crate) fn op(rate: u32, until: u32, from: u32) -> Op
+    ensures { result ≡ Op.Pace rate until from }
 {
-    Op::Pace { rate, until }
+    Op::Pace { rate, until, from }
 }
 
 /// Finds a piece of 100 `rate` bytes, or what is left, which leaves once it could have passed.

@@ -1,4 +1,4 @@
-//! latency: delays all data by `latency` plus or minus `jitter`, both in milliseconds, before `until`.
+//! latency: delays all data by `latency` plus or minus `jitter`, both in milliseconds, between `from` and `until`.
 ghost use Rattle.std.specs.Prelude.{◌≡◌, ◌+◌, ◌<◌, ◌^◌, List, false, [], ◌∷◌, ◌≤◌, length};
 ghost use Rattle.tox_time.specs.declared.streams.item.Item.{Item as OneItem};
 ghost use Rattle.tox_words.specs.Draw.{draws_of};
@@ -20,15 +20,20 @@ use tox_time::Slice;
 use tox_words::Drawing;
 
 /// The name, and the attributes.
-pub(crate) fn description(latency: u32, jitter: u32, until: u32) -> Description
-    ensures described { description_view result ≡ latency_description latency jitter until }
-    ensures few { length result.attributes.now ≤ 4 }
+pub(crate) fn description(latency: u32, jitter: u32, until: u32, from: u32) -> Description
+    ensures described { description_view result ≡ latency_description latency jitter until from }
+    ensures few { length result.attributes.now ≤ 5 }
 {
     Description {
         name: "latency",
-        attributes: &["latency", "jitter", "until"],
-        limits: &[UP_TO_HOUR, UP_TO_HOUR, UP_TO_HOUR],
-        values: listed(&[u64::from(latency), u64::from(jitter), u64::from(until)]),
+        attributes: &["latency", "jitter", "until", "from"],
+        limits: &[UP_TO_HOUR, UP_TO_HOUR, UP_TO_HOUR, UP_TO_HOUR],
+        values: listed(&[
+            u64::from(latency),
+            u64::from(jitter),
+            u64::from(until),
+            u64::from(from),
+        ]),
     }
 }
 
@@ -40,12 +45,13 @@ pub(crate) fn from_values(values: &[u64]) -> Toxic
         latency: saturated(values, 0),
         jitter: saturated(values, 1),
         until: saturated(values, 2),
+        from: saturated(values, 3),
     }
 }
 
 /// The operation at a place. Without jitter all stands in the fixed part, and nothing is drawn.
-pub(crate) fn op(latency: u32, jitter: u32, until: u32, place: usize) -> Op
-    ensures { result ≡ delay_of place latency jitter until }
+pub(crate) fn op(latency: u32, jitter: u32, until: u32, from: u32, place: usize) -> Op
+    ensures { result ≡ delay_of place latency jitter until from }
 {
     if jitter == 0 {
         return Op::Delay {
@@ -54,6 +60,7 @@ pub(crate) fn op(latency: u32, jitter: u32, until: u32, place: usize) -> Op
             jitter: 0,
             lane: 0,
             until,
+            from,
         };
     }
     Op::Delay {
@@ -62,6 +69,7 @@ pub(crate) fn op(latency: u32, jitter: u32, until: u32, place: usize) -> Op
         jitter,
         lane: place,
         until,
+        from,
     }
 }
 

@@ -8,24 +8,19 @@ ghost use Rattle.tox_defs.specs.Toxic.{checked};
 ghost use Rattle.tox_defs.specs.toxics.LimitData.{limit_data_description, limit_data_of, limit_gives};
 
 use crate::attributes::description::Description;
-use crate::attributes::limits::Limits;
+use crate::attributes::limits::UP_TO_MAX_BYTES;
 use crate::attributes::values::{listed, value};
 use crate::operations::look::Look;
 use crate::operations::op::Op;
 use crate::operations::state::State;
 use crate::toxic::Toxic;
-use crate::toxics::pieces::front;
-use tox_time::{Ending, MAX_BYTES, Slice};
-
-const UP_TO_MAX_BYTES: Limits = Limits {
-    least: 0,
-    most: MAX_BYTES,
-};
+use crate::toxics::first_bytes;
+use tox_time::{Ending, Slice};
 
 /// The name, and the attribute.
 pub(crate) fn description(bytes: u64) -> Description
     ensures described { description_view result ≡ limit_data_description bytes }
-    ensures few { length result.attributes.now ≤ 4 }
+    ensures few { length result.attributes.now ≤ 5 }
 {
     Description {
         name: "limit_data",
@@ -60,14 +55,5 @@ pub(crate) fn look(bytes: u64, state: &State, rest: &Slice) -> Look
         → Finds (counted (limit_gives bytes)) state.now rest.now items result }
     ensures front { IsFrontOf rest.now result }
 {
-    let room = bytes.saturating_sub(state.passed);
-    let ending = Ending::Closed(rest.instant);
-    if rest.span.stop - rest.span.start < room {
-        return Look::Piece(*rest);
-    }
-    if room == 0 {
-        return Look::Ended(ending);
-    }
-    let span = front(rest, room);
-    Look::LastPiece(Slice { span, ..*rest }, ending)
+    first_bytes::look(bytes, &Ending::Closed(rest.instant), state, rest)
 }

@@ -1,51 +1,58 @@
-//! reset_peer: resets the connection `timeout` milliseconds after its start.
+//! reset_peer: resets the connection `timeout` milliseconds after its start, or behind so many bytes.
 ghost use Rattle.std.specs.Prelude.{◌≡◌, ◌<◌, List, [], ◌∷◌, false, ◌≤◌, length};
 ghost use Rattle.tox_time.specs.declared.streams.item.Item.{Item as OneItem};
 ghost use Rattle.tox_time.specs.streams.Table.{final_of};
-ghost use Rattle.tox_time.specs.Time.{micros_of};
 ghost use Rattle.tox_defs.specs.DescriptionInside.{description_view};
 ghost use Rattle.tox_defs.specs.operations.Look.{Finds, IsFrontOf};
 ghost use Rattle.tox_defs.specs.stage.Reaction.{counted};
 ghost use Rattle.tox_defs.specs.declared.operations.state.State.{State as OneState};
 ghost use Rattle.tox_defs.specs.Toxic.{checked};
-ghost use Rattle.tox_defs.specs.toxics.ResetPeer.{cutoff_gives, reset_peer_description, reset_peer_of};
+ghost use Rattle.tox_defs.specs.toxics.ResetPeer.{cutoff_gives, reset_peer_description, reset_peer_of, reset_peer_op};
 
 use crate::attributes::description::Description;
-use crate::attributes::limits::UP_TO_HOUR;
-use crate::attributes::values::{listed, saturated};
+use crate::attributes::limits::{UP_TO_HOUR, UP_TO_MAX_BYTES};
+use crate::attributes::values::{listed, saturated, value};
 use crate::operations::look::Look;
 use crate::operations::op::Op;
 use crate::toxic::Toxic;
+use crate::toxics::halt::is_before;
 use tox_time::{Ending, Micros, Slice};
 
-/// The name, and the attribute.
-pub(crate) fn description(timeout: u32) -> Description
-    ensures described { description_view result ≡ reset_peer_description timeout }
-    ensures few { length result.attributes.now ≤ 4 }
+/// The name, and the attributes.
+pub(crate) fn description(timeout: u32, after: u64) -> Description
+    ensures described { description_view result ≡ reset_peer_description timeout after }
+    ensures few { length result.attributes.now ≤ 5 }
 {
     Description {
         name: "reset_peer",
-        attributes: &["timeout"],
-        limits: &[UP_TO_HOUR],
-        values: listed(&[u64::from(timeout)]),
+        attributes: &["timeout", "after"],
+        limits: &[UP_TO_HOUR, UP_TO_MAX_BYTES],
+        values: listed(&[u64::from(timeout), after]),
     }
 }
 
-/// The reset_peer with this value of its attribute.
+/// The reset_peer with these values of its attributes.
 pub(crate) fn from_values(values: &[u64]) -> Toxic
     ensures { checked result ≡ checked (reset_peer_of values.now) }
 {
     Toxic::ResetPeer {
         timeout: saturated(values, 0),
+        after: value(values, 1),
     }
 }
 
-/// The operation.
-pub(crate) fn op(timeout: u32) -> Op
-    ensures { result ≡ Op.Cutoff (micros_of timeout) }
+/// The operation. With `after` it is a halt, which no instant begins.
+pub(crate) fn op(timeout: u32, after: u64) -> Op
+    ensures { result ≡ reset_peer_op timeout after }
 {
-    Op::Cutoff {
-        instant: Micros::from_millis(u64::from(timeout)),
+    let instant = Micros::from_millis(u64::from(timeout));
+    if after == 0 {
+        return Op::Cutoff { instant };
+    }
+    Op::Halt {
+        at: None,
+        after,
+        ending: Ending::Reset(instant),
     }
 }
 
@@ -69,8 +76,9 @@ pub(crate) fn map_ending(limit: Micros, ending: &Ending) -> Ending
     ensures { (state : OneState)
         → cutoff_gives limit state (final_of ending.now) ≡ final_of result ∷ [] }
 {
-    match ending {
-        Ending::Closed(instant) | Ending::Reset(instant) if *instant < limit => *ending,
-        _ => Ending::Reset(limit),
+    if is_before(limit, ending) {
+        *ending
+    } else {
+        Ending::Reset(limit)
     }
 }

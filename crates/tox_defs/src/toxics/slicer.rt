@@ -32,20 +32,28 @@ pub(crate) fn description(
     size_variation: u32,
     delay: u64,
     until: u32,
+    from: u32,
 ) -> Description
     ensures described { description_view result
-        ≡ slicer_description average_size size_variation delay until }
-    ensures few { length result.attributes.now ≤ 4 }
+        ≡ slicer_description average_size size_variation delay until from }
+    ensures few { length result.attributes.now ≤ 5 }
 {
     Description {
         name: "slicer",
-        attributes: &["average_size", "size_variation", "delay", "until"],
-        limits: &[ONE_TO_MILLION, ANY_VALUE, UP_TO_HOUR_IN_MICROS, UP_TO_HOUR],
+        attributes: &["average_size", "size_variation", "delay", "until", "from"],
+        limits: &[
+            ONE_TO_MILLION,
+            ANY_VALUE,
+            UP_TO_HOUR_IN_MICROS,
+            UP_TO_HOUR,
+            UP_TO_HOUR,
+        ],
         values: listed(&[
             u64::from(average_size),
             u64::from(size_variation),
             delay,
             u64::from(until),
+            u64::from(from),
         ]),
     }
 }
@@ -59,6 +67,7 @@ pub(crate) fn from_values(values: &[u64]) -> Toxic
         size_variation: saturated(values, 1),
         delay: value(values, 2),
         until: saturated(values, 3),
+        from: saturated(values, 4),
     }
 }
 
@@ -70,8 +79,15 @@ pub(crate) fn is_varied_too_much(average_size: u32, size_variation: u32) -> bool
 }
 
 /// The operation at a place.
-pub(crate) fn op(average_size: u32, size_variation: u32, delay: u64, until: u32, place: usize) -> Op
-    ensures { result ≡ Op.Slicing average_size size_variation delay place until }
+pub(crate) fn op(
+    average_size: u32,
+    size_variation: u32,
+    delay: u64,
+    until: u32,
+    from: u32,
+    place: usize,
+) -> Op
+    ensures { result ≡ Op.Slicing average_size size_variation delay place until from }
 {
     Op::Slicing {
         average: average_size,
@@ -79,6 +95,7 @@ pub(crate) fn op(average_size: u32, size_variation: u32, delay: u64, until: u32,
         micros: delay,
         lane: place,
         until,
+        from,
     }
 }
 

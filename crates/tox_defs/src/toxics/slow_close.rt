@@ -20,7 +20,7 @@ use tox_time::{Ending, Slice};
 /// The name, and the attribute.
 pub(crate) fn description(delay: u32) -> Description
     ensures described { description_view result ≡ slow_close_description delay }
-    ensures few { length result.attributes.now ≤ 4 }
+    ensures few { length result.attributes.now ≤ 5 }
 {
     Description {
         name: "slow_close",

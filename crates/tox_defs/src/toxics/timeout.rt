@@ -1,48 +1,71 @@
-//! timeout: stops all data, and closes after `timeout` milliseconds, or never with 0.
+//! timeout: stops all data, from the start or later, and closes after `timeout` milliseconds, or never with 0.
 ghost use Rattle.std.specs.Prelude.{◌≡◌, [], ◌∷◌, ◌≤◌, length};
 ghost use Rattle.tox_defs.specs.DescriptionInside.{description_view};
 ghost use Rattle.tox_defs.specs.Toxic.{checked};
-ghost use Rattle.tox_defs.specs.toxics.Timeout.{timeout_description, timeout_ending, timeout_of};
+ghost use Rattle.tox_defs.specs.toxics.Timeout.{timeout_description, timeout_ending, timeout_of, timeout_op, timeout_start};
 
 use crate::attributes::description::Description;
-use crate::attributes::limits::UP_TO_HOUR;
-use crate::attributes::values::{listed, saturated};
+use crate::attributes::limits::{UP_TO_HOUR, UP_TO_MAX_BYTES};
+use crate::attributes::values::{listed, saturated, value};
 use crate::operations::op::Op;
 use crate::toxic::Toxic;
 use tox_time::{Ending, Micros};
 
-/// The name, and the attribute.
-pub(crate) fn description(timeout: u32) -> Description
-    ensures described { description_view result ≡ timeout_description timeout }
-    ensures few { length result.attributes.now ≤ 4 }
+/// The name, and the attributes.
+pub(crate) fn description(timeout: u32, from: u32, after: u64) -> Description
+    ensures described { description_view result ≡ timeout_description timeout from after }
+    ensures few { length result.attributes.now ≤ 5 }
 {
     Description {
         name: "timeout",
-        attributes: &["timeout"],
-        limits: &[UP_TO_HOUR],
-        values: listed(&[u64::from(timeout)]),
+        attributes: &["timeout", "from", "after"],
+        limits: &[UP_TO_HOUR, UP_TO_HOUR, UP_TO_MAX_BYTES],
+        values: listed(&[u64::from(timeout), u64::from(from), after]),
     }
 }
 
-/// The timeout with this value of its attribute.
+/// The timeout with these values of its attributes.
 pub(crate) fn from_values(values: &[u64]) -> Toxic
     ensures { checked result ≡ checked (timeout_of values.now) }
 {
     Toxic::Timeout {
         timeout: saturated(values, 0),
+        from: saturated(values, 1),
+        after: value(values, 2),
     }
 }
 
-/// The operation. It drops all data, so nothing looks at a chunk, and it gives its ending for any other.
-pub(crate) fn op(timeout: u32) -> Op
-    ensures { result ≡ Op.Mute (timeout_ending timeout) }
+/// The operation. A mute drops all data, so nothing looks at a chunk, and it gives its ending for any other.
+pub(crate) fn op(timeout: u32, from: u32, after: u64) -> Op
+    ensures { result ≡ timeout_op timeout from after }
+{
+    let ending = &ending(timeout);
+    if from == 0 && after == 0 {
+        return Op::Mute { ending: *ending };
+    }
+    Op::Halt {
+        at: start(from),
+        after,
+        ending: *ending,
+    }
+}
+
+/// How the link ends: with 0 it doesn't.
+fn ending(timeout: u32) -> Ending
+    ensures { result ≡ timeout_ending timeout }
 {
     if timeout == 0 {
-        return Op::Mute {
-            ending: Ending::StillOpen,
-        };
+        return Ending::StillOpen;
     }
-    Op::Mute {
-        ending: Ending::Closed(Micros::from_millis(u64::from(timeout))),
+    Ending::Closed(Micros::from_millis(u64::from(timeout)))
+}
+
+/// The instant of its start: with 0 it has none.
+fn start(from: u32) -> Option<Micros>
+    ensures { result ≡ timeout_start from }
+{
+    if from == 0 {
+        return None;
     }
+    Some(Micros::from_millis(u64::from(from)))
 }

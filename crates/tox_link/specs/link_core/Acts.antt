@@ -6,6 +6,7 @@ use Rattle.tox_time.specs.declared.streams.item.Item.{Item}
 use Rattle.tox_time.specs.declared.streams.item.Item.TheVariants.{Chunk, Closed, Quiet}
 use Rattle.tox_time.specs.declared.streams.arrivals.ArrivalFault.{ArrivalFault}
 use Rattle.tox_time.specs.streams.Arrivals.{piece_fault}
+use Rattle.tox_plan.specs.OpCursors.{ops_of}
 use Rattle.tox_plan.specs.RunnerView.{answer_of}
 use Rattle.tox_plan.specs.Unended.{IsUnended}
 use Rattle.tox_link.specs.declared.link_core.act.Act.{Act}
@@ -50,7 +51,7 @@ pub record Answered (old new : CoreView) (now : ℕ) (act : Act) : Type 0 where
   pub ended : next_instant (remaining_output old (Quiet ∷ [])) ≡ None → old.ended ≡ true → IsSome (core_ending new)
   pub dropped : next_instant (remaining_output old (Quiet ∷ [])) ≡ None → kept_count new ≡ 0
   pub overdue : (d : ℕ) → next_instant (remaining_output old (Quiet ∷ [])) ≡ None → core_deadline old ≡ Some d → d ≤ now → IsSome (core_ending new)
-  pub unended : next_instant (remaining_output old (Quiet ∷ [])) ≡ None → core_ending new ≡ None → IsUnended (remaining_output new) now
+  pub unended : next_instant (remaining_output old (Quiet ∷ [])) ≡ None → core_ending new ≡ None → IsUnended (ops_of new.runner.cursors) (remaining_output new) now
   pub output : After old now act new
   pub kept : KeepsCore old new
   pub given_up : core_ending new ≡ None → GivesUp old new

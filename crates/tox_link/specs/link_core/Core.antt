@@ -158,7 +158,7 @@ pub record Settled (old new : CoreView) (now : ℕ) : Type 0 where
   pub known : (last : Ending) → core_ending old ≡ Some last → core_ending new ≡ Some last
   pub told : old.ended ≡ true → IsSome (core_ending new)
   pub overdue : (d : ℕ) → core_deadline old ≡ Some d → d ≤ now → IsSome (core_ending new)
-  pub unended : core_ending new ≡ None → IsUnended (remaining_output new) now
+  pub unended : core_ending new ≡ None → IsUnended (ops_of new.runner.cursors) (remaining_output new) now
 
 -- an emptied core whose runner has heard of the source's end, if there is one
 pub record HandsOnEnd (old new : CoreView) : Type 0 where

@@ -9,7 +9,7 @@ use Rattle.tox_inline.proofs.script_text.print_toxics.Goals as goal
 
 -- what is read past the end
 abbrev no_toxic : NumberedToxic
-no_toxic = record { stream = Upstream; number = 0; entry = record { toxic = Latency 0 0 0; toxicity = 0 } }
+no_toxic = record { stream = Upstream; number = 0; entry = record { toxic = Latency 0 0 0 0; toxicity = 0 } }
 
 pub loop-toxic-preserved : goal.loop-toxic-preserved
 loop-toxic-preserved g c =

@@ -1,5 +1,5 @@
 -- The addresses were read before the toxics, and those before the script that stands for them.
-use Rattle.std.proofs.Common.{◌≡◌, ℕ, List, Ok, ap, sym, ◌∙◌, subst}
+use Rattle.std.proofs.Common.{ℕ, List, ap, sym, ◌∙◌, subst}
 use Rattle.std.proofs.lemmas.Result.{err_from_is_err_and}
 use Rattle.tox_config.specs.ConfigFaults.{IsConfigFault}
 use Rattle.tox_config.specs.Populate.{populate}

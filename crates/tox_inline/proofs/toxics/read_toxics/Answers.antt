@@ -1,5 +1,5 @@
 -- One toxic more.
-use Rattle.std.proofs.Common.{◌≡◌, ◌+◌, List, [], drop, get_or, ap, sym, ◌∙◌}
+use Rattle.std.proofs.Common.{◌+◌, List, [], drop, get_or, ap, sym, ◌∙◌}
 use Rattle.std.proofs.lemmas.Result.{err_from_is_err_and}
 use Rattle.tox_time.specs.declared.streams.stream.Stream.TheVariants.{Upstream}
 use Rattle.tox_text.proofs.Listed.{IsAt-read}

@@ -1,5 +1,5 @@
 -- The plan of the chain, with the words of the stream.
-use Rattle.std.proofs.Common.{[], true, refl, ◌∙◌, ap}
+use Rattle.std.proofs.Common.{[], true, inl, refl, ◌∙◌, ap}
 use Rattle.tox_compile.specs.Meaning.{means}
 use Rattle.tox_defs.specs.Flow.{chain_flow}
 use Rattle.std.proofs.lemmas.List.Elements.{All-nil}
@@ -13,7 +13,7 @@ returns-clause-begins c = record {
   meaning = λ items stream. c.compile-plan.ensures.means items stream
       ∙ ap (λ chain. chain_flow chain c.in_ok-words.words items) c.chain.ensures
       ∙ ap (λ words. chain_flow c.args.log.now.chain words items) c.in_ok-words.ensures;
-  says = λ start. (refl, record { events = []; written = All-nil (λ event. IsWritable (Event event)); lines = refl; judged = λ told all. c.in_ok-begin.ensures.judged told; count = refl; late = c.new.ensures });
+  says = λ start. inl (refl, record { events = []; written = All-nil (λ event. IsWritable (Event event)); lines = refl; judged = λ told all. c.in_ok-begin.ensures.judged told; count = refl; late = c.new.ensures });
   unfinished = refl;
 }
 

@@ -93,3 +93,13 @@ pub returns-in-SourceReset-clause-judges : goal.returns-in-SourceReset-clause-ju
 returns-in-SourceReset-clause-judges c =
     let is : c.args.line.now ≡ SourceReset c.in-SourceReset.instant = search rules in
     subst (λ line. OnOk c.hear_source_end-in-SourceReset.result (JudgesWith c.args.hearing.now line c.hear_source_end-in-SourceReset.new.hearing)) (sym is) c.hear_source_end-in-SourceReset.ensures.judges
+
+pub returns-in-Last-Ended-clause-follows : goal.returns-in-Last-Ended-clause-follows
+returns-in-Last-Ended-clause-follows c =
+    let is : c.args.line.now ≡ Last (Ended c.in-Last-Ended.reading c.in-Last-Ended.ending) = search rules in
+    subst (λ line. OnOk c.hear_ending.result (ComesWith c.args.hearing.now line c.hear_ending.new.hearing)) (sym is) c.hear_ending.ensures.follows
+
+pub returns-in-Last-Ended-clause-judges : goal.returns-in-Last-Ended-clause-judges
+returns-in-Last-Ended-clause-judges c =
+    let is : c.args.line.now ≡ Last (Ended c.in-Last-Ended.reading c.in-Last-Ended.ending) = search rules in
+    subst (λ line. OnOk c.hear_ending.result (JudgesWith c.args.hearing.now line c.hear_ending.new.hearing)) (sym is) c.hear_ending.ensures.judges

@@ -21,6 +21,14 @@ level-below-requires-clause-toxics g t c =
     let split : c.args.toxics.now ≡ toxic ∷ later = search rules in
     λ _ _. All-tail (IsPlaced lanes) toxic later (subst (All (IsPlaced lanes)) split c.requires.toxics)
 
+pub start-started-requires-clause-placed : goal.start-started-requires-clause-placed
+start-started-requires-clause-placed g t c =
+    let lanes = c.args.pipeline.now.lanes in
+    let toxic = c.in-Some.toxic.now in
+    let later = c.in-Some.later.now in
+    let split : c.args.toxics.now ≡ toxic ∷ later = search rules in
+    λ _ _. All-head (IsPlaced lanes) toxic later (subst (All (IsPlaced lanes)) split c.requires.toxics)
+
 pub returns-in_default-clause-ended : goal.returns-in_default-clause-ended
 returns-in_default-clause-ended g t c = let sends = c.feed_and_drain.ensures.sent in ap has_final sends.whole ∙ final_of_stream 0 0 _ sends.stream.stream
 

@@ -16,7 +16,7 @@ loop-place-init g c = record { working = c.requires.working; passed = Passes-non
 
 pub loop-place-preserved : goal.loop-place-preserved
 loop-place-preserved g c =
-    let here = IsAt-placed string_bytes c.args.entries.now c.args.names.now c.loop-place.place (record { toxic = Latency 0 0 0; toxicity = 0 }) c.index-names-place.result c.requires.one_each c.loop-place-test.true c.index-names-place.is in record {
+    let here = IsAt-placed string_bytes c.args.entries.now c.args.names.now c.loop-place.place (record { toxic = Latency 0 0 0 0; toxicity = 0 }) c.index-names-place.result c.requires.one_each c.loop-place-test.true c.index-names-place.is in record {
       working = c.in_ok-print_toxic.ensures.1;
       passed = Passes-more (λ placed. picked_toxic_line (draws_of c.args.drawing.now) placed.0 placed.1.0 placed.1.1) (enumerate_from 0 (zip c.args.entries.now (map string_bytes c.args.names.now))) c.loop-place.place _ _ _ _ _ _ _ here
           c.loop-place.invariant.passed (rw c.deref.ensures at c.in_ok-print_toxic.ensures.0);
@@ -24,7 +24,7 @@ loop-place-preserved g c =
 
 pub returns-in_err-print_toxic : goal.returns-in_err-print_toxic
 returns-in_err-print_toxic g c =
-    let here = IsAt-placed string_bytes c.args.entries.now c.args.names.now c.loop-place.place (record { toxic = Latency 0 0 0; toxicity = 0 }) c.index-names-place.result c.requires.one_each c.loop-place-test.true c.index-names-place.is in
+    let here = IsAt-placed string_bytes c.args.entries.now c.args.names.now c.loop-place.place (record { toxic = Latency 0 0 0 0; toxicity = 0 }) c.index-names-place.result c.requires.one_each c.loop-place-test.true c.index-names-place.is in
     let exit = err_from_is_err_and c.from_residual.result c.from_residual.ensures.1 in
     Prints-stopped (λ placed. picked_toxic_line (draws_of c.args.drawing.now) placed.0 placed.1.0 placed.1.1) (enumerate_from 0 (zip c.args.entries.now (map string_bytes c.args.names.now))) c.loop-place.place _ _ _ _ _ _ _ _ c.from_residual.result exit.0 here
     exit.1 c.loop-place.invariant.passed (rw c.deref.ensures at c.in_err-print_toxic.ensures)

@@ -1,11 +1,13 @@
--- The word of a reset, and its instant.
-use Rattle.std.proofs.Common.{◌++◌, codes, decimal, append-nil, ap, sym, ◌∙◌}
-use Rattle.tox_text.specs.ResultText.{ending_words}
-use Rattle.tox_text.proofs.Writes.{Prints-as}
+-- The word, and then the ending.
+use Rattle.std.proofs.lemmas.Result.{err_from_is_err_and}
+use Rattle.tox_text.proofs.Writes.{Prints-failed, Prints-then}
 use Rattle.tox_text.proofs.plan_text.print_mute.Goals as goal
 
-pub returns-in-Reset : goal.returns-in-Reset
-returns-in-Reset g c =
-    Prints-as c.print-in-Reset.result _ _ _ _ _ _ _ (
-    ap (λ digits. codes "mute reset " ++ digits) (append-nil (decimal c.get-in-Reset.result) ∙ ap decimal c.get-in-Reset.ensures.value)
-    ∙ ap (λ ending. codes "mute " ++ ending_words ending) (sym c.in-Reset.is)) c.print-in-Reset.ensures
+pub returns-in_err-print : goal.returns-in_err-print
+returns-in_err-print g c =
+    let result = c.from_residual.result in
+    let exit = err_from_is_err_and result c.from_residual.ensures.1 in
+    Prints-failed result exit.0 _ _ _ _ _ _ _ exit.1 c.in_err-print.ensures
+
+pub returns : goal.returns
+returns g c = Prints-then c.print_ending_words.result _ _ _ _ _ _ _ _ _ c.in_ok-print.ensures.0 c.print_ending_words.ensures

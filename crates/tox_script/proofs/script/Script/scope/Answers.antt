@@ -1,7 +1,7 @@
 -- The scope of the rule that has the number.
 use Rattle.std.proofs.Common.{ap, ◌∙◌, Some, rules}
 use Rattle.std.specs.Prelude.{◌≡◌, option_map, slice_get}
-use Rattle.tox_script.specs.Scopes.{scope_of, scope_view}
+use Rattle.tox_script.specs.Scopes.{scope_of}
 use Rattle.tox_script.specs.Views.{rule_view}
 use Rattle.tox_script.proofs.script.Script.scope.Goals as goal
 

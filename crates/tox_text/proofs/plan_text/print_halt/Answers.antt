@@ -1,0 +1,60 @@
+-- The word, when it begins, and the ending.
+use Rattle.std.proofs.Common.{◌≡◌, ℕ, ◌++◌, Option, append_assoc, codes, ap, sym, ◌∙◌}
+use Rattle.std.proofs.lemmas.Result.{err_from_is_err_and}
+use Rattle.tox_time.specs.declared.streams.ending.Ending.{Ending}
+use Rattle.tox_defs.specs.declared.operations.op.Op.TheVariants.{Halt}
+use Rattle.tox_text.specs.PlanText.{at_words, nonzero_words, work_words}
+use Rattle.tox_text.specs.ResultText.{ending_words}
+use Rattle.tox_text.proofs.Writes.{Prints-as, Prints-failed, Prints-then}
+use Rattle.tox_text.proofs.plan_text.print_halt.Goals as goal
+
+halt-parts : (at : Option ℕ) (after : ℕ) (ending : Ending)
+    → codes "halt" ++ (at_words at ++ (nonzero_words (codes " after ") after ++ (codes " " ++ ending_words ending))) ≡ work_words (Halt at after ending)
+halt-parts at after ending =
+    let bytes = nonzero_words (codes " after ") after in
+    ap (λ text. codes "halt" ++ text)
+    (sym (append_assoc (at_words at) bytes (codes " " ++ ending_words ending))
+    ∙ sym (append_assoc (at_words at ++ bytes) (codes " ") (ending_words ending)))
+
+pub returns-in_err-print : goal.returns-in_err-print
+returns-in_err-print g c =
+    let result = c.from_residual.result in
+    let exit = err_from_is_err_and result c.from_residual.ensures.1 in
+    Prints-as result _ _ _ _ _ _ _ (halt-parts c.args.at.now c.args.after c.args.ending.now)
+    (Prints-failed result exit.0 _ _ _ _ _ _ _ exit.1 c.in_err-print.ensures)
+
+pub returns-in_err-print_at : goal.returns-in_err-print_at
+returns-in_err-print_at g c =
+    let result = c.from_residual-in_err-print_at.result in
+    let exit = err_from_is_err_and result c.from_residual-in_err-print_at.ensures.1 in
+    Prints-as result _ _ _ _ _ _ _ (halt-parts c.args.at.now c.args.after c.args.ending.now)
+    (Prints-then result _ _ _ _ _ _ _ _ _ c.in_ok-print.ensures.0
+    (Prints-failed result exit.0 _ _ _ _ _ _ _ exit.1 c.in_err-print_at.ensures))
+
+pub returns-in_err-print_nonzero : goal.returns-in_err-print_nonzero
+returns-in_err-print_nonzero g c =
+    let result = c.from_residual-in_err-print_nonzero.result in
+    let exit = err_from_is_err_and result c.from_residual-in_err-print_nonzero.ensures.1 in
+    Prints-as result _ _ _ _ _ _ _ (halt-parts c.args.at.now c.args.after c.args.ending.now)
+    (Prints-then result _ _ _ _ _ _ _ _ _ c.in_ok-print.ensures.0
+    (Prints-then result _ _ _ _ _ _ _ _ _ c.in_ok-print_at.ensures.0
+    (Prints-failed result exit.0 _ _ _ _ _ _ _ exit.1 c.in_err-print_nonzero.ensures)))
+
+pub returns-in_err-print-2 : goal.returns-in_err-print-2
+returns-in_err-print-2 g c =
+    let result = c.from_residual-in_err-print-2.result in
+    let exit = err_from_is_err_and result c.from_residual-in_err-print-2.ensures.1 in
+    Prints-as result _ _ _ _ _ _ _ (halt-parts c.args.at.now c.args.after c.args.ending.now)
+    (Prints-then result _ _ _ _ _ _ _ _ _ c.in_ok-print.ensures.0
+    (Prints-then result _ _ _ _ _ _ _ _ _ c.in_ok-print_at.ensures.0
+    (Prints-then result _ _ _ _ _ _ _ _ _ c.in_ok-print_nonzero.ensures.0
+    (Prints-failed result exit.0 _ _ _ _ _ _ _ exit.1 c.in_err-print-2.ensures))))
+
+pub returns : goal.returns
+returns g c =
+    let result = c.print_ending_words.result in
+    Prints-as result _ _ _ _ _ _ _ (halt-parts c.args.at.now c.args.after c.args.ending.now)
+    (Prints-then result _ _ _ _ _ _ _ _ _ c.in_ok-print.ensures.0
+    (Prints-then result _ _ _ _ _ _ _ _ _ c.in_ok-print_at.ensures.0
+    (Prints-then result _ _ _ _ _ _ _ _ _ c.in_ok-print_nonzero.ensures.0
+    (Prints-then result _ _ _ _ _ _ _ _ _ c.in_ok-print-2.ensures.0 c.print_ending_words.ensures))))
