@@ -9,6 +9,8 @@ from typing import Any, ClassVar, Dict, Optional, Union
 from .reprs import repr_without_defaults
 
 Toxicity = Union[int, float, str]
+# Attributes that stand in a script only where they aren't 0.
+OMITTED_AT_ZERO = ("from", "after")
 TOXICITY_OF_ONE = (
     "toxicity=1 has two meanings: write toxicity=1.0, or leave it out, for every link, and toxicity=0.001 for one link in a thousand"
 )
@@ -45,28 +47,38 @@ class Toxic:
         return repr_without_defaults(self)
 
     def attributes(self) -> Dict[str, int]:
-        """The attributes by name, without those that all toxics have."""
+        """The attributes by their keys in a script, without those that all toxics have. A `from` or `after` of 0 is left out."""
         common = {field.name for field in fields(Toxic)}
-        return {field.name: getattr(self, field.name) for field in fields(self) if field.name not in common}
+        # `from` is a word of Python, so its field is `from_`.
+        values = {field.name.rstrip("_"): getattr(self, field.name) for field in fields(self) if field.name not in common}
+        return {key: value for key, value in values.items() if not (key in OMITTED_AT_ZERO and type(value) is int and value == 0)}
 
 
 @dataclass(frozen=True, repr=False)
 class Latency(Toxic):
-    """Delays data by `latency` plus or minus `jitter` milliseconds, until `until` milliseconds after the link's start (0: without end)."""
+    """Delays data by `latency` plus or minus `jitter` milliseconds (0 to 3,600,000).
+
+    It works from `from_` milliseconds after the link's start (0: from the start) until `until` (0: without end), each 0 to 3,600,000.
+    """
 
     type = "latency"
     latency: int = 0
     jitter: int = 0
     until: int = 0
+    from_: int = 0
 
 
 @dataclass(frozen=True, repr=False)
 class Bandwidth(Toxic):
-    """Passes `rate` kilobytes (of 1000 bytes) a second, until `until` milliseconds after the link's start (0: without end)."""
+    """Passes `rate` kilobytes (of 1000 bytes; 1 to 1,000,000) a second.
+
+    It works from `from_` milliseconds after the link's start (0: from the start) until `until` (0: without end), each 0 to 3,600,000.
+    """
 
     type = "bandwidth"
     rate: int = 0
     until: int = 0
+    from_: int = 0
 
 
 @dataclass(frozen=True, repr=False)
@@ -79,30 +91,43 @@ class SlowClose(Toxic):
 
 @dataclass(frozen=True, repr=False)
 class Timeout(Toxic):
-    """Drops all data, and closes `timeout` milliseconds after the link's start. With 0 it never closes."""
+    """Drops all data, and closes `timeout` milliseconds (0 to 3,600,000) after the link's start. With 0 it never closes.
+
+    With `from_` or `after` it begins later, and everything passes until then: `from_` milliseconds after the link's start (0 to 3,600,000),
+    or behind the first `after` bytes (0 to 2^40), whichever comes first. 0 is as absent. Where `timeout` has passed by then, it closes at once.
+    """
 
     type = "timeout"
     timeout: int = 0
+    from_: int = 0
+    after: int = 0
 
 
 @dataclass(frozen=True, repr=False)
 class ResetPeer(Toxic):
-    """Resets the link `timeout` milliseconds after its start if it still lives."""
+    """Resets the link `timeout` milliseconds (0 to 3,600,000) after its start if it still lives.
+
+    With `after` above 0 (up to 2^40) it resets behind the first `after` bytes, and not before `timeout`.
+    """
 
     type = "reset_peer"
     timeout: int = 0
+    after: int = 0
 
 
 @dataclass(frozen=True, repr=False)
 class Slicer(Toxic):
-    """Cuts data into pieces of `average_size` plus or minus `size_variation` bytes, `delay` microseconds apart, until `until`
-    milliseconds after the link's start (0: without end)."""
+    """Cuts data into pieces of `average_size` plus or minus `size_variation` bytes, `delay` microseconds (0 to 3,600,000,000) apart.
+
+    It works from `from_` milliseconds after the link's start (0: from the start) until `until` (0: without end), each 0 to 3,600,000.
+    """
 
     type = "slicer"
     average_size: int = 0
     size_variation: int = 0
     delay: int = 0
     until: int = 0
+    from_: int = 0
 
 
 @dataclass(frozen=True, repr=False)

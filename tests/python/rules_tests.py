@@ -2,7 +2,7 @@
 import unittest
 import warnings
 
-from toxi import Latency, Proxy, ResetPeer, Rule, Toxi, ToxiError, ToxiFault, ToxiWarning, script_text
+from toxi import Latency, Proxy, ResetPeer, Rule, Slicer, Timeout, Toxi, ToxiError, ToxiFault, ToxiWarning, script_text
 
 # Nothing listens there: port 1 of this machine.
 NOWHERE = {"shop": "127.0.0.1:1"}
@@ -27,6 +27,24 @@ class WrittenTests(unittest.TestCase):
         rule = Rule("shop", [Latency(latency=5, toxicity=0.25)], last=2)
         self.assertEqual(repr(rule), "Rule(proxy='shop', toxics=(Latency(toxicity=0.25, latency=5),), last=2)")
         self.assertEqual(repr(Latency()), "Latency()")
+
+    def test_from_and_after(self):
+        toxics = [Latency(latency=1, from_=5), Timeout(from_=6, after=7), Timeout(name="now"), ResetPeer(after=8, timeout=9)]
+        text = script_text([Rule("shop", toxics)])
+        written = [line for line in text.splitlines() if line.startswith("attributes")]
+        wanted = ["latency = 1, jitter = 0, until = 0, from = 5", "timeout = 0, from = 6, after = 7", "timeout = 0", "timeout = 9, after = 8"]
+        self.assertEqual(written, [f"attributes = {{ {attributes} }}" for attributes in wanted])
+        self.assertEqual(repr(toxics[1]), "Timeout(from_=6, after=7)")
+        with self.assertWarns(ToxiWarning), Toxi(NOWHERE, [Rule("shop", toxics)]) as toxi:
+            picked = [toxic.attributes for toxic in toxi.pick("shop", 1, "downstream")]
+        self.assertEqual(picked[1], {"timeout": 0, "from": 6, "after": 7, "toxicity": 1000})
+        self.assertEqual(picked[2], {"timeout": 0, "toxicity": 1000})
+
+    def test_from_and_after_that_are_refused(self):
+        for toxic in (Slicer(average_size=1, from_=3_600_001), Timeout(after=2**40 + 1), ResetPeer(after=-1), Timeout(from_=False)):
+            with self.assertRaises(ToxiFault) as caught:
+                Toxi(NOWHERE, [Rule("shop", [toxic])]).start()
+            self.assertEqual(caught.exception.line, "S5 OutOfRange 1 1")
 
     def test_toxicities(self):
         written = ((0.001, '"0.001"'), (0.1 + 0.2, '"0.3"'), (0.0, '"0.0"'), (1.0, '"1.0"'), ("0.5", '"0.5"'), (0, "0"), (2, "2"), (300, "300"))
