@@ -5,6 +5,7 @@ import tomllib
 from collections import Counter
 
 from manual import TYPES, Fault, check_values, is_applied, words_of_seed
+from toxics import delays_nothing, drops_all
 
 STREAMS = ("upstream", "downstream")
 
@@ -183,7 +184,7 @@ def shown(name):
 
 
 def short_form(kind, values, toxicity):
-    shown_values = {key: value for key, value in values.items() if key != "until" or value}
+    shown_values = {key: value for key, value in values.items() if key not in ("until", "from", "after") or value}
     return kind + ":" + ",".join(f"{key}={value}" for key, value in {**shown_values, "toxicity": toxicity}.items())
 
 
@@ -297,9 +298,11 @@ def coverage(rules, number, proxy):
 def idleness(chain, place):
     """Why the toxic at a place changes nothing, if that is told."""
     kind, values, _ = chain[place][1]
-    drops = [entry[1][0] == "timeout" and entry[1][2] == 1000 for entry in chain]
-    if kind == "latency" and values["latency"] == values["jitter"] == 0 or kind == "slow_close" and values["delay"] == 0:
+    drops = [entry[1][2] == 1000 and drops_all(*entry[1][:2]) for entry in chain]
+    if delays_nothing(kind, values):
         return "it delays nothing"
+    if kind in ("latency", "bandwidth", "slicer") and 0 < values["until"] <= values["from"]:
+        return "it has stopped when it begins"
     if any(drops[place + 1 :]) or kind in ("bandwidth", "slicer") and any(drops[:place]):
         return "a timeout drops all data"
     if kind == "slicer" and values["delay"] == 0 and place + 1 == len(chain):

@@ -11,16 +11,17 @@ MAX_BYTES = 2**40
 
 # The attributes of each type with their least and greatest values. A variation that is too large has a fault of its own.
 TYPES = {
-    "latency": {"latency": (0, MAX_MILLIS), "jitter": (0, MAX_MILLIS), "until": (0, MAX_MILLIS)},
-    "bandwidth": {"rate": (1, 1_000_000), "until": (0, MAX_MILLIS)},
+    "latency": {"latency": (0, MAX_MILLIS), "jitter": (0, MAX_MILLIS), "until": (0, MAX_MILLIS), "from": (0, MAX_MILLIS)},
+    "bandwidth": {"rate": (1, 1_000_000), "until": (0, MAX_MILLIS), "from": (0, MAX_MILLIS)},
     "slow_close": {"delay": (0, MAX_MILLIS)},
-    "timeout": {"timeout": (0, MAX_MILLIS)},
-    "reset_peer": {"timeout": (0, MAX_MILLIS)},
+    "timeout": {"timeout": (0, MAX_MILLIS), "from": (0, MAX_MILLIS), "after": (0, MAX_BYTES)},
+    "reset_peer": {"timeout": (0, MAX_MILLIS), "after": (0, MAX_BYTES)},
     "slicer": {
         "average_size": (1, 1_000_000),
         "size_variation": (0, inf),
         "delay": (0, 3_600_000_000),
         "until": (0, MAX_MILLIS),
+        "from": (0, MAX_MILLIS),
     },
     "limit_data": {"bytes": (0, MAX_BYTES)},
 }

@@ -30,17 +30,17 @@ def mostly(random, good, bad, chance):
 
 
 def values(random, kind, chance):
-    """Some attributes of a type. By chance one is just out of its range, or belongs to no type."""
+    """Some attributes of a type. By chance one is just out of its range, or belongs to no type. Most timeouts begin at once."""
     chosen = {}
     for key, (least, most) in TYPES[kind].items():
         if key == "size_variation":
             most = chosen["average_size"] - 1
-        if least or random.random() < 0.7:
+        if least or random.random() < (0.3 if key in ("from", "after") else 0.7):
             chosen[key] = number(random, least, most)
         if random.random() < chance:
             chosen[key] = most + 1
         if random.random() < chance / 4:
-            chosen[random.choice(("rat", "rate", "delay"))] = 1
+            chosen[random.choice(("rat", "rate", "delay", "from", "after"))] = 1
     return chosen
 
 

@@ -46,24 +46,59 @@ def slicer(values, draw, instant, chunk, so_far):
         start = last
 
 
-def limit_data(values, _draw, instant, chunk, so_far):
+def first_bytes(most, instant, chunk, so_far, ending):
+    """What of a chunk lies within the first bytes of a stream, and the ending behind the last of these bytes."""
     start, stop = chunk
-    stop = min(stop, start + values["bytes"] - so_far.bytes_passed)
+    stop = min(stop, start + most - so_far.bytes_passed)
     so_far.bytes_passed += stop - start
-    at = max(so_far.prev, instant)
     if start < stop:
-        yield at, (start, stop)
-    if so_far.bytes_passed == values["bytes"]:
-        yield at, "closed"
+        yield max(so_far.prev, instant), (start, stop)
+    if so_far.bytes_passed == most:
+        yield ending
 
 
-def reset_peer(values, _draw, instant, chunk, so_far):
+def limit_data(values, _draw, instant, chunk, so_far):
+    yield from first_bytes(values["bytes"], instant, chunk, so_far, (max(so_far.prev, instant), "closed"))
+
+
+def reset_peer(values, draw, instant, chunk, so_far):
     due = 1000 * values["timeout"]
-    yield (max(so_far.prev, instant), chunk) if instant < due else (due, "reset")
+    if values["after"]:
+        yield from first_bytes(values["after"], instant, chunk, so_far, (max(instant, due), "reset"))
+    elif instant < due:
+        yield from in_order(values, draw, instant, chunk, so_far)
+    else:
+        yield due, "reset"
 
 
-def timeout(*_):
-    yield from ()
+def delays_nothing(kind, values):
+    return kind == "latency" and values["latency"] == values["jitter"] == 0 or kind == "slow_close" and values["delay"] == 0
+
+
+def drops_all(kind, values):
+    """Whether it is a timeout that begins at once."""
+    return kind == "timeout" and not values["from"] and not values["after"]
+
+
+def has_begun(values, instant):
+    """Whether a timeout has begun at an instant, whatever bytes have passed. None is the end of a stream that stays open."""
+    if values["after"] and not values["from"]:
+        return False
+    return instant is None or instant >= 1000 * values["from"]
+
+
+def begun(values, instant):
+    """The ending of a timeout that begins at an instant."""
+    return (max(instant, 1000 * values["timeout"]), "closed") if values["timeout"] else (None, "open")
+
+
+def timeout(values, draw, instant, chunk, so_far):
+    if has_begun(values, instant):
+        yield begun(values, 1000 * values["from"])
+    elif values["after"]:
+        yield from first_bytes(values["after"], instant, chunk, so_far, begun(values, instant))
+    else:
+        yield from in_order(values, draw, instant, chunk, so_far)
 
 
 GIVES = {
@@ -79,15 +114,22 @@ GIVES = {
 
 def end(kind, values, instant, ending, so_far):
     """What a toxic makes of an ending that comes to it."""
+    if kind == "timeout" and has_begun(values, instant):
+        return begun(values, 1000 * values["from"])
     due = 1000 * values.get("timeout", 0)
-    if kind == "timeout":
-        return (due, "closed") if due else (None, "open")
-    if kind == "reset_peer" and (instant is None or instant >= due):
+    if kind == "reset_peer" and not values["after"] and (instant is None or instant >= due):
         return due, "reset"
     if instant is None:
         return None, ending
     wait = 1000 * values["delay"] if kind == "slow_close" and ending == "closed" else 0
     return min(HORIZON, max(so_far.prev, instant) + wait), ending
+
+
+def passes(kind, values, instant):
+    """Whether a chunk comes to a latency, bandwidth or slicer before it begins or after it has stopped."""
+    if kind not in ("latency", "bandwidth", "slicer"):
+        return False
+    return instant < 1000 * values["from"] or 0 < 1000 * values["until"] <= instant
 
 
 def give(kind, values, draw, items):
@@ -97,8 +139,7 @@ def give(kind, values, draw, items):
         if isinstance(item, str):
             yield end(kind, values, instant, item, so_far)
             return
-        stopped = values.get("until", 0) and instant >= 1000 * values["until"]
-        for at, part in (in_order if stopped else GIVES[kind])(values, draw, instant, item, so_far):
+        for at, part in (in_order if passes(kind, values, instant) else GIVES[kind])(values, draw, instant, item, so_far):
             so_far.prev = at
             yield at, part
             if isinstance(part, str):
