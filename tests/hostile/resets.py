@@ -18,6 +18,8 @@ Peer = namedtuple("Peer", "first meanwhile later", defaults=(None, None, None))
 SAID = b"hello"
 # How late the system's word of a reset may be in a test, in seconds.
 LATE = 1
+# More bytes than the sockets of a client that doesn't read take.
+HELD = 20_000_000
 
 
 def say(end):
@@ -181,6 +183,23 @@ def reset_drops_what_has_no_room(toxi):
     check(len(heard) < sent, "the client heard everything")
     client.close()
     server.close()
+
+
+@case(1, ("reset_peer", f"after = {HELD}"))
+def reset_behind_so_many_bytes_waits_for_a_peer(toxi):
+    """The client doesn't read, so the socket hasn't taken so many bytes. Once it reads, it hears no more than these, and is reset."""
+    client, server = toxi.link()
+    waiting = select.poll()
+    waiting.register(client, 0)
+    with concurrent.futures.ThreadPoolExecutor(1) as threads:
+        flooding = threads.submit(flood, server)
+        check(not waiting.poll(500), "the client was reset before it read")
+        heard = is_reset(client)
+        flooding.result()
+    client.close()
+    server.close()
+    check((BLOCK * (HELD // len(BLOCK) + 1))[:HELD].startswith(heard), "the client heard other bytes than the first ones")
+    toxi.ended(1, 0, "closed", HELD, "reset")
 
 
 @case(1)

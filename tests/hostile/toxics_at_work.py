@@ -2,7 +2,7 @@
 import socket
 import time
 
-from ends import BLOCK, are_quiet, has_ended, read_all, read_count, send_until_full, shut_writing
+from ends import BLOCK, are_quiet, has_ended, is_reset, read_all, read_count, send_until_full, shut_writing
 from registry import case
 from waiting import LIMIT, check, check_in_time, wait_until
 
@@ -91,6 +91,85 @@ def timeout_at_work(toxi):
     client.close()
     server.close()
     toxi.ended(1, 0, "closed", 0, "closed")
+
+
+@case(1, ("latency", "latency = 300, from = 1000"))
+def latency_from_the_first_second_on(toxi):
+    client, server = toxi.link()
+    for wait, seconds in ((0, 0), (1, 0.3)):
+        time.sleep(wait)
+        begun = time.monotonic()
+        server.sendall(b"hello")
+        check(read_count(client, 5) == b"hello", "the client heard other bytes than the upstream said")
+        came_in_time(begun, seconds, f"a byte {wait} s after the link's start")
+    leave(toxi, client, server, 10)
+
+
+def hangs(toxi, client, server):
+    """What the upstream says doesn't come, and the other direction goes on."""
+    server.sendall(BLOCK)
+    are_quiet(client)
+    client.sendall(b"hello")
+    check(read_count(server, 5) == b"hello", "the upstream heard other bytes than the client said")
+    client.close()
+    read_all(server)
+    server.close()
+
+
+@case(1, ("timeout", "after = 5"))
+def timeout_behind_so_many_bytes(toxi):
+    """The answer is cut behind its fifth byte, and nothing is shut."""
+    client, server = toxi.link()
+    server.sendall(b"hello there")
+    check(read_count(client, 5) == b"hello", "the client heard other bytes than the upstream said")
+    hangs(toxi, client, server)
+    toxi.ended(1, 5, "closed", 5, "open")
+
+
+@case(1, ("timeout", "from = 500"))
+def timeout_that_begins_later(toxi):
+    client, server = toxi.link()
+    server.sendall(b"hello")
+    check(read_count(client, 5) == b"hello", "the client heard other bytes than the upstream said")
+    time.sleep(0.5)
+    hangs(toxi, client, server)
+    toxi.ended(1, 5, "closed", 5, "open")
+
+
+@case(1, ("timeout", "timeout = 500, after = 5"))
+def timeout_behind_so_many_bytes_that_closes(toxi):
+    """Both peers hear an end when the time is over."""
+    begun = time.monotonic()
+    client, server = toxi.link()
+    server.sendall(b"hello there")
+    check(read_count(client, 5) == b"hello", "the client heard other bytes than the upstream said")
+    has_ended(client)
+    came_in_time(begun, 0.5, "the end")
+    has_ended(server)
+    client.close()
+    server.close()
+    toxi.ended(1, 0, "closed", 5, "closed")
+
+
+@case(1, ("reset_peer", "after = 1000"))
+def reset_behind_so_many_bytes(toxi):
+    """The client hears just these bytes, and then both peers are reset."""
+    client, server = toxi.link()
+    server.sendall(BLOCK[:1500])
+    check(is_reset(client) == BLOCK[:1000], "the client heard other bytes than the first 1000 before the reset")
+    is_reset(server)
+    toxi.ended(1, 0, "closed", 1000, "reset")
+
+
+@case(1, ("reset_peer", "timeout = 500, after = 65536"))
+def reset_behind_so_many_bytes_at_its_instant(toxi):
+    begun = time.monotonic()
+    client, server = toxi.link()
+    server.sendall(BLOCK + b"hello")
+    check(is_reset(client) == BLOCK, "the client heard other bytes than the first 65536 before the reset")
+    came_in_time(begun, 0.5, "the reset")
+    is_reset(server)
+    toxi.ended(1, 0, "closed", len(BLOCK), "reset")
 
 
 @case(2)

@@ -7,7 +7,7 @@ import time
 import pytest
 import redis
 
-from toxi import Bandwidth, Latency, LimitData, ResetPeer, Rule
+from toxi import Bandwidth, Latency, LimitData, ResetPeer, Rule, Timeout
 
 # Longer than anything here takes on a busy machine, in seconds.
 PATIENCE = 20
@@ -92,6 +92,16 @@ def test_answer_is_cut(shop, upstream):
     with client_of(served) as client, pytest.raises(redis.ConnectionError):
         client.get("long")
     assert served.wait_for_link("shop", 1, PATIENCE).down == 100
+
+
+def test_second_command_hangs(shop):
+    served = shop(Timeout(after=len("+PONG\r\n")))
+    with client_of(served, timeout=1) as client:
+        assert client.ping()
+        with pytest.raises(redis.TimeoutError):
+            client.ping()
+    link = served.wait_for_link("shop", 1, PATIENCE)
+    assert (link.down, link.down_end) == (len("+PONG\r\n"), "open")
 
 
 def test_third_connection_works(shop):
