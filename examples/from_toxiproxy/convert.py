@@ -4,6 +4,7 @@ import re
 from typing import Any, Dict, List, Optional, Tuple, Type
 
 from toxi import Bandwidth, Latency, LimitData, Proxy, ResetPeer, Rule, Slicer, SlowClose, Timeout, Toxic
+from toxi.rules import toml_value
 
 from .setups import Entry, Setup
 
@@ -11,6 +12,7 @@ KINDS: Tuple[Type[Toxic], ...] = (Bandwidth, Latency, LimitData, ResetPeer, Slic
 TYPES = {kind.type: kind for kind in KINDS}
 # A whole toxicity, in thousandths.
 WHOLE = 1000
+MAX_MILLIS = 3_600_000
 
 
 def converted(setup: Setup) -> Tuple[List[Proxy], List[Rule]]:
@@ -27,6 +29,19 @@ def converted(setup: Setup) -> Tuple[List[Proxy], List[Rule]]:
         if kept:
             rules.append(Rule(name, kept))
     return proxies, rules
+
+
+def comments(setup: Setup) -> List[str]:
+    """A line for each toxic that was added to a running proxy: which `from` would say it."""
+    lines = []
+    for name, entry in setup.proxies.items():
+        for number, toxic in enumerate(entry["toxics"], 1):
+            kind, millis = TYPES.get(str(toxic.get("type"))), setup.added.get((name, number), 0)
+            if hasattr(kind, "from_") and 0 < millis <= MAX_MILLIS:
+                age = f"{millis / 1000:g} s"
+                added = f"# Proxy {toml_value(name)}, toxic {number}: added to the running proxy, after {age}."
+                lines.append(f"{added} With from = {millis} it begins when a link is {age} old.")
+    return lines
 
 
 def _toxic(entry: Entry, place: str, setup: Setup) -> Optional[Toxic]:

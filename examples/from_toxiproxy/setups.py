@@ -1,9 +1,13 @@
 """What a setup of Toxiproxy has: its proxies with their toxics, and what has no counterpart here."""
+import re
 from dataclasses import dataclass, field
-from typing import Any, Dict, List
+from typing import Any, Dict, List, Tuple
 
 # A proxy or a toxic as Toxiproxy's JSON has it.
 Entry = Dict[str, Any]
+# A time that `sleep` takes, and the milliseconds of its units.
+SLEEP = re.compile(r"(\d+(?:\.\d+)?)([smh]?)")
+UNITS = {"": 1_000, "s": 1_000, "m": 60_000, "h": 3_600_000}
 
 
 class Unreadable(Exception):
@@ -12,10 +16,17 @@ class Unreadable(Exception):
 
 @dataclass
 class Setup:
-    """The proxies so far by their names, each with its toxics, and what has no counterpart, with its place."""
+    """The proxies so far by their names, each with its toxics, and what has no counterpart, with its place.
+
+    `slept` is how many milliseconds the script has slept, and `created` the same when each proxy was created. `added` has the milliseconds
+    between a proxy and its toxic of a number, from 1.
+    """
 
     proxies: Dict[str, Entry] = field(default_factory=dict)
     missing: List[str] = field(default_factory=list)
+    slept: int = 0
+    created: Dict[str, int] = field(default_factory=dict)
+    added: Dict[Tuple[str, int], int] = field(default_factory=dict)
 
     def miss(self, place: str, what: str) -> None:
         """Notes what has no counterpart."""
@@ -27,13 +38,21 @@ class Setup:
             self.miss(place, f"`{call}` without a name or an upstream")
             return
         self.proxies[entry["name"]] = {**entry, "toxics": []}
+        self.created[entry["name"]] = self.slept
 
     def add(self, proxy: str, toxic: Entry, place: str, call: str) -> None:
         """Adds a toxic to a proxy."""
         if proxy not in self.proxies or not isinstance(toxic.get("type"), str):
             self.miss(place, f"`{call}` without a type, or for a proxy that wasn't created")
             return
-        self.proxies[proxy]["toxics"].append(toxic)
+        toxics = self.proxies[proxy]["toxics"]
+        toxics.append(toxic)
+        self.added[proxy, len(toxics)] = self.slept - self.created[proxy]
+
+    def sleep(self, words: List[str]) -> None:
+        """Adds the times of a `sleep`. One that isn't a plain number counts as none."""
+        for found in filter(None, map(SLEEP.fullmatch, words)):
+            self.slept += round(float(found[1]) * UNITS[found[2]])
 
 
 def read_document(document: object, setup: Setup) -> None:

@@ -143,6 +143,23 @@ class FromToxiproxyTests(unittest.TestCase):
         for command in ("toxic add -t latency mail", "toxic add shop", "create a", "create -u $HOST a", "create 'a"):
             self.assertEqual(self.convert(f"{CREATE}toxiproxy-cli {command}\n")[0], 3)
 
+    def test_a_toxic_that_is_added_to_a_running_proxy(self):
+        text = f"sleep 3\n{CREATE}toxiproxy-cli toxic add -t latency -n sleep shop\necho \"now\nsleep 1m; toxiproxy-cli toxic add -t timeout shop\n"
+        text += "sleep $LONG 0.5s\nhttp :8474/proxies/shop/toxics type=slicer attributes[average_size]:=9\ntoxiproxy-cli toxic add -t slow_close shop\n"
+        self.assertEqual(self.convert(text), (0, []))
+        with open(os.path.join(self.folder, "s.toml")) as file:
+            *comments, version = [file.readline() for _ in range(3)]
+        self.assertEqual(version, "version = 2\n")
+        for line, (number, age, millis) in zip(comments, ((2, "60 s", 60000), (3, "60.5 s", 60500))):
+            added = f'# Proxy "shop", toxic {number}: added to the running proxy, after {age}.'
+            self.assertEqual(line, f"{added} With from = {millis} it begins when a link is {age} old.\n")
+        self.assertEqual(len(self.picked()), 5)
+
+    def test_attributes_that_toxiproxy_lacks(self):
+        for key in ("until", "from", "after"):
+            status, missing = self.convert_toxic(type="timeout", attributes={"timeout": 5, key: 1})
+            self.assertEqual((status, missing), (3, [f"proxy shop, toxic 1: `timeout` has no attribute `{key}`"]))
+
     def each_toxic_of(self, create, calls):
         """Converts a script that creates the proxy and adds each toxic by one of the calls in turn. A call gets its URL and its body."""
         text = create
