@@ -14,7 +14,7 @@ use clap::Command;
 use std::alloc::{AllocError, Global};
 
 /// The version, and the kit that proves and builds it.
-const VERSION: &str = "0.3.0 (rattle-kit-13f logic dac8208d650f15bf)";
+const VERSION: &str = "0.4.0 (rattle-kit-13f logic dac8208d650f15bf)";
 
 /// The commands, in the order of the help.
 const COMMANDS: [&CommandForm; 12] = [
