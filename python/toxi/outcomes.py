@@ -102,6 +102,7 @@ def judge_of(unfaulted: Sequence[Outcome], check: Optional[Check], allowed: Allo
 
     Raises `ToxiError` where one of them hung or failed, `check` refuses its answer, or their answers differ and there is no `check`.
     """
+    __tracebackhide__ = True
     for outcome in unfaulted:
         if outcome.hung:
             raise ToxiError(f"the client doesn't return within {outcome.seconds:.1f} s without a fault")
