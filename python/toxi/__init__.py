@@ -10,9 +10,12 @@ __version__ = "0.4.0"
 from .async_served import AsyncToxi
 from .errors import ToxiEnded, ToxiError, ToxiFault, ToxiWarning
 from .factory import ToxiFactory
+from .finding import find_fault
+from .found import Found, Met
 from .lines import Address, Link, Total
 from .picks import PickedToxic
 from .proxies import Proxy
+from .rerunning import rerun, rerun_command
 from .rules import Rule, script_text
 from .served import Toxi
 from .toxics import Bandwidth, Latency, LimitData, ResetPeer, Slicer, SlowClose, Timeout, Toxic
@@ -21,9 +24,11 @@ __all__ = [
     "Address",
     "AsyncToxi",
     "Bandwidth",
+    "Found",
     "Latency",
     "LimitData",
     "Link",
+    "Met",
     "PickedToxic",
     "Proxy",
     "ResetPeer",
@@ -39,5 +44,8 @@ __all__ = [
     "ToxiFault",
     "ToxiWarning",
     "Toxic",
+    "find_fault",
+    "rerun",
+    "rerun_command",
     "script_text",
 ]

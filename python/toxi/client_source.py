@@ -1,0 +1,86 @@
+"""How a file of its own runs a client again: the text of `test_found.py`."""
+from abc import ABC, abstractmethod
+from dataclasses import dataclass
+from typing import Any, Callable, Dict, List, Optional, Sequence, Tuple
+
+from .outcomes import Allowed, Check, Client
+from .sources import Source, place_of_source, source_of
+
+HEAD = '''"""{about}"""
+import sys
+from pathlib import Path
+'''
+TEST = '''
+
+def test_found() -> None:
+    {call}
+
+
+if __name__ == "__main__":
+    try:
+        test_found()
+    except (AssertionError, ToxiError) as wrong:
+        sys.exit(str(wrong))
+'''
+MISSING = '''
+
+def {name}(*values):
+    raise NotImplementedError({told!r})
+'''
+
+
+class ClientSource(ABC):
+    """What a client was made of."""
+
+    @abstractmethod
+    def test_text(self, about: str, within: float, times: int) -> str:
+        """A test that runs the client under the fault beside it, `times` times, and fails until it is mended."""
+
+
+@dataclass(frozen=True)
+class CommandSource(ClientSource):
+    """A command and the statuses with which it may fail."""
+
+    command: Sequence[str]
+    allowed_statuses: Sequence[int]
+
+    def test_text(self, about: str, within: float, times: int) -> str:
+        """As a test of the command."""
+        options = f"allowed_statuses={list(self.allowed_statuses)!r}, within={within!r}, times={times}"
+        call = f"rerun_command(Path(__file__).parent, {list(self.command)!r}, {options})"
+        return f"{HEAD.format(about=about)}\nfrom toxi import ToxiError, rerun_command\n{TEST.format(call=call)}"
+
+
+@dataclass(frozen=True)
+class FunctionSource(ClientSource):
+    """A function and what `find_fault` was given beside it."""
+
+    client: Client
+    check: Optional[Check]
+    allowed: Allowed
+    before: Optional[Callable[[], object]]
+
+    def test_text(self, about: str, within: float, times: int) -> str:
+        """As a test that imports them. One that no module has, such as a local function, is to be put in by hand."""
+        functions: Dict[str, Any] = {"client": self.client, "check": self.check, "before": self.before}
+        given = {name: value for name, value in functions.items() if value is not None}
+        classes = self.allowed if isinstance(self.allowed, tuple) else (self.allowed,)
+        values = {**given, **{kind.__name__: kind for kind in classes if kind.__module__ != "builtins"}}
+        sources = {name: source_of(value) for name, value in values.items()}
+        allowed = "".join(f"{kind.__name__}, " for kind in classes)
+        options = [f"{name}={name}" for name in given if name != "client"] + [f"allowed=({allowed.rstrip()})", f"within={within!r}", f"times={times}"]
+        call = f"rerun(Path(__file__).parent, client, {', '.join(options)})"
+        missing = [MISSING.format(name=name, told=_to_put_in(name, values[name])) for name, source in sources.items() if source is None]
+        return "".join([HEAD.format(about=about), *_imports(sources), *missing, TEST.format(call=call)])
+
+
+def _to_put_in(name: str, value: Any) -> str:
+    return f"put the {name} in here: no module has it by a name, at {place_of_source(value)}"
+
+
+def _imports(sources: Dict[str, Optional[Source]]) -> List[str]:
+    named: List[Tuple[str, Source]] = [(name, source) for name, source in sources.items() if source is not None]
+    folders = list(dict.fromkeys(str(source.folder) for _, source in named if source.folder is not None))
+    paths = [f"\nsys.path[:0] = {folders!r}\n"] if folders else []
+    imports = [f"from {source.module} import {source.name}" + ("" if source.name == name else f" as {name}") + "\n" for name, source in named]
+    return [*paths, "\nfrom toxi import ToxiError, rerun\n", *imports]

@@ -1,0 +1,72 @@
+"""`Found`: the smallest fault that a search has left, with what is needed to see it again."""
+import reprlib
+import shlex
+import traceback
+from dataclasses import dataclass
+from pathlib import Path
+from typing import Tuple
+
+from .lines import Link
+from .outcomes import Outcome
+from .picks import PickedToxic
+
+# Longer answers are shown cut.
+SHOWN = reprlib.Repr()
+SHOWN.maxstring = SHOWN.maxother = 400
+
+
+@dataclass(frozen=True)
+class Met:
+    """What a connection met: the toxics that were applied to it, and the line of its link."""
+
+    link: Link
+    toxics: Tuple[PickedToxic, ...]
+
+    def __str__(self) -> str:
+        met = ", ".join(f"{toxic.stream} {toxic.short}" for toxic in self.toxics) or "no toxic"
+        return f"{self.link}: {met}"
+
+
+@dataclass(frozen=True, repr=False)
+class Found:
+    """A fault under which a client is wrong, as small as the search could make it.
+
+    `kind` is `wrong answer`, `exception <class>`, `hang`, or `status <n>` of a command. `detail` is what came: the answer or the exception. It came in
+    `failed` of the last `repeated` runs under `script` and `seed`. `connections` is what each connection met in one that failed. `folder` has
+    `proxies.json`, `script.toml`, `seed`, `logs`, `report.html`, and `again.sh` and `test_found.py`, which run it again. `runs` and `seconds` are those
+    of the whole search.
+    """
+
+    script: str
+    kind: str
+    detail: str
+    failed: int
+    repeated: int
+    connections: Tuple[Met, ...]
+    seed: int
+    runs: int
+    seconds: float
+    folder: Path
+
+    @property
+    def command(self) -> str:
+        """The command that runs it again."""
+        return shlex.join(["sh", str(self.folder / "again.sh")])
+
+    def __str__(self) -> str:
+        head = f"{self.kind} in {self.failed} of {self.repeated} runs, found and shrunk by {self.runs} runs in {self.seconds:.1f} s"
+        return "\n".join([head, self.detail, "", self.script, *map(str, self.connections), self.command])
+
+    def __repr__(self) -> str:
+        return f"<Found: {self.kind} in {self.failed} of {self.repeated} runs; {self.command}>"
+
+
+def detail_of(outcome: Outcome) -> str:
+    """What came of a run, for a person: its answer, the traceback of its exception, or that it hung."""
+    if outcome.hung:
+        after = "returned once its links were broken" if outcome.returned else "didn't return when its links were broken either"
+        return f"no return within {outcome.seconds:.1f} s; it {after}"
+    if outcome.error is not None:
+        error = outcome.error
+        return "".join(traceback.format_exception(type(error), error, error.__traceback__)).rstrip("\n")
+    return f"answer {SHOWN.repr(outcome.answer)}"
