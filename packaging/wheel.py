@@ -41,7 +41,7 @@ def metadata(project, version):
 
 def entry_points(project):
     """The file entry_points.txt."""
-    groups = project["entry-points"].items()
+    groups = {"console_scripts": project["scripts"], **project["entry-points"]}.items()
     return "\n".join(f"[{group}]\n" + "".join(f"{name} = {place}\n" for name, place in points.items()) for group, points in groups)
 
 

@@ -7,6 +7,7 @@ from typing import TYPE_CHECKING, Callable, Iterable, List, Mapping, Optional, T
 
 from .base import StrPath
 from .client_source import ClientSource, FunctionSource
+from .errors import ToxiError
 from .fault_search import FaultSearch, MakeJudge, Unfaulted, Watch
 from .found import Found
 from .found_folder import FoundFolder
@@ -102,8 +103,10 @@ def search_fault(
     """`find_fault` of any client: a function, or a command."""
     __tracebackhide__ = True
     begun = time.monotonic()
-    # Before anything runs: Hypothesis may be missing, or the faults named wrongly.
+    # Before anything runs: Hypothesis may be missing, the faults named wrongly, or the folder used.
     faults.rules(trials.upstreams, trials.within, Unfaulted())
+    if folder is not None and folder.exists() and any(folder.iterdir()):
+        raise ToxiError(f"{folder} isn't empty")
     search = FaultSearch(trials, begun + limits.budget, limits.runs, limits.budget, watch or (lambda progress: None))
     try:
         failed, repeated = _searched(search, faults, make_judge, limits)

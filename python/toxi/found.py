@@ -7,7 +7,7 @@ from pathlib import Path
 from typing import Tuple
 
 from .lines import Link
-from .outcomes import Outcome
+from .outcomes import WRONG, Outcome, Verdict
 from .picks import PickedToxic
 
 # Longer answers are shown cut.
@@ -55,18 +55,18 @@ class Found:
 
     def __str__(self) -> str:
         head = f"{self.kind} in {self.failed} of {self.repeated} runs, found and shrunk by {self.runs} runs in {self.seconds:.1f} s"
-        return "\n".join([head, self.detail, "", self.script, *map(str, self.connections), self.command])
+        return "\n".join([head, *filter(None, [self.detail]), "", self.script, *map(str, self.connections), self.command])
 
     def __repr__(self) -> str:
         return f"<Found: {self.kind} in {self.failed} of {self.repeated} runs; {self.command}>"
 
 
-def detail_of(outcome: Outcome) -> str:
-    """What came of a run, for a person: its answer, the traceback of its exception, or that it hung."""
+def detail_of(outcome: Outcome, verdict: Verdict) -> str:
+    """What came of a run beside its verdict, for a person: its answer, the traceback of its exception, or how it hung. Empty for a command's status."""
     if outcome.hung:
         after = "returned once its links were broken" if outcome.returned else "didn't return when its links were broken either"
         return f"no return within {outcome.seconds:.1f} s; it {after}"
     if outcome.error is not None:
         error = outcome.error
         return "".join(traceback.format_exception(type(error), error, error.__traceback__)).rstrip("\n")
-    return f"answer {SHOWN.repr(outcome.answer)}"
+    return f"answer {SHOWN.repr(outcome.answer)}" if verdict is WRONG else ""

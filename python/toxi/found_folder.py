@@ -42,7 +42,7 @@ class FoundFolder:
         found = Found(
             script=self._smallest.script,
             kind=str(self._smallest.verdict),
-            detail=detail_of(trial.outcome),
+            detail=detail_of(trial.outcome, self._smallest.verdict),
             failed=failed,
             repeated=repeated,
             connections=self._connections(),

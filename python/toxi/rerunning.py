@@ -51,7 +51,7 @@ def _require_right(trials: Trials, make_judge: MakeJudge, folder: Path, times: i
         trial.discard()
         verdict = judge.verdict(trial.outcome)
         if verdict.is_fault:
-            raise AssertionError(f"{verdict} under {folder / 'script.toml'}: {detail_of(trial.outcome)}")
+            raise AssertionError(f"{verdict} under {folder / 'script.toml'}\n{detail_of(trial.outcome, verdict)}".rstrip("\n"))
 
 
 def _upstreams(folder: StrPath) -> "dict[str, str]":
