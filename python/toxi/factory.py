@@ -1,9 +1,12 @@
 """`ToxiFactory`: what the fixtures `toxi`, `toxi_module` and `toxi_session` are."""
 from dataclasses import dataclass, field
 from pathlib import Path
-from typing import Dict, Iterable, List, Optional, Union
+from typing import Callable, Dict, Iterable, List, Mapping, Optional, Union
 
 from .base import START_LIMIT, StrPath
+from .finding import find_fault
+from .found import Found
+from .outcomes import Allowed, Check, Client
 from .program import found_program
 from .proxies import Proxies
 from .rules import Rule
@@ -13,10 +16,11 @@ from .served import Toxi
 
 @dataclass(frozen=True)
 class Begun:
-    """How far the proxies of a factory were at an instant: how many were started, and where those that lived stood."""
+    """How far a factory was at an instant: how many proxies were started, where those that lived stood, and how many faults were found."""
 
     started: int = 0
     positions: Dict[Toxi, Position] = field(default_factory=dict)
+    found: int = 0
 
 
 @dataclass(frozen=True)
@@ -46,6 +50,7 @@ class ToxiFactory:
         self._program = program
         self._workers = workers
         self._started: List[Toxi] = []
+        self._found: List[Found] = []
 
     def __call__(
         self,
@@ -66,13 +71,11 @@ class ToxiFactory:
         What isn't given is the fixture's: the seed, the program, the number of workers, and folders for its files and its logs.
         """
         folder = self._folder / f"toxi-{len(self._started) + 1}"
-        if program is None and self._program is not None:
-            program = found_program(self._program)
         served = Toxi(
             proxies,
             rules,
             seed=self.seed if seed is None else seed,
-            program=program,
+            program=self._own_program() if program is None else program,
             directory=folder if directory is None else directory,
             links=links,
             workers=self._workers if workers is None else workers,
@@ -84,6 +87,50 @@ class ToxiFactory:
         self._started.append(served)
         return served
 
+    def find_fault(
+        self,
+        upstreams: Mapping[str, str],
+        client: Client,
+        *,
+        check: Optional[Check] = None,
+        allowed: Allowed = OSError,
+        within: float = 10.0,
+        runs: int = 200,
+        budget: float = 120.0,
+        before: Optional[Callable[[], object]] = None,
+        connections: Optional[int] = None,
+        stream: Optional[str] = None,
+        kinds: Optional[Iterable[str]] = None,
+        trickle: bool = False,
+    ) -> Optional[Found]:
+        """`toxi.find_fault` under the fixture's seed, program and number of workers. What it finds is in the report of a red test."""
+        __tracebackhide__ = True
+        found = find_fault(
+            upstreams,
+            client,
+            check=check,
+            allowed=allowed,
+            within=within,
+            runs=runs,
+            budget=budget,
+            seed=self.seed,
+            before=before,
+            connections=connections,
+            stream=stream,
+            kinds=kinds,
+            trickle=trickle,
+            folder=self._folder / f"found-{len(self._found) + 1}",
+            program=self._own_program(),
+            workers=self._workers,
+        )
+        if found is not None:
+            self._found.append(found)
+        return found
+
+    def _own_program(self) -> Optional[str]:
+        """The program of the fixture's settings. None where they have none."""
+        return None if self._program is None else found_program(self._program)
+
     def stop(self) -> None:
         """Ends all of them."""
         for served in self._started:
@@ -92,7 +139,11 @@ class ToxiFactory:
     def begun(self) -> Begun:
         """How far they are now."""
         lives = {served: served.runs[-1].position() for served in self._started if not served.stopped}
-        return Begun(len(self._started), lives)
+        return Begun(len(self._started), lives, len(self._found))
+
+    def found(self, begun: Begun) -> List[Found]:
+        """The faults that were found since."""
+        return self._found[begun.found :]
 
     def shown(self, begun: Begun) -> List[Shown]:
         """Those that have lived since."""

@@ -1,6 +1,7 @@
 """The section of a test's report: what is needed to see the same faults again."""
 import os
 import shlex
+import shutil
 from dataclasses import dataclass, field
 from pathlib import Path
 from typing import Dict, List, Optional
@@ -10,6 +11,7 @@ import pytest
 from .artifacts import keep_run, safe_name
 from .errors import ToxiError
 from .factory import Begun, Shown, ToxiFactory
+from .found import Found
 from .runs import Position, Run
 from .served import page_of
 
@@ -45,10 +47,12 @@ class Section:
         if len(shown) < len(every):
             lines.append(f"{len(every) - len(shown)} earlier ones of {self.fixture.name} aren't shown")
         lines += [each.served.report(each.since) for each in shown]
+        found = self.fixture.factory.found(self.begun)
+        lines += map(str, found)
         pages = [page for each in shown for page in self._pages(each)] if is_red else []
         lines += pages
         if kept is not None:
-            lines.append(self._keep(shown, kept, lines))
+            lines.append(self._keep(shown, found, kept, lines))
         return "\n".join(lines)
 
     def _command(self, shown: List[Shown]) -> str:
@@ -89,13 +93,15 @@ class Section:
         path = run.page_path()
         return path.with_name(f"{path.stem}-{safe_name(self.item.nodeid)}{path.suffix}") if self.fixture.is_wide else path
 
-    def _keep(self, shown: List[Shown], kept: Path, lines: List[str]) -> str:
-        """Keeps the files, logs and pages, and the lines. Returns the line that tells where."""
+    def _keep(self, shown: List[Shown], found: List[Found], kept: Path, lines: List[str]) -> str:
+        """Keeps the files, logs and pages, the folders of what was found, and the lines. Returns the line that tells where."""
         try:
             for each in shown:
                 target = kept / f"{self.fixture.name}-{each.number}"
                 for run in each.runs:
                     keep_run(run, target, each.since, self._page_path(run))
+            for fault in found:
+                shutil.copytree(fault.folder, kept / f"{self.fixture.name}-{fault.folder.name}")
             (kept / f"{self.fixture.name}.txt").write_text("\n".join([*lines, ""]), encoding="utf-8")
         except (OSError, ToxiError) as error:
             return f"not kept: {error}"
