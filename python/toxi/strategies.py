@@ -170,6 +170,7 @@ class _Draws:
 Drawing = Callable[[DrawFn, _Draws], Toxic]
 
 
+# Those that end a stream draw its position first, so that one is shrunk to another with the same position.
 def _limit_data(draw: DrawFn, draws: _Draws) -> Toxic:
     return LimitData(bytes=draw(draws.positions))
 
@@ -180,8 +181,7 @@ def _reset_peer(draw: DrawFn, draws: _Draws) -> Toxic:
 
 
 def _timeout(draw: DrawFn, draws: _Draws) -> Toxic:
-    begin = draw(_usually(st.just(0), draws.waits))
-    return Timeout(after=draw(draws.positions), from_=begin, timeout=draw(draws.waits))
+    return Timeout(after=draw(draws.positions), from_=draw(_usually(st.just(0), draws.waits)), timeout=draw(draws.waits))
 
 
 def _latency(draw: DrawFn, draws: _Draws) -> Toxic:

@@ -1,0 +1,160 @@
+"""`find_fault` on clients with a planted bug: each is found, and shrunk to what a person would write. Needs Hypothesis."""
+import glob
+import os
+import re
+import subprocess
+import sys
+import tempfile
+import threading
+import unittest
+from pathlib import Path
+
+import planted_clients as planted
+from toxi import Found, LimitData, Link, ResetPeer, Rule, Timeout, ToxiError, find_fault, rerun, script_text
+
+WITHIN = 1.0
+# The unproved program takes its time.
+BUDGET = 600.0
+FIRST = [Rule("shop", [LimitData(bytes=0)], last=1)]
+
+
+def children():
+    """The processes that this one has started and that haven't ended."""
+    found = []
+    for stat in glob.glob("/proc/[0-9]*/stat"):
+        try:
+            fields = Path(stat).read_text().rpartition(")")[2].split()
+        except (FileNotFoundError, ProcessLookupError):
+            continue
+        if fields[1] == str(os.getpid()) and fields[0] not in "ZX":
+            found.append(stat)
+    return found
+
+
+class Searching(unittest.TestCase):
+    """A service, a folder for what is found, and no process left."""
+
+    def setUp(self):
+        service = planted.line_service()
+        self.server = service.__enter__()
+        self.addCleanup(service.__exit__, None, None, None)
+        self.folder = tempfile.TemporaryDirectory()
+        self.addCleanup(self.folder.cleanup)
+        self.shop = {"shop": planted.upstream(self.server)}
+
+    def tearDown(self):
+        self.assertEqual(children(), [])
+
+    def found(self, client, upstreams=None, **options):
+        target = Path(tempfile.mkdtemp(dir=self.folder.name))
+        return find_fault(upstreams or self.shop, client, within=WITHIN, budget=BUDGET, folder=target, **options)
+
+
+
+class FindTests(Searching):
+    def require(self, found, kind, rules):
+        self.assertIsInstance(found, Found)
+        self.assertEqual((found.kind, found.script), (kind, script_text(rules)))
+        self.assertEqual((found.failed, found.repeated), (10, 10))
+
+    def test_one_recv(self):
+        found = self.found(planted.one_recv)
+        self.require(found, "wrong answer", FIRST)
+        self.assertEqual([met.link for met in found.connections], [Link("shop", 1, 4, "closed", 0, "closed")])
+
+    def test_cut_body(self):
+        self.require(self.found(planted.cut_body), "wrong answer", [Rule("shop", [LimitData(bytes=2)], last=1)])
+
+    def test_sends_twice(self):
+        def clear():
+            self.server.count = 0
+
+        found = self.found(planted.sends_twice, before=clear, check=lambda _: self.server.count == 1)
+        self.require(found, "wrong answer", [Rule("shop", [ResetPeer(after=1)], last=1)])
+
+    def test_no_time_limit(self):
+        for client in (planted.waits, planted.hangs_in_a_loop):
+            with self.subTest(client.__name__):
+                self.require(self.found(client), "hang", [Rule("shop", [Timeout()], last=1)])
+
+    def test_keeps_a_dead_connection(self):
+        found = self.found(planted.keeps_dead)
+        self.require(found, "exception NoRecovery", FIRST)
+        self.assertEqual(set(re.findall('File "(.*?)"', found.detail)), {planted.__file__})
+
+    def test_two_faults_at_once(self):
+        with planted.line_service() as other:
+            upstreams = {"first": planted.upstream(self.server), "second": planted.upstream(other)}
+            found = self.found(planted.careless_fallback, upstreams)
+        second = Rule("second", [LimitData(bytes=2)], last=1)
+        self.require(found, "wrong answer", [Rule("first", [LimitData(bytes=0)], last=1), second])
+        self.assertEqual([met.link.proxy for met in found.connections], ["first", "second"])
+
+    def test_a_correct_client_has_none(self):
+        runs = []
+        self.assertIsNone(self.found(planted.whole, runs=300, watch=lambda progress: runs.append(progress.runs)))
+        self.assertEqual(runs, list(range(1, 301)))
+
+
+class HandedOverTests(Searching):
+    """The folder, and searches that end early."""
+
+    def test_the_folder_runs_it_again(self):
+        found = self.found(planted.cut_body)
+        files = {"again.sh", "logs", "proxies.json", "report.html", "script.toml", "seed", "test_found.py"}
+        self.assertEqual(set(os.listdir(found.folder)), files)
+        self.assertEqual((found.folder / "script.toml").read_text(), found.script)
+        self.assertEqual(sorted(os.listdir(found.folder / "logs")), ["shop-1-downstream.log", "shop-1-upstream.log"])
+        again = subprocess.run(found.command, shell=True, capture_output=True, text=True, check=False)
+        self.assertEqual((again.returncode, again.stderr), (1, f"wrong answer under {found.folder / 'script.toml'}\nanswer b''\n"))
+        test = found.folder / "test_found.py"
+        test.write_text(test.read_text().replace("import cut_body as client", "import whole as client"))
+        mended = subprocess.run(found.command, shell=True, capture_output=True, text=True, check=False)
+        self.assertEqual((mended.returncode, mended.stderr), (0, ""))
+        with self.assertRaisesRegex(AssertionError, "^wrong answer under "):
+            rerun(found.folder, planted.cut_body, within=WITHIN)
+        with self.assertRaisesRegex(ToxiError, "isn't empty"):
+            find_fault(self.shop, planted.cut_body, folder=found.folder)
+
+    def test_a_client_that_never_returns_ends_the_search(self):
+        released = threading.Event()
+        self.addCleanup(released.set)
+
+        def stuck(addresses):
+            try:
+                return planted.whole(addresses)
+            except OSError:
+                released.wait()
+
+        found = self.found(stuck)
+        self.assertEqual((found.kind, found.failed, found.repeated), ("hang", 1, 1))
+        self.assertIn("didn't return when its links were broken either", found.detail)
+        self.assertIn("put the client in here", (found.folder / "test_found.py").read_text())
+
+    def test_the_budget_ends_a_search(self):
+        found = find_fault(self.shop, planted.waits, within=WITHIN, budget=8.0, folder=Path(self.folder.name, "found"))
+        self.assertEqual(found.kind, "hang")
+        self.assertLess(found.seconds, 8.0 + 2 * WITHIN)
+
+    def test_a_client_must_be_right_without_a_fault(self):
+        answers = iter(range(100))
+        with self.assertRaisesRegex(ToxiError, "so give `check`.*0, 1"):
+            self.found(lambda addresses: next(answers))
+        with self.assertRaisesRegex(ToxiError, "`check` refuses an answer without a fault.*5"):
+            self.found(lambda addresses: 5, check=lambda answer: None)
+        with self.assertRaisesRegex(ToxiError, "the client fails without a fault: KeyError: 'mail'"):
+            self.found(lambda addresses: addresses["mail"])
+
+    def test_what_before_raises_is_raised(self):
+        calls = iter(range(100))
+
+        def before():
+            if next(calls) > 4:
+                raise ValueError("before")
+
+        with self.assertRaisesRegex(ValueError, "^before$"):
+            self.found(planted.whole, before=before)
+
+
+if __name__ == "__main__":
+    sys.exit(unittest.main())
