@@ -31,8 +31,7 @@ NOTHING, FOUND, REFUSED, STOPPED = 0, 1, 2, 130
 def main(words: Optional[List[str]] = None) -> int:
     """Runs the command line. Returns its status."""
     arguments, command = read_client_arguments(_parser(), sys.argv[1:] if words is None else words)
-    for number in (signal.SIGTERM, signal.SIGHUP):
-        signal.signal(number, _stop)
+    _take_signals()
     line, begun = ProgressLine(sys.stderr), time.monotonic()
     try:
         found = _search(arguments, command, line)
@@ -87,6 +86,13 @@ def _told(text: str, status: int, line: ProgressLine) -> int:
     line.end()
     print(text, file=sys.stdout if status == NOTHING else sys.stderr)
     return status
+
+
+def _take_signals() -> None:
+    """Lets the signals that end a program stop the search, but for those that are ignored, as under nohup."""
+    for number in (signal.SIGINT, signal.SIGTERM, signal.SIGHUP):
+        if signal.getsignal(number) is not signal.SIG_IGN:
+            signal.signal(number, _stop)
 
 
 def _stop(number: int, frame: object) -> None:

@@ -38,6 +38,15 @@ class FindCommandTests(unittest.TestCase):
     def ran(self, *words):
         return subprocess.run(self.command(*words), cwd=self.folder, capture_output=True, text=True, check=False)
 
+    def started(self, terminal, *words):
+        """Tests that a script starts by `&` have SIGINT ignored, and so would have the command."""
+        before = signal.signal(signal.SIGINT, signal.default_int_handler)
+        try:
+            return subprocess.Popen(self.command(*words), cwd=self.folder, stdout=subprocess.PIPE, stderr=terminal, text=True)
+        finally:
+            signal.signal(signal.SIGINT, before)
+            os.close(terminal)
+
     def test_a_wrong_status_is_found_and_run_again(self):
         ran = self.ran("--allow-status", "7", "--", "bash", "-c", CUT_BODY)
         self.assertEqual((ran.returncode, ran.stderr), (1, ""))
@@ -82,21 +91,19 @@ class FindCommandTests(unittest.TestCase):
         """On a terminal, so that its progress tells when it has begun."""
         for number in (signal.SIGINT, signal.SIGTERM):
             shown, end = pty.openpty()
-            run = subprocess.Popen(self.command("--", "true"), cwd=self.folder, stdout=subprocess.PIPE, stderr=end)
-            os.close(end)
+            run = self.started(end, "--", "true")
             text = b""
             while b"\r\x1b[K5 runs" not in text:
                 text += os.read(shown, 1000)
             run.send_signal(number)
-            self.assertEqual(run.communicate(timeout=20)[0], b"")
+            self.assertEqual(run.communicate(timeout=20)[0], "")
             self.assertEqual(run.returncode, 130)
             self.assertRegex(os.read(shown, 1000), rb"stopped, nothing found by \d+ runs\r\n$")
             os.close(shown)
 
     def test_a_search_that_is_stopped_hands_over_what_it_has(self):
         shown, end = pty.openpty()
-        run = subprocess.Popen(self.command("--allow-status", "7", "--", "bash", "-c", WAITS), cwd=self.folder, stdout=subprocess.PIPE, stderr=end, text=True)
-        os.close(end)
+        run = self.started(end, "--allow-status", "7", "--", "bash", "-c", WAITS)
         text = b""
         while not re.search(rb"\d runs, hang: shop \d\.\.\d? ", text):
             text += os.read(shown, 1000)

@@ -4,6 +4,7 @@ import re
 import shlex
 import subprocess
 
+import planted_clients as planted
 import pytest
 
 RED = """
@@ -63,3 +64,25 @@ def test_each_test_draws_its_seed(run):
 
 def test_program_option(run):
     assert "/nowhere/toxi can't be started" in run("--toxi-program", "/nowhere/toxi")
+
+
+def test_find_fault(run_pytest, tmp_path):
+    pytest.importorskip("hypothesis")
+    folder = os.path.dirname(planted.__file__)
+    with planted.line_service() as server:
+        test = f"""
+import sys
+sys.path.insert(0, {folder!r})
+from planted_clients import cut_body, whole
+SHOP = {{"shop": {planted.upstream(server)!r}}}
+def test_cut(toxi):
+    assert toxi.find_fault(SHOP, cut_body, within=1.0, budget=300) is None
+def test_whole(toxi):
+    assert toxi.find_fault(SHOP, whole, within=1.0, runs=5) is None
+"""
+        printed = run_pytest({"test_find.py": test}, "--toxi-seed", "7", "--toxi-artifacts", "kept")
+    assert "1 failed, 1 passed" in printed
+    assert "assert <Found: wrong answer in 10 of 10 runs; sh " in printed
+    section = printed[printed.index("pytest test_find.py::test_cut --toxi-seed 7\n") :]
+    found = re.search(r"^wrong answer in 10 of 10 runs, .*^attributes = \{ bytes = 2 \}\n\nlink shop 1 .*?\nsh (\S+)/again.sh$", section, re.M | re.S)
+    assert sorted(os.listdir(found[1])) == sorted(os.listdir(tmp_path / "kept" / "test_find.py" / "test_cut" / "1" / "toxi-found-1"))

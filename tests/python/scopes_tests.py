@@ -199,7 +199,7 @@ def test_bad(toxi: ToxiFactory) -> None:
     command = [sys.executable, "-m", "mypy", "--strict", "--cache-dir", "/dev/null", "test_typed.py"]
     environment = {**os.environ, "MYPYPATH": os.environ["PYTHONPATH"]}
     printed = subprocess.run(command, cwd=tmp_path, env=environment, capture_output=True, text=True, check=False).stdout
-    assert [line.split(":")[1] for line in printed.splitlines()[:-1] if " error: " in line] == ["8", "9", "10"], printed
+    assert [line.split(":")[1] for line in printed.splitlines() if line.startswith("test_typed.py:") and " error: " in line] == ["8", "9", "10"], printed
     assert 'Unexpected keyword argument "linkss"' in printed
 
 
