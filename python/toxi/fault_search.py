@@ -133,9 +133,9 @@ class FaultSearch:
         smallest = self.smallest
         failed = repeated = 0
         while smallest is not None and repeated < REPETITIONS and smallest.trial.outcome.returned and time.monotonic() < self.end:
-            trial = self._run(smallest.rules)
+            trial, verdict = self._run(smallest.rules)
             trial.discard()
-            failed, repeated = failed + (self._verdict(trial) == smallest.verdict), repeated + 1
+            failed, repeated = failed + (verdict == smallest.verdict), repeated + 1
             self.repetitions = (failed, repeated)
             if not trial.outcome.returned:
                 break
@@ -170,8 +170,7 @@ class FaultSearch:
         if self._is_over():
             raise _Over
         try:
-            trial = self._run(rules)
-            verdict = self._verdict(trial)
+            trial, verdict = self._run(rules)
         except Exception as error:
             self._error = error
             raise _Over from None
@@ -202,13 +201,17 @@ class FaultSearch:
             dropped.trial.discard()
         return kept
 
-    def _run(self, rules: Iterable[Rule]) -> Trial:
-        self.count += 1
-        return self.trials.run(rules)
+    def _run(self, rules: Iterable[Rule]) -> Tuple[Trial, Verdict]:
+        """Runs the client once. Of a right one neither links nor logs are needed."""
+        judge, verdicts = self._judge, []
 
-    def _verdict(self, trial: Trial) -> Verdict:
-        assert self._judge is not None
-        return self._judge.verdict(trial.outcome)
+        def is_fault(outcome: Outcome) -> bool:
+            assert judge is not None
+            verdicts.append(judge.verdict(outcome))
+            return verdicts[0].is_fault
+
+        self.count += 1
+        return self.trials.run(rules, is_fault), verdicts[0]
 
     def _is_over(self) -> bool:
         if self.smallest is None:

@@ -68,7 +68,10 @@ class Process:
 
     def wait(self, timeout: float) -> int:
         """Waits until it ends and its lines are read. Raises `subprocess.TimeoutExpired`."""
-        status = self._child.wait(timeout)
+        end = time.monotonic() + timeout
+        # Its lines end with it. The end of a thread is noticed at once, and that of a process is looked for with pauses of up to 50 ms.
+        self._readers[0].join(timeout)
+        status = self._child.wait(max(0, end - time.monotonic()))
         for reader in self._readers:
             reader.join(STOP_LIMIT)
         return status
@@ -76,6 +79,11 @@ class Process:
     def terminate(self) -> None:
         """Sends SIGTERM, if it still runs."""
         self._child.terminate()
+
+    def kill(self) -> int:
+        """Ends it by SIGKILL, which takes less time, and what it had still to print is lost. Returns its status."""
+        self._kill()
+        return self.wait(STOP_LIMIT)
 
     def stop(self) -> int:
         """Ends it by SIGTERM, and by SIGKILL if that takes too long. Returns its status."""
@@ -85,8 +93,8 @@ class Process:
         except subprocess.TimeoutExpired:
             pass
         finally:
-            self._kill()
-        return self.wait(STOP_LIMIT)
+            status = self.kill()
+        return status
 
 
 def _read(stream: IO[str], lines: List[str], changed: threading.Condition) -> None:

@@ -47,7 +47,7 @@ def _require_right(trials: Trials, make_judge: MakeJudge, folder: Path, times: i
     judge = make_judge([unfaulted.outcome])
     script = (folder / "script.toml").read_text(encoding="utf-8")
     for _ in range(times):
-        trial = trials.run(script)
+        trial = trials.run(script, lambda outcome: False)
         trial.discard()
         verdict = judge.verdict(trial.outcome)
         if verdict.is_fault:

@@ -21,6 +21,11 @@ class _Unchecked(Toxi):
     def _checked(self, run: Run) -> Run:
         return run
 
+    def kill(self) -> None:
+        """As `stop`, without the lines of links that still live, and without the 50 ms that `serve` takes to look for SIGTERM."""
+        self._running().kill()
+        self.stop()
+
 
 @dataclass(frozen=True)
 class Trial:
@@ -58,8 +63,11 @@ class Trials:
     program: Optional[StrPath] = None
     workers: Optional[int] = None
 
-    def run(self, rules: Rules = ()) -> Trial:
-        """Runs it once under a script. Raises `ToxiError` where `serve` can't be started."""
+    def run(self, rules: Rules = (), keeps: Callable[[Outcome], bool] = lambda outcome: True) -> Trial:
+        """Runs it once under a script. Where `keeps` is false of its outcome, links and logs may be missing, and it takes less time.
+
+        Raises `ToxiError` where `serve` can't be started.
+        """
         if self.before is not None:
             self.before()
         begun = time.monotonic()
@@ -69,12 +77,14 @@ class Trials:
             with served:
                 addresses = {name: served.address(name) for name in self.upstreams}
                 outcome = run_client(self.client, addresses, self.within, served.stop)
+                if not keeps(outcome):
+                    served.kill()
         except BaseException:
             directory.cleanup()
             raise
         return Trial(outcome, served, time.monotonic() - begun, directory)
 
-    def _served(self, rules: Rules, directory: Path) -> Toxi:
+    def _served(self, rules: Rules, directory: Path) -> _Unchecked:
         return _Unchecked(
             self.upstreams, rules, seed=self.seed, program=self.program, workers=self.workers, directory=directory, log=directory / "logs"
         )
