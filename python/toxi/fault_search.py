@@ -133,7 +133,7 @@ class FaultSearch:
         smallest = self.smallest
         failed = repeated = 0
         while smallest is not None and repeated < REPETITIONS and smallest.trial.outcome.returned and time.monotonic() < self.end:
-            trial, verdict = self._run(smallest.rules)
+            trial, verdict = self._run(smallest.rules, False)
             trial.discard()
             failed, repeated = failed + (verdict == smallest.verdict), repeated + 1
             self.repetitions = (failed, repeated)
@@ -165,12 +165,12 @@ class FaultSearch:
         self.smallest = self._smaller(self.smallest, fault)
         return True
 
-    def _fault(self, rules: Iterable[Rule]) -> Optional[Smallest]:
+    def _fault(self, rules: Iterable[Rule], is_kept: bool = True) -> Optional[Smallest]:
         """Runs the client once. Returns its failure, if that is of the kind that is looked for."""
         if self._is_over():
             raise _Over
         try:
-            trial, verdict = self._run(rules)
+            trial, verdict = self._run(rules, is_kept)
         except Exception as error:
             self._error = error
             raise _Over from None
@@ -188,7 +188,7 @@ class FaultSearch:
     def _comes_again(self, fault: Smallest) -> bool:
         """Whether the client fails in the same way each time."""
         for _ in range(0 if fault.verdict is HANG else IN_A_ROW - 1):
-            again = self._fault(fault.rules)
+            again = self._fault(fault.rules, False)
             if again is None or again.verdict != fault.verdict:
                 return False
             again.trial.discard()
@@ -201,17 +201,17 @@ class FaultSearch:
             dropped.trial.discard()
         return kept
 
-    def _run(self, rules: Iterable[Rule]) -> Tuple[Trial, Verdict]:
-        """Runs the client once. Of a right one neither links nor logs are needed."""
+    def _run(self, rules: Iterable[Rule], is_kept: bool) -> Tuple[Trial, Verdict]:
+        """Runs the client once. Links and logs are those of a failure, if it is to be kept."""
         judge, verdicts = self._judge, []
 
-        def is_fault(outcome: Outcome) -> bool:
+        def keeps(outcome: Outcome) -> bool:
             assert judge is not None
             verdicts.append(judge.verdict(outcome))
-            return verdicts[0].is_fault
+            return is_kept and verdicts[0].is_fault
 
         self.count += 1
-        return self.trials.run(rules, is_fault), verdicts[0]
+        return self.trials.run(rules, keeps), verdicts[0]
 
     def _is_over(self) -> bool:
         if self.smallest is None:
