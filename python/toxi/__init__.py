@@ -10,6 +10,7 @@ __version__ = "0.4.0"
 from .async_served import AsyncToxi
 from .errors import ToxiEnded, ToxiError, ToxiFault, ToxiWarning
 from .factory import ToxiFactory
+from .fault_search import Progress
 from .finding import find_fault
 from .found import Found, Met
 from .lines import Address, Link, Total
@@ -30,6 +31,7 @@ __all__ = [
     "Link",
     "Met",
     "PickedToxic",
+    "Progress",
     "Proxy",
     "ResetPeer",
     "Rule",

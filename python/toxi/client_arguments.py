@@ -2,7 +2,7 @@
 import argparse
 from typing import List, Sequence, Tuple
 
-WITHIN = 10.0
+from .outcomes import WITHIN
 
 
 def client_parser(name: str, about: str) -> argparse.ArgumentParser:

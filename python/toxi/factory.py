@@ -4,9 +4,9 @@ from pathlib import Path
 from typing import Callable, Dict, Iterable, List, Mapping, Optional, Union
 
 from .base import START_LIMIT, StrPath
-from .finding import find_fault
+from .finding import BUDGET, RUNS, find_fault
 from .found import Found
-from .outcomes import Allowed, Check, Client
+from .outcomes import WITHIN, Allowed, Check, Client
 from .program import found_program
 from .proxies import Proxies
 from .rules import Rule
@@ -94,9 +94,9 @@ class ToxiFactory:
         *,
         check: Optional[Check] = None,
         allowed: Allowed = OSError,
-        within: float = 10.0,
-        runs: int = 200,
-        budget: float = 120.0,
+        within: float = WITHIN,
+        runs: int = RUNS,
+        budget: float = BUDGET,
         before: Optional[Callable[[], object]] = None,
         connections: Optional[int] = None,
         stream: Optional[str] = None,

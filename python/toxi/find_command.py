@@ -7,6 +7,7 @@ from functools import partial
 from pathlib import Path
 from typing import List, Optional
 
+from .base import STREAMS
 from .client_arguments import client_parser, positive, read_client_arguments, seconds
 from .client_source import CommandSource
 from .errors import ToxiError
@@ -53,7 +54,7 @@ def _parser() -> argparse.ArgumentParser:
     parser.add_argument("--runs", metavar="N", type=positive, default=limits.runs, help="how many faults are drawn (default: %(default)s)")
     parser.add_argument("--budget", metavar="S", type=seconds, default=limits.budget, help="what the search takes at most, in seconds (default: %(default)s)")
     parser.add_argument("--seed", metavar="N", type=int, default=1, help="the seed of the draws and of the proxies (default: %(default)s)")
-    parser.add_argument("--stream", choices=("upstream", "downstream"), help="faults of this stream alone")
+    parser.add_argument("--stream", choices=STREAMS, help="faults of this stream alone")
     parser.add_argument("--kind", dest="kinds", action="append", choices=KINDS, help="toxics of this type alone. Repeatable")
     parser.add_argument("--trickle", action="store_true", default=faults.trickle, help="draws streams that are slower than --within allows, too")
     parser.add_argument("--folder", metavar="DIR", type=Path, help=f"what is found is written there (default: {DEFAULT_FOLDER}, or with the next free number)")

@@ -11,13 +11,16 @@ from .errors import ToxiError
 from .fault_search import FaultSearch, MakeJudge, Unfaulted, Watch
 from .found import Found
 from .found_folder import FoundFolder
-from .outcomes import Allowed, Check, Client, judge_of
+from .outcomes import WITHIN, Allowed, Check, Client, judge_of
 from .rules import Rule
 from .trials import Trials
 
 if TYPE_CHECKING:
     from hypothesis.strategies import SearchStrategy
 
+# How many faults are drawn, and what a search may take, in seconds.
+RUNS = 200
+BUDGET = 120.0
 # Connections past those that the client makes without a fault: it may try again.
 RETRIES = 2
 
@@ -45,8 +48,8 @@ class Faults:
 class SearchLimits:
     """How long a search may be: drawn runs, and seconds in all. One that is `stoppable` hands over what it has at a KeyboardInterrupt."""
 
-    runs: int = 200
-    budget: float = 120.0
+    runs: int = RUNS
+    budget: float = BUDGET
     stoppable: bool = False
 
 
@@ -56,9 +59,9 @@ def find_fault(
     *,
     check: Optional[Check] = None,
     allowed: Allowed = OSError,
-    within: float = 10.0,
-    runs: int = 200,
-    budget: float = 120.0,
+    within: float = WITHIN,
+    runs: int = RUNS,
+    budget: float = BUDGET,
     seed: int = 1,
     before: Optional[Callable[[], object]] = None,
     connections: Optional[int] = None,

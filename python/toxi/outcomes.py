@@ -19,6 +19,8 @@ Addresses = Mapping[str, Address]
 Client = Callable[[Addresses], Any]
 Check = Callable[[Any], Any]
 Allowed = Union[Type[BaseException], Tuple[Type[BaseException], ...]]
+# How long a client may take unless told, in seconds.
+WITHIN = 10.0
 # How long a client that hangs may take to return once its links are broken, in seconds.
 GRACE = 2.0
 # Frames of these folders stand above the client's own in a traceback.

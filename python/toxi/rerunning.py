@@ -2,12 +2,12 @@
 import json
 from functools import partial
 from pathlib import Path
-from typing import Callable, Iterable, Optional, Sequence
+from typing import Callable, Dict, Iterable, Optional, Sequence
 
 from .base import StrPath
 from .fault_search import MakeJudge
 from .found import detail_of
-from .outcomes import Allowed, Check, Client, judge_of
+from .outcomes import WITHIN, Allowed, Check, Client, judge_of
 from .shell_client import ShellClient, status_judge
 from .trials import Trials
 
@@ -18,7 +18,7 @@ def rerun(
     *,
     check: Optional[Check] = None,
     allowed: Allowed = OSError,
-    within: float = 10.0,
+    within: float = WITHIN,
     before: Optional[Callable[[], object]] = None,
     times: int = 1,
 ) -> None:
@@ -32,7 +32,7 @@ def rerun(
 
 
 def rerun_command(
-    folder: StrPath, command: Sequence[str], *, allowed_statuses: Iterable[int] = (), within: float = 10.0, times: int = 1
+    folder: StrPath, command: Sequence[str], *, allowed_statuses: Iterable[int] = (), within: float = WITHIN, times: int = 1
 ) -> None:
     """As `rerun`, for a command, whose outputs are ours."""
     __tracebackhide__ = True
@@ -54,7 +54,7 @@ def _require_right(trials: Trials, make_judge: MakeJudge, folder: Path, times: i
             raise AssertionError(f"{verdict} under {folder / 'script.toml'}\n{detail_of(trial.outcome, verdict)}".rstrip("\n"))
 
 
-def _upstreams(folder: StrPath) -> "dict[str, str]":
+def _upstreams(folder: StrPath) -> Dict[str, str]:
     proxies = json.loads((Path(folder) / "proxies.json").read_text(encoding="utf-8"))
     return {proxy["name"]: proxy["upstream"] for proxy in proxies}
 

@@ -17,12 +17,13 @@ except ModuleNotFoundError as missing:
         raise
     raise ModuleNotFoundError("Hypothesis isn't installed: pip install 'toxi[find]', or Debian's python3-hypothesis", name="hypothesis") from None
 
+from .base import STREAMS
 from .delays import MAX_MS, Delays
+from .outcomes import WITHIN
 from .rules import Rule
 from .smallness import KINDS
 from .toxics import Bandwidth, Latency, LimitData, ResetPeer, Slicer, SlowClose, Timeout, Toxic
 
-STREAMS = ("downstream", "upstream")
 # The conversation whose delays are kept below half of the limit, in bytes.
 CONVERSATION = 1024
 # Positions in a stream up to this are drawn more often: heads and first pieces end there.
@@ -39,7 +40,7 @@ def toxics(
     *,
     stream: Optional[str] = None,
     kinds: Optional[Iterable[str]] = None,
-    within: float = 10.0,
+    within: float = WITHIN,
     bytes: int = CONVERSATION,
     trickle: bool = False,
 ) -> "SearchStrategy[Toxic]":
@@ -60,7 +61,7 @@ def rules(
     most_toxics: int = 2,
     stream: Optional[str] = None,
     kinds: Optional[Iterable[str]] = None,
-    within: float = 10.0,
+    within: float = WITHIN,
     bytes: int = CONVERSATION,
     trickle: bool = False,
 ) -> "SearchStrategy[List[Rule]]":
@@ -123,8 +124,8 @@ def _toxics(stream: Optional[str], kinds: Optional[Iterable[str]], bytes: int, d
     for kind in chosen:
         if kind not in DRAWS:
             raise ValueError(f"{kind!r} is no kind; there are {', '.join(DRAWS)}")
-    # Answers more often than requests.
-    streams = st.sampled_from((STREAMS[0], *STREAMS)) if stream is None else st.just(stream)
+    # Answers more often than requests, and first, since the first is shrunk to.
+    streams = st.sampled_from(("downstream", "downstream", "upstream")) if stream is None else st.just(stream)
     toxicities = _usually(st.none(), st.integers(1, 999).map(lambda thousandths: thousandths / 1000))
     draws = _Draws(bytes, delays, streams, toxicities)
     # The first is shrunk to. Those that end a stream are drawn three times as often: they break more clients than delays do.
