@@ -1,7 +1,7 @@
 """How a file of its own runs a client again: the text of `test_found.py`."""
 from abc import ABC, abstractmethod
 from dataclasses import dataclass
-from typing import Any, Callable, Dict, List, Optional, Sequence, Tuple
+from typing import Any, Callable, Dict, List, Optional, Sequence, Tuple, Type
 
 from .outcomes import Allowed, Check, Client
 from .sources import Source, place_of_source, source_of
@@ -64,14 +64,22 @@ class FunctionSource(ClientSource):
         """As a test that imports them. One that no module has, such as a local function, is to be put in by hand."""
         functions: Dict[str, Any] = {"client": self.client, "check": self.check, "before": self.before}
         given = {name: value for name, value in functions.items() if value is not None}
-        classes = self.allowed if isinstance(self.allowed, tuple) else (self.allowed,)
-        values = {**given, **{kind.__name__: kind for kind in classes if kind.__module__ != "builtins"}}
+        classes = _named(self.allowed if isinstance(self.allowed, tuple) else (self.allowed,))
+        values = {**given, **{name: kind for name, kind in classes.items() if (kind.__module__, kind.__name__) != ("builtins", name)}}
         sources = {name: source_of(value) for name, value in values.items()}
-        allowed = "".join(f"{kind.__name__}, " for kind in classes)
-        options = [f"{name}={name}" for name in given if name != "client"] + [f"allowed=({allowed.rstrip()})", f"within={within!r}", f"times={times}"]
+        allowed = ", ".join(classes) + ("," if len(classes) == 1 else "")
+        options = [f"{name}={name}" for name in given if name != "client"] + [f"allowed=({allowed})", f"within={within!r}", f"times={times}"]
         call = f"rerun(Path(__file__).parent, client, {', '.join(options)})"
         missing = [MISSING.format(name=name, told=_to_put_in(name, values[name])) for name, source in sources.items() if source is None]
         return "".join([HEAD.format(about=about), *_imports(sources), *missing, TEST.format(call=call)])
+
+
+def _named(classes: Sequence[Type[BaseException]]) -> Dict[str, Type[BaseException]]:
+    """Classes by their names. A later one of a name has its number behind it."""
+    named: Dict[str, Type[BaseException]] = {}
+    for kind in classes:
+        named[kind.__name__ if kind.__name__ not in named else f"{kind.__name__}{len(named) + 1}"] = kind
+    return named
 
 
 def _to_put_in(name: str, value: Any) -> str:

@@ -1,15 +1,17 @@
 """How a file of its own names a function or a class that was given as a value."""
 import inspect
 import os
+import site
 import sys
+import sysconfig
 from dataclasses import dataclass
 from pathlib import Path
-from typing import Any, Optional
+from typing import Any, List, Optional
 
 
 @dataclass(frozen=True)
 class Source:
-    """A module, the folder from which it is imported, and the name in it."""
+    """A module, the folder from which it is imported, unless every interpreter looks there, and the name in it."""
 
     folder: Optional[Path]
     module: str
@@ -30,7 +32,13 @@ def source_of(value: Any) -> Optional[Source]:
     if module == "__main__":
         return Source(path.parent, path.stem, name)
     above = len(module.split(".")) - (0 if path.name == "__init__.py" else 1)
-    return Source(path.parents[above], module, name)
+    folder = path.parents[above]
+    return Source(None if str(folder) in _searched_by_all() else folder, module, name)
+
+
+def _searched_by_all() -> List[str]:
+    """The folders of installed packages and of Python's own modules."""
+    return [*site.getsitepackages(), sysconfig.get_path("stdlib")]
 
 
 def place_of_source(value: Any) -> str:

@@ -1,5 +1,6 @@
 """`find_fault` on clients with a planted bug: each is found, and shrunk to what a person would write. Needs Hypothesis."""
 import glob
+import http.client
 import os
 import re
 import subprocess
@@ -11,11 +12,19 @@ from pathlib import Path
 
 import planted_clients as planted
 from toxi import Found, LimitData, Link, ResetPeer, Rule, Timeout, ToxiError, find_fault, rerun, script_text
+from toxi.client_source import FunctionSource
 
 WITHIN = 1.0
 # The unproved program takes its time.
 BUDGET = 600.0
 FIRST = [Rule("shop", [LimitData(bytes=0)], last=1)]
+
+
+class OwnConnectionError(Exception):
+    """Has the name of Python's own."""
+
+
+OwnConnectionError.__name__ = "ConnectionError"
 
 
 def children():
@@ -115,6 +124,19 @@ class HandedOverTests(Searching):
             rerun(found.folder, planted.cut_body, within=WITHIN)
         with self.assertRaisesRegex(ToxiError, "isn't empty"):
             find_fault(self.shop, planted.cut_body, folder=found.folder)
+
+    def test_what_was_allowed_is_imported_by_its_names(self):
+        allowed = (http.client.HTTPException, ConnectionError, OwnConnectionError)
+        source = FunctionSource(planted.whole, planted.parts, allowed, None).test_text("about", 2.0, 3)
+        for line in (
+            f"sys.path[:0] = [{os.path.dirname(planted.__file__)!r}]",
+            "from planted_clients import whole as client",
+            "from planted_clients import parts as check",
+            "from http.client import HTTPException",
+            "from find_tests import OwnConnectionError as ConnectionError3",
+            "    rerun(Path(__file__).parent, client, check=check, allowed=(HTTPException, ConnectionError, ConnectionError3), within=2.0, times=3)",
+        ):
+            self.assertIn(line, source.splitlines())
 
     def test_a_client_that_never_returns_ends_the_search(self):
         released = threading.Event()
