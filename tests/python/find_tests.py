@@ -1,6 +1,7 @@
 """`find_fault` on clients with a planted bug: each is found, and shrunk to what a person would write. Needs Hypothesis."""
 import glob
 import http.client
+import itertools
 import os
 import re
 import subprocess
@@ -152,6 +153,21 @@ class HandedOverTests(Searching):
         self.assertEqual((found.kind, found.failed, found.repeated), ("hang", 1, 1))
         self.assertIn("didn't return when its links were broken either", found.detail)
         self.assertIn("put the client in here", (found.folder / "test_found.py").read_text())
+
+    def test_what_comes_now_and_then_has_its_frequency(self):
+        turns = itertools.count()
+
+        def every_other(addresses):
+            try:
+                return planted.whole(addresses)
+            except OSError:
+                if next(turns) % 2:
+                    raise
+                return b"wrong"
+
+        found = self.found(every_other, runs=40)
+        self.assertEqual((found.kind, found.script, found.failed, found.repeated), ("wrong answer", script_text(FIRST), 5, 10))
+        self.assertIn("times=10)", (found.folder / "test_found.py").read_text())
 
     def test_the_budget_ends_a_search(self):
         found = find_fault(self.shop, planted.waits, within=WITHIN, budget=8.0, folder=Path(self.folder.name, "found"))
