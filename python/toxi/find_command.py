@@ -38,7 +38,7 @@ def main(words: Optional[List[str]] = None) -> int:
         found = _search(arguments, command, line)
     except KeyboardInterrupt:
         return _told(f"stopped, nothing found by {line.runs} runs", STOPPED, line)
-    except (ToxiError, ModuleNotFoundError, ValueError) as error:
+    except (ToxiError, ModuleNotFoundError, ValueError, OSError) as error:
         return _told(f"toxi-find: {error}", REFUSED, line)
     if found is None:
         return _told(f"nothing found by {line.runs} runs in {time.monotonic() - begun:.1f} s", NOTHING, line)

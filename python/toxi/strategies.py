@@ -7,7 +7,7 @@ They need Hypothesis: `pip install toxi[find]`. What they draw is accepted by `t
 small numbers and downstream.
 """
 from dataclasses import replace
-from typing import Any, Callable, Dict, Iterable, List, Optional, Sequence, Tuple, TypeVar
+from typing import Any, Callable, Dict, Iterable, List, Optional, Tuple, TypeVar
 
 try:
     from hypothesis import strategies as st
