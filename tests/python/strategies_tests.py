@@ -6,7 +6,8 @@ from dataclasses import fields
 from pathlib import Path
 from unittest import mock
 
-from hypothesis import HealthCheck, find, given, settings
+from hypothesis import HealthCheck, given, settings
+from hypothesis import find as find_by_default
 
 import toxi
 from toxi import Bandwidth, Latency, LimitData, ResetPeer, Rule, Slicer, SlowClose, Timeout, script_text, strategies
@@ -17,6 +18,11 @@ from toxi.proxies import populate_text
 ANY = settings(max_examples=2000, database=None, deadline=None, derandomize=True, suppress_health_check=list(HealthCheck))
 WITHIN = 2.0
 PROXIES = {"shop": "127.0.0.1:1", "mail": "127.0.0.1:1"}
+
+
+def find(strategy, condition):
+    """What a strategy shrinks to. Nothing is kept for a later run."""
+    return find_by_default(strategy, condition, settings=settings(max_examples=2000, database=None))
 
 
 def drawn(strategy, limits=ANY):
