@@ -16,7 +16,7 @@ from .rules import Rule
 from .runs import Position, Run
 
 StrPath = Union[str, "os.PathLike[str]"]
-STREAMS = ("upstream", "downstream")
+STREAMS: Tuple[str, str] = ("upstream", "downstream")
 # A clone's ./toxi compiles itself first. In seconds.
 START_LIMIT = 300.0
 # Between two looks whether the program has stopped listening, in seconds.

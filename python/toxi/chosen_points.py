@@ -1,0 +1,119 @@
+"""Which points a sweep runs: all of them, or as many as it may, the boundaries of what arrived first."""
+import bisect
+import itertools
+import random
+from dataclasses import dataclass
+from typing import Iterable, Iterator, List, Sequence, Set, Tuple
+
+from .conversations import StreamBytes
+from .errors import ToxiError
+from .fault_points import DELAYED_PART, ENDINGS, FAULTS, MICROS, SLICE_DELAY, FaultPoint
+
+# A latency is told in milliseconds, here in microseconds.
+MIN_LATENCY = 1000
+
+
+@dataclass(frozen=True)
+class ChosenPoints:
+    """The points that are run, those at boundaries first, and how many there are without a bound."""
+
+    points: Sequence[FaultPoint]
+    possible: int
+
+    @property
+    def left_out(self) -> int:
+        """How many points aren't run."""
+        return self.possible - len(self.points)
+
+
+@dataclass(frozen=True)
+class Span:
+    """The offsets of a stream at which a fault can come. Those in `boundaries` are at a boundary, those in `near` there or one byte beside it."""
+
+    stream: StreamBytes
+    fault: str
+    offsets: range
+    boundaries: Set[int]
+    near: Set[int]
+    within: float
+
+    def point(self, offset: int) -> FaultPoint:
+        """The fault at an offset."""
+        return FaultPoint(*self.stream.key, self.fault, offset, self._delay(offset))
+
+    def _delay(self, offset: int) -> int:
+        """The delay of each slice, or of all, in microseconds: over the stream they add up to a part of the limit."""
+        budget = self.within * DELAYED_PART * MICROS
+        if self.fault == "sliced":
+            return min(SLICE_DELAY, max(int(budget * offset / self.stream.bytes), 1))
+        # Each piece may be an answer that the next request waits for.
+        return max(MIN_LATENCY, int(budget / max(len(self.stream.pieces), 1))) if self.fault == "slow" else 0
+
+
+def chosen_points(
+    streams: Iterable[StreamBytes], faults: Sequence[str], *, most: int, every_silence: bool, within: float, seed: int
+) -> ChosenPoints:
+    """The points of some streams, at most `most`: those near boundaries, and others that are drawn. `within` is the client's limit in seconds.
+
+    Silences are those near boundaries alone, unless `every_silence`. Raises `ValueError` for a fault of another name.
+    """
+    unknown = [fault for fault in faults if fault not in FAULTS]
+    if unknown:
+        raise ValueError(f"no fault {unknown[0]!r}; there are {', '.join(FAULTS)}")
+    spans = [_span(stream, fault, within) for stream in streams for fault in dict.fromkeys(faults)]
+    whole = [span for span in spans if span.fault != "silent" or every_silence]
+    far = sum(len(span.offsets) - len(span.near) for span in whole)
+    draw = random.Random(seed)
+    chosen: List[FaultPoint] = []
+    for places in _near_places(spans):
+        room = most - len(chosen)
+        kept = places if len(places) <= room else [places[index] for index in sorted(draw.sample(range(len(places)), room))]
+        chosen += [span.point(offset) for span, offset in kept]
+    chosen += _drawn(whole, min(far, most - len(chosen)), draw)
+    return ChosenPoints(chosen, sum(len(span.near) for span in spans) + far)
+
+
+def _near_places(spans: Sequence[Span]) -> Iterator[List[Tuple[Span, int]]]:
+    """The offsets at boundaries, and then those one byte beside them."""
+    yield [(span, offset) for span in spans for offset in sorted(span.boundaries)]
+    yield [(span, offset) for span in spans for offset in sorted(span.near - span.boundaries)]
+
+
+def repeated_points(streams: Iterable[StreamBytes], points: Iterable[FaultPoint], within: float) -> ChosenPoints:
+    """Given points of some streams, with their delays. Raises `ToxiError` for one of a connection that the client doesn't make without a fault."""
+    by_key = {stream.key: stream for stream in streams}
+    found = []
+    for point in points:
+        if point.key not in by_key:
+            made = ", ".join(f"{proxy} {number}" for proxy, number in dict.fromkeys(key[:2] for key in by_key))
+            raise ToxiError(f"the client makes no connection of {point}, but {made}")
+        found.append(_span(by_key[point.key], point.fault, within).point(point.offset))
+    return ChosenPoints(found, len(found))
+
+
+def _span(stream: StreamBytes, fault: str, within: float) -> Span:
+    """Every offset of an ending, every size below that of a piece that came for slices, and 0 for what is slow."""
+    if fault in ENDINGS:
+        offsets = range(stream.bytes + 1)
+    else:
+        offsets = range(min(stream.bytes, 1)) if fault == "slow" else range(1, max(stream.pieces, default=0))
+    boundaries = set(stream.boundaries)
+    near = {boundary + beside for boundary in boundaries for beside in (-1, 0, 1)}
+    # A range isn't gone through where each number is looked for in it.
+    return Span(stream, fault, offsets, {each for each in boundaries if each in offsets}, {each for each in near if each in offsets}, within)
+
+
+def _drawn(spans: Sequence[Span], count: int, draw: random.Random) -> List[FaultPoint]:
+    """So many points that aren't near a boundary, in order. No list of all offsets is made: a stream may have many."""
+    ends = list(itertools.accumulate(len(span.offsets) for span in spans))
+    every = range(ends[-1] if ends else 0)
+    near = sum(len(span.near) for span in spans)
+    found = []
+    for place in draw.sample(every, min(len(every), count + near)):
+        index = bisect.bisect_right(ends, place)
+        span = spans[index]
+        # Counted back from the span's end.
+        offset = span.offsets[place - ends[index]]
+        if offset not in span.near:
+            found.append((place, span.point(offset)))
+    return [point for _, point in sorted(found[:count], key=lambda each: each[0])]
