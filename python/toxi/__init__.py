@@ -19,6 +19,9 @@ from .proxies import Proxy
 from .rerunning import rerun, rerun_command
 from .rules import Rule, script_text
 from .served import Toxi
+from .sweep_rows import SweepRow
+from .sweep_table import Sweep
+from .sweeping import sweep_faults
 from .toxics import Bandwidth, Latency, LimitData, ResetPeer, Slicer, SlowClose, Timeout, Toxic
 
 __all__ = [
@@ -37,6 +40,8 @@ __all__ = [
     "Rule",
     "Slicer",
     "SlowClose",
+    "Sweep",
+    "SweepRow",
     "Timeout",
     "Total",
     "Toxi",
@@ -50,4 +55,5 @@ __all__ = [
     "rerun",
     "rerun_command",
     "script_text",
+    "sweep_faults",
 ]
