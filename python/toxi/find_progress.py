@@ -1,20 +1,17 @@
 """The line on a terminal that tells how far a search is."""
-import shutil
 from typing import Sequence, TextIO
 
 from .fault_search import Progress
 from .rules import Rule
+from .terminal_line import TerminalLine
 from .toxics import Toxic
 
-# Goes to the line's start, and clears what follows.
-CLEAR = "\r\x1b[K"
 
-
-class ProgressLine:
-    """Writes one line anew after each run: the runs, and the kind and the rules of the smallest fault so far. Nothing where no terminal is."""
+class ProgressLine(TerminalLine):
+    """Written after each run: the runs, and the kind and the rules of the smallest fault so far."""
 
     def __init__(self, stream: TextIO) -> None:
-        self._stream = stream
+        super().__init__(stream)
         self.runs = 0
 
     def __call__(self, progress: Progress) -> None:
@@ -22,18 +19,7 @@ class ProgressLine:
         told = f"{progress.runs} runs"
         if progress.smallest is not None:
             told += f", {progress.smallest.verdict}: {short_text(progress.smallest.rules)}"
-        if self._stream.isatty():
-            width = shutil.get_terminal_size().columns - 1
-            self._write(CLEAR + told[:width])
-
-    def end(self) -> None:
-        """Clears it."""
-        if self._stream.isatty():
-            self._write(CLEAR)
-
-    def _write(self, text: str) -> None:
-        self._stream.write(text)
-        self._stream.flush()
+        self.show(told)
 
 
 def short_text(rules: Sequence[Rule]) -> str:
