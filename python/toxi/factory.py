@@ -1,22 +1,26 @@
 """`ToxiFactory`: what the fixtures `toxi`, `toxi_module` and `toxi_session` are."""
 from dataclasses import dataclass, field
 from pathlib import Path
-from typing import Callable, Dict, Iterable, List, Mapping, Optional, Union
+from typing import Callable, Dict, Iterable, List, Mapping, Optional, Sequence, Union
 
 from .base import START_LIMIT, StrPath
+from .fault_points import ENDINGS
 from .finding import BUDGET, RUNS, find_fault
 from .found import Found
+from .kept_sweep import KeptSweep
 from .outcomes import WITHIN, Allowed, Check, Client
 from .program import found_program
 from .proxies import Proxies
 from .rules import Rule
 from .runs import Position, Run
 from .served import Toxi
+from .sweep_table import Sweep
+from .sweeping import MOST, sweep_faults
 
 
 @dataclass(frozen=True)
 class Begun:
-    """How far a factory was at an instant: how many proxies were started, where those that lived stood, and how many faults were found."""
+    """How far a factory was at an instant: how many proxies were started, where those that lived stood, and how much was found and swept."""
 
     started: int = 0
     positions: Dict[Toxi, Position] = field(default_factory=dict)
@@ -50,7 +54,7 @@ class ToxiFactory:
         self._program = program
         self._workers = workers
         self._started: List[Toxi] = []
-        self._found: List[Found] = []
+        self._found: List[Union[Found, KeptSweep]] = []
 
     def __call__(
         self,
@@ -127,6 +131,42 @@ class ToxiFactory:
             self._found.append(found)
         return found
 
+    def sweep_faults(
+        self,
+        upstreams: Mapping[str, str],
+        client: Client,
+        *,
+        faults: Sequence[str] = ENDINGS,
+        most: int = MOST,
+        jobs: int = 1,
+        every_silence: bool = False,
+        check: Optional[Check] = None,
+        allowed: Allowed = OSError,
+        within: float = WITHIN,
+        before: Optional[Callable[[], object]] = None,
+    ) -> Sweep:
+        """`toxi.sweep_faults` under the fixture's seed, program and number of workers. Its table is in the report of a red test."""
+        __tracebackhide__ = True
+        sweep = sweep_faults(
+            upstreams,
+            client,
+            faults=faults,
+            most=most,
+            jobs=jobs,
+            every_silence=every_silence,
+            check=check,
+            allowed=allowed,
+            within=within,
+            before=before,
+            seed=self.seed,
+            program=self._own_program(),
+            workers=self._workers,
+        )
+        kept = KeptSweep(sweep, self._folder / f"sweep-{len(self._found) + 1}")
+        kept.write_files()
+        self._found.append(kept)
+        return sweep
+
     def _own_program(self) -> Optional[str]:
         """The program of the fixture's settings. None where they have none."""
         return None if self._program is None else found_program(self._program)
@@ -141,8 +181,8 @@ class ToxiFactory:
         lives = {served: served.runs[-1].position() for served in self._started if not served.stopped}
         return Begun(len(self._started), lives, len(self._found))
 
-    def found(self, begun: Begun) -> List[Found]:
-        """The faults that were found since."""
+    def found(self, begun: Begun) -> List[Union[Found, KeptSweep]]:
+        """The faults that were found since, and the sweeps."""
         return self._found[begun.found :]
 
     def shown(self, begun: Begun) -> List[Shown]:

@@ -4,7 +4,7 @@ import shlex
 import shutil
 from dataclasses import dataclass, field
 from pathlib import Path
-from typing import Dict, List, Optional
+from typing import Dict, List, Optional, Union
 
 import pytest
 
@@ -12,6 +12,7 @@ from .artifacts import keep_run, safe_name
 from .errors import ToxiError
 from .factory import Begun, Shown, ToxiFactory
 from .found import Found
+from .kept_sweep import KeptSweep
 from .runs import Position, Run
 from .served import page_of
 
@@ -93,15 +94,15 @@ class Section:
         path = run.page_path()
         return path.with_name(f"{path.stem}-{safe_name(self.item.nodeid)}{path.suffix}") if self.fixture.is_wide else path
 
-    def _keep(self, shown: List[Shown], found: List[Found], kept: Path, lines: List[str]) -> str:
+    def _keep(self, shown: List[Shown], found: List[Union[Found, KeptSweep]], kept: Path, lines: List[str]) -> str:
         """Keeps the files, logs and pages, the folders of what was found, and the lines. Returns the line that tells where."""
         try:
             for each in shown:
                 target = kept / f"{self.fixture.name}-{each.number}"
                 for run in each.runs:
                     keep_run(run, target, each.since, self._page_path(run))
-            for fault in found:
-                shutil.copytree(fault.folder, kept / f"{self.fixture.name}-{fault.folder.name}")
+            for result in found:
+                shutil.copytree(result.folder, kept / f"{self.fixture.name}-{result.folder.name}")
             (kept / f"{self.fixture.name}.txt").write_text("\n".join([*lines, ""]), encoding="utf-8")
         except (OSError, ToxiError) as error:
             return f"not kept: {error}"
