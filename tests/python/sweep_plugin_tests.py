@@ -1,0 +1,42 @@
+"""`toxi.sweep_faults` of the fixture: a red test's table, its command and its files."""
+import os
+import re
+
+from swept_clients import echo_service
+
+TESTS = """
+import sys
+sys.path.insert(0, FOLDER)
+from swept_clients import correct, cut_body
+def test_red(toxi):
+    sweep = toxi.sweep_faults({"shop": UPSTREAM}, cut_body, faults=["closed"], jobs=4)
+    assert not sweep.failures
+def test_green(toxi):
+    sweep = toxi.sweep_faults({"shop": UPSTREAM}, correct, faults=["closed"], most=4)
+    assert not sweep.failures
+def test_wide(toxi_session):
+    toxi_session.sweep_faults({"shop": UPSTREAM}, correct, faults=["closed"], most=4)
+    assert False
+def test_wide_without(toxi_session):
+    assert False
+"""
+
+
+def test_red_and_green_sweeps(run_pytest, tmp_path):
+    with echo_service() as upstream:
+        names = {"FOLDER": os.path.dirname(os.path.abspath(__file__)), "UPSTREAM": upstream}
+        tests = re.sub("|".join(names), lambda found: repr(names[found[0]]), TESTS)
+        printed = run_pytest({"test_shop.py": tests}, "--toxi-seed", "7", "--toxi-artifacts", "kept")
+    assert "3 failed, 1 passed" in printed
+    assert "assert not [<shop 1 downstream 2..6 closed: wrong answer>]" in printed
+    red = printed.partition("test_wide ")[0]
+    assert "pytest test_shop.py::test_red --toxi-seed 7\n" in red
+    assert "\ndownstream 2..6 closed: wrong answer\n" in red
+    assert "\nits rule: Rule(proxy='shop', toxics=(LimitData(bytes=2),), last=1)\n" in red
+    with open(re.search(r"^page (\S+/sweep-1/table\.html)$", red, re.M)[1], encoding="utf-8") as page:
+        assert "wrong answer" in page.read()
+    kept = tmp_path / "kept" / "test_shop.py" / "test_red" / "1"
+    assert sorted(os.listdir(kept / "toxi-sweep-1")) == ["table.html", "table.json"]
+    assert "downstream 2..6 closed: wrong answer" in (kept / "toxi.txt").read_text()
+    # The second test of the wider fixture has made no sweep.
+    assert printed.count("left out: 11 of 15 runs") == 1

@@ -1,0 +1,217 @@
+"""`sweep_faults`: what a client makes of a conversation that ends behind each of its bytes. Needs nothing installed."""
+import contextlib
+import itertools
+import json
+import threading
+import time
+import unittest
+import xml.dom.minidom
+
+from swept_clients import Refused, correct, cut_body, echo_service, one_recv, without_limit
+
+from toxi import LimitData, Rule, Toxi, ToxiError, sweep_faults
+from toxi.chosen_points import chosen_points
+from toxi.conversations import StreamBytes
+
+EVERY = ("closed", "reset", "silent", "sliced", "slow")
+# Which of the two it is isn't promised where a connection is reset while bytes are on their way.
+TABLE = """\
+shop 1: 6 bytes upstream, 7 downstream
+upstream 0..6 closed: Refused
+upstream 0..6 reset: Refused
+upstream 0..5 silent: Refused, 3 of 6 run
+downstream 0..6 closed: Refused
+downstream 0..6 reset: Refused
+downstream 0..6 silent: Refused, 3 of 7 run
+upstream 6 silent: right
+upstream 1..5 sliced: right
+upstream 0..6 slow: right
+downstream 7 closed: right
+downstream 7 silent: right
+downstream 1..6 sliced: right
+downstream 0..7 slow: right"""
+
+
+class SweepTests(unittest.TestCase):
+    @classmethod
+    def setUpClass(cls):
+        with contextlib.ExitStack() as stack:
+            cls.upstream = stack.enter_context(echo_service())
+            cls.addClassCleanup(stack.pop_all().close)
+
+    def sweep(self, client, **options):
+        return sweep_faults({"shop": self.upstream}, client, **options)
+
+    def rows(self, client, **options):
+        return [str(row) for row in self.sweep(client, **options).rows]
+
+    def test_a_correct_client(self):
+        sweep = self.sweep(correct, faults=EVERY, jobs=4, within=5)
+        # A client may have the whole answer before the reset behind its last byte, or not.
+        text = [line for line in str(sweep).split("\n") if "downstream 7 reset" not in line and " runs in " not in line]
+        if "downstream 0..7 reset: Refused" in text:
+            text[text.index("downstream 0..7 reset: Refused")] = "downstream 0..6 reset: Refused"
+        self.assertEqual(text, TABLE.split("\n"))
+        self.assertEqual(sweep.failures, [])
+        self.assertNotIn("wrong", str(sweep))
+
+    def test_one_recv_taken_for_a_whole_answer(self):
+        sweep = self.sweep(one_recv, faults=("closed", "sliced"), jobs=4)
+        self.assertIn("downstream 0..6 closed: wrong answer", map(str, sweep.failures))
+        self.assertIn(("downstream", "sliced"), {(row.stream, row.fault) for row in sweep.failures})
+
+    def test_a_cut_body_taken_for_a_whole_one(self):
+        sweep = self.sweep(cut_body, faults=["closed"])
+        self.assertEqual([str(row) for row in sweep.rows][0], "downstream 2..6 closed: wrong answer")
+        self.assertEqual(len(sweep.failures), 1)
+        (row,) = sweep.failures
+        self.assertEqual((row.rule, row.first.detail), (Rule("shop", [LimitData(bytes=2)], last=1), "b''"))
+        with Toxi({"shop": self.upstream}, [row.rule]) as toxi:
+            self.assertEqual(cut_body({"shop": toxi.address()}), b"")
+
+    def test_no_time_limit(self):
+        for jobs in (1, 4):
+            with self.subTest(jobs=jobs):
+                found = self.rows(without_limit, faults=["silent"], jobs=jobs, within=0.5)
+                self.assertEqual(found[:2], ["upstream 0..5 silent: hang, 3 of 6 run", "downstream 0..6 silent: hang, 3 of 7 run"])
+                self.assertEqual(found[2:], ["upstream 6 silent: right", "downstream 7 silent: right"])
+
+    def test_a_client_that_never_returns(self):
+        def stuck(addresses):
+            try:
+                return correct(addresses)
+            except Refused:
+                threading.Event().wait()
+
+        sweep = self.sweep(stuck, faults=["closed"], within=0.5)
+        self.assertEqual([str(row) for row in sweep.rows], ["upstream 0 closed: hang"])
+        self.assertEqual(sweep.left_out, ["not run: 14 of 15 runs: the client didn't return within 2 s after its links were broken"])
+
+    def test_what_a_link_never_passed_is_not_reached(self):
+        runs = itertools.count()
+
+        def shorter(addresses):
+            return correct(addresses, request=b"hello\n" if next(runs) < 2 else b"hi\n")
+
+        found = self.rows(shorter, faults=["closed"], check=lambda answer: True)
+        self.assertEqual(found[-2:], ["upstream 4..6 closed: not reached", "downstream 5..7 closed: not reached"])
+        self.assertEqual(found[2], "downstream 4 closed: right")
+
+    def test_a_connection_that_is_not_made_is_not_reached(self):
+        runs = itertools.count()
+
+        def second(addresses):
+            first = correct(addresses)
+            return correct(addresses) if next(runs) < 2 else first
+
+        found = self.sweep(second, faults=["reset"], most=8).rows
+        self.assertEqual({row.outcome for row in found if row.number == 2}, {"not reached"})
+
+    def test_several_proxies_and_connections(self):
+        def both(addresses):
+            return [correct(addresses), correct(addresses, "mail", b"hi\n"), correct(addresses, request=b"x\n")]
+
+        upstreams = {"shop": self.upstream, "mail": self.upstream}
+        for workers in (None, 2):
+            with self.subTest(workers=workers):
+                sweep = sweep_faults(upstreams, both, faults=["closed"], jobs=4, workers=workers)
+                text = str(sweep).split("\n")
+                self.assertEqual(text[:2], ["mail 1: 3 bytes upstream, 4 downstream", "shop 1: 6 bytes upstream, 7 downstream"])
+                self.assertEqual(text[2], "shop 2: 2 bytes upstream, 3 downstream")
+                self.assertEqual(text[4:6], ["mail 1 upstream 0..3 closed: Refused", "mail 1 downstream 0..3 closed: Refused"])
+                self.assertEqual(text[-1], "shop 2 downstream 3 closed: right")
+
+    def test_a_coroutine_function(self):
+        async def client(addresses):
+            return correct(addresses)
+
+        self.assertEqual(self.rows(client, faults=["closed"])[-1], "downstream 7 closed: right")
+
+    def test_jobs_run_at_once_and_before_comes_before_each(self):
+        running, most, before = set(), [0], []
+
+        def client(addresses):
+            running.add(threading.get_ident())
+            most[0] = max(most[0], len(running))
+            time.sleep(0.05)
+            running.discard(threading.get_ident())
+            return correct(addresses)
+
+        sweep = self.sweep(client, faults=["closed"], jobs=3, before=lambda: before.append(1))
+        self.assertEqual((most[0], len(before)), (3, 2 + len(sweep.swept)))
+
+    def test_at_most_so_many_runs(self):
+        sweep = self.sweep(correct, faults=["closed"], most=6)
+        self.assertEqual(len(sweep.swept), 6)
+        self.assertEqual(str(sweep).split("\n")[-1], "left out: 9 of 15 runs")
+        self.assertRegex(str(sweep), r"\nupstream 0\.\.6 closed: Refused, [234] of 7 run\n")
+
+    def test_what_can_not_be_swept(self):
+        runs = itertools.count()
+        for told, client, options in (
+            ("so give `check`", lambda addresses: correct(addresses) and next(runs), {}),
+            ("the client fails without a fault: ValueError: no", lambda addresses: (_ for _ in ()).throw(ValueError("no")), {}),
+            ("doesn't return within 0.2 s without a fault", lambda addresses: time.sleep(1), {"within": 0.2}),
+            ("makes no connection", lambda addresses: 1, {}),
+        ):
+            with self.subTest(told=told), self.assertRaisesRegex(ToxiError, told):
+                self.sweep(client, **options)
+        with self.assertRaisesRegex(ValueError, "no fault 'cut'"):
+            self.sweep(correct, faults=["cut"])
+
+    def test_json_and_page(self):
+        def client(addresses):
+            return cut_body(addresses)
+
+        sweep = self.sweep(client, faults=["closed", "reset"], most=20, seed=3)
+        table = json.loads(sweep.json_text())
+        self.assertEqual((table["runs"], table["chosen"], table["possible"], table["ended"]), (20, 20, 30, None))
+        self.assertEqual(table["streams"][1], {"proxy": "shop", "link": 1, "stream": "downstream", "bytes": 7, "boundaries": [0, 7]})
+        self.assertEqual(len(table["rows"]), len(sweep.rows))
+        self.assertEqual((table["rows"][0]["outcome"], table["rows"][0]["fails"]), ("wrong answer", True))
+        page = sweep.page_text()
+        document = xml.dom.minidom.parseString(page.partition("\n")[2])
+        self.assertEqual(len(document.getElementsByTagName("tr")), 1 + len(sweep.rows))
+        strips = [each for each in document.getElementsByTagName("div") if each.getAttribute("class") == "strip"]
+        self.assertEqual(len(strips), 4)
+        for word in ("wrong answer", "prefers-color-scheme:dark", "downstream closed", "left out: 10 of 30 runs"):
+            self.assertIn(word, page)
+        self.assertNotRegex(page, r"(src|href)=|url\(|<script")
+
+
+class ChosenPointsTests(unittest.TestCase):
+    STREAM = StreamBytes("shop", 1, "downstream", 40, "closed", (10, 30))
+
+    def chosen(self, faults, most=1000, every_silence=False, streams=(STREAM,), seed=1):
+        return chosen_points(streams, faults, most=most, every_silence=every_silence, within=10, seed=seed)
+
+    def offsets(self, *given, **options):
+        return [point.offset for point in self.chosen(*given, **options).points]
+
+    def test_each_offset_but_silence_beside_boundaries(self):
+        self.assertEqual(sorted(self.offsets(["closed"])), list(range(41)))
+        self.assertEqual(sorted(self.offsets(["silent"])), [0, 1, 9, 10, 11, 39, 40])
+        self.assertEqual(sorted(self.offsets(["silent"], every_silence=True)), list(range(41)))
+        self.assertEqual(sorted(self.offsets(["sliced"])), list(range(1, 30)))
+        self.assertEqual(self.offsets(["slow"]), [0])
+
+    def test_boundaries_come_first(self):
+        self.assertEqual(self.offsets(["closed"], most=3), [0, 10, 40])
+        self.assertEqual(self.offsets(["closed"], most=7), [0, 10, 40, 1, 9, 11, 39])
+        chosen = self.chosen(["closed"], most=12)
+        self.assertEqual((len(chosen.points), chosen.left_out), (12, 29))
+        self.assertEqual(len(set(chosen.points)), 12)
+        self.assertEqual(chosen, self.chosen(["closed"], most=12))
+        self.assertNotEqual(chosen, self.chosen(["closed"], most=12, seed=2))
+
+    def test_a_stream_of_a_gigabyte(self):
+        begun = time.monotonic()
+        large = StreamBytes("shop", 1, "downstream", 10**9, "closed", (16384,) * (10**9 // 16384))
+        self.assertEqual(len(self.chosen(["closed"], most=2000, streams=[large]).points), 2000)
+        self.assertLess(time.monotonic() - begun, 30)
+
+    def test_delays_stay_below_a_part_of_the_limit(self):
+        for point in self.chosen(["sliced"]).points:
+            self.assertLessEqual(-(-40 // point.offset) * point.delay, 1_000_000)
+        (slow,) = self.chosen(["slow"]).points
+        self.assertEqual(slow.toxic.latency, 500)
