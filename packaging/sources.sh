@@ -1,7 +1,7 @@
 # Sourced by tree, ../package and the tests, where `root` is the repository: what is packed beside the program.
 
 # The pages of the manual. The others are for those who change the program.
-PAGES="CI CLOCK CONTAINERS DRAW FAULTS FROM-TOXIPROXY MEANING PERFORMANCE PROFILE REPLAY REPORT SCRIPTS TESTING-WITH-TOXI TOXICS"
+PAGES="CI CLOCK CONTAINERS DRAW FAULTS FINDING FROM-TOXIPROXY MEANING PERFORMANCE PROFILE REPLAY REPORT SCRIPTS SWEEPING TESTING-WITH-TOXI TOXICS"
 # Folders that are packed as they are.
 FOLDERS="docs/pictures examples python/toxi"
 
