@@ -14,14 +14,13 @@ from .conversations import StreamBytes, longer_streams
 from .errors import ToxiError
 from .fault_points import ENDINGS, FaultPoint
 from .lines import printed
-from .outcomes import GRACE, Allowed, Check, Client, Judge, Kind, Outcome, Startable, Verdict, judge_of
+from .outcomes import GRACE, WITHIN, Allowed, Check, Client, Judge, Kind, Outcome, Startable, Verdict, judge_of
 from .sweep_rows import SweptPoint
 from .sweep_table import Sweep
 
 JudgeMaker = Callable[[Sequence[Outcome]], Judge]
 Progress = Callable[["Sweeping"], object]
 MOST = 2000
-WITHIN = 10.0
 # Runs without a fault: two, since an answer that changes by itself can't be compared.
 UNFAULTED = 2
 # Characters of an exception's text.
