@@ -84,7 +84,7 @@ class FaultSearch:
     def learn(self, make_judge: MakeJudge) -> Unfaulted:
         """Runs the client twice without a fault. Raises `ToxiError` where it isn't right, or takes more than half of its limit."""
         __tracebackhide__ = True
-        trials = [self.trials.run() for _ in range(2)]
+        trials = [self.trials.run(), self.trials.run()]
         for trial in trials:
             trial.discard()
         self._judge = make_judge([trial.outcome for trial in trials])
@@ -97,6 +97,7 @@ class FaultSearch:
 
     def search(self, rules: "SearchStrategy[List[Rule]]", seed: int) -> None:
         """Draws and shrinks. `smallest` is what it has found, also if it is broken off. Raises what `before` and the start of `serve` raise."""
+        __tracebackhide__ = True
         from hypothesis import HealthCheck, Phase, Verbosity, find, settings
         from hypothesis.errors import HypothesisException
 
@@ -108,7 +109,9 @@ class FaultSearch:
             verbosity=Verbosity.quiet,
             suppress_health_check=list(HealthCheck),
         )
+
         def find_smallest() -> None:
+            __tracebackhide__ = True
             try:
                 find(rules, self._breaks, settings=limits, random=Random(seed))
             except (_Over, HypothesisException):
@@ -130,6 +133,7 @@ class FaultSearch:
 
         Without a repetition these are those of the run that showed it. A client that doesn't return isn't run again.
         """
+        __tracebackhide__ = True
         smallest = self.smallest
         failed = repeated = 0
         while smallest is not None and repeated < REPETITIONS and smallest.trial.outcome.returned and time.monotonic() < self.end:
@@ -167,6 +171,7 @@ class FaultSearch:
 
     def _fault(self, rules: Iterable[Rule], is_kept: bool = True) -> Optional[Smallest]:
         """Runs the client once. Returns its failure, if that is of the kind that is looked for."""
+        __tracebackhide__ = True
         if self._is_over():
             raise _Over
         try:
@@ -203,9 +208,11 @@ class FaultSearch:
 
     def _run(self, rules: Iterable[Rule], is_kept: bool) -> Tuple[Trial, Verdict]:
         """Runs the client once. Links and logs are those of a failure, if it is to be kept."""
+        __tracebackhide__ = True
         judge, verdicts = self._judge, []
 
         def keeps(outcome: Outcome) -> bool:
+            __tracebackhide__ = True
             assert judge is not None
             verdicts.append(judge.verdict(outcome))
             return is_kept and verdicts[0].is_fault

@@ -81,6 +81,7 @@ class Judge:
 
     def verdict(self, outcome: Outcome) -> Verdict:
         """The verdict of a run. An exception of `check` other than AssertionError is raised."""
+        __tracebackhide__ = True
         if outcome.hung:
             return HANG
         if outcome.error is not None:
@@ -89,6 +90,7 @@ class Judge:
 
     def of_answer(self, answer: Any) -> Verdict:
         """The verdict of an answer."""
+        __tracebackhide__ = True
         try:
             return RIGHT if self.check(answer) else WRONG
         except AssertionError:
@@ -117,9 +119,9 @@ def judge_of(unfaulted: Sequence[Outcome], check: Optional[Check], allowed: Allo
         if differing:
             raise ToxiError(f"two answers without a fault differ, so give `check`, which says of an answer whether it is right: {answers[0]!r}, {differing[0]!r}")
     judge = Judge(check, allowed)
-    refused = [answer for answer in answers if judge.of_answer(answer) is not RIGHT]
-    if refused:
-        raise ToxiError(f"`check` refuses an answer without a fault; it returns a true value for a right one: {refused[0]!r}")
+    for answer in answers:
+        if judge.of_answer(answer) is not RIGHT:
+            raise ToxiError(f"`check` refuses an answer without a fault; it returns a true value for a right one: {answer!r}")
     return judge
 
 

@@ -68,6 +68,7 @@ class Trials:
 
         Raises `ToxiError` where `serve` can't be started.
         """
+        __tracebackhide__ = True
         if self.before is not None:
             self.before()
         begun = time.monotonic()

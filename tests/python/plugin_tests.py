@@ -86,3 +86,26 @@ def test_whole(toxi):
     section = printed[printed.index("pytest test_find.py::test_cut --toxi-seed 7\n") :]
     found = re.search(r"^wrong answer in 10 of 10 runs, .*^attributes = \{ bytes = 2 \}\n\nlink shop 1 .*?\nsh (\S+)/again.sh$", section, re.M | re.S)
     assert sorted(os.listdir(found[1])) == sorted(os.listdir(tmp_path / "kept" / "test_find.py" / "test_cut" / "1" / "toxi-found-1"))
+
+
+def test_what_check_raises_is_shown_without_frames_of_the_package(run_pytest):
+    pytest.importorskip("hypothesis")
+    with planted.line_service() as server:
+        test = f"""
+import functools, itertools, sys
+import pytest
+sys.path.insert(0, {os.path.dirname(planted.__file__)!r})
+from planted_clients import whole
+def raises_at(run, runs, *answer):
+    if next(runs) >= run:
+        raise KeyError("shown")
+    return True
+@pytest.mark.parametrize("option", ["check", "before"])
+@pytest.mark.parametrize("run", [0, 5])
+@pytest.mark.parametrize("call", ["find_fault", "sweep_faults"])
+def test_it(toxi, call, run, option):
+    getattr(toxi, call)({{"shop": {planted.upstream(server)!r}}}, whole, within=1.0, **{{option: functools.partial(raises_at, run, itertools.count())}})
+"""
+        printed = run_pytest({"test_raises.py": test})
+    assert "8 failed" in printed
+    assert set(re.findall(r"^(\S+\.py):\d+: ", printed, re.M)) == {"test_raises.py"}
