@@ -1,6 +1,5 @@
 """The command `toxi-find`: the smallest fault under which a command is wrong."""
 import argparse
-import signal
 import sys
 import time
 from functools import partial
@@ -9,6 +8,7 @@ from typing import List, Optional
 
 from .base import STREAMS
 from .client_arguments import client_parser, positive, read_client_arguments, seconds
+from .client_command import FOUND, NOTHING, REFUSED, STOPPED, take_signals
 from .client_source import CommandSource
 from .errors import ToxiError
 from .find_progress import ProgressLine
@@ -26,13 +26,12 @@ process group is ended then.
 
 The status is 0 where nothing was found, 1 where something was, 2 where the search can't be made, and 130 where it was stopped before."""
 DEFAULT_FOLDER = "toxi-found"
-NOTHING, FOUND, REFUSED, STOPPED = 0, 1, 2, 130
 
 
 def main(words: Optional[List[str]] = None) -> int:
     """Runs the command line. Returns its status."""
     arguments, command = read_client_arguments(_parser(), sys.argv[1:] if words is None else words)
-    _take_signals()
+    take_signals()
     line, begun = ProgressLine(sys.stderr), time.monotonic()
     try:
         found = _search(arguments, command, line)
@@ -87,17 +86,6 @@ def _told(text: str, status: int, line: ProgressLine) -> int:
     line.end()
     print(text, file=sys.stdout if status == NOTHING else sys.stderr)
     return status
-
-
-def _take_signals() -> None:
-    """Lets the signals that end a program stop the search, but for those that are ignored, as under nohup."""
-    for number in (signal.SIGINT, signal.SIGTERM, signal.SIGHUP):
-        if signal.getsignal(number) is not signal.SIG_IGN:
-            signal.signal(number, _stop)
-
-
-def _stop(number: int, frame: object) -> None:
-    raise KeyboardInterrupt
 
 
 if __name__ == "__main__":

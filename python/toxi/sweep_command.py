@@ -1,7 +1,6 @@
 """`toxi-sweep`: sweeps a command, and prints the table."""
 import functools
 import shlex
-import signal
 import subprocess
 import sys
 from argparse import ArgumentTypeError, Namespace
@@ -11,6 +10,7 @@ from typing import Callable, Optional, Sequence
 from .batches import ClientSetup
 from .chosen_points import chosen_points, repeated_points
 from .client_arguments import client_parser, positive, read_client_arguments
+from .client_command import FOUND, NOTHING, REFUSED, STOPPED, take_signals
 from .errors import ToxiError
 from .fault_points import ENDINGS, FAULTS, FaultPoint
 from .outcomes import Kind
@@ -27,7 +27,6 @@ The command finds the address of each proxy in TOXI_<NAME>: the name in upper ca
 The status is 0 where nothing is to be mended, 1 where something is, 2 where the sweep can't be made, and 130 after Ctrl-C. The last line
 is the command that runs the first of what is to be mended again."""
 NAME = "toxi-sweep"
-NOTHING, FOUND, REFUSED, INTERRUPTED = 0, 1, 2, 130
 
 
 def read_arguments(words: Sequence[str]) -> Namespace:
@@ -116,15 +115,13 @@ def run(words: Sequence[str]) -> int:
     write_files(sweep, arguments)
     print(sweep, again(words, arguments, sweep), sep="\n")
     if interrupted:
-        return INTERRUPTED
+        return STOPPED
     return FOUND if sweep.failures else NOTHING
 
 
 def main(words: Optional[Sequence[str]] = None) -> int:
     """Runs the command line. Returns its status."""
-    # A command has a process group of its own, which the terminal's signals don't reach. So each of them ends the sweep, and with it the command.
-    for number in (signal.SIGINT, signal.SIGTERM, signal.SIGHUP):
-        signal.signal(number, signal.default_int_handler)
+    take_signals()
     try:
         return run(sys.argv[1:] if words is None else words)
     except (ToxiError, OSError) as error:

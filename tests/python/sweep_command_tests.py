@@ -82,6 +82,15 @@ class SweepCommandTests(unittest.TestCase):
             self.assertRegex(printed, r"not run: \d+ of 8 runs: it was interrupted\n")
             self.assert_nothing_is_left()
 
+    def test_an_ignored_signal_stays_ignored(self):
+        command = ["nohup", *self.command("without_limit", "--fault", "silent", "--jobs", "4", "--within", "3")]
+        with subprocess.Popen(command, env={**os.environ, "TMPDIR": self.folder}, stdout=subprocess.PIPE, stderr=subprocess.DEVNULL, text=True) as sweep:
+            time.sleep(2)
+            sweep.send_signal(signal.SIGHUP)
+            printed = sweep.communicate(timeout=LIMIT)[0]
+        self.assertEqual(sweep.returncode, 1)
+        self.assertIn("downstream 0..6 silent: hang, 3 of 7 run\n", printed)
+
     def assert_nothing_is_left(self):
         """No process of this test's folder lives on: neither a command, nor a `serve`, whose files are in it too."""
         end = time.monotonic() + 10 * PATIENCE
