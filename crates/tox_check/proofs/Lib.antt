@@ -11,6 +11,7 @@ pub mod CoveredBy
 pub mod NeverTold
 pub mod NamedTrees
 pub mod RuleLines
+pub mod LinesThen
 pub mod EndedWrites
 pub mod NumberedRules
 pub mod ProxyRuns

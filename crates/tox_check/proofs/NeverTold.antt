@@ -1,5 +1,5 @@
 -- A rule is told never to apply exactly where no connection meets it.
-use Rattle.std.proofs.Common.{◌≡◌, ◌≢◌, ℕ, ◌+◌, ◌||◌, true, false, cond, List, [], ◌∷◌, ◌++◌, flat_map, slice_get, Option, None, Some, arith, refl, sym, ap, ◌∙◌}
+use Rattle.std.proofs.Common.{◌≡◌, ◌≢◌, ℕ, ◌+◌, ◌-◌, ◌||◌, Bool, true, false, cond, List, [], ◌∷◌, ◌++◌, flat_map, slice_get, Option, None, Some, arith, refl, sym, ap, ◌∙◌}
 use Rattle.std.specs.List.{find, list_any}
 use Rattle.std.specs.Prelude.{◌↔◌, IsTrue, option_map}
 use Rattle.std.proofs.lemmas.Bool.{false≢true, or_from}
@@ -13,7 +13,7 @@ use Rattle.tox_script.specs.Rule.{Rule, Rules}
 use Rattle.tox_check.specs.Checking.{AreRuns, NeverApplies, TellsNever, met}
 use Rattle.tox_check.specs.Coverage.{last_of, own_of, taken_of, within}
 use Rattle.tox_check.specs.Idle.{idleness_at}
-use Rattle.tox_check.specs.Lines.{coverage_told, idle_told, is_silent, known_told, met_told, partly_told, proxy_told, toxic_told, toxics_told}
+use Rattle.tox_check.specs.Lines.{coverage_told, idle_told, is_seldom, is_silent, known_told, met_told, partly_told, proxy_told, toxic_told, toxics_told}
 use Rattle.tox_check.specs.Sentences.{disabled_text, no_toxicity_text, tells_never}
 use Rattle.tox_check.specs.declared.idleness.Idleness.{Idleness}
 use Rattle.tox_check.specs.declared.run.Run.{Run}
@@ -21,22 +21,23 @@ use Rattle.tox_check.proofs.CoveredBy.{covering_number-own, met-number}
 use Rattle.tox_check.proofs.NeverMet.{none_meets, none_own}
 
 -- no other line tells so
-idle_other : (number : ℕ) (found : Option Idleness) → list_any tells_never (idle_told number found) ≡ false
-idle_other number None = refl
-idle_other number (Some why) = refl
+idle_other : (number : ℕ) (found : Option Idleness) (seldom : Bool) → list_any tells_never (idle_told number found seldom) ≡ false
+idle_other number None true = refl
+idle_other number None false = refl
+idle_other number (Some why) seldom = refl
 
-toxic_other : (chains : Chains) (placed : PlacedToxic) → list_any tells_never (toxic_told chains placed) ≡ false
-toxic_other chains placed =
-    elim (is_silent (slice_get (on placed.stream chains).chain.entries placed.place)) as (λ silent. list_any tells_never (cond silent (no_toxicity_text placed.number ∷ []) (idle_told placed.number (idleness_at placed.place (on placed.stream chains).chain.entries))) ≡ false) [
+toxic_other : (decimals : List Bool) (chains : Chains) (placed : PlacedToxic) → list_any tells_never (toxic_told decimals chains placed) ≡ false
+toxic_other decimals chains placed =
+    elim (is_silent (slice_get (on placed.stream chains).chain.entries placed.place)) as (λ silent. list_any tells_never (cond silent (no_toxicity_text placed.number ∷ []) (idle_told placed.number (idleness_at placed.place (on placed.stream chains).chain.entries) (is_seldom (slice_get decimals (placed.number - 1)) (slice_get (on placed.stream chains).chain.entries placed.place)))) ≡ false) [
       | true ↦ refl
-      | false ↦ idle_other placed.number (idleness_at placed.place (on placed.stream chains).chain.entries)
+      | false ↦ idle_other placed.number (idleness_at placed.place (on placed.stream chains).chain.entries) (is_seldom (slice_get decimals (placed.number - 1)) (slice_get (on placed.stream chains).chain.entries placed.place))
     ]
 
-toxics_other : (chains : Chains) (placed : List PlacedToxic) → list_any tells_never (flat_map (toxic_told chains) placed) ≡ false
-toxics_other chains [] = refl
-toxics_other chains (toxic ∷ placed) =
-    list_any-append tells_never (toxic_told chains toxic) (flat_map (toxic_told chains) placed)
-    ∙ or_from _ _ (toxic_other chains toxic) (toxics_other chains placed)
+toxics_other : (decimals : List Bool) (chains : Chains) (placed : List PlacedToxic) → list_any tells_never (flat_map (toxic_told decimals chains) placed) ≡ false
+toxics_other decimals chains [] = refl
+toxics_other decimals chains (toxic ∷ placed) =
+    list_any-append tells_never (toxic_told decimals chains toxic) (flat_map (toxic_told decimals chains) placed)
+    ∙ or_from _ _ (toxic_other decimals chains toxic) (toxics_other decimals chains placed)
 
 proxy_other : (proxy : Proxy) → list_any tells_never (proxy_told proxy) ≡ false
 proxy_other proxy = elim (proxy.enabled) as (λ enabled. list_any tells_never (cond enabled [] (disabled_text proxy.name ∷ [])) ≡ false) [ true ↦ refl | false ↦ refl ]
@@ -87,7 +88,7 @@ module _ (proxies : List Proxy) (script : Rules) (runs : List ℕ → List Run) 
   tells_found (Some proxy) some =
       let there : find (is_named rule.proxy) proxies ≢ None = λ none. absurd (cc) in
       let kept = within rule.first (last_of rule.last) (runs rule.proxy) in
-      let only = others_not (met_told (number + 1) kept) (toxics_told rule.chains rule.order) (proxy_told proxy) (toxics_other rule.chains _) (proxy_other proxy) in (
+      let only = others_not (met_told (number + 1) kept) (toxics_told rule.decimals rule.chains rule.order) (proxy_told proxy) (toxics_other rule.decimals rule.chains _) (proxy_other proxy) in (
         λ told. never_owned there (coverage-some (number + 1) (own_of (number + 1) kept) (taken_of (number + 1) kept) (sym only ∙ told)),
         λ never. only ∙ coverage-none (number + 1) (own_of (number + 1) kept) (taken_of (number + 1) kept) (owns_none there never),
       )

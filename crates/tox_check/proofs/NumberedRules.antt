@@ -9,7 +9,7 @@ use Rattle.tox_words.specs.declared.lanes.Lanes.TheVariants.{Sixteen}
 
 -- a rule of no connection, where there is no other
 abbrev pub no_rule : Rule
-no_rule = record { proxy = []; first = 0; last = None; chains = no_chains Sixteen; order = [] }
+no_rule = record { proxy = []; first = 0; last = None; chains = no_chains Sixteen; order = []; decimals = [] }
 
 -- the rule of a number from 0, and its number from 1
 pub IsAt-numbered : (rules : List Rule) (number : ℕ) → number < length rules → IsAt (enumerate_from 1 rules) number (number + 1, get_or rules number no_rule)

@@ -14,7 +14,7 @@ use Rattle.tox_defs.specs.declared.operations.op.Op.{Op}
 use Rattle.tox_defs.specs.declared.operations.op.Op.TheVariants.{Delay, Pace, Slow, Mute, Cutoff, Slicing, Limit, Halt}
 use Rattle.tox_defs.specs.chain.Applied.{is_applied}
 use Rattle.tox_defs.specs.chain.Chain.{Toxics, IsChain}
-use Rattle.tox_defs.specs.Flow.{applied_from, chain_draws, chain_flow}
+use Rattle.tox_defs.specs.Flow.{applied_from, chain_draws, chain_flow, toxic_effect}
 use Rattle.tox_defs.specs.operations.Op.{op_of}
 use Rattle.tox_defs.specs.toxics.Timeout.{timeout_ending}
 use Rattle.tox_compile.specs.Compiled.{op_of_placed}
@@ -22,7 +22,7 @@ use Rattle.tox_compile.specs.Meaning.{means}
 use Rattle.tox_compile.specs.Normal.{after_mute, normal_form, vanishes, with_op}
 use Rattle.tox_compile.proofs.NormalForms.{means-normal_form}
 use Rattle.tox_check.proofs.Silencing.{always, is_chain-without, never, without}
-use Rattle.tox_check.specs.Idle.{ChangesNothing, does_nothing, drops_all, drops_data, is_lost, needs_data, silenced}
+use Rattle.tox_check.specs.Idle.{ChangesNothing, drops_all, is_lost, silenced}
 
 -- the operations so far with those of the applied ones of some entries
 abbrev folded : Draws → List Op → ℕ → List Entry → List Op
@@ -54,7 +54,7 @@ entry-same true ops place entry same = same
 entry-same false ops place entry same = refl
 
 -- what does nothing is left out
-nothing-same : (ops : List Op) (place : ℕ) (toxic : Toxic) → does_nothing toxic ≡ true → with_op ops (op_of place toxic) ≡ ops
+nothing-same : (ops : List Op) (place : ℕ) (toxic : Toxic) → (toxic_effect toxic).does_nothing ≡ true → with_op ops (op_of place toxic) ≡ ops
 nothing-same ops place (Latency latency zero until from) is = rw is refl
 nothing-same ops place (Latency latency (suc jitter) until from) is =
     let none : suc jitter ≡ 0 = eqb-true (suc jitter) 0 (and_parts (latency == 0) (suc jitter == 0) is).1 in absurd (omega arith)
@@ -95,7 +95,7 @@ from_start : (t : ℕ) → max 0 t ≡ t
 from_start t = omega arith
 
 -- what works on data alone finds none behind a mute
-data-same : (ops : List Op) (place : ℕ) (toxic : Toxic) → IsMute ops → needs_data toxic ≡ true → with_op ops (op_of place toxic) ≡ ops
+data-same : (ops : List Op) (place : ℕ) (toxic : Toxic) → IsMute ops → (toxic_effect toxic).needs_data ≡ true → with_op ops (op_of place toxic) ≡ ops
 data-same ops place (Bandwidth rate until from) (end, is) needs = rw is (ap (λ (e : Ending). Mute e ∷ []) (same end))
   where
     same : (end : Ending) → after_mute (Pace rate until from) end ≡ end
@@ -142,12 +142,12 @@ skipped Fits draws ops place (suc k) (first ∷ entries) entry keeps skips fits 
     ∙ sym (folded-cons draws ops place first (silenced k entries))
 
 -- what drops all is applied
-drops-all : (draws : Draws) (place : ℕ) (entry : Entry) → drops_all entry ≡ true → (drops_data entry.toxic ≡ true) × (is_applied entry place draws ≡ true)
+drops-all : (draws : Draws) (place : ℕ) (entry : Entry) → drops_all entry ≡ true → ((toxic_effect entry.toxic).drops_data ≡ true) × (is_applied entry place draws ≡ true)
 drops-all draws place entry drops =
-    let both = and_parts (drops_data entry.toxic) (entry.toxicity == 1000) drops in (both.0, always entry place draws (eqb-true entry.toxicity 1000 both.1))
+    let both = and_parts (toxic_effect entry.toxic).drops_data (entry.toxicity == 1000) drops in (both.0, always entry place draws (eqb-true entry.toxicity 1000 both.1))
 
 -- what drops all data leaves a mute alone, whatever came before
-muted : (ops more : List Op) (place : ℕ) (toxic : Toxic) → drops_data toxic ≡ true → IsMute (with_op ops (op_of place toxic)) × (with_op ops (op_of place toxic) ≡ with_op more (op_of place toxic))
+muted : (ops more : List Op) (place : ℕ) (toxic : Toxic) → (toxic_effect toxic).drops_data ≡ true → IsMute (with_op ops (op_of place toxic)) × (with_op ops (op_of place toxic) ≡ with_op more (op_of place toxic))
 muted ops more place (Timeout timeout zero zero) is = ((timeout_ending timeout, refl), refl)
 muted ops more place (Timeout timeout zero (suc after)) is =
     let none : suc after ≡ 0 = eqb-true (suc after) 0 (and_parts (0 == 0) (suc after == 0) is).1 in absurd (omega arith)
@@ -162,7 +162,7 @@ muted ops more place (LimitData bytes) is = absurd (cc)
 
 -- what needs data has none behind a toxic that drops all
 lost-behind : (draws : Draws) (ops : List Op) (place k : ℕ) (entries : List Entry) (entry : Entry)
-    → needs_data entry.toxic ≡ true → list_any drops_all (take k entries) ≡ true → slice_get entries k ≡ Some entry
+    → (toxic_effect entry.toxic).needs_data ≡ true → list_any drops_all (take k entries) ≡ true → slice_get entries k ≡ Some entry
     → folded draws ops place entries ≡ folded draws ops place (silenced k entries)
 lost-behind draws ops place k [] entry needs drops found = refl
 lost-behind draws ops place zero (first ∷ entries) entry needs drops found = absurd (cc)
@@ -222,26 +222,26 @@ lost-before draws ops place (suc k) (first ∷ entries) drops =
     ∙ sym (folded-cons draws ops place first (silenced k entries))
 
 -- the plan is the same
-normal-same : (chain : Toxics) (words : List ℕ) (k : ℕ) (entry : Entry) → slice_get chain.entries k ≡ Some entry → (does_nothing entry.toxic || is_lost k entry.toxic chain.entries) ≡ true
+normal-same : (chain : Toxics) (words : List ℕ) (k : ℕ) (entry : Entry) → slice_get chain.entries k ≡ Some entry → ((toxic_effect entry.toxic).does_nothing || is_lost k entry.toxic chain.entries) ≡ true
     → normal_form chain words ≡ normal_form (without k chain) words
-normal-same chain words k entry found idle = by (does_nothing entry.toxic) refl
+normal-same chain words k entry found idle = by (toxic_effect entry.toxic).does_nothing refl
   where
     draws : Draws
     draws = chain_draws chain words
 
-    lost : (e : Bool) → (needs_data entry.toxic && list_any drops_all (take k chain.entries)) ≡ e → (e || list_any drops_all (drop (suc k) chain.entries)) ≡ true
+    lost : (e : Bool) → ((toxic_effect entry.toxic).needs_data && list_any drops_all (take k chain.entries)) ≡ e → (e || list_any drops_all (drop (suc k) chain.entries)) ≡ true
         → normal_form chain words ≡ normal_form (without k chain) words
     lost true is told =
-        let both = and_parts (needs_data entry.toxic) (list_any drops_all (take k chain.entries)) is in
+        let both = and_parts (toxic_effect entry.toxic).needs_data (list_any drops_all (take k chain.entries)) is in
         lost-behind draws [] 0 k chain.entries entry both.0 both.1 found
     lost false is told = lost-before draws [] 0 k chain.entries told
 
-    by : (e : Bool) → does_nothing entry.toxic ≡ e → normal_form chain words ≡ normal_form (without k chain) words
+    by : (e : Bool) → (toxic_effect entry.toxic).does_nothing ≡ e → normal_form chain words ≡ normal_form (without k chain) words
     by true is = skipped (λ ops. ops ≡ ops) draws [] 0 k chain.entries entry (λ ops place toxic fits. refl) (λ ops place fits. nothing-same ops place entry.toxic is) refl found
-    by false is = lost (needs_data entry.toxic && list_any drops_all (take k chain.entries)) refl (rw is at idle)
+    by false is = lost ((toxic_effect entry.toxic).needs_data && list_any drops_all (take k chain.entries)) refl (rw is at idle)
 
 -- so is the flow of each stream
-pub flow-same : (chain : Toxics) (k : ℕ) (entry : Entry) → IsChain chain → slice_get chain.entries k ≡ Some entry → (does_nothing entry.toxic || is_lost k entry.toxic chain.entries) ≡ true
+pub flow-same : (chain : Toxics) (k : ℕ) (entry : Entry) → IsChain chain → slice_get chain.entries k ≡ Some entry → ((toxic_effect entry.toxic).does_nothing || is_lost k entry.toxic chain.entries) ≡ true
     → ChangesNothing k chain
 flow-same chain k entry fits found idle words items stream =
     let same : chain_flow chain words items ≡ chain_flow (without k chain) words items =

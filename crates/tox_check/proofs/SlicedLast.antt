@@ -19,7 +19,7 @@ use Rattle.tox_defs.specs.declared.chain.Entry.{Entry}
 use Rattle.tox_defs.specs.declared.operations.state.State.{State}
 use Rattle.tox_defs.specs.chain.Applied.{is_applied}
 use Rattle.tox_defs.specs.chain.Chain.{Toxics, IsChain, IsEntry}
-use Rattle.tox_defs.specs.Flow.{chain_draws}
+use Rattle.tox_defs.specs.Flow.{chain_draws, toxic_effect}
 use Rattle.tox_defs.specs.stage.Reaction.{Reaction, chunk_count, counted, flow_from}
 use Rattle.tox_defs.specs.operations.During.{during, is_outside, uncounted_answer}
 use Rattle.tox_defs.specs.toxics.Pieces.{cut, leave, pieces_of}
@@ -32,7 +32,7 @@ use Rattle.tox_defs.proofs.InRange.{both_tests}
 use Rattle.tox_defs.proofs.OpenStates.{has_final-leave, open_state}
 use Rattle.tox_check.proofs.FinalsKept.{final-kept, slicing-orders}
 use Rattle.tox_check.proofs.Through.{through, through-cons, through-silenced, through_one, through_one-stream}
-use Rattle.tox_check.specs.Idle.{ChangesNothing, cuts_last, only_cuts, silenced}
+use Rattle.tox_check.specs.Idle.{ChangesNothing, cuts_last, silenced}
 
 -- the pieces of a chunk, without a wait
 abbrev leaving : (ℕ → ℕ) → ℕ → ℕ → ℕ → ℕ → ℕ → ℕ → List Item
@@ -121,7 +121,7 @@ slicer-same average variation until from words items fits stream =
     let less = leb-false average variation within.1 in
     sliced (λ piece. varied average variation (words (1 + piece))) (λ piece. varied-positive average variation (words (1 + piece)) less) from until items 0 0 0 0 0 0 (omega arith) stream
 
-only_cuts-same : (e : Bool) (toxic : Toxic) (words : ℕ → ℕ) (items : List Item) → only_cuts toxic ≡ true → IsInRange toxic → IsStream items → SameResult (through_one e toxic words items) items
+only_cuts-same : (e : Bool) (toxic : Toxic) (words : ℕ → ℕ) (items : List Item) → (toxic_effect toxic).only_cuts ≡ true → IsInRange toxic → IsStream items → SameResult (through_one e toxic words items) items
 only_cuts-same false toxic words items cuts fits stream = record { tables = refl; endings = refl }
 only_cuts-same true (Slicer average variation zero until from) words items cuts fits stream = slicer-same average variation until from words items fits stream
 only_cuts-same true (Slicer average variation (suc delay) until from) words items cuts fits stream =
@@ -134,13 +134,13 @@ only_cuts-same true (ResetPeer timeout after) words items cuts fits stream = abs
 only_cuts-same true (LimitData bytes) words items cuts fits stream = absurd (cc)
 
 -- the last entry
-last-same : (draws : Draws) (place k : ℕ) (entries : List Entry) (entry : Entry) (items : List Item) → All IsEntry entries → only_cuts entry.toxic ≡ true
+last-same : (draws : Draws) (place k : ℕ) (entries : List Entry) (entry : Entry) (items : List Item) → All IsEntry entries → (toxic_effect entry.toxic).only_cuts ≡ true
     → slice_get entries k ≡ Some entry → length entries ≤ suc k → IsStream items → SameResult (through draws place entries items) (through draws place (silenced k entries) items)
 last-same draws place k [] entry items fit cuts found last stream = record { tables = refl; endings = refl }
 last-same draws place zero (first ∷ second ∷ entries) entry items fit cuts found last stream = absurd (omega (arith, last))
 last-same draws place zero (first ∷ []) entry items fit cuts found last stream =
     let same : first ≡ entry = cc in
-    let cuts' : only_cuts first.toxic ≡ true = ap (λ (e : Entry). only_cuts e.toxic) same ∙ cuts in
+    let cuts' : (toxic_effect first.toxic).only_cuts ≡ true = ap (λ (e : Entry). (toxic_effect e.toxic).only_cuts) same ∙ cuts in
     let unlike : through draws place (silenced 0 (first ∷ [])) items ≡ items = through-silenced draws place first [] items in
     let here = only_cuts-same (is_applied first place draws) first.toxic (draws place) items cuts' (All-head IsEntry first [] fit).0 stream in
     record {
@@ -158,5 +158,5 @@ last-same draws place (suc k) (first ∷ entries) entry items fit cuts found las
 
 pub cuts_last-same : (chain : Toxics) (k : ℕ) (entry : Entry) → IsChain chain → slice_get chain.entries k ≡ Some entry → cuts_last k entry.toxic chain.entries ≡ true → ChangesNothing k chain
 cuts_last-same chain k entry fits found told words items stream =
-    let both = and_parts (only_cuts entry.toxic) (nat_le (length chain.entries) (suc k)) told in
+    let both = and_parts (toxic_effect entry.toxic).only_cuts (nat_le (length chain.entries) (suc k)) told in
     last-same (chain_draws chain words) 0 k chain.entries entry items fits.entries_fit both.0 found (leb-true (length chain.entries) (suc k) both.1) stream

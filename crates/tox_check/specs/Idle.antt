@@ -6,9 +6,8 @@ use Rattle.tox_time.specs.streams.Stream.{IsStream}
 use Rattle.tox_time.specs.streams.Table.{SameResult}
 use Rattle.tox_defs.specs.declared.chain.Entry.{Entry}
 use Rattle.tox_defs.specs.declared.toxic.Toxic.{Toxic}
-use Rattle.tox_defs.specs.declared.toxic.Toxic.TheVariants.{Latency, Bandwidth, SlowClose, Timeout, Slicer}
 use Rattle.tox_defs.specs.chain.Chain.{Toxics}
-use Rattle.tox_defs.specs.Flow.{chain_flow, toxic_from, toxic_until}
+use Rattle.tox_defs.specs.Flow.{chain_flow, toxic_effect, toxic_from, toxic_until}
 use Rattle.tox_check.specs.declared.idleness.Idleness.{Idleness}
 use Rattle.tox_check.specs.declared.idleness.Idleness.TheVariants.{DoesNothing, HasNoTime, Lost, CutsLast}
 
@@ -25,51 +24,29 @@ ChangesNothing place chain =
     → SameResult (chain_flow chain words items)
     (chain_flow (record { lanes = chain.lanes; entries = silenced place chain.entries }) words items)
 
--- whether a toxic does nothing: a latency of 0 without jitter, or a slow_close of 0
-abbrev pub does_nothing : Toxic → Bool
-does_nothing (Latency latency jitter until from) = latency == 0 && (jitter == 0)
-does_nothing (SlowClose delay) = delay == 0
-does_nothing other = false
-
 -- whether every chunk is outside a toxic's time: it stops, and no later than it begins
 abbrev pub has_no_time : Toxic → Bool
 has_no_time toxic =
     nat_lt 0 (toxic_until toxic) && nat_le (toxic_until toxic) (toxic_from toxic)
 
--- whether a toxic works on data alone: a bandwidth, or a slicer
-abbrev pub needs_data : Toxic → Bool
-needs_data (Bandwidth rate until from) = true
-needs_data (Slicer average variation delay until from) = true
-needs_data other = false
-
--- whether a toxic drops all data: a timeout that begins at once
-abbrev pub drops_data : Toxic → Bool
-drops_data (Timeout timeout from after) = from == 0 && (after == 0)
-drops_data other = false
-
 -- whether an entry drops all data on each link: its toxic does, and is always applied
 abbrev pub drops_all : Entry → Bool
-drops_all entry = drops_data entry.toxic && (entry.toxicity == 1000)
+drops_all entry = (toxic_effect entry.toxic).drops_data && (entry.toxicity == 1000)
 
 -- whether the toxic at a place has no data to work on, or its work is lost: a toxic before it, or one behind it, drops all
 abbrev pub is_lost : ℕ → Toxic → List Entry → Bool
 is_lost place toxic entries =
-    (needs_data toxic && list_any drops_all (take place entries))
+    ((toxic_effect toxic).needs_data && list_any drops_all (take place entries))
     || list_any drops_all (drop (suc place) entries)
-
--- whether a toxic cuts chunks and holds none: a slicer without delay
-abbrev pub only_cuts : Toxic → Bool
-only_cuts (Slicer average variation delay until from) = delay == 0
-only_cuts other = false
 
 -- whether the toxic at a place cuts chunks for none behind it
 abbrev pub cuts_last : ℕ → Toxic → List Entry → Bool
-cuts_last place toxic entries = only_cuts toxic && nat_le (length entries) (suc place)
+cuts_last place toxic entries = (toxic_effect toxic).only_cuts && nat_le (length entries) (suc place)
 
 -- why the toxic at a place changes nothing, if it is known to
 abbrev pub reason : ℕ → Toxic → List Entry → Option Idleness
 reason place toxic entries =
-    if does_nothing toxic then Some DoesNothing
+    if (toxic_effect toxic).does_nothing then Some DoesNothing
     else if has_no_time toxic then Some HasNoTime
     else if is_lost place toxic entries then Some Lost
     else if cuts_last place toxic entries then Some CutsLast

@@ -8,6 +8,7 @@ pub mod RuleRuns
 pub mod Tree
 pub mod Sentences
 pub mod Lines
+pub mod ProxyLines
 pub mod Told
 pub mod Checking
 pub mod Trees

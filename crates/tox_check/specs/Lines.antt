@@ -1,5 +1,5 @@
 -- What is told of the rules of a script.
-use Rattle.std.specs.Prelude.{ℕ, ◌==◌, Bool, false, List, [], ◌∷◌, ◌++◌, codes, decimal, flat_map, length, map, slice_get, take, ◌-◌, Option, None, Some, if◌then◌else◌}
+use Rattle.std.specs.Prelude.{ℕ, ◌==◌, ◌&&◌, not, Bool, false, List, [], ◌∷◌, ◌++◌, codes, decimal, flat_map, length, map, slice_get, take, ◌-◌, Option, None, Some, if◌then◌else◌}
 use Rattle.std.specs.List.{enumerate_from, find}
 use Rattle.tox_time.specs.declared.streams.stream.Stream.{Stream}
 use Rattle.tox_defs.specs.declared.chain.Entry.{Entry}
@@ -13,7 +13,8 @@ use Rattle.tox_check.specs.declared.forecast.totals.places.Places.{Places}
 use Rattle.tox_text.specs.Nearest.{nearest}
 use Rattle.tox_check.specs.Coverage.{last_of, own_of, taken_of, within}
 use Rattle.tox_check.specs.Idle.{idleness_at}
-use Rattle.tox_check.specs.Sentences.{changes_nothing_text, covered_text, disabled_text, no_toxicity_text, partly_text, unknown_text}
+use Rattle.tox_check.specs.ProxyLines.{line_if, proxies_lines}
+use Rattle.tox_check.specs.Sentences.{changes_nothing_text, covered_text, disabled_text, no_toxicity_text, partly_text, seldom_text, unknown_text}
 use Rattle.tox_check.specs.Summary.{greatest, least}
 use Rattle.tox_check.specs.declared.idleness.Idleness.{Idleness}
 use Rattle.tox_check.specs.declared.run.Run.{Run}
@@ -38,27 +39,35 @@ abbrev pub is_silent : Option Entry → Bool
 is_silent None = false
 is_silent (Some entry) = entry.toxicity == 0
 
--- what is told of the toxic of a number that changes nothing, if it is known to
-abbrev pub idle_told : ℕ → Option Idleness → List (List ℕ)
-idle_told number None = []
-idle_told number (Some why) = changes_nothing_text number why ∷ []
+-- whether a toxicity is the number 1, and no decimal text
+abbrev pub is_seldom : Option Bool → Option Entry → Bool
+is_seldom None entry = false
+is_seldom (Some decimal) None = false
+is_seldom (Some decimal) (Some entry) = not decimal && entry.toxicity == 1
 
--- what is told of a placed toxic
-abbrev pub toxic_told : Chains → PlacedToxic → List (List ℕ)
-toxic_told chains placed =
+-- what is told of the toxic of a number, which may be known to change nothing, and may be applied seldom
+abbrev pub idle_told : ℕ → Option Idleness → Bool → List (List ℕ)
+idle_told number None seldom = line_if seldom (seldom_text number)
+idle_told number (Some why) seldom = changes_nothing_text number why ∷ []
+
+-- what is told of a placed toxic, where each toxicity is a decimal text or not
+abbrev pub toxic_told : List Bool → Chains → PlacedToxic → List (List ℕ)
+toxic_told decimals chains placed =
     if is_silent (slice_get (on placed.stream chains).chain.entries placed.place)
     then no_toxicity_text placed.number ∷ []
     else idle_told placed.number
     (idleness_at placed.place (on placed.stream chains).chain.entries)
+    (is_seldom (slice_get decimals (placed.number - 1))
+    (slice_get (on placed.stream chains).chain.entries placed.place))
 
 -- what is told of toxics on these streams, of which the first has these places
-abbrev pub silent_told : Chains → Places → List Stream → List (List ℕ)
-silent_told chains at order = flat_map (toxic_told chains) (placed_from at order)
+abbrev pub silent_told : List Bool → Chains → Places → List Stream → List (List ℕ)
+silent_told decimals chains at order = flat_map (toxic_told decimals chains) (placed_from at order)
 
 -- what is told of the toxics of a rule
-abbrev pub toxics_told : Chains → List Stream → List (List ℕ)
-toxics_told chains order =
-    silent_told chains (record { number = 1; upstream = 0; downstream = 0 }) order
+abbrev pub toxics_told : List Bool → Chains → List Stream → List (List ℕ)
+toxics_told decimals chains order =
+    silent_told decimals chains (record { number = 1; upstream = 0; downstream = 0 }) order
 
 -- what is told of a rule's proxy
 abbrev pub proxy_told : Proxy → List (List ℕ)
@@ -73,7 +82,7 @@ abbrev pub known_told : List Proxy → ℕ → Rule → List Run → Option Prox
 known_told proxies number rule runs None = unknown_text rule.proxy (nearest rule.proxy (proxy_names proxies)) ∷ []
 known_told proxies number rule runs (Some proxy) =
     met_told number (within rule.first (last_of rule.last) runs)
-    ++ (toxics_told rule.chains rule.order ++ proxy_told proxy)
+    ++ (toxics_told rule.decimals rule.chains rule.order ++ proxy_told proxy)
 
 -- what is told of the rule of a number from 1, by the runs of each proxy
 abbrev pub rule_told : List Proxy → (List ℕ → List Run) → ℕ → Rule → List (List ℕ)
@@ -85,7 +94,12 @@ abbrev pub rule_lines : List Proxy → (List ℕ → List Run) → ℕ → Rule 
 rule_lines proxies runs number rule =
     map (λ told. (codes "rule " ++ decimal number) ++ told) (rule_told proxies runs number rule)
 
--- the lines of a check: those of each rule in the script's order
+-- the lines of each rule in the script's order
+abbrev pub rules_lines : List Proxy → Rules → (List ℕ → List Run) → List (List ℕ)
+rules_lines proxies script runs =
+    flat_map (λ numbered. rule_lines proxies runs numbered.0 numbered.1)
+    (enumerate_from 1 script.rules)
+
+-- the lines of a check: those of the proxies, and then those of the rules
 abbrev pub check_lines : List Proxy → Rules → (List ℕ → List Run) → List (List ℕ)
-check_lines proxies script runs =
-    flat_map (λ numbered. rule_lines proxies runs numbered.0 numbered.1) (enumerate_from 1 script.rules)
+check_lines proxies script runs = proxies_lines proxies ++ rules_lines proxies script runs

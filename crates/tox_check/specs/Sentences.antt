@@ -6,7 +6,7 @@ use Rattle.tox_check.specs.declared.idleness.Idleness.{Idleness}
 use Rattle.tox_check.specs.declared.idleness.Idleness.TheVariants.{DoesNothing, HasNoTime, Lost, CutsLast}
 use Rattle.tox_check.specs.declared.run.Run.{Run}
 use Rattle.tox_check.specs.declared.warning.Warning.{Warning}
-use Rattle.tox_check.specs.declared.warning.Warning.TheVariants.{UnknownProxy, Covered, Partly, NoToxicity, ChangesNothing, Disabled}
+use Rattle.tox_check.specs.declared.warning.Warning.TheVariants.{UnknownProxy, Covered, Partly, NoToxicity, ChangesNothing, Seldom, Disabled}
 
 -- where the connections of a run end, unless it has only one: `on` up to the last there is
 abbrev pub run_end : Run → List ℕ
@@ -92,6 +92,10 @@ abbrev pub changes_nothing_text : ℕ → Idleness → List ℕ
 changes_nothing_text toxic why =
     codes " toxic " ++ decimal toxic ++ codes " changes nothing: " ++ reason_text why ++ codes "\n"
 
+-- the toxic of a number has the toxicity 1
+abbrev pub seldom_text : ℕ → List ℕ
+seldom_text toxic = codes " toxic " ++ decimal toxic ++ codes " seldom applies: toxicity 1 is a thousandth\n"
+
 -- the proxy of this name is disabled
 abbrev pub disabled_text : List ℕ → List ℕ
 disabled_text name = codes " is for proxy " ++ visible_name name ++ codes ", which is disabled\n"
@@ -104,6 +108,7 @@ told (Partly own taken) =
     partly_text own.shown.items own.more taken.shown.items taken.more
 told (NoToxicity toxic) = no_toxicity_text toxic
 told (ChangesNothing toxic why) = changes_nothing_text toxic why
+told (Seldom toxic) = seldom_text toxic
 told (Disabled name) = disabled_text name.now
 
 -- the sentence of a warning of a rule, by its number from 1

@@ -4,11 +4,12 @@ ghost use Rattle.std.specs.Prelude.{◌^◌, ◌+◌, Some, flat_map, slice_get}
 ghost use Rattle.tox_script.specs.Rule.{Rule};
 ghost use Rattle.tox_text.specs.Writing.{Prints, Writes};
 ghost use Rattle.tox_check.specs.Checking.{PrintsCheck, StopsCheck, counts_line, end_text, toxic_count};
-ghost use Rattle.tox_check.specs.Lines.{check_lines, rule_lines};
+ghost use Rattle.tox_check.specs.Lines.{check_lines, rule_lines, rules_lines};
 ghost use Rattle.tox_check.specs.Printing.{PrintsLines};
 ghost use Rattle.tox_check.specs.Sentences.{sentence};
 ghost use Rattle.tox_check.specs.Trees.{AreTrees, runs_named};
 
+use crate::proxies::print_proxies;
 use crate::told::warnings_of;
 use crate::tree::RunTree;
 use crate::trees::trees_of;
@@ -20,8 +21,9 @@ use tox_text::Part::{Number, Word};
 use tox_text::{Buffer, PrintPickFault};
 use tox_time::{EndFault, Sink};
 
-/// Writes a line for each rule and each toxic of a setup that has no effect, or not the whole one, in the script's order, and where
-/// it is asked for a last line with the numbers of proxies, rules and toxics. Returns the number of warnings.
+/// Writes a line for each address of a proxy that can't be meant, in the populate file's order, then for each rule and each toxic of a
+/// setup that has no effect, or not the whole one, in the script's order, and where it is asked for a last line with the numbers of
+/// proxies, rules and toxics. Returns the number of warnings.
 ///
 /// A prefix of the text is written after a fault.
 pub fn print_check<W: Sink>(
@@ -42,11 +44,33 @@ pub fn print_check<W: Sink>(
         return Err(PrintPickFault::OutOfMemory);
     };
     let mut buffer = Buffer::new();
-    let warned = print_rules(alloc, &mut buffer, writer, setup, &trees, rules)?;
+    let warned = print_lines(alloc, &mut buffer, writer, setup, &trees, rules)?;
     match print_end(&mut buffer, writer, setup, verbose) {
         Ok(()) => Ok(warned),
         Err(_) => Err(PrintPickFault::WriteFault),
     }
+}
+
+/// Prints the lines of all proxies and rules, and returns how many there are.
+fn print_lines<W: Sink>(
+    alloc: Global,
+    buffer: &mut Buffer,
+    writer: &mut W,
+    setup: &Setup,
+    trees: &[Option<RunTree>],
+    rules: usize,
+) -> Result<u64, PrintPickFault>
+    requires works { W.failed writer.old ≡ false }
+    requires trees { AreTrees setup.now.script setup.now.proxies.items trees.now }
+    requires rules { rules ≡ length setup.now.script.rules }
+    ensures { PrintsLines result (W.written writer.old) buffer.old (W.written writer.new)
+        buffer.new (W.failed writer.new)
+        (check_lines setup.now.proxies.items setup.now.script
+        (runs_named setup.now.proxies.items trees.now)) }
+{
+    let first = print_proxies(buffer, writer, &setup.proxies)?;
+    let others = print_rules(alloc, buffer, writer, setup, trees, rules)?;
+    Ok(first.saturating_add(others))
 }
 
 /// Prints the lines of all rules, and returns how many there are.
@@ -63,7 +87,7 @@ fn print_rules<W: Sink>(
     requires rules { rules ≡ length setup.now.script.rules }
     ensures { PrintsLines result (W.written writer.old) buffer.old (W.written writer.new)
         buffer.new (W.failed writer.new)
-        (check_lines setup.now.proxies.items setup.now.script
+        (rules_lines setup.now.proxies.items setup.now.script
         (runs_named setup.now.proxies.items trees.now)) }
 {
     let mut warned: u64 = 0;
@@ -89,8 +113,8 @@ fn print_rule<W: Sink>(
     ensures { (found : Rule) → slice_get setup.now.script.rules rule ≡ Some found
         → PrintsLines result (W.written writer.old) buffer.old (W.written writer.new) buffer.new
         (W.failed writer.new)
-        (rule_lines setup.now.proxies.items (runs_named setup.now.proxies.items trees.now)
-        (rule + 1) found) }
+        (rule_lines setup.now.proxies.items
+        (runs_named setup.now.proxies.items trees.now) (rule + 1) found) }
 {
     let Ok(warnings) = warnings_of(alloc, setup, trees, rule) else {
         return Err(PrintPickFault::OutOfMemory);

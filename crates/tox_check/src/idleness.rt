@@ -1,9 +1,9 @@
 //! Why a toxic of a chain changes nothing.
 ghost use Rattle.std.specs.Prelude.{◌≡◌, ◌<◌, length, IsSome};
 ghost use Rattle.std.specs.List.{list_any};
-ghost use Rattle.tox_check.specs.Idle.{ChangesNothing, cuts_last, does_nothing, drops_all, drops_data, has_no_time, idleness_at, is_lost, needs_data, only_cuts, reason};
+ghost use Rattle.tox_check.specs.Idle.{ChangesNothing, cuts_last, drops_all, has_no_time, idleness_at, is_lost, reason};
 
-use tox_defs::{Chain, Entry, MAX_TOXICITY, Toxic};
+use tox_defs::{Chain, Entry, MAX_TOXICITY, Toxic, Window};
 
 /// Why a toxic changes nothing.
 #[derive(Clone, Copy, Debug, PartialEq, Eq)]
@@ -37,7 +37,7 @@ fn reason(place: usize, toxic: &Toxic, entries: &[Entry]) -> Option<Idleness>
     requires { place < length entries.now }
     ensures { result ≡ reason place toxic.now entries.now }
 {
-    if does_nothing(toxic) {
+    if toxic.effect().does_nothing {
         Some(Idleness::DoesNothing)
     } else if has_no_time(toxic) {
         Some(Idleness::HasNoTime)
@@ -50,31 +50,12 @@ fn reason(place: usize, toxic: &Toxic, entries: &[Entry]) -> Option<Idleness>
     }
 }
 
-/// Whether a toxic does nothing.
-fn does_nothing(toxic: &Toxic) -> bool
-    ensures { result ≡ does_nothing toxic.now }
-{
-    match *toxic {
-        Toxic::Latency {
-            latency,
-            jitter,
-            ..
-        } => latency == 0 && jitter == 0,
-        Toxic::SlowClose { delay } => delay == 0,
-        _ => false,
-    }
-}
-
 /// Whether every chunk is outside a toxic's time: it stops, and no later than it begins.
 fn has_no_time(toxic: &Toxic) -> bool
     ensures { result ≡ has_no_time toxic.now }
 {
-    match *toxic {
-        Toxic::Latency { until, from, .. }
-        | Toxic::Bandwidth { until, from, .. }
-        | Toxic::Slicer { until, from, .. } => 0 < until && until <= from,
-        _ => false,
-    }
+    let Window { from, until } = toxic.window();
+    0 < until && until <= from
 }
 
 /// Whether the toxic at a place has no data to work on, or its work is lost.
@@ -82,15 +63,8 @@ fn is_lost(place: usize, toxic: &Toxic, entries: &[Entry]) -> bool
     requires { place < length entries.now }
     ensures { result ≡ is_lost place toxic.now entries.now }
 {
-    (needs_data(toxic) && some_drops_all(&entries[..place]))
+    (toxic.effect().needs_data && some_drops_all(&entries[..place]))
         || some_drops_all(&entries[place + 1..])
-}
-
-/// Whether a toxic works on data alone.
-fn needs_data(toxic: &Toxic) -> bool
-    ensures { result ≡ needs_data toxic.now }
-{
-    matches!(*toxic, Toxic::Bandwidth { .. } | Toxic::Slicer { .. })
 }
 
 /// Whether one of some toxics drops all data on each link.
@@ -104,17 +78,7 @@ fn some_drops_all(entries: &[Entry]) -> bool
 fn drops_all(entry: &Entry) -> bool
     ensures { result ≡ drops_all entry.now }
 {
-    drops_data(&entry.toxic) && entry.toxicity == MAX_TOXICITY
-}
-
-/// Whether a toxic drops all data: a timeout that begins at once.
-fn drops_data(toxic: &Toxic) -> bool
-    ensures { result ≡ drops_data toxic.now }
-{
-    match *toxic {
-        Toxic::Timeout { from, after, .. } => from == 0 && after == 0,
-        _ => false,
-    }
+    entry.toxic.effect().drops_data && entry.toxicity == MAX_TOXICITY
 }
 
 /// Whether the toxic at a place cuts chunks for none behind it.
@@ -122,12 +86,5 @@ fn cuts_last(place: usize, toxic: &Toxic, entries: &[Entry]) -> bool
     requires { place < length entries.now }
     ensures { result ≡ cuts_last place toxic.now entries.now }
 {
-    only_cuts(toxic) && entries.len() <= place + 1
-}
-
-/// Whether a toxic cuts chunks and holds none.
-fn only_cuts(toxic: &Toxic) -> bool
-    ensures { result ≡ only_cuts toxic.now }
-{
-    matches!(*toxic, Toxic::Slicer { delay: 0, .. })
+    toxic.effect().only_cuts && entries.len() <= place + 1
 }

@@ -1,13 +1,15 @@
-//! What the connections of a proxy will meet (`forecast`), and what of a script has no effect: rules that no connection meets, or not all of
-//! theirs, and toxics that are never applied or change nothing.
+//! What the connections of a proxy will meet (`forecast`), and what of a setup can't be meant: rules that no connection meets, or not all of
+//! theirs, toxics that are never or seldom applied or change nothing, and addresses with a scheme or that are a proxy's own.
 #![tactic(auto)]
 
+mod addresses;
 mod check;
 mod fault;
 mod forecast;
 mod idleness;
 mod lines;
 mod listed;
+mod proxies;
 mod request;
 mod rule_runs;
 mod run;

@@ -1,9 +1,9 @@
 //! The warnings of a rule.
-ghost use Rattle.std.specs.Prelude.{◌≡◌, ◌+◌, ◌<◌, ◌≤◌, ◌^◌, List, length, slice_get, OnOk};
+ghost use Rattle.std.specs.Prelude.{◌≡◌, ◌+◌, ◌-◌, ◌<◌, ◌≤◌, ◌^◌, List, length, slice_get, OnOk};
 ghost use Rattle.tox_script.specs.chains.Chains.{on};
 ghost use Rattle.tox_check.specs.forecast.Totals.{place_on};
 ghost use Rattle.tox_check.specs.Coverage.{within};
-ghost use Rattle.tox_check.specs.Lines.{is_silent, met_told, silent_told, toxic_told};
+ghost use Rattle.tox_check.specs.Lines.{is_seldom, is_silent, met_told, silent_told, toxic_told};
 ghost use Rattle.tox_check.specs.RuleRuns.{HasRuns};
 ghost use Rattle.tox_check.specs.Told.{IsTreeOf, TellMore, runs_by, told_by};
 ghost use Rattle.tox_check.specs.declared.run.Run.{Run};
@@ -46,41 +46,48 @@ fn warning_of<'a>(found: RuleRuns) -> Option<Warning<'a>>
     }
 }
 
-/// Tells of each toxic that is never applied or changes nothing, of toxics on these streams, of which the first has these places.
+/// Tells of each toxic that is never or seldom applied or changes nothing, of toxics on these streams, of which the first has these
+/// places.
 pub(crate) fn put_silent<'a>(
     warnings: &mut Vec<Warning<'a>>,
+    decimals: &[bool],
     chains: &Chains,
     at: Places,
     order: &[Stream],
 ) -> Result<(), AllocError>
     requires numbered { at.number + length order.now < 2 ^ 64 }
+    requires from_one { 1 ≤ at.number }
     requires upstream { at.upstream ≤ at.number }
     requires downstream { at.downstream ≤ at.number }
     ensures { OnOk result
-        (TellMore warnings.old.items warnings.new.items (silent_told chains.now at order.now)) }
+        (TellMore warnings.old.items warnings.new.items (silent_told decimals.now chains.now at order.now)) }
 {
     let [stream, order @ ..] = order else {
         return Ok(());
     };
-    put_if_silent(warnings, chains, at, *stream)?;
-    put_silent(warnings, chains, at.after(*stream), order)
+    put_if_silent(warnings, decimals, chains, at, *stream)?;
+    put_silent(warnings, decimals, chains, at.after(*stream), order)
 }
 
-/// Tells of a toxic on a stream, which has these places, if it is never applied or changes nothing.
+/// Tells of a toxic on a stream, which has these places, if it is never or seldom applied or changes nothing.
 fn put_if_silent<'a>(
     warnings: &mut Vec<Warning<'a>>,
+    decimals: &[bool],
     chains: &Chains,
     at: Places,
     stream: Stream,
 ) -> Result<(), AllocError>
+    requires from_one { 1 ≤ at.number }
     ensures { OnOk result (TellMore warnings.old.items warnings.new.items
-        (toxic_told chains.now
+        (toxic_told decimals.now chains.now
         (record { number = at.number; stream = stream; place = place_on stream at }))) }
 {
     if is_silent(chains, stream, at.on(stream)) {
         warnings.push(Warning::NoToxicity(at.number))?;
     } else if let Some(why) = idleness_at(chains.on(stream).chain(), at.on(stream)) {
         warnings.push(Warning::ChangesNothing(at.number, why))?;
+    } else if is_seldom(decimals, chains, at, stream) {
+        warnings.push(Warning::Seldom(at.number))?;
     }
     Ok(())
 }
@@ -92,5 +99,18 @@ fn is_silent(chains: &Chains, stream: Stream, place: usize) -> bool
     match chains.on(stream).chain().entries().get(place) {
         Some(entry) => entry.toxicity == 0,
         None => false,
+    }
+}
+
+/// Whether the toxicity of the toxic on a stream that has these places is the number 1, and no decimal text.
+fn is_seldom(decimals: &[bool], chains: &Chains, at: Places, stream: Stream) -> bool
+    requires { 1 ≤ at.number }
+    ensures { result ≡ is_seldom (slice_get decimals.now (at.number - 1))
+        (slice_get (on stream chains.now).chain.entries (place_on stream at)) }
+{
+    let entries = chains.on(stream).chain().entries();
+    match (decimals.get(at.number - 1), entries.get(at.on(stream))) {
+        (Some(decimal), Some(entry)) => !*decimal && entry.toxicity == 1,
+        _ => false,
     }
 }

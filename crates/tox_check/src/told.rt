@@ -2,7 +2,7 @@
 ghost use Rattle.std.specs.Prelude.{◌≡◌, ◌+◌, ◌<◌, ◌^◌, ◌++◌, [], ◌∷◌, Some, length, map, position, slice_get, IfOk, OnOk};
 ghost use Rattle.tox_config.specs.Populate.{is_named};
 ghost use Rattle.tox_script.specs.Rule.{Rule};
-ghost use Rattle.tox_script.specs.index.Numbered.{chains_numbered, order_numbered};
+ghost use Rattle.tox_script.specs.index.Numbered.{chains_numbered, decimals_numbered, order_numbered};
 ghost use Rattle.tox_text.specs.Nearest.{nearest};
 ghost use Rattle.tox_check.specs.Coverage.{last_of, within};
 ghost use Rattle.tox_check.specs.Lines.{met_told, proxy_names, proxy_told, rule_told, toxics_told};
@@ -32,8 +32,8 @@ pub(crate) fn warnings_of<'a>(
     requires trees { AreTrees setup.now.script setup.now.proxies.items trees.now }
     ensures { (found : Rule) → slice_get setup.now.script.rules rule ≡ Some found
         → IfOk result (λ warnings. map told warnings.items
-        ≡ rule_told setup.now.proxies.items (runs_named setup.now.proxies.items trees.now)
-        (rule + 1) found) }
+        ≡ rule_told setup.now.proxies.items
+        (runs_named setup.now.proxies.items trees.now) (rule + 1) found) }
 {
     let Some(scope) = setup.script.scope(rule) else {
         return Ok(Vec::new(alloc));
@@ -101,8 +101,8 @@ fn known<'a>(
     ensures { IfOk result (λ warnings. map told warnings.items
         ≡ met_told (rule + 1)
         (within scope.entry.first (last_of scope.entry.last) (runs_by tree.now))
-        ++ (toxics_told (chains_numbered (Some rule) script.now) (order_numbered rule script.now)
-        ++ proxy_told proxy.now)) }
+        ++ (toxics_told (decimals_numbered rule script.now) (chains_numbered (Some rule) script.now)
+        (order_numbered rule script.now) ++ proxy_told proxy.now)) }
 {
     let range = Range {
         rule: rule + 1,
@@ -136,14 +136,15 @@ fn put_coverage(
     }
 }
 
-/// Tells of the toxics of a rule, by its number from 0, that are never applied.
+/// Tells of the toxics of a rule, by its number from 0, that are never or seldom applied or change nothing.
 fn put_toxics(
     warnings: &mut Vec<Warning<'_>>,
     script: &Script,
     rule: usize,
 ) -> Result<(), AllocError>
     ensures { OnOk result (TellMore warnings.old.items warnings.new.items
-        (toxics_told (chains_numbered (Some rule) script.now) (order_numbered rule script.now))) }
+        (toxics_told (decimals_numbered rule script.now) (chains_numbered (Some rule) script.now)
+        (order_numbered rule script.now))) }
 {
     let first = Places {
         number: 1,
@@ -151,7 +152,13 @@ fn put_toxics(
         downstream: 0,
     };
     let chains = script.rule_chains(Some(rule));
-    put_silent(warnings, chains, first, script.order(rule))
+    put_silent(
+        warnings,
+        script.decimals(rule),
+        chains,
+        first,
+        script.order(rule),
+    )
 }
 
 /// Tells of a proxy that is disabled.

@@ -1,7 +1,7 @@
 //! What is told of a rule, and its sentence.
 ghost use Rattle.std.specs.Prelude.{◌≡◌, false, option_map};
 ghost use Rattle.tox_text.specs.Writing.{Prints};
-ghost use Rattle.tox_check.specs.Sentences.{changes_nothing_text, covered_text, covering_text, disabled_text, near_text, no_toxicity_text, one_covers, partly_text, reason_text, sentence, some_cover, told, unknown_text};
+ghost use Rattle.tox_check.specs.Sentences.{changes_nothing_text, covered_text, covering_text, disabled_text, near_text, no_toxicity_text, one_covers, partly_text, reason_text, seldom_text, sentence, some_cover, told, unknown_text};
 
 mod ranges;
 
@@ -25,6 +25,8 @@ pub(crate) enum Warning<'a> {
     NoToxicity(usize),
     /// The toxic of this number changes nothing, for this reason.
     ChangesNothing(usize, Idleness),
+    /// The toxic of this number has the toxicity 1.
+    Seldom(usize),
     /// The proxy of this name is disabled.
     Disabled(&'a str),
 }
@@ -60,6 +62,7 @@ fn print_told<W: Sink>(
         Warning::Partly(own, taken) => print_partly(buffer, writer, own, taken),
         Warning::NoToxicity(toxic) => print_no_toxicity(buffer, writer, *toxic),
         Warning::ChangesNothing(toxic, why) => print_idle(buffer, writer, *toxic, *why),
+        Warning::Seldom(toxic) => print_seldom(buffer, writer, *toxic),
         Warning::Disabled(name) => print_disabled(buffer, writer, name),
     }
 }
@@ -235,6 +238,20 @@ fn reason_text(why: Idleness) -> &'static str
         Idleness::Lost => "a timeout drops all data",
         Idleness::CutsLast => "it cuts without delay, and is the last",
     }
+}
+
+/// Prints that a toxic is applied seldom.
+fn print_seldom<W: Sink>(buffer: &mut Buffer, writer: &mut W, toxic: usize) -> Result<(), EndFault>
+    requires { W.failed writer.old ≡ false }
+    ensures { Prints result (W.written writer.old) buffer.old (W.written writer.new) buffer.new
+        (W.failed writer.new) (seldom_text toxic) }
+{
+    let parts = [
+        Word(" toxic "),
+        Number(toxic as u64),
+        Word(" seldom applies: toxicity 1 is a thousandth\n"),
+    ];
+    buffer.print(writer, &parts)
 }
 
 /// Prints that a rule's proxy is disabled.

@@ -10,7 +10,7 @@ use tox_time::{MAX_TEXT_LEN, is_sized, parse_decimal};
 const MAX_PORT_LEN: usize = 5;
 
 /// Whether a text is an address: 1 to 255 visible bytes, with a port behind the last colon.
-pub(crate) fn is_address(text: &str) -> bool
+pub fn is_address(text: &str) -> bool
     ensures { result ≡ is_address text.now }
 {
     is_sized(text, MAX_TEXT_LEN) && all_visible(text) && ends_in_port(text)

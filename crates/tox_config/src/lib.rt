@@ -7,6 +7,7 @@ mod lent_proxy;
 mod populate;
 mod proxy;
 
+pub use address::is_address;
 pub use fault::ConfigFault;
 pub use populate::read_populate;
 pub use proxy::ProxyDef;

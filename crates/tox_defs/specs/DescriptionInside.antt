@@ -9,4 +9,6 @@ description_view lent = record {
   attributes = map (λ name. name.now) lent.attributes.now;
   limits = lent.limits.now;
   values = lent.values.items;
+  window = lent.window;
+  effect = lent.effect;
 }

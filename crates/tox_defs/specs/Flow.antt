@@ -3,6 +3,7 @@ use Rattle.std.specs.Prelude.{ℕ, ◌+◌, ◌<◌, List, [], ◌∷◌, map, i
 use Rattle.tox_time.specs.declared.streams.item.Item.{Item}
 use Rattle.tox_words.specs.declared.lanes.Lanes.{Lanes}
 use Rattle.tox_words.specs.Draw.{Draws, DrawingView, draws_of, lane_count}
+use Rattle.tox_defs.specs.declared.attributes.effect.Effect.{Effect}
 use Rattle.tox_defs.specs.declared.toxic.Toxic.{Toxic}
 use Rattle.tox_defs.specs.declared.chain.applied.Placed.{Placed}
 use Rattle.tox_defs.specs.declared.chain.Entry.{Entry}
@@ -19,11 +20,15 @@ toxic_giving toxic words = (meaning_of toxic).gives words
 
 -- the milliseconds from which on a toxic lets chunks pass; 0: it never does
 abbrev pub toxic_until : Toxic → ℕ
-toxic_until toxic = (meaning_of toxic).until
+toxic_until toxic = (meaning_of toxic).description.window.until
 
 -- the milliseconds before which a toxic lets chunks pass; 0: it never does
 abbrev pub toxic_from : Toxic → ℕ
-toxic_from toxic = (meaning_of toxic).from
+toxic_from toxic = (meaning_of toxic).description.window.from
+
+-- what is known of what a toxic does
+abbrev pub toxic_effect : Toxic → Effect
+toxic_effect toxic = (meaning_of toxic).description.effect
 
 -- the reaction of a toxic, by the words of its lane
 abbrev pub toxic_reaction : Toxic → (ℕ → ℕ) → Reaction

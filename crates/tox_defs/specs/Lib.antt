@@ -1,3 +1,4 @@
+pub mod Effects
 pub mod Meaning
 pub mod toxics
 pub mod Toxic

@@ -1,4 +1,4 @@
--- The seven toxics, each in a file of its own: its name, its attributes and their ranges, what it gives, its operation, and its law.
+-- The toxics, each in a file of its own: its name, its attributes and their ranges, what it gives, its operation, and its law.
 use Rattle.std.specs.Prelude.{List, [], ◌∷◌}
 use Rattle.tox_defs.specs.declared.toxic.Toxic.{Toxic}
 use Rattle.tox_defs.specs.declared.toxic.Toxic.TheVariants as toxic

@@ -2,14 +2,19 @@
 ghost use Rattle.std.specs.Prelude.{◌≡◌, ◌≤◌, ◌↔◌, None, Some, IsOk, IfErr, IfOk, length, map};
 ghost use Rattle.std.specs.List.{list_any};
 ghost use Rattle.std.specs.Str.{bytes_eq};
+ghost use Rattle.tox_defs.specs.Flow.{toxic_effect, toxic_from, toxic_until};
 ghost use Rattle.tox_defs.specs.Toxic.{IsInRange, attributes_of, checked, name_of, toxic_fault, toxic_named, values_of, with_values};
 
 pub(crate) mod description;
+pub(crate) mod effect;
 pub(crate) mod limits;
 pub(crate) mod values;
+pub(crate) mod window;
 
+use crate::attributes::effect::Effect;
 use crate::attributes::limits::are_in;
 use crate::attributes::values::MAX_ATTRIBUTES;
+use crate::attributes::window::Window;
 use crate::fault::ToxicFault;
 use crate::toxic::Toxic;
 use arrayvec::ArrayVec;
@@ -54,6 +59,20 @@ impl Toxic {
         ensures all { length result.items ≡ length (attributes_of self.now) }
     {
         self.description().values
+    }
+
+    /// The time, in milliseconds, before `from` or from `until` on the toxic lets chunks pass. With 0 it never does.
+    pub fn window(&self) -> Window
+        ensures { (result.from ≡ toxic_from self.now) × (result.until ≡ toxic_until self.now) }
+    {
+        self.description().window
+    }
+
+    /// What is known of what the toxic does, whatever arrives.
+    pub fn effect(&self) -> Effect
+        ensures { result ≡ toxic_effect self.now }
+    {
+        self.description().effect
     }
 
     /// The toxic of the same type with these values of its attributes, in their order. Values that are

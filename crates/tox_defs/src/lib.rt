@@ -1,4 +1,4 @@
-//! What a toxic does: the seven toxics, chains of them, and one toxic at work.
+//! What a toxic does: the toxics, chains of them, and one toxic at work.
 #![tactic(auto)]
 
 mod attributes;
@@ -10,7 +10,9 @@ mod stage;
 mod toxic;
 mod toxics;
 
+pub use attributes::effect::Effect;
 pub use attributes::values::MAX_ATTRIBUTES;
+pub use attributes::window::Window;
 pub use chain::applied::Placed;
 pub use chain::{Chain, Entry, MAX_TOXICITY, MAX_TOXICS};
 pub use fault::{ShortFault, TooManyToxics, ToxicFault};

@@ -1,4 +1,4 @@
-//! The seven toxics, each in a file of its own: its name, its attributes with their ranges, its operation, and what that operation finds.
+//! The toxics, each in a file of its own: its name, its attributes with their ranges, its operation, and what that operation finds.
 pub(crate) mod bandwidth;
 pub(crate) mod first_bytes;
 pub(crate) mod halt;

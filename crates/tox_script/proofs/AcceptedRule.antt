@@ -102,9 +102,9 @@ rule_shallow settings number (table ms) rule is sorted =
     let d : Data = table ms in
     let at : Location = record { rule = number; toxic = 0 } in
     let (fields, was_read, was_rule) = bind_ok (map_err (fault.Field at) (rule_fields d))
-    (λ (fields : RuleFields). read_toxics settings number fields.toxics >>= (λ made. Ok (record { proxy = fields.proxy; first = fields.first; last = fields.last; chains = made.chains; order = made.order }))) rule is in
+    (λ (fields : RuleFields). read_toxics settings number fields.toxics >>= (λ made. Ok (record { proxy = fields.proxy; first = fields.first; last = fields.last; chains = made.chains; order = made.order; decimals = made.decimals }))) rule is in
     let read = AreRuleFields-read d (proxy_field d) (first_field d) fields refl refl (map_err_ok (fault.Field at) (rule_fields d) fields was_read) in
-    let (made, was_made, done) = bind_ok (read_toxics settings number fields.toxics) (λ made. Ok (record { proxy = fields.proxy; first = fields.first; last = fields.last; chains = made.chains; order = made.order })) rule was_rule in
+    let (made, was_made, done) = bind_ok (read_toxics settings number fields.toxics) (λ made. Ok (record { proxy = fields.proxy; first = fields.first; last = fields.last; chains = made.chains; order = made.order; decimals = made.decimals })) rule was_rule in
     let (toxics, was_toxics, joined) = bind_ok (toxics_from settings number [] fields.toxics) (λ toxics. Ok (toxics_of settings.lanes toxics)) made was_made in
     let proxy : IsFound 3 ms (codes "proxy") = λ e found here.
     IsShallow-scalar 3 e (sized_scalar 255 e fields.proxy (needed_read field.Proxy (sized_text 255) (get (codes "proxy") d) e fields.proxy found read.proxy)) in

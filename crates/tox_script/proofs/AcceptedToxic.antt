@@ -13,7 +13,7 @@ use Rattle.tox_script.specs.fields.Attributes.{all_some, toxic_with, value_in, v
 use Rattle.tox_script.specs.fields.Fields.{has_only, is_among, is_between, is_table, natural, needed, optional, whole}
 use Rattle.tox_script.specs.chains.Toxic.{NamedToxic, default_name, named_toxic}
 use Rattle.tox_script.specs.fields.ToxicFields.{ToxicFields, attributes_field, is_plain, name_field, plain_name, stream_field, stream_text, toxic_fields, type_field}
-use Rattle.tox_script.specs.fields.Toxicity.{told_toxicity, toxicity_in}
+use Rattle.tox_script.specs.fields.Toxicity.{is_decimal, told_toxicity, toxicity_in}
 use Rattle.tox_script.specs.chains.Toxics.{toxic_at}
 use Rattle.tox_script.specs.declared.fault.Field.{Field}
 use Rattle.tox_script.specs.declared.fault.Field.TheVariants as field
@@ -171,6 +171,7 @@ named_with fields toxicity toxic = record {
   stream = fields.stream;
   entry = record { toxic = toxic; toxicity = toxicity };
   name = unwrap_or fields.name (default_name toxic fields.stream);
+  is_decimal = is_decimal fields.toxicity;
 }
 
 IsNamed-last : (version : Version) (fields : ToxicFields) (zeros : AnyToxic) (toxicity : ℕ) (toxic : Result AnyToxic ToxicFault) (named : NamedToxic) → toxicity_in version fields.toxicity ≡ Some toxicity

@@ -68,7 +68,7 @@ module _ (lanes : Lanes) where
 
   -- the rule of some fields with these toxics
   abbrev rule_with : RuleFields → RuleToxics → Rule
-  rule_with fields toxics = record { proxy = fields.proxy; first = fields.first; last = fields.last; chains = toxics.chains; order = toxics.order }
+  rule_with fields toxics = record { proxy = fields.proxy; first = fields.first; last = fields.last; chains = toxics.chains; order = toxics.order; decimals = toxics.decimals }
 
   rule_two : (number : ℕ) (d : Data) (rule : Rule) → rule_of (in_version One) number d ≡ Ok rule → rule_of (in_version Two) number d ≡ Ok rule
   rule_two number d rule is =

@@ -1,5 +1,5 @@
 -- A rule of a script: the fields of its table, and the toxics that some connections of a proxy meet.
-use Rattle.std.specs.Prelude.{ℕ, List, [], ◌∷◌, codes, Option, Result, Ok}
+use Rattle.std.specs.Prelude.{ℕ, Bool, List, [], ◌∷◌, codes, Option, Result, Ok}
 use Rattle.toml.specs.Data.{Data, Items, get}
 use Rattle.tox_script.specs.fields.Fields.{needed, optional, sized_text, tables_of, unless_unknown, whole_between}
 use Rattle.tox_time.specs.Steps.{◌>>=◌, map_err}
@@ -42,14 +42,15 @@ rule_fields d = do
       (codes "proxy" ∷ codes "first" ∷ codes "last" ∷ codes "toxic" ∷ []) d
       (record { proxy = proxy; first = first; last = last; toxics = toxics })
 
--- a rule: its proxy's name, its first and its last connection, the toxics of each stream, and the stream of each
--- toxic in the file's order
+-- a rule: its proxy's name, its first and its last connection, the toxics of each stream, and in the file's order the
+-- stream of each toxic and whether its toxicity is given as a decimal text
 pub record Rule : Type 0 where
   pub proxy : List ℕ
   pub first : ℕ
   pub last : Option ℕ
   pub chains : Chains
   pub order : List Stream
+  pub decimals : List Bool
 
 -- what a script is seen as: its settings, and its rules in the file's order
 pub record Rules : Type 0 where
@@ -67,4 +68,5 @@ rule_of settings number d = do
     last = fields.last;
     chains = toxics.chains;
     order = toxics.order;
+    decimals = toxics.decimals;
   })

@@ -37,6 +37,7 @@ toxic_view toxic = record {
   entry = toxic.entry;
   name = unwrap_or (option_map (λ name. name.now) toxic.told_name)
       (default_name toxic.entry.toxic toxic.stream);
+  is_decimal = toxic.is_decimal;
 }
 
 -- the fields that a rule's lent ones stand for
@@ -50,7 +51,11 @@ rule_fields_view fields = record {
 
 -- the toxics that owned ones stand for
 abbrev pub toxics_view : OwnedToxics → RuleToxics
-toxics_view toxics = record { chains = toxics.chains; order = toxics.order.items }
+toxics_view toxics = record {
+  chains = toxics.chains;
+  order = toxics.order.items;
+  decimals = toxics.decimals.items;
+}
 
 -- the toxics that a rule of so many lanes holds: it holds nothing where it has no toxic
 abbrev pub held_toxics : Lanes → Option (Box OwnedToxics Global) → RuleToxics
@@ -65,4 +70,5 @@ rule_view lanes rule = record {
   last = rule.last;
   chains = (held_toxics lanes rule.toxics).chains;
   order = (held_toxics lanes rule.toxics).order;
+  decimals = (held_toxics lanes rule.toxics).decimals;
 }

@@ -147,6 +147,16 @@ impl Rule {
             None => &[],
         }
     }
+
+    /// Whether the toxicity of each toxic is given as a decimal text, in the file's order.
+    pub(crate) fn decimals(&self) -> &[bool]
+        ensures { (lanes : Lanes) → result.now ≡ (rule_view lanes self.now).decimals }
+    {
+        match &self.toxics {
+            Some(toxics) => &toxics.decimals,
+            None => &[],
+        }
+    }
 }
 
 /// The toxics of the tables of a rule, whose number is told. A rule without toxics takes no memory for chains.

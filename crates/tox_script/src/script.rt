@@ -44,7 +44,7 @@ impl Model for Script {
 
 impl Script {
     ghost use Rattle.tox_script.specs.Covering.{chains_for, chains_in, covering, toxics_for};
-    ghost use Rattle.tox_script.specs.index.Numbered.{IsIndex, chains_numbered, order_numbered};
+    ghost use Rattle.tox_script.specs.index.Numbered.{IsIndex, chains_numbered, decimals_numbered, order_numbered};
 
     /// The document's version: 1 if absent.
     pub fn version(&self) -> Version
@@ -97,6 +97,17 @@ impl Script {
     {
         match self.numbered(Some(rule)) {
             Some(rule) => rule.order(),
+            None => &[],
+        }
+    }
+
+    /// Whether the toxicity of each toxic of the rule of a number from 0 is given as a decimal text, in the file's order; none without a
+    /// rule.
+    pub fn decimals(&self, rule: usize) -> &[bool]
+        ensures { result.now ≡ decimals_numbered rule self.now }
+    {
+        match self.numbered(Some(rule)) {
+            Some(rule) => rule.decimals(),
             None => &[],
         }
     }

@@ -1,5 +1,5 @@
 -- bandwidth: no more than so many bytes pass in a millisecond.
-use Rattle.std.specs.Prelude.{ℕ, ◌+◌, ◌*◌, ◌<◌, ◌≤◌, List, [], ◌∷◌, codes, length, slice_index}
+use Rattle.std.specs.Prelude.{true, ℕ, ◌+◌, ◌*◌, ◌<◌, ◌≤◌, List, [], ◌∷◌, codes, length, slice_index}
 use Rattle.std.specs.Int.{div_ceil}
 use Rattle.tox_time.specs.declared.streams.item.Item.{Item}
 use Rattle.tox_time.specs.declared.streams.item.Item.TheVariants.{Chunk}
@@ -11,6 +11,7 @@ use Rattle.tox_defs.specs.declared.operations.op.Op.TheVariants.{Pace}
 use Rattle.tox_defs.specs.toxics.Ordered.{in_order}
 use Rattle.tox_defs.specs.toxics.Pieces.{leave, pieces_of}
 use Rattle.tox_defs.specs.toxics.Ranges.{one_to_million, up_to_hour}
+use Rattle.tox_defs.specs.Effects.{any_effect}
 use Rattle.tox_defs.specs.Meaning.{Description, Meaning}
 use Rattle.tox_defs.specs.stage.Reaction.{Giving}
 
@@ -22,6 +23,8 @@ bandwidth_description rate until from = record {
   attributes = codes "rate" ∷ codes "until" ∷ codes "from" ∷ [];
   limits = one_to_million ∷ up_to_hour ∷ up_to_hour ∷ [];
   values = rate ∷ until ∷ from ∷ [];
+  window = record { from = from; until = until };
+  effect = record any_effect { needs_data = true };
 }
 
 -- the bandwidth with these values of its attributes
@@ -50,8 +53,6 @@ abbrev pub bandwidth_meaning : ℕ → ℕ → ℕ → Meaning
 bandwidth_meaning rate until from = record {
   description = bandwidth_description rate until from;
   with_values = bandwidth_of;
-  from = from;
-  until = until;
   gives = λ words. pace_gives rate;
   op = λ place. Pace rate until from;
   law = BandwidthLaw rate;

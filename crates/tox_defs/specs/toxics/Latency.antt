@@ -1,5 +1,5 @@
 -- latency: every chunk leaves later, by a fixed time plus or minus a drawn one.
-use Rattle.std.specs.Prelude.{◌≡◌, ℕ, zero, suc, ◌+◌, ◌*◌, max, List, [], ◌∷◌, codes, map, slice_index}
+use Rattle.std.specs.Prelude.{◌==◌, ◌&&◌, ◌≡◌, ℕ, zero, suc, ◌+◌, ◌*◌, max, List, [], ◌∷◌, codes, map, slice_index}
 use Rattle.tox_time.specs.declared.streams.item.Item.{Item}
 use Rattle.tox_time.specs.declared.streams.item.Item.TheVariants.{Chunk}
 use Rattle.tox_time.specs.Time.{plus}
@@ -10,6 +10,7 @@ use Rattle.tox_defs.specs.declared.operations.op.Op.{Op}
 use Rattle.tox_defs.specs.declared.operations.op.Op.TheVariants.{Delay}
 use Rattle.tox_defs.specs.toxics.Ordered.{in_order}
 use Rattle.tox_defs.specs.toxics.Ranges.{up_to_hour}
+use Rattle.tox_defs.specs.Effects.{any_effect}
 use Rattle.tox_defs.specs.Meaning.{Description, Meaning}
 use Rattle.tox_defs.specs.stage.Reaction.{Giving}
 use Rattle.tox_defs.specs.toxics.Varied.{varied}
@@ -21,6 +22,8 @@ latency_description latency jitter until from = record {
   attributes = codes "latency" ∷ codes "jitter" ∷ codes "until" ∷ codes "from" ∷ [];
   limits = up_to_hour ∷ up_to_hour ∷ up_to_hour ∷ up_to_hour ∷ [];
   values = latency ∷ jitter ∷ until ∷ from ∷ [];
+  window = record { from = from; until = until };
+  effect = record any_effect { does_nothing = latency == 0 && (jitter == 0) };
 }
 
 -- the latency with these values of its attributes
@@ -64,8 +67,6 @@ abbrev pub latency_meaning : ℕ → ℕ → ℕ → ℕ → Meaning
 latency_meaning latency jitter until from = record {
   description = latency_description latency jitter until from;
   with_values = latency_of;
-  from = from;
-  until = until;
   gives = latency_gives latency jitter;
   op = λ place. delay_of place latency jitter until from;
   law = LatencyLaw latency jitter;

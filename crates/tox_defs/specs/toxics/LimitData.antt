@@ -9,6 +9,7 @@ use Rattle.tox_defs.specs.declared.toxic.Toxic.TheVariants.{LimitData}
 use Rattle.tox_defs.specs.declared.operations.op.Op.TheVariants.{Limit}
 use Rattle.tox_defs.specs.toxics.Ranges.{up_to_max_bytes}
 use Rattle.tox_defs.specs.toxics.FirstBytes.{bytes_give}
+use Rattle.tox_defs.specs.Effects.{always, any_effect}
 use Rattle.tox_defs.specs.Meaning.{Description, Meaning}
 use Rattle.tox_defs.specs.stage.Reaction.{Giving}
 
@@ -19,6 +20,8 @@ limit_data_description bytes = record {
   attributes = codes "bytes" ∷ [];
   limits = up_to_max_bytes ∷ [];
   values = bytes ∷ [];
+  window = always;
+  effect = any_effect;
 }
 
 -- the limit_data with this value of its attribute
@@ -38,8 +41,6 @@ abbrev pub limit_data_meaning : ℕ → Meaning
 limit_data_meaning bytes = record {
   description = limit_data_description bytes;
   with_values = limit_data_of;
-  from = 0;
-  until = 0;
   gives = λ words. limit_gives bytes;
   op = λ place. Limit bytes;
   law = LimitDataLaw bytes;

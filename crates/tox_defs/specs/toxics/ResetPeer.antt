@@ -12,6 +12,7 @@ use Rattle.tox_defs.specs.declared.operations.op.Op.{Op}
 use Rattle.tox_defs.specs.declared.operations.op.Op.TheVariants.{Cutoff, Halt}
 use Rattle.tox_defs.specs.toxics.Ranges.{up_to_hour, up_to_max_bytes}
 use Rattle.tox_defs.specs.toxics.Halt.{halt_gives, is_before}
+use Rattle.tox_defs.specs.Effects.{always, any_effect}
 use Rattle.tox_defs.specs.Meaning.{Description, Meaning}
 use Rattle.tox_defs.specs.stage.Reaction.{Giving}
 
@@ -22,6 +23,8 @@ reset_peer_description timeout after = record {
   attributes = codes "timeout" ∷ codes "after" ∷ [];
   limits = up_to_hour ∷ up_to_max_bytes ∷ [];
   values = timeout ∷ after ∷ [];
+  window = always;
+  effect = any_effect;
 }
 
 -- the reset_peer with these values of its attributes
@@ -52,8 +55,6 @@ abbrev pub reset_peer_meaning : ℕ → ℕ → Meaning
 reset_peer_meaning timeout after = record {
   description = reset_peer_description timeout after;
   with_values = reset_peer_of;
-  from = 0;
-  until = 0;
   gives = λ words. reset_peer_gives timeout after;
   op = λ place. reset_peer_op timeout after;
   law = ResetPeerLaw timeout after;

@@ -1,5 +1,5 @@
 -- slicer: chunks are cut into pieces near a size, with a delay before each.
-use Rattle.std.specs.Prelude.{◌≡◌, ℕ, ◌+◌, ◌-◌, ◌≤◌, ◌⊎◌, All, Bool, List, [], ◌∷◌, codes, nat_le, slice_index}
+use Rattle.std.specs.Prelude.{◌==◌, true, ◌≡◌, ℕ, ◌+◌, ◌-◌, ◌≤◌, ◌⊎◌, All, Bool, List, [], ◌∷◌, codes, nat_le, slice_index}
 use Rattle.tox_time.specs.declared.streams.item.Item.{Item}
 use Rattle.tox_time.specs.declared.streams.item.Item.TheVariants.{Chunk}
 use Rattle.tox_time.specs.streams.Stream.{span_len}
@@ -9,6 +9,7 @@ use Rattle.tox_defs.specs.declared.operations.op.Op.TheVariants.{Slicing}
 use Rattle.tox_defs.specs.toxics.Ordered.{in_order}
 use Rattle.tox_defs.specs.toxics.Pieces.{leave, pieces_of}
 use Rattle.tox_defs.specs.toxics.Ranges.{any_value, one_to_million, up_to_hour}
+use Rattle.tox_defs.specs.Effects.{any_effect}
 use Rattle.tox_defs.specs.Meaning.{Description, Meaning}
 use Rattle.tox_defs.specs.stage.Reaction.{Giving}
 use Rattle.tox_defs.specs.toxics.Varied.{varied}
@@ -23,6 +24,8 @@ slicer_description average_size size_variation delay until from = record {
   limits =
       one_to_million ∷ any_value ∷ record { least = 0; most = 3600000000 } ∷ up_to_hour ∷ up_to_hour ∷ [];
   values = average_size ∷ size_variation ∷ delay ∷ until ∷ from ∷ [];
+  window = record { from = from; until = until };
+  effect = record any_effect { needs_data = true; only_cuts = delay == 0 };
 }
 
 -- the slicer with these values of its attributes
@@ -68,8 +71,6 @@ abbrev pub slicer_meaning : ℕ → ℕ → ℕ → ℕ → ℕ → Meaning
 slicer_meaning average_size size_variation delay until from = record {
   description = slicer_description average_size size_variation delay until from;
   with_values = slicer_of;
-  from = from;
-  until = until;
   gives = slicer_gives average_size size_variation delay;
   op = λ place. Slicing average_size size_variation delay place until from;
   law = SlicerLaw average_size size_variation;

@@ -1,5 +1,5 @@
 -- slow_close: a close leaves later.
-use Rattle.std.specs.Prelude.{◌≡◌, ℕ, List, [], ◌∷◌, codes, slice_index, ◌*◌}
+use Rattle.std.specs.Prelude.{◌==◌, ◌≡◌, ℕ, List, [], ◌∷◌, codes, slice_index, ◌*◌}
 use Rattle.tox_time.specs.declared.streams.item.Item.{Item}
 use Rattle.tox_time.specs.declared.streams.item.Item.TheVariants.{Closed}
 use Rattle.tox_time.specs.Time.{plus}
@@ -8,6 +8,7 @@ use Rattle.tox_defs.specs.declared.toxic.Toxic.{Toxic}
 use Rattle.tox_defs.specs.declared.toxic.Toxic.TheVariants.{SlowClose}
 use Rattle.tox_defs.specs.declared.operations.op.Op.TheVariants.{Slow}
 use Rattle.tox_defs.specs.toxics.Ranges.{up_to_hour}
+use Rattle.tox_defs.specs.Effects.{always, any_effect}
 use Rattle.tox_defs.specs.Meaning.{Description, Meaning}
 use Rattle.tox_defs.specs.stage.Reaction.{Giving}
 
@@ -18,6 +19,8 @@ slow_close_description delay = record {
   attributes = codes "delay" ∷ [];
   limits = up_to_hour ∷ [];
   values = delay ∷ [];
+  window = always;
+  effect = record any_effect { does_nothing = delay == 0 };
 }
 
 -- the slow_close with this value of its attribute
@@ -38,8 +41,6 @@ abbrev pub slow_close_meaning : ℕ → Meaning
 slow_close_meaning delay = record {
   description = slow_close_description delay;
   with_values = slow_close_of;
-  from = 0;
-  until = 0;
   gives = λ words. slow_gives (1000 * delay);
   op = λ place. Slow delay;
   law = SlowCloseLaw;

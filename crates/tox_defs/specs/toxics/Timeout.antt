@@ -1,5 +1,5 @@
 -- timeout: no data passes, from the start or later, and the link closes after a time, or never.
-use Rattle.std.specs.Prelude.{◌≡◌, ℕ, zero, suc, ◌*◌, ◌<◌, ◌≤◌, All, List, [], ◌∷◌, Option, None, Some, codes, length, slice_index}
+use Rattle.std.specs.Prelude.{◌==◌, ◌&&◌, ◌≡◌, ℕ, zero, suc, ◌*◌, ◌<◌, ◌≤◌, All, List, [], ◌∷◌, Option, None, Some, codes, length, slice_index}
 use Rattle.tox_time.specs.declared.streams.item.Item.{Item}
 use Rattle.tox_time.specs.declared.streams.item.Item.TheVariants.{Chunk}
 use Rattle.tox_time.specs.declared.streams.ending.Ending.{Ending}
@@ -12,6 +12,7 @@ use Rattle.tox_defs.specs.declared.operations.op.Op.{Op}
 use Rattle.tox_defs.specs.declared.operations.op.Op.TheVariants.{Mute, Halt}
 use Rattle.tox_defs.specs.toxics.Ranges.{up_to_hour, up_to_max_bytes}
 use Rattle.tox_defs.specs.toxics.Halt.{halt_gives}
+use Rattle.tox_defs.specs.Effects.{always, any_effect}
 use Rattle.tox_defs.specs.Meaning.{Description, Meaning}
 use Rattle.tox_defs.specs.stage.Reaction.{Giving}
 
@@ -22,6 +23,8 @@ timeout_description timeout from after = record {
   attributes = codes "timeout" ∷ codes "from" ∷ codes "after" ∷ [];
   limits = up_to_hour ∷ up_to_hour ∷ up_to_max_bytes ∷ [];
   values = timeout ∷ from ∷ after ∷ [];
+  window = always;
+  effect = record any_effect { drops_data = from == 0 && (after == 0) };
 }
 
 -- the timeout with these values of its attributes
@@ -73,8 +76,6 @@ abbrev pub timeout_meaning : ℕ → ℕ → ℕ → Meaning
 timeout_meaning timeout from after = record {
   description = timeout_description timeout from after;
   with_values = timeout_of;
-  from = 0;
-  until = 0;
   gives = λ words. timeout_gives timeout from after;
   op = λ place. timeout_op timeout from after;
   law = λ items given. TimeoutLaw from after given;

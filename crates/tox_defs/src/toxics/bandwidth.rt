@@ -8,8 +8,10 @@ ghost use Rattle.tox_defs.specs.Toxic.{checked};
 ghost use Rattle.tox_defs.specs.toxics.Bandwidth.{bandwidth_description, bandwidth_of, pace_gives};
 
 use crate::attributes::description::Description;
+use crate::attributes::effect::Effect;
 use crate::attributes::limits::{ONE_TO_MILLION, UP_TO_HOUR};
 use crate::attributes::values::{listed, saturated};
+use crate::attributes::window::Window;
 use crate::operations::look::Look;
 use crate::operations::op::Op;
 use crate::operations::state::State;
@@ -17,7 +19,7 @@ use crate::toxic::Toxic;
 use crate::toxics::pieces::front;
 use tox_time::Slice;
 
-/// The name, and the attributes.
+/// The name, the attributes, and what is known of what it does.
 pub(crate) fn description(rate: u32, until: u32, from: u32) -> Description
     ensures described { description_view result ≡ bandwidth_description rate until from }
     ensures few { length result.attributes.now ≤ 5 }
@@ -27,6 +29,11 @@ pub(crate) fn description(rate: u32, until: u32, from: u32) -> Description
         attributes: &["rate", "until", "from"],
         limits: &[ONE_TO_MILLION, UP_TO_HOUR, UP_TO_HOUR],
         values: listed(&[u64::from(rate), u64::from(until), u64::from(from)]),
+        window: Window { from, until },
+        effect: Effect {
+            needs_data: true,
+            ..Effect::ANY
+        },
     }
 }
 

@@ -9,8 +9,10 @@ ghost use Rattle.tox_defs.specs.Toxic.{checked};
 ghost use Rattle.tox_defs.specs.toxics.Latency.{delay_of, delay_op_gives, latency_description, latency_of};
 
 use crate::attributes::description::Description;
+use crate::attributes::effect::Effect;
 use crate::attributes::limits::UP_TO_HOUR;
 use crate::attributes::values::{listed, saturated};
+use crate::attributes::window::Window;
 use crate::operations::look::Look;
 use crate::operations::op::Op;
 use crate::operations::state::State;
@@ -19,7 +21,7 @@ use crate::toxics::varied::varied;
 use tox_time::Slice;
 use tox_words::Drawing;
 
-/// The name, and the attributes.
+/// The name, the attributes, and what is known of what it does.
 pub(crate) fn description(latency: u32, jitter: u32, until: u32, from: u32) -> Description
     ensures described { description_view result ≡ latency_description latency jitter until from }
     ensures few { length result.attributes.now ≤ 5 }
@@ -34,6 +36,11 @@ pub(crate) fn description(latency: u32, jitter: u32, until: u32, from: u32) -> D
             u64::from(until),
             u64::from(from),
         ]),
+        window: Window { from, until },
+        effect: Effect {
+            does_nothing: latency == 0 && jitter == 0,
+            ..Effect::ANY
+        },
     }
 }
 

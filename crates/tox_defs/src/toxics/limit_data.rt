@@ -8,8 +8,10 @@ ghost use Rattle.tox_defs.specs.Toxic.{checked};
 ghost use Rattle.tox_defs.specs.toxics.LimitData.{limit_data_description, limit_data_of, limit_gives};
 
 use crate::attributes::description::Description;
+use crate::attributes::effect::Effect;
 use crate::attributes::limits::UP_TO_MAX_BYTES;
 use crate::attributes::values::{listed, value};
+use crate::attributes::window::Window;
 use crate::operations::look::Look;
 use crate::operations::op::Op;
 use crate::operations::state::State;
@@ -17,7 +19,7 @@ use crate::toxic::Toxic;
 use crate::toxics::first_bytes;
 use tox_time::{Ending, Slice};
 
-/// The name, and the attribute.
+/// The name, the attribute, and what is known of what it does.
 pub(crate) fn description(bytes: u64) -> Description
     ensures described { description_view result ≡ limit_data_description bytes }
     ensures few { length result.attributes.now ≤ 5 }
@@ -27,6 +29,8 @@ pub(crate) fn description(bytes: u64) -> Description
         attributes: &["bytes"],
         limits: &[UP_TO_MAX_BYTES],
         values: listed(&[bytes]),
+        window: Window::ALWAYS,
+        effect: Effect::ANY,
     }
 }
 

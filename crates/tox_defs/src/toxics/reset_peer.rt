@@ -10,15 +10,17 @@ ghost use Rattle.tox_defs.specs.Toxic.{checked};
 ghost use Rattle.tox_defs.specs.toxics.ResetPeer.{cutoff_gives, reset_peer_description, reset_peer_of, reset_peer_op};
 
 use crate::attributes::description::Description;
+use crate::attributes::effect::Effect;
 use crate::attributes::limits::{UP_TO_HOUR, UP_TO_MAX_BYTES};
 use crate::attributes::values::{listed, saturated, value};
+use crate::attributes::window::Window;
 use crate::operations::look::Look;
 use crate::operations::op::Op;
 use crate::toxic::Toxic;
 use crate::toxics::halt::is_before;
 use tox_time::{Ending, Micros, Slice};
 
-/// The name, and the attributes.
+/// The name, the attributes, and what is known of what it does.
 pub(crate) fn description(timeout: u32, after: u64) -> Description
     ensures described { description_view result ≡ reset_peer_description timeout after }
     ensures few { length result.attributes.now ≤ 5 }
@@ -28,6 +30,8 @@ pub(crate) fn description(timeout: u32, after: u64) -> Description
         attributes: &["timeout", "after"],
         limits: &[UP_TO_HOUR, UP_TO_MAX_BYTES],
         values: listed(&[u64::from(timeout), after]),
+        window: Window::ALWAYS,
+        effect: Effect::ANY,
     }
 }
 

@@ -9,8 +9,10 @@ ghost use Rattle.tox_defs.specs.Toxic.{checked};
 ghost use Rattle.tox_defs.specs.toxics.Slicer.{is_slicer_varied_too_much, slicer_description, slicer_gives, slicer_of};
 
 use crate::attributes::description::Description;
+use crate::attributes::effect::Effect;
 use crate::attributes::limits::{ANY_VALUE, Limits, ONE_TO_MILLION, UP_TO_HOUR};
 use crate::attributes::values::{listed, saturated, value};
+use crate::attributes::window::Window;
 use crate::operations::look::Look;
 use crate::operations::op::Op;
 use crate::operations::state::State;
@@ -26,7 +28,7 @@ const UP_TO_HOUR_IN_MICROS: Limits = Limits {
     most: 3_600_000_000,
 };
 
-/// The name, and the attributes.
+/// The name, the attributes, and what is known of what it does.
 pub(crate) fn description(
     average_size: u32,
     size_variation: u32,
@@ -55,6 +57,12 @@ pub(crate) fn description(
             u64::from(until),
             u64::from(from),
         ]),
+        window: Window { from, until },
+        effect: Effect {
+            needs_data: true,
+            only_cuts: delay == 0,
+            ..Effect::ANY
+        },
     }
 }
 

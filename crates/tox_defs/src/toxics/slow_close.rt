@@ -10,14 +10,16 @@ ghost use Rattle.tox_defs.specs.Toxic.{checked};
 ghost use Rattle.tox_defs.specs.toxics.SlowClose.{slow_close_description, slow_close_of, slow_gives};
 
 use crate::attributes::description::Description;
+use crate::attributes::effect::Effect;
 use crate::attributes::limits::UP_TO_HOUR;
 use crate::attributes::values::{listed, saturated};
+use crate::attributes::window::Window;
 use crate::operations::look::Look;
 use crate::operations::op::Op;
 use crate::toxic::Toxic;
 use tox_time::{Ending, Slice};
 
-/// The name, and the attribute.
+/// The name, the attribute, and what is known of what it does.
 pub(crate) fn description(delay: u32) -> Description
     ensures described { description_view result ≡ slow_close_description delay }
     ensures few { length result.attributes.now ≤ 5 }
@@ -27,6 +29,11 @@ pub(crate) fn description(delay: u32) -> Description
         attributes: &["delay"],
         limits: &[UP_TO_HOUR],
         values: listed(&[u64::from(delay)]),
+        window: Window::ALWAYS,
+        effect: Effect {
+            does_nothing: delay == 0,
+            ..Effect::ANY
+        },
     }
 }
 

@@ -5,13 +5,15 @@ ghost use Rattle.tox_defs.specs.Toxic.{checked};
 ghost use Rattle.tox_defs.specs.toxics.Timeout.{timeout_description, timeout_ending, timeout_of, timeout_op, timeout_start};
 
 use crate::attributes::description::Description;
+use crate::attributes::effect::Effect;
 use crate::attributes::limits::{UP_TO_HOUR, UP_TO_MAX_BYTES};
 use crate::attributes::values::{listed, saturated, value};
+use crate::attributes::window::Window;
 use crate::operations::op::Op;
 use crate::toxic::Toxic;
 use tox_time::{Ending, Micros};
 
-/// The name, and the attributes.
+/// The name, the attributes, and what is known of what it does.
 pub(crate) fn description(timeout: u32, from: u32, after: u64) -> Description
     ensures described { description_view result ≡ timeout_description timeout from after }
     ensures few { length result.attributes.now ≤ 5 }
@@ -21,6 +23,11 @@ pub(crate) fn description(timeout: u32, from: u32, after: u64) -> Description
         attributes: &["timeout", "from", "after"],
         limits: &[UP_TO_HOUR, UP_TO_HOUR, UP_TO_MAX_BYTES],
         values: listed(&[u64::from(timeout), u64::from(from), after]),
+        window: Window::ALWAYS,
+        effect: Effect {
+            drops_data: from == 0 && after == 0,
+            ..Effect::ANY
+        },
     }
 }
 

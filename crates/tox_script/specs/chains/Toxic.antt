@@ -1,5 +1,5 @@
 -- The toxic that a table's fields stand for.
-use Rattle.std.specs.Prelude.{ℕ, ◌++◌, List, codes, unwrap_or, Result, Ok, ok_or}
+use Rattle.std.specs.Prelude.{ℕ, ◌++◌, Bool, List, codes, unwrap_or, Result, Ok, ok_or}
 use Rattle.tox_time.specs.declared.streams.stream.Stream.{Stream}
 use Rattle.tox_defs.specs.Toxic.{name_of, toxic_named}
 use Rattle.tox_defs.specs.declared.chain.Entry.{Entry}
@@ -10,14 +10,15 @@ use Rattle.tox_script.specs.fields.Attributes.{toxic_with}
 use Rattle.tox_time.specs.Steps.{◌>>=◌}
 use Rattle.tox_time.specs.streams.StreamName.{stream_name}
 use Rattle.tox_script.specs.fields.ToxicFields.{ToxicFields}
-use Rattle.tox_script.specs.fields.Toxicity.{toxicity_in}
+use Rattle.tox_script.specs.fields.Toxicity.{is_decimal, toxicity_in}
 use Rattle.tox_script.specs.declared.version.Version.{Version}
 
--- a toxic of a rule: its stream, its entry in a chain, and its name
+-- a toxic of a rule: its stream, its entry in a chain, its name, and whether its toxicity is given as a decimal text
 pub record NamedToxic : Type 0 where
   pub stream : Stream
   pub entry : Entry
   pub name : List ℕ
+  pub is_decimal : Bool
 
 -- the default name of a toxic: its type, `_` and its stream
 abbrev pub default_name : Toxic → Stream → List ℕ
@@ -33,4 +34,5 @@ named_toxic version fields = do
     stream = fields.stream;
     entry = record { toxic = toxic; toxicity = toxicity };
     name = unwrap_or fields.name (default_name toxic fields.stream);
+    is_decimal = is_decimal fields.toxicity;
   })

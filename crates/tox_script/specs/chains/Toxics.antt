@@ -71,15 +71,20 @@ chains_of lanes toxics = record {
   downstream = chain_on lanes Downstream toxics;
 }
 
--- the toxics of a rule: their chains, and the stream of each in the file's order
+-- the toxics of a rule: their chains, and in the file's order the stream of each and whether its toxicity is given as
+-- a decimal text
 pub record RuleToxics : Type 0 where
   pub chains : Chains
   pub order : List Stream
+  pub decimals : List Bool
 
 -- what some toxics make
 abbrev pub toxics_of : Lanes → List NamedToxic → RuleToxics
-toxics_of lanes toxics =
-    record { chains = chains_of lanes toxics; order = map (λ toxic. toxic.stream) toxics }
+toxics_of lanes toxics = record {
+  chains = chains_of lanes toxics;
+  order = map (λ toxic. toxic.stream) toxics;
+  decimals = map (λ toxic. toxic.is_decimal) toxics;
+}
 
 -- the toxics of a rule's tables
 abbrev pub read_toxics : Settings → ℕ → Items → Result RuleToxics ScriptFault

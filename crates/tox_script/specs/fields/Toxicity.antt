@@ -1,5 +1,5 @@
 -- The toxicity of a toxic, in thousandths.
-use Rattle.std.specs.Prelude.{ℕ, ◌+◌, ◌-◌, ◌*◌, ◌^◌, ◌==◌, Bool, List, length, nat_le, position, Option, Some, None, is_some, option_and_then, option_map, if◌then◌else◌}
+use Rattle.std.specs.Prelude.{ℕ, ◌+◌, ◌-◌, ◌*◌, ◌^◌, ◌==◌, Bool, false, List, length, nat_le, position, Option, Some, None, is_some, option_and_then, option_map, if◌then◌else◌}
 use Rattle.std.specs.List.{after_first, before_first}
 use Rattle.toml.specs.Data.{Data, as_str}
 use Rattle.tox_script.specs.fields.Fields.{whole_between}
@@ -40,6 +40,11 @@ text_or_whole (Some text) d = thousandths text
 abbrev pub told_toxicity : Version → Data → Option ℕ
 told_toxicity One d = whole_between 0 1000 d
 told_toxicity Two d = text_or_whole (as_str d) d
+
+-- whether a toxicity is given as a text, which is a decimal number
+abbrev pub is_decimal : Option Data → Bool
+is_decimal None = false
+is_decimal (Some d) = is_some (as_str d)
 
 -- the toxicity of a toxic: 1000 if absent
 abbrev pub toxicity_in : Version → Option Data → Option ℕ

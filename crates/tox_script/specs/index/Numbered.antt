@@ -1,5 +1,5 @@
 -- Rules by their numbers from 0.
-use Rattle.std.specs.Prelude.{ℕ, List, [], Option, option_and_then, option_map, slice_get, unwrap_or}
+use Rattle.std.specs.Prelude.{ℕ, Bool, List, [], Option, option_and_then, option_map, slice_get, unwrap_or}
 use Rattle.std.specs.List.{position_from}
 use Rattle.tox_time.specs.declared.streams.stream.Stream.{Stream}
 use Rattle.tox_script.specs.Covering.{chains_in, covers}
@@ -25,3 +25,8 @@ chains_numbered number script =
 abbrev pub order_numbered : ℕ → Rules → List Stream
 order_numbered number script =
     unwrap_or (option_map (λ rule. rule.order) (slice_get script.rules number)) []
+
+-- whether the toxicity of each toxic of the rule of a number is given as a decimal text, in the file's order
+abbrev pub decimals_numbered : ℕ → Rules → List Bool
+decimals_numbered number script =
+    unwrap_or (option_map (λ rule. rule.decimals) (slice_get script.rules number)) []

@@ -6,7 +6,7 @@ ghost use Rattle.tox_script.specs.Views.{fields_view, toxic_view};
 
 use crate::fields::attributes::toxic_with;
 use crate::fields::toxic_fields::ToxicFields;
-use crate::fields::toxicity::toxicity_in;
+use crate::fields::toxicity::{is_decimal, toxicity_in};
 use crate::version::Version;
 use std::alloc::{AllocError, Global};
 use tox_defs::{Entry, Toxic, ToxicFault};
@@ -18,6 +18,8 @@ pub(crate) struct NamedToxic<'a> {
     pub(crate) stream: Stream,
     pub(crate) entry: Entry,
     told_name: Option<&'a str>,
+    /// Whether the toxicity is given as a decimal text.
+    pub(crate) is_decimal: bool,
 }
 
 impl<'a> NamedToxic<'a> {
@@ -42,6 +44,7 @@ impl<'a> NamedToxic<'a> {
             stream: fields.stream,
             entry: Entry { toxic, toxicity },
             told_name: fields.name,
+            is_decimal: is_decimal(fields.toxicity),
         })
     }
 

@@ -16,11 +16,13 @@ use std::alloc::Global;
 use toml::Value;
 use tox_time::Stream;
 
-/// The toxics of a rule by their streams, and the stream of each in the file's order.
+/// The toxics of a rule by their streams, and in the file's order the stream of each and whether its toxicity is given as a
+/// decimal text.
 #[derive(Drop)]
 pub(crate) struct RuleToxics {
     pub(crate) chains: Chains,
     pub(crate) order: Vec<Stream>,
+    pub(crate) decimals: Vec<bool>,
 }
 
 impl RuleToxics {
@@ -38,6 +40,7 @@ impl RuleToxics {
     {
         let mut chains = Chains::new(alloc, settings.lanes);
         let mut order = Vec::new(alloc);
+        let mut decimals = Vec::new(alloc);
         for (index, table) in tables.iter().enumerate() {
             let at = Location {
                 rule,
@@ -46,8 +49,13 @@ impl RuleToxics {
             let toxic = read_toxic(settings.version, table, at)?;
             chains.put(alloc, &toxic, at)?;
             order.push(toxic.stream)?;
+            decimals.push(toxic.is_decimal)?;
         }
-        Ok(RuleToxics { chains, order })
+        Ok(RuleToxics {
+            chains,
+            order,
+            decimals,
+        })
     }
 }
 

@@ -1,13 +1,23 @@
 //! Toxicities, in thousandths.
 ghost use Rattle.std.specs.Prelude.{◌≡◌, ◌<◌, ◌≤◌, option_map, IfSome};
 ghost use Rattle.toml.specs.View.{view};
-ghost use Rattle.tox_script.specs.fields.Toxicity.{fraction, thousandths, told_toxicity, toxicity_in, with_unit};
+ghost use Rattle.tox_script.specs.fields.Toxicity.{fraction, is_decimal, thousandths, told_toxicity, toxicity_in, with_unit};
 
 use crate::fields::whole_between;
 use crate::version::Version;
 use toml::Value;
 use tox_defs::MAX_TOXICITY;
 use tox_time::parse_decimal;
+
+/// Whether a toxicity is given as a text, which is a decimal number.
+pub(crate) fn is_decimal(value: Option<&Value>) -> bool
+    ensures { result ≡ is_decimal (option_map (λ value. view value.now) value.entry) }
+{
+    match value {
+        Some(value) => value.as_str().is_some(),
+        None => false,
+    }
+}
 
 /// The toxicity of a toxic's table.
 pub(crate) fn toxicity_in(version: Version, value: Option<&Value>) -> Option<u16>
