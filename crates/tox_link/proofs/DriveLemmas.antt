@@ -16,7 +16,7 @@ use Rattle.tox_link.specs.declared.link_core.act.Act.{Act}
 use Rattle.tox_link.specs.declared.link_core.act.Act.TheVariants.{Write, WaitUntil, WaitForInput, End}
 use Rattle.tox_link.specs.declared.notes.LinkEvent.{LinkEvent}
 use Rattle.tox_link.specs.declared.notes.LinkEvent.TheVariants.{Wrote}
-use Rattle.tox_link.specs.carrying.Held.{AreOf}
+use Rattle.tox_link.specs.steps.Held.{AreOf}
 use Rattle.tox_link.specs.direction.Driven.{EndsView, Drove, IsReady, KeepsDone, done_of, moved_of, begun_by, steps_of_act, steps_of_move}
 use Rattle.tox_link.specs.direction.Follows.{unsaid, IsUpTo, IsHeld, IsNew, Follows, Drives, WritesOn, AreLeftOver}
 use Rattle.tox_link.specs.link_core.Acts.{Answered, After, Says, end_act, idle_act, wait_act}

@@ -16,7 +16,7 @@ use Rattle.tox_link.specs.declared.notes.LinkEvent.TheVariants.{Wrote}
 use Rattle.tox_lend.proofs.WindowLemmas.{JoinUpTo-push, start_of-push}
 use Rattle.tox_link.specs.log.Carried.{Carried, KeepsCarried}
 use Rattle.tox_link.specs.link_core.Core.{CoreView, core_ending, core_position}
-use Rattle.tox_link.specs.carrying.Held.{AreOf, HoldsSpan}
+use Rattle.tox_link.specs.steps.Held.{AreOf, HoldsSpan}
 use Rattle.tox_link.specs.direction.Follows.{unsaid, IsUpTo, IsHeld, Follows, Drives, WritesOn, AreLeftOver}
 use Rattle.tox_link.specs.ring.Messages.{IsUnsent}
 use Rattle.tox_link.specs.log.Log.{has_source_end, IsFaithful}

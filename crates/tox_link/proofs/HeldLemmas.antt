@@ -9,7 +9,7 @@ use Rattle.std.proofs.lemmas.Option.{same_Some}
 use Rattle.tox_time.specs.declared.streams.span.Span.{Span}
 use Rattle.tox_lend.specs.Run.{Run, stop_of, bytes_at}
 use Rattle.tox_lend.specs.Window.{Pieces, JoinUpTo, start_of, has_position}
-use Rattle.tox_link.specs.carrying.Held.{AreOf, HoldsSpan}
+use Rattle.tox_link.specs.steps.Held.{AreOf, HoldsSpan}
 
 append-append : (known : Option (List ℕ)) (xs ys : List ℕ) → append_known (append_known known xs) ys ≡ append_known known (xs ++ ys)
 append-append None xs ys = refl

@@ -17,7 +17,7 @@ use Rattle.tox_link.specs.declared.ring.message.ReadEnd.{ReadEnd}
 use Rattle.tox_link.specs.declared.source_ending.SourceEnding.TheVariants.{NotReached}
 use Rattle.tox_link.specs.declared.carrying.writer_side.WriterSide.{WriterSide}
 use Rattle.tox_link.specs.link_core.Core.{CoreView, KeepsCore, core_ending, core_position}
-use Rattle.tox_link.specs.carrying.Held.{AreOf}
+use Rattle.tox_link.specs.steps.Held.{AreOf}
 use Rattle.tox_link.specs.ring.Messages.{bytes_of, has_end}
 use Rattle.tox_link.specs.carrying.Side.{IsFresh, IsSound, GivesSlice, came}
 use Rattle.tox_link.specs.Sources.{read_end_of}

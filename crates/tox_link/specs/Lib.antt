@@ -1,6 +1,7 @@
 pub mod link_core
 pub mod ring
 pub mod log
+pub mod steps
 pub mod carrying
 pub mod Sources
 pub mod Meaning

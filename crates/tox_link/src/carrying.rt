@@ -11,7 +11,6 @@ ghost use Rattle.tox_link.specs.Sources.{read_end_of};
 
 pub(crate) mod driving;
 pub(crate) mod finishing;
-pub(crate) mod steps;
 pub(crate) mod taking;
 pub(crate) mod writer_side;
 pub(crate) mod writing;

@@ -12,6 +12,7 @@ mod link_report;
 mod notes;
 mod ring;
 mod source_ending;
+mod steps;
 
 pub use book::{Book, BookFault, OpenFault};
 pub use carrying::{carry, carry_timed};
@@ -24,5 +25,5 @@ pub use link_fault::LinkFault;
 pub use link_report::{LinkReport, TimedReport};
 pub use notes::{LinkEvent, NoNotes, Notes};
 pub use ring::message::ReadEnd;
-pub use ring::reading::READ_SIZE;
 pub use source_ending::SourceEnding;
+pub use steps::read_size::READ_SIZE;

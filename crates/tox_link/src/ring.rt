@@ -1,4 +1,5 @@
 //! The reader's thread, and the ring through which it sends.
+pub(crate) mod idle;
 pub(crate) mod inbox;
 pub(crate) mod message;
 pub(crate) mod parking;

@@ -16,7 +16,7 @@ use Rattle.tox_link.specs.link_core.Core.{core_position}
 use Rattle.tox_link.specs.log.Events.{with_events}
 use Rattle.tox_link.specs.log.Logged.{HasEnded}
 use Rattle.tox_link.specs.ring.Messages.{EndsFor}
-use Rattle.tox_link.specs.carrying.Held.{MayTake}
+use Rattle.tox_link.specs.steps.Held.{MayTake}
 use Rattle.tox_link.specs.Sources.{read_end_of}
 use Rattle.tox_link.specs.direction.Follows.{IsHeld, Follows, Drives}
 

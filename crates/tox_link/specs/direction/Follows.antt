@@ -13,7 +13,7 @@ use Rattle.tox_link.specs.declared.source_ending.SourceEnding.TheVariants.{NotRe
 use Rattle.tox_link.specs.log.Carried.{Carried}
 use Rattle.tox_link.specs.link_core.Core.{core_ending, core_position, kept_lens, kept_start}
 use Rattle.tox_link.specs.link_core.NewCore.{room_of}
-use Rattle.tox_link.specs.carrying.Held.{AreOf}
+use Rattle.tox_link.specs.steps.Held.{AreOf}
 use Rattle.tox_link.specs.log.Log.{has_source_end, IsFaithful}
 use Rattle.tox_link.specs.ring.Messages.{IsUnsent}
 use Rattle.tox_link.specs.Sources.{read_end_of}

@@ -10,7 +10,6 @@ ghost use Rattle.tox_link.specs.Reports.{IsFaultAt};
 ghost use Rattle.tox_link.specs.carrying.Steps.{NotesAll, NotesOn, StopsAfter, StopsUnnoted};
 ghost use Rattle.tox_link.specs.carrying.Side.{IsFresh, IsSound, GivesSlice, WritesFront, came};
 
-use crate::carrying::steps::decide;
 use crate::carrying::taking::take_message;
 use crate::carrying::writer_side::WriterSide;
 use crate::carrying::writing::write_slice;
@@ -18,6 +17,8 @@ use crate::clock::Clock;
 use crate::link_core::act::Act;
 use crate::link_fault::LinkFault;
 use crate::notes::{LinkEvent, Notes};
+use crate::ring::idle::Idle;
+use crate::steps::deciding::decide;
 use std::sync::Wait;
 use tox_time::{Ending, Gate, Micros, Sink, Slice};
 
@@ -56,12 +57,13 @@ fn write_next<N: Notes, W: Sink>(
     Ok(())
 }
 
-/// Waits for a while, at most until this instant, unless the writer has failed. A write of no bytes asks it.
+/// Waits for a while, at most until this instant, unless the writer has failed. A write of no bytes asks it. The side is idle.
 fn rest<C: Clock, W: Sink>(
     clock: &C,
     writer: &mut W,
     written: u64,
     until: Micros,
+    _idle: Idle,
 ) -> Result<(), LinkFault>
     requires working { W.failed writer.old ≡ false }
     ensures same { W.written writer.new ≡ W.written writer.old }
@@ -75,7 +77,7 @@ fn rest<C: Clock, W: Sink>(
     Ok(())
 }
 
-/// Does what the core says at the present reading. Waits only if `idle`.
+/// Does what the core says at the present reading. Waits only where the side is idle.
 /// Returns the ending, once the link has ended.
 fn act<R: Wait, C: Clock, N: Notes, W: Sink>(
     rt: &R,
@@ -83,7 +85,7 @@ fn act<R: Wait, C: Clock, N: Notes, W: Sink>(
     clock: &C,
     notes: &mut N,
     writer: &mut W,
-    idle: bool,
+    idle: Option<Idle>,
 ) -> Result<Option<Ending>, LinkFault>
     requires sound { IsSound side.old (received side.old.inbox.receiver) }
     requires read { (side.old.core.latest ≡ 0) ⊎ C.told clock.now side.old.core.latest }
@@ -106,15 +108,15 @@ fn act<R: Wait, C: Clock, N: Notes, W: Sink>(
             Ok(None)
         }
         Act::WaitUntil(instant) => {
-            if !idle {
+            let Some(idle) = idle else {
                 return Ok(None);
-            }
-            rest(clock, writer, side.written, instant)?;
+            };
+            rest(clock, writer, side.written, instant, idle)?;
             Ok(None)
         }
         Act::WaitForInput => {
-            if idle {
-                side.inbox.wait(rt);
+            if let Some(idle) = idle {
+                side.inbox.wait(rt, idle);
             }
             Ok(None)
         }
@@ -146,10 +148,10 @@ pub(crate) fn drive<R: Wait, C: Clock, N: Notes, W: Sink, G: Gate>(
         (N.events notes.old) (N.events notes.new) side.old side.new (W.failed writer.new)) }
 {
     for _ in rt.forever() {
-        let Ok(took) = take_message(side, clock, notes, gate) else {
+        let Ok(idle) = take_message(side, clock, notes, gate) else {
             return Err(LinkFault::OutOfMemory(side.written));
         };
-        if let Some(ending) = act(rt, side, clock, notes, writer, !took)? {
+        if let Some(ending) = act(rt, side, clock, notes, writer, idle)? {
             return Ok(ending);
         }
     }

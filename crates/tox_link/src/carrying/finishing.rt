@@ -47,9 +47,9 @@ pub(crate) fn drain<R: Wait, G: Gate>(rt: &R, inbox: &mut Inbox, ended: bool, ga
     }
     for _ in rt.forever() {
         match inbox.pop(gate) {
-            Some(Message::End(_)) => return,
-            Some(Message::Piece(_)) => {}
-            None => inbox.wait(rt),
+            Ok(Message::End(_)) => return,
+            Ok(Message::Piece(_)) => {}
+            Err(idle) => inbox.wait(rt, idle),
         }
     }
     unreachable!()

@@ -1,5 +1,5 @@
 //! Taking from the ring: pieces are kept and stamped, up to the source's end.
-ghost use Rattle.std.specs.Prelude.{◌≡◌, ◌+◌, ◌<◌, ◌≤◌, ◌^◌, ◌⊎◌, List, [], ◌∷◌, ◌++◌, length, take, false, None, IsSome, IfOk, OnOk, OnErr, MatchBool};
+ghost use Rattle.std.specs.Prelude.{◌≡◌, ◌+◌, ◌<◌, ◌≤◌, ◌^◌, ◌⊎◌, List, [], ◌∷◌, ◌++◌, length, take, false, None, IsSome, IfOk, OnOk, OnErr, MatchOption};
 ghost use Rattle.rtrb.specs.Ring.{received, SameConsumer};
 ghost use Rattle.tox_link.specs.declared.ring.message.Message.{Message as OneMessage};
 ghost use Rattle.tox_link.specs.declared.ring.message.Message.TheVariants.{Piece as PieceOf, End as EndOf};
@@ -8,12 +8,13 @@ ghost use Rattle.tox_link.specs.link_core.Core.{core_ending, kept_count};
 ghost use Rattle.tox_link.specs.carrying.Steps.{NotesOn};
 ghost use Rattle.tox_link.specs.carrying.Side.{IsSound, Comes, came};
 
-use crate::carrying::steps::{take_end, take_piece};
 use crate::carrying::writer_side::WriterSide;
 use crate::clock::Clock;
 use crate::notes::Notes;
+use crate::ring::idle::Idle;
 use crate::ring::message::{Message, ReadEnd};
 use crate::source_ending::SourceEnding;
+use crate::steps::arriving::{take_end, take_piece};
 use std::alloc::AllocError;
 use tox_time::Gate;
 
@@ -75,21 +76,21 @@ fn keep_end<C: Clock, N: Notes>(
     Ok(())
 }
 
-/// Takes the next message, if it may be taken and is there. Returns whether one was taken.
+/// Takes the next message, if it may be taken and is there. None if one was taken.
 pub(crate) fn take_message<C: Clock, N: Notes, G: Gate>(
     side: &mut WriterSide<'_>,
     clock: &C,
     notes: &mut N,
     gate: &G,
-) -> Result<bool, AllocError>
+) -> Result<Option<Idle>, AllocError>
     requires sound { IsSound side.old (received side.old.inbox.receiver) }
     requires read { (side.old.core.latest ≡ 0) ⊎ C.told clock.now side.old.core.latest }
     ensures same { SameConsumer side.old.inbox.receiver side.new.inbox.receiver
         × (side.new.written ≡ side.old.written) }
-    ensures took { IfOk result (λ took. MatchBool took
+    ensures took { IfOk result (λ idle. MatchOption idle
         ((message : OneMessage)
         × (received side.new.inbox.receiver ≡ received side.old.inbox.receiver ++ message ∷ []))
-        (received side.new.inbox.receiver ≡ received side.old.inbox.receiver)) }
+        (λ _. received side.new.inbox.receiver ≡ received side.old.inbox.receiver)) }
     ensures came { (more : List _) × (came side.new ≡ came side.old ++ more) }
     ensures ok { OnOk result (IsSound side.new (received side.new.inbox.receiver)) }
     ensures log { OnOk result (NotesOn (C.told clock.now)
@@ -97,15 +98,16 @@ pub(crate) fn take_message<C: Clock, N: Notes, G: Gate>(
     ensures err { OnErr result (ReadsOn (C.told clock.now) side.old.core.latest side.new.core.latest
         × (N.events notes.new ≡ N.events notes.old)) }
 {
-    if !side.may_take() {
-        return Ok(false);
+    if let Some(idle) = side.idle() {
+        return Ok(Some(idle));
     }
-    let Some(message) = side.inbox.pop(gate) else {
-        return Ok(false);
+    let message = match side.inbox.pop(gate) {
+        Ok(message) => message,
+        Err(idle) => return Ok(Some(idle)),
     };
     match message {
         Message::Piece(bytes) => keep_piece(side, clock, notes, bytes)?,
         Message::End(end) => keep_end(side, clock, notes, end)?,
     }
-    Ok(true)
+    Ok(None)
 }

@@ -1,13 +1,13 @@
 //! The writer's side of a link: what came through the ring, and how much of it is written.
-ghost use Rattle.std.specs.Prelude.{◌≡◌, ◌↔◌, [], List, filter, nat_lt, IsTrue, IfOk};
+ghost use Rattle.std.specs.Prelude.{◌≡◌, [], List, filter, nat_lt, IfNone, IfOk};
 ghost use Rattle.rtrb.specs.Ring.{sent, received, IsPair};
 ghost use Rattle.tox_lend.specs.Run.{stop_of};
-ghost use Rattle.tox_link.specs.carrying.Held.{MayTake};
+ghost use Rattle.tox_link.specs.steps.Held.{MayTake};
 ghost use Rattle.tox_link.specs.carrying.Side.{IsFresh};
 ghost use Rattle.tox_link.specs.Meaning.{MeansPlan};
 
-use crate::carrying::steps::may_take;
 use crate::link_core::direction_core::{DirectionCore, room_of};
+use crate::ring::idle::Idle;
 use crate::ring::inbox::Inbox;
 use crate::ring::message::Sender;
 use crate::ring::vectors::{Emptied, Vectors};
@@ -75,10 +75,10 @@ impl<'w> WriterSide<'w> {
         }
     }
 
-    /// Whether a message may be taken.
-    pub fn may_take(&self) -> bool
-        ensures { IsTrue result ↔ MayTake self.now.core self.now.window self.now.ended }
+    /// None if a message may be taken.
+    pub fn idle(&self) -> Option<Idle>
+        ensures { IfNone result (MayTake self.now.core self.now.window self.now.ended) }
     {
-        may_take(&self.core, &self.window, self.ended)
+        Idle::of_look(&self.core, &self.window, self.ended)
     }
 }

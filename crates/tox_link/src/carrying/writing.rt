@@ -1,11 +1,12 @@
 //! Writes of a link: the bytes of a slice, from the pieces that hold them.
-ghost use Rattle.std.specs.Prelude.{◌≡◌, ℕ, ◌+◌, ◌<◌, ◌≤◌, List, length, take, drop, false, true, IfErr, OnOk, OnErr};
+ghost use Rattle.std.specs.Prelude.{◌≡◌, ◌+◌, ◌≤◌, length, take, false, true, IfErr, OnOk, OnErr};
 ghost use Rattle.std.specs.Io.KnownBytes.{append_known};
 ghost use Rattle.tox_time.specs.streams.Stream.{span_len};
-ghost use Rattle.tox_link.specs.carrying.Held.{AreOf, HoldsSpan, WritesFromTo};
+ghost use Rattle.tox_link.specs.steps.Held.{HoldsSpan, WritesFromTo};
 
+use crate::steps::front::front_of;
 use tox_lend::Window;
-use tox_time::{Micros, Sink, Slice, Span};
+use tox_time::{Sink, Slice, Span};
 
 /// Writes all bytes, or returns how many were written before a fault.
 /// A write that takes nothing is a fault.
@@ -25,28 +26,6 @@ fn write_all<W: Sink>(writer: &mut W, bytes: &[u8]) -> Result<(), usize>
         }
     }
     Ok(())
-}
-
-/// The first bytes of a span, as far as one piece holds them: at least one.
-pub(crate) fn front_of<'a>(window: &'a Window, span: &Span, instant: Micros) -> &'a [u8]
-    requires held { HoldsSpan window.now span.now }
-    requires some { span.now.start < span.now.stop }
-    ensures some { 0 < length result.now }
-    ensures few { span.now.start + length result.now ≤ span.now.stop }
-    ensures bytes { (heard : List ℕ) → AreOf heard window.now.held
-        → result.now ≡ take (length result.now) (drop span.now.start heard) }
-{
-    let Some(piece) = window.piece(span.start) else {
-        unreachable!()
-    };
-    let bytes = piece.bytes.as_slice();
-    let left = bytes.len() as u64 - (span.start - piece.start);
-    let stop = span.start + left.min(span.stop - span.start);
-    let front = Span {
-        start: span.start,
-        stop,
-    };
-    piece.lend(front, instant).bytes
 }
 
 /// Writes the bytes of a slice, or returns how many of them were written before a fault.

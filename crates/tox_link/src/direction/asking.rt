@@ -5,11 +5,11 @@ ghost use Rattle.tox_link.specs.direction.Driven.{Drove, begun_by, steps_of_act,
 ghost use Rattle.tox_link.specs.direction.Follows.{IsHeld};
 ghost use Rattle.tox_link.specs.link_core.Acts.{Answered};
 
-use crate::carrying::steps::decide;
 use crate::clock::Clock;
 use crate::direction::polled_link::PolledLink;
 use crate::direction::unwritten::Unwritten;
 use crate::link_core::act::Act;
+use crate::steps::deciding::decide;
 use tox_time::{Micros, Slice};
 
 /// Asks the core at the clock's reading. The slice of a `Write` is being written from now on.

@@ -2,18 +2,18 @@
 ghost use Rattle.std.specs.Prelude.{◌≡◌, ℕ, ◌+◌, ◌<◌, ◌≤◌, ◌^◌, ◌⊎◌, List, length, false, true, None, Option, OnOk, is_some};
 ghost use Rattle.std.specs.Io.KnownBytes.{prepend_known};
 ghost use Rattle.tox_link.specs.declared.source_ending.SourceEnding.TheVariants.{TooManyBytes as AtLimit};
-ghost use Rattle.tox_link.specs.carrying.Held.{MayTake};
+ghost use Rattle.tox_link.specs.steps.Held.{MayTake};
 ghost use Rattle.tox_link.specs.direction.Driven.{Drove, EndsWithCore, ends_view};
 ghost use Rattle.tox_link.specs.direction.Follows.{IsHeld, AreLeftOver};
 ghost use Rattle.tox_link.specs.link_core.Core.{core_ending};
 ghost use Rattle.tox_link.specs.log.Carried.{ReadsOn};
 ghost use Rattle.tox_link.specs.Sources.{read_end_of};
 
-use crate::carrying::steps::{take_end, take_piece};
 use crate::clock::Clock;
 use crate::direction::polled_link::PolledLink;
 use crate::notes::Notes;
 use crate::source_ending::SourceEnding;
+use crate::steps::arriving::{take_end, take_piece};
 use std::alloc::{AllocError, Global};
 use tox_time::MAX_BYTES;
 

@@ -1,6 +1,6 @@
 //! Reading once, where the core waits.
 ghost use Rattle.std.specs.Prelude.{◌≡◌, ℕ, ◌+◌, ◌≤◌, List, false, true, None, Option, IfOk, OnOk};
-ghost use Rattle.tox_link.specs.carrying.Held.{MayTake};
+ghost use Rattle.tox_link.specs.steps.Held.{MayTake};
 ghost use Rattle.tox_link.specs.direction.Driven.{Drove, EndsWithCore, IsReady, steps_of_move, ends_view};
 
 use crate::clock::Clock;
@@ -8,8 +8,8 @@ use crate::direction::poll_ends::PollSource;
 use crate::direction::polled_link::PolledLink;
 use crate::direction::reading_on::{end_source, keep_read};
 use crate::notes::Notes;
-use crate::ring::reading::READ_SIZE;
 use crate::source_ending::SourceEnding;
+use crate::steps::read_size::READ_SIZE;
 use std::alloc::{AllocError, Global};
 
 /// Reads once. What came is stamped with a reading that the clock tells after the read. False where the source would wait.

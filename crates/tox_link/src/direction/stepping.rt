@@ -4,7 +4,6 @@ ghost use Rattle.tox_link.specs.direction.Driven.{Drove, EndsWithCore, IsReady, 
 ghost use Rattle.tox_link.specs.link_core.Acts.{Says, wait_act};
 ghost use Rattle.tox_link.specs.Reports.{IsFaultAt};
 
-use crate::carrying::steps::may_take;
 use crate::clock::Clock;
 use crate::direction::asking::ask;
 use crate::direction::drive_start::DriveStart;
@@ -16,7 +15,8 @@ use crate::direction::writing_on::write_on;
 use crate::link_core::act::Act;
 use crate::link_fault::LinkFault;
 use crate::notes::Notes;
-use crate::ring::reading::READ_SIZE;
+use crate::steps::read_size::READ_SIZE;
+use crate::steps::room::may_take;
 use std::alloc::Global;
 use tox_time::Micros;
 

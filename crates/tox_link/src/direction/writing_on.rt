@@ -8,13 +8,13 @@ ghost use Rattle.tox_link.specs.declared.notes.LinkEvent.{LinkEvent as OneEvent}
 ghost use Rattle.tox_link.specs.direction.Driven.{steps_of_move};
 ghost use Rattle.tox_link.specs.direction.Follows.{IsHeld, WritesOn};
 
-use crate::carrying::writing::front_of;
 use crate::direction::poll_ends::PollSink;
 use crate::direction::polled_link::PolledLink;
 use crate::direction::unwritten::Unwritten;
 use crate::link_fault::LinkFault;
 use crate::notes::{LinkEvent, Notes};
-use crate::ring::reading::READ_SIZE;
+use crate::steps::front::front_of;
+use crate::steps::read_size::READ_SIZE;
 use tox_time::Span;
 
 /// Writes the next part of the slice, as far as one piece holds it, and at most 16,384 bytes. False where the sink would wait.

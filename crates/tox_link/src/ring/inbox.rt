@@ -1,8 +1,9 @@
 //! The writer's end of the ring.
-ghost use Rattle.std.specs.Prelude.{◌≡◌, [], ◌∷◌, ◌++◌, IfOk, IfSome, IfNone};
+ghost use Rattle.std.specs.Prelude.{◌≡◌, [], ◌∷◌, ◌++◌, IfOk, OnErr};
 ghost use Rattle.rtrb.specs.Ring.{received, sent, IsPair, SameConsumer};
 ghost use Rattle.tox_link.specs.ring.Messages.{Allows};
 
+use crate::ring::idle::Idle;
 use crate::ring::message::{InOrder, Message, Receiver, Sender};
 use crate::ring::parking::Parkers;
 use rtrb::RingBuffer;
@@ -47,25 +48,25 @@ impl Inbox {
     }
 
     /// The next message, if one is there. Wakes the reader's thread and passes the gate.
-    pub fn pop<G: Gate>(&mut self, gate: &G) -> Option<Message>
+    pub fn pop<G: Gate>(&mut self, gate: &G) -> Result<Message, Idle>
         ensures ring { SameConsumer self.old.receiver self.new.receiver }
-        ensures some { IfSome result (λ message. (received self.new.receiver
+        ensures some { IfOk result (λ message. (received self.new.receiver
             ≡ received self.old.receiver ++ message ∷ [])
             × Allows (received self.old.receiver) message) }
-        ensures none { IfNone result (received self.new.receiver ≡ received self.old.receiver) }
+        ensures none { OnErr result (received self.new.receiver ≡ received self.old.receiver) }
     {
         let Ok(message) = self.receiver.pop() else {
-            return None;
+            return Err(Idle::of_pop());
         };
         self.parkers.reader.unpark();
         gate.pass(1, self.pops);
         self.pops = self.pops.saturating_add(1);
         self.yields = 0;
-        Some(message)
+        Ok(message)
     }
 
     /// One turn of a wait for the next message.
-    pub fn wait<R: Wait>(&mut self, rt: &R)
+    pub fn wait<R: Wait>(&mut self, rt: &R, _idle: Idle)
         ensures { self.new.receiver ≡ self.old.receiver }
     {
         pause(rt, &self.parkers.writer, &mut self.yields);

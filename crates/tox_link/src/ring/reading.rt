@@ -7,12 +7,10 @@ ghost use Rattle.tox_link.specs.declared.ring.message.ReadEnd.TheVariants.{Reads
 use crate::ring::message::{Message, ReadEnd, Sender};
 use crate::ring::parking::Parkers;
 use crate::ring::vectors::Vectors;
+use crate::steps::read_size::READ_SIZE;
 use rtrb::PushError;
 use std::sync::Wait;
 use tox_time::{Gate, MAX_BYTES, Source, pause};
-
-/// The most bytes of one read.
-pub const READ_SIZE: usize = 16_384;
 
 /// What the reader's thread hands back.
 #[derive(Drop)]

@@ -13,7 +13,7 @@ use Rattle.tox_link.proofs.Logs.{events-none}
 use Rattle.tox_link.proofs.LoggedLemmas.{logged-act, cut-here, cut-within}
 use Rattle.tox_link.proofs.SideLemmas.{sound-waited}
 use Rattle.tox_link.proofs.carrying.driving.act.Goals as goal
-use Rattle.tox_link.proofs.carrying.driving.act.Goals.{then-idle, else-idle}
+use Rattle.tox_link.proofs.carrying.driving.act.Goals.{in-Some-idle, in_default-idle}
 
 pub returns-in_err-write_next-in-Write-clause-broken : goal.returns-in_err-write_next-in-Write-clause-broken
 returns-in_err-write_next-in-Write-clause-broken g c =
@@ -38,14 +38,14 @@ returns-in_ok-write_next-in-Write-clause-log g c =
       keeps = logged-act (g.C.Clock.told c.args.clock.now) c.args.side.now c.write_next.new.side c.decide-act.new.core c.decide-act.result.0 (Write c.in-Write.slice) c.decide-act.result.1 c.decide-act.ensures.carried c.in-Write.is same.0 same.2;
     }
 
-pub returns-then-not-idle-clause-ok : goal.returns-then-not-idle-clause-ok
-returns-then-not-idle-clause-ok g c =
+pub returns-in_default-clause-ok : goal.returns-in_default-clause-ok
+returns-in_default-clause-ok g c =
     let answered = c.decide-act.ensures.answered in
     let leaves = subst (λ (act : Act). After c.args.side.now.core c.decide-act.result.1 act c.decide-act.new.core) c.in-WaitUntil.is answered.output in
     (sound-waited c.args.side.now c.args.side.now.inbox c.decide-act.new.core _ c.requires.sound answered.kept leaves.1.position, c.requires.working, tt)
 
-pub returns-then-not-idle-clause-log : goal.returns-then-not-idle-clause-log
-returns-then-not-idle-clause-log g c = record {
+pub returns-in_default-clause-log : goal.returns-in_default-clause-log
+returns-in_default-clause-log g c = record {
   more = [];
   noted = events-none (g.N.Notes.events c.args.notes.now);
   keeps = logged-act (g.C.Clock.told c.args.clock.now) c.args.side.now _ c.decide-act.new.core c.decide-act.result.0 (WaitUntil c.in-WaitUntil.instant) c.decide-act.result.1 c.decide-act.ensures.carried c.in-WaitUntil.is refl refl;
@@ -76,27 +76,27 @@ returns-in_ok-rest-in-WaitUntil-clause-log g c = record {
   keeps = logged-act (g.C.Clock.told c.args.clock.now) c.args.side.now _ c.decide-act.new.core c.decide-act.result.0 (WaitUntil c.in-WaitUntil.instant) c.decide-act.result.1 c.decide-act.ensures.carried c.in-WaitUntil.is refl refl;
 }
 
-pub returns-after-idle-clause-ok : goal.returns-after-idle-clause-ok
-returns-after-idle-clause-ok g c =
+pub returns-after-idle-2-clause-ok : goal.returns-after-idle-2-clause-ok
+returns-after-idle-2-clause-ok g c =
     let answered = c.decide-act.ensures.answered in
     let leaves = subst (λ (act : Act). After c.args.side.now.core c.decide-act.result.1 act c.decide-act.new.core) c.in-WaitForInput.is answered.output in
     let waited = λ (inbox : Inbox). sound-waited c.args.side.now inbox c.decide-act.new.core (received c.args.side.now.inbox.receiver) c.requires.sound answered.kept leaves.position in
-    let sound : IsSound c.if-idle.side (received c.if-idle.side.inbox.receiver) = elim c.if-idle.branch [
-      | then-idle w ↦ subst (λ (side : WriterSide). IsSound side (received side.inbox.receiver)) (sym w.side-is) (subst (IsSound _) (ap received (sym w.wait.ensures)) (waited w.wait.new.self))
-      | else-idle w ↦ subst (λ (side : WriterSide). IsSound side (received side.inbox.receiver)) (sym w.side-is) (waited c.args.side.now.inbox)
+    let sound : IsSound c.match-idle-2.side (received c.match-idle-2.side.inbox.receiver) = elim c.match-idle-2.branch [
+      | in-Some-idle w ↦ subst (λ (side : WriterSide). IsSound side (received side.inbox.receiver)) (sym w.side-is) (subst (IsSound _) (ap received (sym w.wait.ensures)) (waited w.wait.new.self))
+      | in_default-idle w ↦ subst (λ (side : WriterSide). IsSound side (received side.inbox.receiver)) (sym w.side-is) (waited c.args.side.now.inbox)
     ] in
     (sound, c.requires.working, tt)
 
-pub returns-after-idle-clause-log : goal.returns-after-idle-clause-log
-returns-after-idle-clause-log g c =
-    let same : (c.if-idle.side.core ≡ c.decide-act.new.core) × (c.if-idle.side.source ≡ c.args.side.now.source) = elim c.if-idle.branch [
-      | then-idle w ↦ (ap (λ (side : WriterSide). side.core) w.side-is, ap (λ (side : WriterSide). side.source) w.side-is)
-      | else-idle w ↦ (ap (λ (side : WriterSide). side.core) w.side-is, ap (λ (side : WriterSide). side.source) w.side-is)
+pub returns-after-idle-2-clause-log : goal.returns-after-idle-2-clause-log
+returns-after-idle-2-clause-log g c =
+    let same : (c.match-idle-2.side.core ≡ c.decide-act.new.core) × (c.match-idle-2.side.source ≡ c.args.side.now.source) = elim c.match-idle-2.branch [
+      | in-Some-idle w ↦ (ap (λ (side : WriterSide). side.core) w.side-is, ap (λ (side : WriterSide). side.source) w.side-is)
+      | in_default-idle w ↦ (ap (λ (side : WriterSide). side.core) w.side-is, ap (λ (side : WriterSide). side.source) w.side-is)
     ] in
     record {
       more = [];
       noted = events-none (g.N.Notes.events c.args.notes.now);
-      keeps = logged-act (g.C.Clock.told c.args.clock.now) c.args.side.now c.if-idle.side c.decide-act.new.core c.decide-act.result.0 WaitForInput c.decide-act.result.1 c.decide-act.ensures.carried c.in-WaitForInput.is same.0 same.1;
+      keeps = logged-act (g.C.Clock.told c.args.clock.now) c.args.side.now c.match-idle-2.side c.decide-act.new.core c.decide-act.result.0 WaitForInput c.decide-act.result.1 c.decide-act.ensures.carried c.in-WaitForInput.is same.0 same.1;
     }
 
 pub returns-in-End-clause-ok : goal.returns-in-End-clause-ok

@@ -1,6 +1,6 @@
 -- The slice is written up to a position.
 use Rattle.std.proofs.Common.{◌-◌, ◌≡◌, ◌≤◌, false}
-use Rattle.tox_link.specs.carrying.Held.{WritesFromTo}
+use Rattle.tox_link.specs.steps.Held.{WritesFromTo}
 use Rattle.tox_link.proofs.carrying.writing.write_slice.Given as goal
 
 abbrev pub invariant-loop-start : goal.invariant-loop-start

@@ -1,26 +1,17 @@
-//! The steps of a link: a piece, the source's end or a reading of the clock reaches the core.
-ghost use Rattle.std.specs.Prelude.{◌≡◌, ◌+◌, ◌<◌, ◌≤◌, ◌^◌, ◌⊎◌, ◌↔◌, List, length, vec_capacity, IsTrue, false, true, None, IsSome, is_none, OnOk, OnErr};
-ghost use Rattle.tox_link.specs.carrying.Held.{MayTake, with_held_piece};
+//! A piece or the source's end reaches the core.
+ghost use Rattle.std.specs.Prelude.{◌≡◌, ◌+◌, ◌<◌, ◌≤◌, ◌^◌, ◌⊎◌, length, vec_capacity, false, true, None, IsSome, is_none, OnOk, OnErr};
 ghost use Rattle.tox_link.specs.link_core.Core.{core_ending, kept_count};
-ghost use Rattle.tox_link.specs.link_core.Acts.{Answered};
-ghost use Rattle.tox_link.specs.log.Carried.{KeepsCarried, ReadsOn, noted_end, noted_of};
+ghost use Rattle.tox_link.specs.log.Carried.{ReadsOn, noted_end};
 ghost use Rattle.tox_link.specs.log.Events.{with_events};
-ghost use Rattle.tox_link.specs.carrying.Steps.{CarriesOn, TakesIn};
+ghost use Rattle.tox_link.specs.steps.Held.{with_held_piece};
+ghost use Rattle.tox_link.specs.steps.Arriving.{CarriesOn, TakesIn};
 
 use crate::clock::{Clock, reading};
-use crate::link_core::act::Act;
 use crate::link_core::direction_core::DirectionCore;
 use crate::notes::{LinkEvent, Notes};
 use std::alloc::AllocError;
 use tox_lend::{Piece, Window};
 use tox_time::{Ending, Micros};
-
-/// Whether input may be taken. A piece that comes once the ending is known is dropped, so it needs no room in the window.
-pub(crate) fn may_take(core: &DirectionCore<'_>, window: &Window, ended: bool) -> bool
-    ensures { IsTrue result ↔ MayTake core.now window.now ended }
-{
-    !ended && core.has_room() && (window.has_room() || core.ending().is_some())
-}
 
 /// A nonempty piece of at most 16,384 bytes arrives. It is stamped with the greatest reading so far, noted and kept. A refused note changes nothing.
 pub(crate) fn take_piece<C: Clock, N: Notes>(
@@ -104,16 +95,4 @@ pub(crate) fn take_end<C: Clock, N: Notes>(
     note_end(notes, &ending, &now)?;
     core.on_end(now);
     Ok(())
-}
-
-/// Asks the core at the greatest reading so far. Returns its answer and that reading.
-pub(crate) fn decide<C: Clock>(core: &mut DirectionCore<'_>, clock: &C) -> (Act, Micros)
-    requires { (core.old.latest ≡ 0) ⊎ C.told clock.now core.old.latest }
-    ensures told { C.told clock.now result.1 × (core.old.latest ≤ result.1) }
-    ensures answered { Answered core.old core.new result.1 result.0 }
-    ensures carried { KeepsCarried (C.told clock.now) core.old (noted_of result.0 result.1)
-        core.new }
-{
-    let now = reading(clock, core.latest());
-    (core.on_clock(now), now)
 }

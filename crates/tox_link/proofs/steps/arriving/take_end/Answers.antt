@@ -8,14 +8,14 @@ use Rattle.tox_time.specs.declared.streams.item.Item.TheVariants.{Closed}
 use Rattle.tox_time.specs.streams.Table.{final_of}
 use Rattle.tox_link.specs.declared.notes.LinkEvent.{LinkEvent}
 use Rattle.tox_link.specs.declared.notes.LinkEvent.TheVariants.{SourceEnd}
-use Rattle.tox_link.specs.carrying.Steps.{CarriesOn}
+use Rattle.tox_link.specs.steps.Arriving.{CarriesOn}
 use Rattle.tox_link.specs.link_core.Acts.{HearsEnd}
 use Rattle.tox_link.specs.link_core.Core.{CoreView, core_ending, remaining_output}
 use Rattle.tox_link.specs.log.Carried.{noted_end}
 use Rattle.tox_link.specs.log.Events.{with_events}
 use Rattle.tox_link.proofs.Looks.{same-of}
 use Rattle.tox_link.proofs.StepLemmas.{end-carried, wait-carried}
-use Rattle.tox_link.proofs.carrying.steps.take_end.Goals as goal
+use Rattle.tox_link.proofs.steps.arriving.take_end.Goals as goal
 
 carries-on : (told : ℕ → Type 0) (before after : Option (List LinkEvent)) (old new : CoreView) (now : ℕ) (last : Option Ending)
     → old.latest ≤ now → IsInstant now → told now → old.ended ≡ false → HearsEnd old new now → last ≡ core_ending old

@@ -2,7 +2,7 @@
 use Rattle.std.proofs.Common.{[], ◌∷◌, refl, arith}
 use Rattle.tox_link.specs.declared.notes.LinkEvent.TheVariants.{Piece}
 use Rattle.tox_link.proofs.StepLemmas.{taken-carried}
-use Rattle.tox_link.proofs.carrying.steps.take_piece.Goals as goal
+use Rattle.tox_link.proofs.steps.arriving.take_piece.Goals as goal
 
 pub returns-clause-carried : goal.returns-clause-carried
 returns-clause-carried g c =

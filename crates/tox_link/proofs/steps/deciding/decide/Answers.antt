@@ -3,7 +3,7 @@ use Rattle.std.proofs.Common.{sym, ◌∙◌, arith}
 use Rattle.tox_link.proofs.Depths.{keeps-after}
 use Rattle.tox_link.proofs.SideLemmas.{unknown-before}
 use Rattle.tox_link.proofs.StepLemmas.{act-carried}
-use Rattle.tox_link.proofs.carrying.steps.decide.Goals as goal
+use Rattle.tox_link.proofs.steps.deciding.decide.Goals as goal
 
 pub returns-clause-carried : goal.returns-clause-carried
 returns-clause-carried g c =

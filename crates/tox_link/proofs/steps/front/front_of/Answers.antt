@@ -2,7 +2,7 @@
 use Rattle.std.proofs.Common.{length, ap, arith}
 use Rattle.tox_lend.specs.Run.{Run}
 use Rattle.tox_link.proofs.HeldLemmas.{IsFront, found-holds, never-none, front-part}
-use Rattle.tox_link.proofs.carrying.writing.front_of.Goals as goal
+use Rattle.tox_link.proofs.steps.front.front_of.Goals as goal
 
 pub unreachable-requires : goal.unreachable-requires
 unreachable-requires c = never-none c.args.window.now c.args.span.now c.requires.held c.requires.some c.in_default.ensures
