@@ -1,4 +1,5 @@
 pub mod DirectionLemmas
 pub mod MakingLemmas
 pub mod ReadyLemmas
+pub mod SettledLemmas
 pub mod TimerLemmas

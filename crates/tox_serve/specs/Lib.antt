@@ -2,6 +2,7 @@ pub mod workers
 pub mod Told
 pub mod Addresses
 pub mod Serving
+pub mod Waiting
 pub mod proxy
 pub mod link
 pub mod lines

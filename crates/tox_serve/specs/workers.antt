@@ -8,8 +8,10 @@ pub mod Peers
 pub mod Places
 pub mod Ready
 pub mod Reports
+pub mod Settled
 pub mod Steps
 pub mod Timers
 pub mod Tokens
 pub mod Turns
 pub mod Waits
+pub mod Worked

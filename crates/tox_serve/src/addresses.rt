@@ -11,7 +11,7 @@ const EVERY_HOST: &str = "0.0.0.0";
 const THIS_HOST: &str = "localhost";
 
 /// The address to listen at.
-pub(crate) fn listen_address(alloc: Global, address: &str) -> Result<String, AllocError>
+pub fn listen_address(alloc: Global, address: &str) -> Result<String, AllocError>
     ensures { IfOk result (λ whole.
         string_bytes whole ≡ with_host (codes "0.0.0.0") address.now) }
 {

@@ -8,7 +8,10 @@ pub enum ServeFault<'a> {
     /// The address of the proxy of this name couldn't be listened at.
     #[error("P4 ListenRefused {}", VisibleName(.0))]
     ListenRefused(&'a str),
-    /// A proxy was refused its thread.
+    /// The address for probes couldn't be listened at.
+    #[error("P4 ListenRefused --ready")]
+    ReadyRefused,
+    /// A thread was refused.
     #[error("F1 SpawnRefused")]
     SpawnRefused,
     #[error("F0 OutOfMemory")]

@@ -1,4 +1,5 @@
 //! One link: what its streams meet, its upstream, and how it ended.
+pub(crate) mod break_reason;
 pub(crate) mod course;
 pub(crate) mod end;
 pub(crate) mod logs;

@@ -4,11 +4,13 @@ use tox_log::LogLimits;
 
 /// Options of [`serve_with`](crate::serve_with). Without any, `serve` does as it always did.
 #[derive(Clone, Copy, Debug, Default, PartialEq, Eq)]
-pub struct ServeOptions {
+pub struct ServeOptions<'a> {
     /// After how many connections each proxy stops listening, 1 to 1,000,000. None: it goes on.
     pub links: Option<u64>,
     /// How many milliseconds a connect to an address of an upstream may take, 1 to 600,000. None: as many as the system lets it.
     pub connect_timeout: Option<u32>,
+    /// The address for probes, which listens once all proxies do. Its connections are closed at once and count for nothing. None: there is none.
+    pub ready: Option<&'a str>,
     /// How many threads drive all links, 1 to 64. None: each link has threads of its own.
     pub workers: Option<u32>,
     /// How much of the links is logged. None: nothing is.

@@ -17,7 +17,7 @@ pub(crate) struct ServeRun<'a> {
     pub(crate) alloc: Global,
     pub(crate) script: &'a Script,
     pub(crate) seed: u64,
-    pub(crate) options: ServeOptions,
+    pub(crate) options: ServeOptions<'a>,
     /// Where logs go, if any are kept.
     pub(crate) logs: &'a Option<RunLogs>,
     /// Where lines go.

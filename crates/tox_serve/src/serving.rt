@@ -1,13 +1,16 @@
 //! Serving proxies: sockets under the plans of a script.
-ghost use Rattle.std.specs.Prelude.{◌≡◌, All, false, IfErr, Ok};
+ghost use Rattle.std.specs.Prelude.{◌≡◌, All, false, is_some, IfErr, Ok};
 ghost use Rattle.tox_serve.specs.lines.LineQueue.{no_lines};
 ghost use Rattle.tox_serve.specs.Serving.{HasServeCause};
 
 use crate::descriptors::Descriptors;
 use crate::fault::ServeFault;
-use crate::lines::{Gaps, LineChannel, LineForm, LineQueue, NoGaps, print_listening, write_lines};
+use crate::lines::{
+    LineChannel, LineForm, LineQueue, NoNotices, Notices, print_listening, write_lines,
+};
 use crate::options::ServeOptions;
 use crate::proxy::listening::{Listening, listen_all};
+use crate::ready::{listen_ready, start_ready};
 use crate::run::ServeRun;
 use crate::runtime::ServeRuntime;
 use crate::stop::Stop;
@@ -27,7 +30,7 @@ use tox_script::Script;
 use tox_sockets::LiveSockets;
 use tox_time::OpenGate;
 
-/// [`serve_with`], with this limit of links and no other option. Dropped lines are told to nobody.
+/// [`serve_with`], with this limit of links and no other option. Nobody is told of dropped lines and broken links.
 pub fn serve<
     'a,
     R: Net<Listener = TcpListener, Stream = TcpStream>
@@ -49,11 +52,12 @@ pub fn serve<
     out: &Mutex<W>,
 ) -> Result<(), ServeFault<'a>>
     ensures nothing { All (λ proxy. proxy.enabled ≡ false) proxies.now → result ≡ Ok tt }
-    ensures fault { IfErr result (HasServeCause proxies.now) }
+    ensures fault { IfErr result (HasServeCause proxies.now false) }
 {
     let options = ServeOptions {
         links,
         connect_timeout: None,
+        ready: None,
         workers: None,
         logs: None,
         verbose: false,
@@ -66,7 +70,7 @@ pub fn serve<
         script,
         seed,
         out,
-        &NoGaps,
+        &NoNotices,
         &Stop::new(),
         &NoLogs,
         &options,
@@ -79,7 +83,11 @@ pub fn serve<
 ///
 /// One thread writes the lines, so a writer that waits holds up no link. At most 65,536 bytes of lines wait for it. A link's
 /// line that finds no room is dropped, and the gap is told once the lines before it are written. The other lines wait for room.
-/// Lines that the writer fails to take are dropped without a word, and later ones are tried again.
+/// Lines that the writer fails to take are dropped without a word, and later ones are tried again. Of the links of a proxy that break for
+/// one kind of reason the first is told of at once, and then at most one a second with how many more.
+///
+/// With `options.ready` an address listens once those of all proxies do, until the last proxy has ended or the run is told to stop. One
+/// more thread closes each connection that comes there. No such connection is counted or told.
 ///
 /// With `options.logs` one more thread brings the log of each link's streams to its file. A log that its file can't follow ends
 /// early, which is told once: it holds up no link either.
@@ -101,7 +109,7 @@ pub fn serve_with<
         + Sync
         + 'static,
     W: Write + Send,
-    G: Gaps + Sync,
+    N: Notices + Sync,
     L: LogFiles + Sync,
 >(
     rt: &R,
@@ -110,23 +118,24 @@ pub fn serve_with<
     script: &Script,
     seed: u64,
     out: &Mutex<W>,
-    gaps: &G,
+    notices: &N,
     stop: &Stop,
     files: &L,
-    options: &ServeOptions,
+    options: &ServeOptions<'_>,
 ) -> Result<(), ServeFault<'a>>
     ensures nothing { All (λ proxy. proxy.enabled ≡ false) proxies.now → result ≡ Ok tt }
-    ensures fault { IfErr result (HasServeCause proxies.now) }
+    ensures fault { IfErr result (HasServeCause proxies.now (is_some options.now.ready)) }
 {
     if !proxies.iter().any(|proxy| proxy.enabled) {
         return Ok(());
     }
     let live = LiveSockets::new(alloc);
     let listening = listen_all(rt, alloc, &live, proxies)?;
+    let ready = listen_ready(rt, alloc, &live, options.ready)?;
     let Ok(gate) = Arc::new(alloc, OpenGate) else {
         return Err(ServeFault::OutOfMemory);
     };
-    let Ok(lines) = LineChannel::new(alloc) else {
+    let Ok(lines) = LineChannel::new(alloc, proxies.len()) else {
         return Err(ServeFault::OutOfMemory);
     };
     let Ok(empty) = LineQueue::new(alloc) else {
@@ -146,7 +155,9 @@ pub fn serve_with<
         descriptors: Descriptors::new(),
         proxies: AtomicU64::new(listening.len() as u64),
     };
-    if serve_and_write(rt, &run, listening, empty, out, gaps, files) {
+    if serve_and_write(
+        rt, &run, listening, ready, empty, out, proxies, notices, files,
+    ) {
         Ok(())
     } else {
         Err(ServeFault::SpawnRefused)
@@ -154,22 +165,24 @@ pub fn serve_with<
 }
 
 /// The logs of a run, if its options want them.
-fn logs_of(alloc: Global, options: &ServeOptions) -> Option<RunLogs> {
+fn logs_of(alloc: Global, options: &ServeOptions<'_>) -> Option<RunLogs> {
     match options.logs {
         Some(limits) => Some(RunLogs::new(alloc, limits)),
         None => None,
     }
 }
 
-/// Serves the proxies beside a thread that writes the lines, and one that writes the logs if any are kept. False if a thread is
-/// refused: then no connection is taken.
-fn serve_and_write<R: ServeRuntime, W: Write + Send, G: Gaps + Sync, L: LogFiles + Sync>(
+/// Serves the proxies beside a thread that writes the lines, one that writes the logs if any are kept, and one that answers probes if
+/// there is an address for them. False if a thread is refused: then no connection of a proxy is taken.
+fn serve_and_write<R: ServeRuntime, W: Write + Send, N: Notices + Sync, L: LogFiles + Sync>(
     rt: &R,
     run: &ServeRun<'_>,
     listening: Vec<Listening<'_>>,
+    ready: Option<Arc<TcpListener, Global>>,
     empty: LineQueue,
     out: &Mutex<W>,
-    gaps: &G,
+    proxies: &[ProxyDef],
+    notices: &N,
     files: &L,
 ) -> bool
     requires { empty ≡ no_lines }
@@ -184,12 +197,16 @@ fn serve_and_write<R: ServeRuntime, W: Write + Send, G: Gaps + Sync, L: LogFiles
             let writer = scope.spawn(
                 move ||
                     requires { empty ≡ no_lines }
-                { write_lines(rt, lines, empty, out, gaps) },
+                { write_lines(rt, lines, empty, out, proxies, notices) },
             );
             if writer.is_err() {
                 return false;
             }
-            let served = start_log_writer(rt, run, scope, files) && serve_all(rt, run, listening);
+            let served = start_log_writer(rt, run, scope, files)
+                && start_ready(rt, run, scope, ready)
+                && serve_all(rt, run, listening);
+            // The thread that answers probes ends with the proxies.
+            run.live.stop(rt);
             if let Some(logs) = run.logs {
                 logs.close(rt);
             }

@@ -1,5 +1,5 @@
 //! Serving with threads of its own for each link.
-mod accepting;
+pub(crate) mod accepting;
 mod connecting;
 mod direction;
 mod link;

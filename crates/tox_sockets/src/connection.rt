@@ -9,7 +9,8 @@ pub enum Connection {
     There,
     /// It has finished, and the peer has reset the connection since.
     WasReset,
-    Refused,
+    /// It has failed, for this reason.
+    Refused(ErrorKind),
 }
 
 /// How a connect stands that was begun without waiting. One that has finished has reached its peer, whatever came after it. The
@@ -18,7 +19,7 @@ pub fn connection_of(socket: &TcpStream) -> Connection {
     match socket.peer_addr() {
         Ok(_) => return Connection::There,
         Err(error) if error.kind() == ErrorKind::NotConnected => {}
-        Err(_) => return Connection::Refused,
+        Err(error) => return Connection::Refused(error.kind()),
     }
     match socket.take_error() {
         Ok(None) => Connection::Coming,
@@ -28,6 +29,6 @@ pub fn connection_of(socket: &TcpStream) -> Connection {
                 error.kind(),
                 ErrorKind::ConnectionReset | ErrorKind::BrokenPipe
             ) => Connection::WasReset,
-        _ => Connection::Refused,
+        Ok(Some(error)) | Err(error) => Connection::Refused(error.kind()),
     }
 }

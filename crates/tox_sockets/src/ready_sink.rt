@@ -1,5 +1,5 @@
 //! Writing a socket of a link that doesn't wait, until the reset of its stream is due.
-ghost use Rattle.std.specs.Prelude.{◌≡◌, ℕ, Ok, false, true, not, None, fold, IfOk, IfSome, OnErr, length, nat_lt};
+ghost use Rattle.std.specs.Prelude.{◌≡◌, ℕ, Ok, false, true, not, None, fold, IfOk, IfSome, MatchBool, OnErr, length, nat_lt};
 ghost use Rattle.tox_time.specs.Ends.{takes_nothing};
 ghost use Rattle.tox_sockets.specs.Bound.{is_reached};
 ghost use Rattle.std.specs.Arc.{arc_value};
@@ -76,6 +76,19 @@ impl<'r, R: Clock> ReadySink<'r, R> {
         let news = !self.writable;
         self.writable = true;
         news
+    }
+
+    /// Fails the sink if its link is stopped. Whether it is.
+    pub fn fail_if_stopped(&mut self) -> bool
+        ensures { MatchBool result
+            (self.new ≡ record self.old { failed = true })
+            (self.new ≡ self.old) }
+    {
+        let stopped = self.link.is_stopped();
+        if stopped {
+            self.failed = true;
+        }
+        stopped
     }
 
     /// Whether the reset is due at what the clock tells.

@@ -2,8 +2,10 @@
 use Rattle.std.proofs.Common.{◌≡◌, ℕ, Bool, false, List, Option, None, refl, not, ◌&&◌, ◌||◌}
 use Rattle.tox_serve.specs.declared.link.course.Course.{Course}
 use Rattle.tox_serve.specs.workers.Begun.{BeginsCourse, IsNewDirection}
+use Rattle.tox_serve.specs.workers.Steps.{DrivesFrom, WasDriven}
 use Rattle.tox_serve.specs.workers.Reports.{GoesOnWithEnds, HasSourceAfter, HasTargetAfter, IsNotedSo, drives_source, drives_target, reported_sink, reported_source}
 use Rattle.tox_serve.specs.declared.workers.flow.Flow.{Flow}
+use Rattle.tox_serve.specs.declared.workers.open_direction.DirectionProgress.{DirectionProgress}
 use Rattle.tox_serve.specs.declared.workers.open_direction.DirectionState.{DirectionState}
 use Rattle.tox_serve.specs.declared.workers.open_direction.DirectionState.TheVariants.{Going}
 use Rattle.tox_serve.specs.declared.workers.open_direction.OpenDirection.{OpenDirection}
@@ -29,3 +31,7 @@ module _ {R : Type 0} where
       → answer ≡ (event.writable && (not old.sink.writable || event.gone))
       → HasTargetAfter event state (Going after) × (answer ≡ drives_target event state)
   target_after event old after state answer is goes drives = rw is (goes, drives)
+
+  pub drives_from : (since : ℕ) (state : DirectionState R) (old new : OpenDirection R) (flow : Flow R) (answer : DirectionProgress) → state ≡ Going flow
+      → WasDriven since flow old new answer → DrivesFrom since state old new answer
+  drives_from since state old new flow answer is was = rw is was

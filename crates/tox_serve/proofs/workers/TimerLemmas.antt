@@ -1,5 +1,5 @@
 -- The timers of a heap in order.
-use Rattle.std.proofs.Common.{◌≡◌, ◌≤◌, true, nat_lt, All, List, [], ◌∷◌, length, map, sym, ap, slice_index_or, arith, Contains}
+use Rattle.std.proofs.Common.{◌≡◌, ◌≤◌, Bool, true, false, cond, nat_lt, All, List, [], ◌∷◌, filter, length, map, refl, sym, ap, slice_index_or, arith, Contains}
 use Rattle.std.specs.BinaryHeap.{IsUpperBound}
 use Rattle.std.specs.declared.cmp.Reverse.{Reverse}
 use Rattle.std.proofs.lemmas.List.Elements.{All-cons, All-nil, All-contains}
@@ -29,3 +29,13 @@ due_by timers timer due now earliest by first =
     let least : timer.due ≤ earliest.timer.due = All-contains (λ other. timer.due ≤ other.due) timers earliest.timer first earliest.among in
     let its : earliest.timer.due ≡ due = earliest.its in
     omega arith
+
+-- the timers of a heap that a test keeps
+pub map-filter : (test : Timer → Bool) (timers : List (Reverse Timer))
+    → map (λ reversed. reversed.0) (filter (λ reversed. test reversed.0) timers) ≡ filter test (map (λ reversed. reversed.0) timers)
+map-filter test [] = refl
+map-filter test (timer ∷ timers) =
+    let rest = map-filter test timers in
+    elim (test timer.0) as (λ b. map (λ (reversed : Reverse Timer). reversed.0) (cond b (timer ∷ filter (λ reversed. test reversed.0) timers) (filter (λ reversed. test reversed.0) timers))
+    ≡ cond b (timer.0 ∷ filter test (map (λ reversed. reversed.0) timers)) (filter test (map (λ reversed. reversed.0) timers)))
+    [ true ↦ ap (λ kept. timer.0 ∷ kept) rest | false ↦ rest ]

@@ -41,6 +41,18 @@ abbrev pub is_refused : StreamEnd → Bool
 is_refused (Ended ending) = false
 is_refused (Broken cause) = is_lack cause
 
+abbrev pub is_write : BreakCause → Bool
+is_write CauseOf.Write = true
+is_write CauseOf.Memory = false
+is_write CauseOf.Thread = false
+is_write CauseOf.Upstream = false
+is_write CauseOf.Stopped = false
+
+-- whether a failed write broke a stream
+abbrev pub is_write_break : StreamEnd → Bool
+is_write_break (Ended ending) = false
+is_write_break (Broken cause) = is_write cause
+
 -- how a direction ended, unless a fault broke it
 abbrev pub ending_of : StreamEnd → Option Ending
 ending_of (Ended ending) = Some ending

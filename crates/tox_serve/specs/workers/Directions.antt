@@ -11,25 +11,25 @@ use Rattle.tox_serve.specs.declared.workers.open_direction.DirectionState.TheVar
 -- what goes on or has ended is of this stream
 abbrev pub IsOf : {R : Type 0} → Stream → DirectionState R → Type 0
 IsOf its (Going flow) = flow.stream ≡ its
-IsOf its (Ended carried) = carried.stream ≡ its
+IsOf its (Ended ended) = ended.carried.stream ≡ its
 IsOf its Driven = Unit {0}
 
 pub IsOf-prop : {R : Type 0} (its : Stream) (state : DirectionState R) → IsProp (IsOf its state)
 IsOf-prop its (Going flow) = Prim.hlevel props
-IsOf-prop its (Ended carried) = Prim.hlevel props
+IsOf-prop its (Ended ended) = Prim.hlevel props
 IsOf-prop its Driven = Prim.hlevel props
 
 -- what a direction carried, once it has ended
 abbrev pub carried_of : {R : Type 0} → DirectionState R → Option Carried
 carried_of (Going flow) = None
-carried_of (Ended carried) = Some carried
+carried_of (Ended ended) = Some ended.carried
 carried_of Driven = None
 
 -- a direction that goes on is broken off, out of memory, behind the bytes that it has written
-abbrev pub broken_off : {R : Type 0} → Stream → DirectionState R → DirectionState R
-broken_off its (Going flow) = Ended (carried_before its (OutOfMemory flow.link.value.written))
-broken_off its (Ended carried) = Ended carried
-broken_off its Driven = Driven
+abbrev pub IsBrokenOffFrom : {R : Type 0} → Stream → DirectionState R → DirectionState R → Type 0
+IsBrokenOffFrom its (Going flow) new = carried_of new ≡ Some (carried_before its (OutOfMemory flow.link.value.written))
+IsBrokenOffFrom its (Ended ended) new = new ≡ Ended ended
+IsBrokenOffFrom its Driven new = new ≡ Driven
 
 -- whether the earliest timer of a direction is due at an instant
 abbrev pub is_armed : ℕ → Option ℕ → Bool

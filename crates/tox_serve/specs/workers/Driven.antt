@@ -23,7 +23,7 @@ pub record ContinuesFlow {R : Type 0} (least : ℕ) (old new : Flow R) : Type 0 
   pub its : new.stream ≡ old.stream
   pub drove : DroveOn least old.link.value new.link.value
 
--- what breaks a stream: nothing of the upstream, and a stop only once its plan has ended it
+-- what breaks a stream: nothing of the upstream, and a stop only once its plan has ended it. Whether a write did is known of its sink
 abbrev pub IsBreakOf : PolledLink → BreakCause → Type 0
 IsBreakOf link CauseOf.Write = Unit {0}
 IsBreakOf link CauseOf.Memory = Unit {0}
@@ -49,4 +49,4 @@ abbrev pub IsDrivenOf : {R : Type 0} → Flow R → Driven R → Type 0
 IsDrivenOf old (Waits flow until) = ContinuesFlow 0 old flow
     × WaitsFor (λ t. IsInstant t) flow.link.value flow.source.waits flow.sink.waits flow.sink.due until
 IsDrivenOf old (Again flow) = ContinuesFlow 32 old flow
-IsDrivenOf old (Ended carried) = HasEndedAs old carried
+IsDrivenOf old (Ended ended) = HasEndedAs old ended.carried

@@ -32,31 +32,31 @@ pub record GoesOnWithEnds {R : Type 0} (old : Flow R) (source : ReadySource) (si
 -- a direction that goes on is noted so
 abbrev pub IsNotedSo : {R : Type 0} → Option (List ℕ) → DirectionState R → DirectionState R → Type 0
 IsNotedSo notes (Going flow) new = GoesOnWithEnds flow flow.source flow.sink notes new
-IsNotedSo notes (Ended carried) new = new ≡ Ended carried
+IsNotedSo notes (Ended ended) new = new ≡ Ended ended
 IsNotedSo notes Driven new = new ≡ Driven
 
 -- the source of a direction that goes on was reported
 abbrev pub HasSourceAfter : {R : Type 0} → SocketEvent → DirectionState R → DirectionState R → Type 0
 HasSourceAfter event (Going flow) new = GoesOnWithEnds flow (reported_source event flow.source) flow.sink flow.notes new
-HasSourceAfter event (Ended carried) new = new ≡ Ended carried
+HasSourceAfter event (Ended ended) new = new ≡ Ended ended
 HasSourceAfter event Driven new = new ≡ Driven
 
 -- whether it is to be driven: it goes on, and may read
 abbrev pub drives_source : {R : Type 0} → SocketEvent → DirectionState R → Bool
 drives_source event (Going flow) = event.readable
-drives_source event (Ended carried) = false
+drives_source event (Ended ended) = false
 drives_source event Driven = false
 
 -- the target of a direction that goes on was reported
 abbrev pub HasTargetAfter : {R : Type 0} → SocketEvent → DirectionState R → DirectionState R → Type 0
 HasTargetAfter event (Going flow) new = GoesOnWithEnds flow flow.source (reported_sink event flow.sink) flow.notes new
-HasTargetAfter event (Ended carried) new = new ≡ Ended carried
+HasTargetAfter event (Ended ended) new = new ≡ Ended ended
 HasTargetAfter event Driven new = new ≡ Driven
 
 -- whether it is to be driven: it goes on, and may write by now, or its target is gone
 abbrev pub drives_target : {R : Type 0} → SocketEvent → DirectionState R → Bool
 drives_target event (Going flow) = event.writable && (not flow.sink.writable || event.gone)
-drives_target event (Ended carried) = false
+drives_target event (Ended ended) = false
 drives_target event Driven = false
 
 -- a direction whose source was reported, and whether it is to be driven

@@ -25,21 +25,21 @@ worker_instant since until = min (since + until) 18446744073709551615
 abbrev pub state_of_driven : {R : Type 0} → FlowDriven R → DirectionState R
 state_of_driven (FlowOf.Waits flow until) = Going flow
 state_of_driven (FlowOf.Again flow) = Going flow
-state_of_driven (FlowOf.Ended carried) = Ended carried
+state_of_driven (FlowOf.Ended ended) = Ended ended
 
 -- when its earliest timer is due then
 abbrev pub armed_after : {R : Type 0} → ℕ → Option ℕ → FlowDriven R → Option ℕ
 armed_after since armed (FlowOf.Waits flow (Some until)) = earlier_of armed (Some (worker_instant since until))
 armed_after since armed (FlowOf.Waits flow None) = armed
 armed_after since armed (FlowOf.Again flow) = armed
-armed_after since armed (FlowOf.Ended carried) = armed
+armed_after since armed (FlowOf.Ended ended) = armed
 
 -- what it does next
 abbrev pub progress_after : {R : Type 0} → ℕ → Option ℕ → FlowDriven R → DirectionProgress
 progress_after since armed (FlowOf.Waits flow (Some until)) = wait_until armed (worker_instant since until)
 progress_after since armed (FlowOf.Waits flow None) = Waits
 progress_after since armed (FlowOf.Again flow) = Again
-progress_after since armed (FlowOf.Ended carried) = ProgressOf.Ended
+progress_after since armed (FlowOf.Ended ended) = ProgressOf.Ended
 
 -- a direction that goes on was driven, and says what it does next
 pub record WasDriven {R : Type 0} (since : ℕ) (flow : Flow R) (old new : OpenDirection R) (answer : DirectionProgress) : Type 0 where
@@ -60,5 +60,5 @@ pub record IsLeft {R : Type 0} (old new : OpenDirection R) (answer : DirectionPr
 -- a direction is driven if it goes on
 abbrev pub DrivesFrom : {R : Type 0} → ℕ → DirectionState R → OpenDirection R → OpenDirection R → DirectionProgress → Type 0
 DrivesFrom since (Going flow) old new progress = WasDriven since flow old new progress
-DrivesFrom since (Ended carried) old new progress = IsLeft old new progress
+DrivesFrom since (Ended ended) old new progress = IsLeft old new progress
 DrivesFrom since Driven old new progress = IsLeft old new progress

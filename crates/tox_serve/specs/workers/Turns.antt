@@ -7,8 +7,8 @@ use Rattle.tox_serve.specs.declared.workers.open_direction.DirectionProgress.The
 use Rattle.tox_serve.specs.declared.workers.timers.Timer.{Timer}
 use Rattle.tox_serve.specs.declared.workers.timers.Turn.{Turn}
 use Rattle.tox_serve.specs.declared.workers.open_link.OpenLink.{OpenLink}
-use Rattle.tox_serve.specs.workers.Directions.{broken_off}
-use Rattle.tox_serve.specs.workers.OpenLinks.{IsSameDirection, direction_of}
+use Rattle.tox_serve.specs.workers.Directions.{IsBrokenOffFrom}
+use Rattle.tox_serve.specs.workers.OpenLinks.{SetsTurn, direction_of}
 use Rattle.tox_serve.specs.workers.Peers.{other_stream}
 use Rattle.tox_serve.specs.workers.Steps.{DrivesFrom}
 use Rattle.tox_serve.specs.workers.Timers.{timer_of}
@@ -19,9 +19,7 @@ other_turn turn = record { key = turn.key; stream = other_stream turn.stream }
 
 -- a direction has a turn: the last one, unless one of it waited before
 pub record HasTurn {R : Type 0} (turn : Turn) (old new : OpenLink R) (turns new_turns : List Turn) : Type 0 where
-  pub claimed : (direction_of turn.stream new).has_turn ≡ true
-  pub same : IsSameDirection (direction_of turn.stream old) (direction_of turn.stream new)
-  pub other : direction_of (other_stream turn.stream) new ≡ direction_of (other_stream turn.stream) old
+  pub claimed : SetsTurn turn.stream true old new
   pub given : new_turns ≡ turns ++ (if (direction_of turn.stream old).has_turn then [] else turn ∷ [])
 
 -- neither a turn nor a timer is given
@@ -46,8 +44,8 @@ IsDrivenAgain turn Ended old new timers new_timers turns new_turns = HasTurn (ot
 
 -- a link is broken off, out of memory
 pub record IsBrokenOff {R : Type 0} (old new : OpenLink R) : Type 0 where
-  pub up : new.up.state ≡ broken_off Upstream old.up.state
-  pub down : new.down.state ≡ broken_off Downstream old.down.state
+  pub up : IsBrokenOffFrom Upstream old.up.state new.up.state
+  pub down : IsBrokenOffFrom Downstream old.down.state new.down.state
 
 -- a direction of a link was driven, and is driven again as it answered: or else memory is refused, and the link is broken off
 pub record DrivesTurn {R : Type 0} (turn : Turn) (old new : OpenLink R) (timers new_timers : List Timer) (turns new_turns : List Turn) : Type 0 where

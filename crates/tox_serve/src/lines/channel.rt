@@ -2,14 +2,18 @@
 ghost use Rattle.std.specs.Prelude.{◌≡◌};
 ghost use Rattle.tox_serve.specs.lines.LineQueue.{no_lines};
 
+use crate::lines::breaks::{Breaks, BrokenLinks};
 use crate::lines::queue::LineQueue;
+use crate::link::break_reason::BreakReason;
 use std::alloc::{AllocError, Global};
 use std::sync::{Condvar, Mutex, MutexGuard, Wait};
+use std::time::Clock;
 
 /// What the lock keeps.
 #[derive(Drop)]
 struct Waiting {
     queue: LineQueue,
+    breaks: Breaks,
     /// Whether no more lines come.
     closed: bool,
 }
@@ -18,19 +22,21 @@ struct Waiting {
 #[derive(Drop)]
 pub(crate) struct LineChannel {
     waiting: Mutex<Waiting>,
-    /// Told when a line was added and when the channel is closed.
+    /// Told when a line was added, a link has broken, and when the channel is closed.
     added: Condvar,
     /// Told when the lines were taken.
     taken: Condvar,
 }
 
 impl LineChannel {
-    /// An open channel without lines.
-    pub(crate) fn new(alloc: Global) -> Result<LineChannel, AllocError> {
+    /// An open channel without lines, for so many proxies.
+    pub(crate) fn new(alloc: Global, proxies: usize) -> Result<LineChannel, AllocError> {
         let queue = LineQueue::new(alloc)?;
+        let breaks = Breaks::new(alloc, proxies)?;
         Ok(LineChannel {
             waiting: Mutex::new(Waiting {
                 queue,
+                breaks,
                 closed: false,
             }),
             added: Condvar::new(),
@@ -59,14 +65,34 @@ impl LineChannel {
         unreachable!()
     }
 
+    /// Notes why a numbered link of the proxy at a place has broken, if that is told.
+    pub(crate) fn note_break<R: Wait>(
+        &self,
+        rt: &R,
+        place: usize,
+        number: u64,
+        reason: BreakReason,
+    ) {
+        let mut waiting = self.waiting.lock(rt);
+        waiting.breaks.note(place, number, reason);
+        self.added.notify_one();
+    }
+
+    /// The next broken links of which is to be told by now.
+    pub(crate) fn next_break<R: Wait + Clock>(&self, rt: &R) -> Option<BrokenLinks> {
+        let mut waiting = self.waiting.lock(rt);
+        let are_last = waiting.closed;
+        waiting.breaks.next(rt, are_last)
+    }
+
     /// No more lines come.
     pub(crate) fn close<R: Wait>(&self, rt: &R) {
         self.waiting.lock(rt).closed = true;
         self.added.notify_all();
     }
 
-    /// Moves the lines into an empty queue once there are some. False once no more come.
-    pub(crate) fn receive<R: Wait>(&self, rt: &R, empty: &mut LineQueue) -> bool
+    /// Moves the lines into an empty queue once there are some, or links of which is to be told. False once no more come.
+    pub(crate) fn receive<R: Wait + Clock>(&self, rt: &R, empty: &mut LineQueue) -> bool
         requires { empty.old ≡ no_lines }
     {
         let Some(mut waiting) = self.filled(rt) else {
@@ -77,17 +103,21 @@ impl LineChannel {
         true
     }
 
-    /// The lock, once lines wait. None once no more come.
-    fn filled<R: Wait>(&self, rt: &R) -> Option<MutexGuard<'_, Waiting>> {
+    /// The lock, once lines wait, or links of which is to be told. None once no more come.
+    fn filled<R: Wait + Clock>(&self, rt: &R) -> Option<MutexGuard<'_, Waiting>> {
         let mut waiting = self.waiting.lock(rt);
         for _ in rt.forever() {
-            if !waiting.queue.is_empty() {
+            let rest = waiting.breaks.rest(rt);
+            if !waiting.queue.is_empty() || rest.is_some_and(|rest| rest.is_zero()) {
                 return Some(waiting);
             }
             if waiting.closed {
                 return None;
             }
-            waiting = self.added.wait(rt, waiting);
+            waiting = match rest {
+                Some(rest) => self.added.wait_timeout(rt, waiting, rest).0,
+                None => self.added.wait(rt, waiting),
+            };
         }
         unreachable!()
     }

@@ -2,49 +2,85 @@
 ghost use Rattle.std.specs.Prelude.{◌≡◌};
 ghost use Rattle.tox_serve.specs.lines.LineQueue.{no_lines};
 
+use crate::lines::broken_text::BrokenText;
 use crate::lines::channel::LineChannel;
 use crate::lines::queue::LineQueue;
 use std::io;
 use std::io::Write;
 use std::sync::{Mutex, Wait};
+use std::time::Clock;
+use tox_config::ProxyDef;
 
-/// Who is told of dropped lines.
-pub trait Gaps {
+/// Who is told of dropped lines and of broken links.
+pub trait Notices {
     /// So many lines in a row were dropped, since the output wasn't read.
     fn dropped(&self, lines: u64);
+
+    /// A link broke, and perhaps more.
+    fn broken(&self, text: &BrokenText<'_>);
 }
 
-/// Dropped lines are told to nobody.
+/// Nobody is told.
 #[derive(Clone, Copy, Debug)]
-pub struct NoGaps;
+pub struct NoNotices;
 
-impl Gaps for NoGaps {
+impl Notices for NoNotices {
     fn dropped(&self, _lines: u64) {}
+
+    fn broken(&self, _text: &BrokenText<'_>) {}
 }
 
 /// Writes the lines of a channel as they come, until no more come. Each gap is told once the lines before it are written. What
-/// the output doesn't take is dropped without a word.
-pub(crate) fn write_lines<R: Wait, W: Write, G: Gaps>(
+/// the output doesn't take is dropped without a word. Broken links are told of in between.
+pub(crate) fn write_lines<R: Wait + Clock, W: Write, N: Notices>(
     rt: &R,
     lines: &LineChannel,
     empty: LineQueue,
     out: &Mutex<W>,
-    gaps: &G,
+    proxies: &[ProxyDef],
+    notices: &N,
 )
     requires { empty ≡ no_lines }
 {
     let mut taken = empty;
     for _ in rt.forever() {
         if !lines.receive(rt, &mut taken) {
+            tell_breaks(rt, lines, proxies, notices);
             return;
         }
-        let written = write_out(rt, out, taken.bytes()).is_ok();
-        if written && taken.dropped() > 0 {
-            gaps.dropped(taken.dropped());
+        if !taken.is_empty() {
+            let written = write_out(rt, out, taken.bytes()).is_ok();
+            if written && taken.dropped() > 0 {
+                notices.dropped(taken.dropped());
+            }
+            taken.clear();
         }
-        taken.clear();
+        tell_breaks(rt, lines, proxies, notices);
     }
     unreachable!()
+}
+
+/// Tells of the broken links whose time has come.
+fn tell_breaks<R: Wait + Clock, N: Notices>(
+    rt: &R,
+    lines: &LineChannel,
+    proxies: &[ProxyDef],
+    notices: &N,
+) {
+    for _ in 0..u64::MAX {
+        let Some(broken) = lines.next_break(rt) else {
+            return;
+        };
+        if let Some(proxy) = proxies.get(broken.place) {
+            notices.broken(&BrokenText {
+                proxy: &proxy.name,
+                upstream: &proxy.upstream,
+                number: broken.number,
+                reason: broken.reason,
+                more: broken.more,
+            });
+        }
+    }
 }
 
 /// Writes bytes to the output, and flushes it.

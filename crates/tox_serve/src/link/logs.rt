@@ -3,11 +3,12 @@ ghost use Rattle.std.specs.Prelude.{◌≡◌, IfSome};
 ghost use Rattle.tox_log.specs.files.FileName.{log_name};
 ghost use Rattle.tox_serve.specs.link.LinkEnds.{broken_link};
 
-use crate::link::end::LinkEnd;
+use crate::link::break_reason::BreakReason;
+use crate::link::end::{Carried, LinkEnd};
 use crate::proxy::links::ProxyLinks;
 use crate::run::ServeRun;
 use std::sync::Wait;
-use tox_log::{BreakCause, LastLine, LoggedLink, StreamNotes};
+use tox_log::{LastLine, LoggedLink, StreamNotes};
 use tox_time::Stream;
 
 /// The notes of a stream of a link: its log, with its header, where the run keeps one.
@@ -51,28 +52,46 @@ fn logged_link<'a>(
     }
 }
 
-/// The end of a link that carried nothing, as the logs of its streams tell it: for this cause, unless the run was told to stop.
+/// The end of a link that carried nothing, as the logs of its streams tell it: for this reason, unless the run was told to stop. The
+/// reason is told.
 pub(crate) fn broken_link<'r, R: Wait>(
     rt: &'r R,
     run: &'r ServeRun<'_>,
     links: &ProxyLinks<'_>,
     number: u64,
-    cause: BreakCause,
+    reason: BreakReason,
 ) -> LinkEnd
     ensures { result ≡ broken_link number }
 {
-    let last = LastLine::Broken(unless_stopped(rt, run, cause), 0);
+    let reason = unless_stopped(rt, run, reason);
+    run.lines.note_break(rt, links.place, number, reason);
+    let last = LastLine::Broken(reason.cause(), 0);
     for stream in [Stream::Upstream, Stream::Downstream] {
         notes_of(rt, run, links, number, stream).end(&last);
     }
     LinkEnd::broken(number)
 }
 
-/// Why a link broke before anything was carried: for this cause, unless the run was told to stop.
-fn unless_stopped<R: Wait>(rt: &R, run: &ServeRun<'_>, cause: BreakCause) -> BreakCause {
+/// Tells why a link broke whose directions carried this, if it did.
+pub(crate) fn note_carried<R: Wait>(
+    rt: &R,
+    run: &ServeRun<'_>,
+    links: &ProxyLinks<'_>,
+    number: u64,
+    up: &Carried,
+    down: &Carried,
+) {
+    if let Some(reason) = BreakReason::of(up, down) {
+        let reason = unless_stopped(rt, run, reason);
+        run.lines.note_break(rt, links.place, number, reason);
+    }
+}
+
+/// Why a link broke: for this reason, unless the run was told to stop.
+fn unless_stopped<R: Wait>(rt: &R, run: &ServeRun<'_>, reason: BreakReason) -> BreakReason {
     if run.live.is_stopping(rt) {
-        BreakCause::Stopped
+        BreakReason::Stopped
     } else {
-        cause
+        reason
     }
 }

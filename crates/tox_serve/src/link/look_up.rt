@@ -1,11 +1,11 @@
 //! Looking up the addresses of an upstream.
 use crate::addresses::connect_address;
+use crate::link::break_reason::BreakReason;
 use crate::run::ServeRun;
 use crate::runtime::ServeRuntime;
 use std::io;
 use std::io::ErrorKind;
 use std::net::{SocketAddr, ToSocketAddrs};
-use tox_log::BreakCause;
 use tox_sockets::SpareDescriptor;
 
 /// The addresses of an upstream. A look-up that fails while it can have no descriptor is made again, unless the run is stopping.
@@ -13,9 +13,9 @@ pub(crate) fn look_up<R: ServeRuntime>(
     rt: &R,
     run: &ServeRun<'_>,
     upstream: &str,
-) -> Result<Vec<SocketAddr>, BreakCause> {
+) -> Result<Vec<SocketAddr>, BreakReason> {
     let Ok(address) = connect_address(run.alloc, upstream) else {
-        return Err(BreakCause::Memory);
+        return Err(BreakReason::Memory);
     };
     let mut lack = None;
     for _ in rt.forever() {
@@ -23,12 +23,12 @@ pub(crate) fn look_up<R: ServeRuntime>(
             Ok(found) => {
                 return match found.collect(run.alloc) {
                     Ok(addresses) => Ok(addresses),
-                    Err(_) => Err(BreakCause::Memory),
+                    Err(_) => Err(BreakReason::Memory),
                 };
             }
             Err(error) => {
                 if SpareDescriptor::open().is_ok() || run.live.is_stopping(rt) {
-                    return Err(cause_of(&error));
+                    return Err(reason_of(&error));
                 }
             }
         }
@@ -38,9 +38,9 @@ pub(crate) fn look_up<R: ServeRuntime>(
 }
 
 /// Why a name has no addresses.
-fn cause_of(error: &io::Error) -> BreakCause {
+fn reason_of(error: &io::Error) -> BreakReason {
     match error.kind() {
-        ErrorKind::OutOfMemory => BreakCause::Memory,
-        _ => BreakCause::Upstream,
+        ErrorKind::OutOfMemory => BreakReason::Memory,
+        _ => BreakReason::Name,
     }
 }

@@ -1,14 +1,14 @@
 //! The addresses of proxies, bound before anything is served.
-ghost use Rattle.std.specs.Prelude.{◌≡◌, Some, true, All, filter, map, slice_get, IfOk, IfErr};
+ghost use Rattle.std.specs.Prelude.{◌≡◌, Some, true, false, All, filter, map, slice_get, IfOk, IfErr};
 ghost use Rattle.tox_serve.specs.Serving.{HasServeCause, IsListenFault};
 
-use crate::addresses::listen_address;
 use crate::fault::ServeFault;
+use crate::live_listener::{BindFault, LiveListener};
 use std::alloc::Global;
 use std::net::{Net, TcpListener, TcpStream};
 use std::sync::{Arc, Wait};
 use tox_config::ProxyDef;
-use tox_sockets::{LiveSocket, LiveSockets, lengthen_queue};
+use tox_sockets::LiveSockets;
 
 /// An enabled proxy whose address is bound.
 #[derive(Drop)]
@@ -34,7 +34,7 @@ pub(crate) fn listen_all<'a, R: Net<Listener = TcpListener, Stream = TcpStream> 
         ≡ filter (λ proxy. proxy.enabled) proxies.now) }
     ensures places { IfOk result (λ listening. All (λ bound.
         slice_get proxies.now bound.place ≡ Some bound.proxy.now) listening.items) }
-    ensures fault { IfErr result (HasServeCause proxies.now) }
+    ensures fault { IfErr result (HasServeCause proxies.now false) }
 {
     let mut listening = Vec::new(alloc);
     let mut place = 0;
@@ -50,7 +50,7 @@ pub(crate) fn listen_all<'a, R: Net<Listener = TcpListener, Stream = TcpStream> 
     Ok(listening)
 }
 
-/// Binds the address of the proxy at a place. Its queue of connections is as long as the system allows, and an `accept` doesn't wait.
+/// Binds the address of the proxy at a place.
 fn listen<'a, R: Net<Listener = TcpListener, Stream = TcpStream> + Wait>(
     rt: &R,
     alloc: Global,
@@ -61,28 +61,15 @@ fn listen<'a, R: Net<Listener = TcpListener, Stream = TcpStream> + Wait>(
     ensures proxy { IfOk result (λ bound. (bound.proxy.now ≡ proxy.now) × (bound.place ≡ place)) }
     ensures fault { IfErr result (IsListenFault proxy.now) }
 {
-    let Ok(address) = listen_address(alloc, &proxy.listen) else {
-        return Err(ServeFault::OutOfMemory);
+    let LiveListener { listener, key } = match LiveListener::bind(rt, alloc, live, &proxy.listen) {
+        Ok(bound) => bound,
+        Err(BindFault::Refused) => return Err(ServeFault::ListenRefused(&proxy.name)),
+        Err(BindFault::OutOfMemory) => return Err(ServeFault::OutOfMemory),
     };
-    let Ok(listener) = TcpListener::bind(rt, address.as_str()) else {
-        return Err(ServeFault::ListenRefused(&proxy.name));
-    };
-    if lengthen_queue(&listener).is_err() || listener.set_nonblocking(true).is_err() {
-        return Err(ServeFault::ListenRefused(&proxy.name));
-    }
     let Ok(bound) = listener.local_addr() else {
         return Err(ServeFault::ListenRefused(&proxy.name));
     };
     let Ok(address) = format!(in alloc; "{bound}") else {
-        return Err(ServeFault::OutOfMemory);
-    };
-    let Ok(listener) = Arc::new(alloc, listener) else {
-        return Err(ServeFault::OutOfMemory);
-    };
-    let Ok(shared) = listener.clone() else {
-        return Err(ServeFault::OutOfMemory);
-    };
-    let Ok(key) = live.add(rt, LiveSocket::Listener(shared)) else {
         return Err(ServeFault::OutOfMemory);
     };
     Ok(Listening {

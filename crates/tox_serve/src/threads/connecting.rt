@@ -1,13 +1,14 @@
 //! Connecting the upstream of a link. The connect doesn't wait in the system, so that a run that is stopping gives it up.
+use crate::link::break_reason::BreakReason;
 use crate::link::look_up::look_up;
 use crate::link::reached::Reached;
 use crate::proxy::accepting::is_lack;
 use crate::run::ServeRun;
 use crate::runtime::ServeRuntime;
 use mio::net::TcpStream as BegunStream;
+use std::io::ErrorKind;
 use std::net::{SocketAddr, TcpStream};
 use std::os::fd::AsRawFd;
-use tox_log::BreakCause;
 use tox_sockets::{Connection, can_write, connection_of};
 
 /// How long an answer is waited for at a time, in milliseconds.
@@ -19,47 +20,56 @@ pub(crate) fn connect<R: ServeRuntime>(
     rt: &R,
     run: &ServeRun<'_>,
     upstream: &str,
-) -> Result<Reached, BreakCause> {
+) -> Result<Reached, BreakReason> {
+    let mut reason = BreakReason::Name;
     for address in look_up(rt, run, upstream)? {
-        if let Some(reached) = connect_to(rt, run, address) {
-            return Ok(reached);
+        match connect_to(rt, run, address) {
+            Ok(reached) => return Ok(reached),
+            Err(kind) => reason = BreakReason::Upstream(kind),
         }
     }
-    Err(BreakCause::Upstream)
+    Err(reason)
 }
 
-/// The socket of an address, if it answers in time.
-fn connect_to<R: ServeRuntime>(rt: &R, run: &ServeRun<'_>, address: SocketAddr) -> Option<Reached> {
+/// The socket of an address, or why there is none.
+fn connect_to<R: ServeRuntime>(
+    rt: &R,
+    run: &ServeRun<'_>,
+    address: SocketAddr,
+) -> Result<Reached, ErrorKind> {
     let server = begin_connect(rt, run, address)?;
     if !has_answered(rt, run, &server) {
-        return None;
+        return Err(ErrorKind::TimedOut);
     }
     let was_reset = match connection_of(&server) {
         Connection::There => false,
         Connection::WasReset => true,
-        Connection::Coming | Connection::Refused => return None,
+        Connection::Coming => return Err(ErrorKind::TimedOut),
+        Connection::Refused(kind) => return Err(kind),
     };
-    server.set_nonblocking(false).ok()?;
-    Some(Reached { server, was_reset })
+    match server.set_nonblocking(false) {
+        Ok(()) => Ok(Reached { server, was_reset }),
+        Err(error) => Err(error.kind()),
+    }
 }
 
-/// Begins a connect, once there is a descriptor for it. None if it can't begin, or the run is stopping.
+/// Begins a connect, once there is a descriptor for it. An error if it can't begin, or the run is stopping.
 fn begin_connect<R: ServeRuntime>(
     rt: &R,
     run: &ServeRun<'_>,
     address: SocketAddr,
-) -> Option<TcpStream> {
+) -> Result<TcpStream, ErrorKind> {
     let mut lack = None;
     for _ in rt.forever() {
         if run.live.is_stopping(rt) {
-            return None;
+            return Err(ErrorKind::Interrupted);
         }
         match BegunStream::connect(rt, address) {
-            Ok(begun) => return Some(TcpStream::from(begun)),
+            Ok(begun) => return Ok(TcpStream::from(begun)),
             Err(error) if is_lack(&error) => {
                 lack = Some(run.descriptors.wait(rt, lack));
             }
-            Err(_) => return None,
+            Err(error) => return Err(error.kind()),
         }
     }
     unreachable!()

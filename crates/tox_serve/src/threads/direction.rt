@@ -4,6 +4,7 @@ ghost use Rattle.std.specs.Arc.{arc_value};
 ghost use Rattle.tox_sockets.specs.ResetDue.{after_op};
 ghost use Rattle.tox_sockets.specs.Streams.{target_of};
 ghost use Rattle.tox_serve.specs.Told.{IsToldOf, carried_after};
+ghost use Rattle.tox_serve.specs.link.LinkEnds.{is_write_break};
 
 use crate::link::course::Course;
 use crate::link::end::Carried;
@@ -44,6 +45,14 @@ impl Direction {
     }
 }
 
+/// A stream that was carried to its end. It keeps its writer, which has failed exactly where a write broke the stream.
+#[derive(Drop)]
+pub(crate) struct CarriedStream<'a, 'r, R> {
+    pub(crate) carried: Carried,
+    pub(crate) writer: Real<UntilDue<'a, 'r, R>>,
+    pub(crate) ghost broken: { writer.failed ≡ is_write_break carried.end },
+}
+
 /// The writer of a stream of a link.
 fn writer_of<'a, 'r, R: ServeRuntime>(
     rt: &'r R,
@@ -59,16 +68,16 @@ fn writer_of<'a, 'r, R: ServeRuntime>(
 
 /// Carries one direction to its end, which its log tells too. After a fault both sockets are reset, so that the other direction
 /// ends too.
-pub(crate) fn carry_stream<R: ServeRuntime>(
-    rt: &R,
+pub(crate) fn carry_stream<'a, 'r, R: ServeRuntime>(
+    rt: &'r R,
     run: &ServeRun<'_>,
     links: &ProxyLinks<'_>,
     number: u64,
-    link: &LinkSockets,
+    link: &'a LinkSockets,
     direction: Direction,
     start: LinkStart,
-) -> Carried
-    ensures { IsToldOf direction.course result }
+) -> CarriedStream<'a, 'r, R>
+    ensures { IsToldOf direction.course result.carried }
 {
     let Direction {
         course,
@@ -107,9 +116,10 @@ pub(crate) fn carry_stream<R: ServeRuntime>(
             Micros::ZERO
         }
     };
-    let carried = carried_of(stream, &done, ends.hangup.was_stopped);
+    let Ends { writer, hangup } = ends;
+    let carried = carried_of(stream, &done, hangup.was_stopped);
     notes.end(&carried.last_line(reading));
-    carried
+    CarriedStream { carried, writer }
 }
 
 /// What a stream carried, by what its link reports or by its fault.

@@ -4,9 +4,10 @@ ghost use Rattle.tox_time.specs.declared.streams.stream.Stream.TheVariants as St
 ghost use Rattle.tox_serve.specs.link.LinkEnds.{carried_link_end};
 
 use crate::lines::print_open;
+use crate::link::break_reason::BreakReason;
 use crate::link::course::{Courses, courses_of};
 use crate::link::end::{Carried, LinkEnd};
-use crate::link::logs::broken_link;
+use crate::link::logs::{broken_link, note_carried};
 use crate::link::reached::Reached;
 use crate::proxy::links::ProxyLinks;
 use crate::proxy::taking::Taken;
@@ -17,7 +18,6 @@ use crate::threads::direction::{Direction, carry_stream};
 use std::alloc::Global;
 use std::sync::Arc;
 use std::thread;
-use tox_log::BreakCause;
 use tox_sockets::{LinkSockets, LinkStart, LiveSocket};
 use tox_time::Stream;
 
@@ -55,7 +55,7 @@ pub(crate) fn serve_link<R: ServeRuntime>(
     let number = taken.number;
     let end = match carry_link(rt, run, &*links, taken) {
         Ok(end) => end,
-        Err(cause) => broken_link(&*rt, &*run, links, number, cause),
+        Err(reason) => broken_link(&*rt, &*run, links, number, reason),
     };
     links.end_link(rt, run, &end);
 }
@@ -67,19 +67,19 @@ fn carry_link<R: ServeRuntime>(
     run: &ServeRun<'_>,
     links: &ProxyLinks<'_>,
     taken: Taken,
-) -> Result<LinkEnd, BreakCause>
+) -> Result<LinkEnd, BreakReason>
     ensures { IfOk result (λ end. end.number ≡ taken.number) }
 {
     let proxy = links.proxy;
     let start = LinkStart::now(rt);
     let Reached { server, was_reset } = connect(rt, run, &proxy.upstream)?;
     let Some(courses) = courses_of(run, &proxy.name, taken.number) else {
-        return Err(BreakCause::Memory);
+        return Err(BreakReason::Memory);
     };
     print_open(rt, run, &proxy.name, taken.number, &taken.client, &courses);
     let Taken { client, number } = taken;
     let Some(link) = LinkSockets::new(run.alloc, client, server) else {
-        return Err(BreakCause::Memory);
+        return Err(BreakReason::Memory);
     };
     if was_reset {
         link.note_reset(Stream::Downstream);
@@ -96,16 +96,16 @@ fn carry_live<R: ServeRuntime>(
     link: &Arc<LinkSockets, Global>,
     start: LinkStart,
     courses: Courses,
-) -> Result<LinkEnd, BreakCause>
+) -> Result<LinkEnd, BreakReason>
     requires up { courses.up.stream ≡ StreamOf.Upstream }
     requires down { courses.down.stream ≡ StreamOf.Downstream }
     ensures { IfOk result (λ end. end.number ≡ number) }
 {
     let Ok(shared) = link.clone() else {
-        return Err(BreakCause::Memory);
+        return Err(BreakReason::Memory);
     };
     let Ok(key) = run.live.add(rt, LiveSocket::Link(shared)) else {
-        return Err(BreakCause::Memory);
+        return Err(BreakReason::Memory);
     };
     let end = carry_both(&*rt, &*run, &*links, number, &*link, start, courses);
     run.live.remove(rt, key);
@@ -121,14 +121,14 @@ fn carry_both<'a, R: ServeRuntime>(
     link: &'a Arc<LinkSockets, Global>,
     start: LinkStart,
     courses: Courses,
-) -> Result<LinkEnd, BreakCause>
+) -> Result<LinkEnd, BreakReason>
     requires up { courses.up.stream ≡ StreamOf.Upstream }
     requires down { courses.down.stream ≡ StreamOf.Downstream }
     ensures { IfOk result (λ end. end.number ≡ number) }
 {
     let Courses { up, down } = courses;
     let (Some(up), Some(down)) = (Direction::new(link, up), Direction::new(link, down)) else {
-        return Err(BreakCause::Memory);
+        return Err(BreakReason::Memory);
     };
     let carried = thread::scope(
         thread::scope_env(),
@@ -142,20 +142,23 @@ fn carry_both<'a, R: ServeRuntime>(
                     requires { down.course.stream ≡ StreamOf.Downstream }
                 {
                     CarriedDown {
-                        carried: carry_stream(rt, run, links, number, link, down, start),
+                        carried: carry_stream(rt, run, links, number, link, down, start).carried,
                     }
                 },
             );
             let Ok(answers) = answers else {
                 return None;
             };
-            let up = carry_stream(rt, run, links, number, link, up, start);
+            let up = carry_stream(rt, run, links, number, link, up, start).carried;
             let down = answers.join(rt);
             Some(CarriedBoth { up, down })
         },
     );
     match carried {
-        Some(both) => Ok(both.end(number)),
-        None => Err(BreakCause::Thread),
+        Some(both) => {
+            note_carried(rt, run, links, number, &both.up, &both.down.carried);
+            Ok(both.end(number))
+        }
+        None => Err(BreakReason::Thread),
     }
 }

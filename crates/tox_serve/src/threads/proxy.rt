@@ -1,4 +1,5 @@
 //! One served proxy: takes connections, starts a thread for each, and prints the totals at the end.
+use crate::link::break_reason::BreakReason;
 use crate::link::logs::broken_link;
 use crate::proxy::links::ProxyLinks;
 use crate::proxy::listening::Listening;
@@ -10,7 +11,6 @@ use crate::threads::link::serve_link;
 use std::net::TcpListener;
 use std::thread;
 use std::thread::Scope;
-use tox_log::BreakCause;
 
 /// Serves a proxy until it stops listening and all its links have ended.
 pub(crate) fn serve_proxy<R: ServeRuntime>(rt: &R, run: &ServeRun<'_>, listening: Listening<'_>) {
@@ -64,7 +64,7 @@ fn start_link<'s, E: 's, R: ServeRuntime>(
     let number = taken.number;
     let started = scope.spawn(move || serve_link(rt, run, links, taken));
     if started.is_err() {
-        let end = broken_link(rt, run, links, number, BreakCause::Thread);
+        let end = broken_link(rt, run, links, number, BreakReason::Thread);
         links.end_link(rt, run, &end);
     }
 }

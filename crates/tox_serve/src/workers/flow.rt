@@ -3,11 +3,13 @@ ghost use Rattle.std.specs.Prelude.{◌≡◌, Bool, true, false, List, IfSome};
 ghost use Rattle.tox_time.specs.Time.{IsInstant};
 ghost use Rattle.tox_link.specs.direction.Driven.{IsAtEnd};
 ghost use Rattle.tox_link.specs.direction.Follows.{IsHeld, IsNew};
+ghost use Rattle.tox_link.specs.declared.link_fault.LinkFault.TheVariants.{OutOfMemory};
 ghost use Rattle.tox_link.specs.declared.source_ending.SourceEnding.TheVariants.{ReadFault as AtFault, ReadsUsedUp as AtLastRead};
 ghost use Rattle.std.proofs.Props.{props};
 ghost use Rattle.tox_serve.specs.workers.Ready.{IsHeld-prop};
 ghost use Rattle.tox_link.specs.Meaning.{MeansPlan};
-ghost use Rattle.tox_serve.specs.link.LinkEnds.{carried_before, end_before_stop};
+ghost use Rattle.tox_link.specs.Reports.{is_write_fault};
+ghost use Rattle.tox_serve.specs.link.LinkEnds.{carried_before, end_before_stop, is_write_break};
 
 use crate::link::course::Course;
 use crate::link::end::{Carried, StreamEnd};
@@ -42,6 +44,14 @@ pub(crate) struct Flow<'r, R> {
     pub(crate) ghost writable: { sink.failed ≡ false },
 }
 
+/// A direction that has ended. It keeps its sink, which has failed exactly where a write broke the direction.
+#[derive(Drop)]
+pub(crate) struct EndedFlow<'r, R> {
+    pub(crate) carried: Carried,
+    pub(crate) sink: ReadySink<'r, R>,
+    pub(crate) ghost broken: { sink.failed ≡ is_write_break carried.end },
+}
+
 /// What a direction does next, once it was driven.
 #[derive(Drop)]
 pub(crate) enum Driven<'r, R> {
@@ -49,7 +59,7 @@ pub(crate) enum Driven<'r, R> {
     Waits(Flow<'r, R>, Option<Micros>),
     /// It may go on at once.
     Again(Flow<'r, R>),
-    Ended(Carried),
+    Ended(EndedFlow<'r, R>),
 }
 
 impl<'r, R: Clock + Wait> Flow<'r, R> {
@@ -108,7 +118,7 @@ impl<'r, R: Clock + Wait> Flow<'r, R> {
     }
 
     /// Takes as many steps as the sockets allow, and no more than 32. Where the direction ends it is hung up, and after a fault
-    /// both sockets are reset. Nothing waits once its link is stopped: it breaks as by the write that it waits for.
+    /// both sockets are reset. Nothing waits once its link is stopped, since its next write would fail: it is broken by a write then.
     pub(crate) fn drive(
         self,
         alloc: Global,
@@ -135,9 +145,9 @@ impl<'r, R: Clock + Wait> Flow<'r, R> {
             scratch,
         ) {
             Ok(Progress::Waits(until)) => {
-                if sockets.is_stopped() {
+                if sink.fail_if_stopped() {
                     let fault = LinkFault::WriteFault(link.written());
-                    return Driven::Ended(fail(sockets, stream, &fault, &notes));
+                    return Driven::Ended(fail(sockets, stream, &fault, &notes, sink));
                 }
                 let flow = Flow {
                     stream,
@@ -156,9 +166,22 @@ impl<'r, R: Clock + Wait> Flow<'r, R> {
                 notes,
             }),
             Ok(Progress::Ended(ending)) => {
-                Driven::Ended(end(link, clock, sockets, stream, &ending, &notes))
+                let carried = end(link, clock, sockets, stream, &ending, &notes);
+                Driven::Ended(EndedFlow { carried, sink })
             }
-            Err(fault) => Driven::Ended(fail(sockets, stream, &fault, &notes)),
+            Err(fault) => Driven::Ended(fail(sockets, stream, &fault, &notes, sink)),
+        }
+    }
+
+    /// Breaks it off, out of memory.
+    pub(crate) fn break_off(self) -> EndedFlow<'r, R>
+        ensures { result.carried ≡ carried_before self.entry.stream
+            (OutOfMemory self.entry.link.value.written) }
+    {
+        let fault = LinkFault::OutOfMemory(self.link.written());
+        EndedFlow {
+            carried: break_off(self.stream, &fault, &self.notes),
+            sink: self.sink,
         }
     }
 }
@@ -177,24 +200,23 @@ fn link_of(alloc: Global, plan: Plan, words: Words) -> Option<PolledLink>
 }
 
 /// Resets both sockets after a fault, and tells what the direction carried before it.
-fn fail<R: Wait>(
+fn fail<'r, R: Wait>(
     sockets: &LinkSockets,
     stream: Stream,
     fault: &LinkFault,
-    notes: &SourceNotes<'_, R>,
-) -> Carried
-    ensures { result ≡ carried_before stream fault.now }
+    notes: &SourceNotes<'r, R>,
+    sink: ReadySink<'r, R>,
+) -> EndedFlow<'r, R>
+    requires { sink.failed ≡ is_write_fault fault.now }
+    ensures { result.carried ≡ carried_before stream fault.now }
 {
     sockets.ends_of(stream).reset();
-    break_off(stream, fault, notes)
+    let carried = break_off(stream, fault, notes);
+    EndedFlow { carried, sink }
 }
 
 /// Tells what a direction carried before a fault, in its log too.
-pub(crate) fn break_off<R: Wait>(
-    stream: Stream,
-    fault: &LinkFault,
-    notes: &SourceNotes<'_, R>,
-) -> Carried
+fn break_off<R: Wait>(stream: Stream, fault: &LinkFault, notes: &SourceNotes<'_, R>) -> Carried
     ensures { result ≡ carried_before stream fault.now }
 {
     let carried = Carried::until_fault(stream, fault);

@@ -3,14 +3,14 @@ ghost use Rattle.std.specs.Prelude.{◌≡◌, None, Some, IfSome, option_copied
 ghost use Rattle.tox_serve.specs.workers.Directions.{IsOf, IsOf-prop};
 
 use crate::link::end::Carried;
-use crate::workers::flow::{Driven, Flow, break_off};
+use crate::workers::flow::{Driven, EndedFlow, Flow};
 use crate::workers::socket_event::SocketEvent;
 use crate::workers::taken_at::TakenAt;
 use std::alloc::Global;
 use std::mem;
 use std::sync::Wait;
 use std::time::Clock;
-use tox_link::{LinkFault, READ_SIZE};
+use tox_link::READ_SIZE;
 use tox_log::StreamNotes;
 use tox_sockets::{LinkSockets, SinceStart};
 use tox_time::Stream;
@@ -19,7 +19,7 @@ use tox_time::Stream;
 #[derive(Drop)]
 pub(crate) enum DirectionState<'r, R> {
     Going(Flow<'r, R>),
-    Ended(Carried),
+    Ended(EndedFlow<'r, R>),
     /// It is being driven.
     Driven,
 }
@@ -51,7 +51,7 @@ pub(crate) struct OpenDirection<'r, R> {
 
 impl<'r, R: Clock + Wait> OpenDirection<'r, R> {
     ghost use Rattle.tox_serve.specs.declared.workers.open_direction.DirectionState.TheVariants.{Going as GoesOn};
-    ghost use Rattle.tox_serve.specs.workers.Directions.{broken_off, carried_of, disarmed, is_armed};
+    ghost use Rattle.tox_serve.specs.workers.Directions.{IsBrokenOffFrom, carried_of, disarmed, is_armed};
     ghost use Rattle.tox_serve.specs.workers.Reports.{IsAfterSource, IsAfterTarget, IsNotedSo};
     ghost use Rattle.tox_serve.specs.workers.Steps.{DrivesFrom, wait_until};
     ghost use Rattle.tox_serve.specs.workers.Waits.{earlier_of};
@@ -178,8 +178,8 @@ impl<'r, R: Clock + Wait> OpenDirection<'r, R> {
                 self.state = DirectionState::Going(flow);
                 DirectionProgress::Again
             }
-            Driven::Ended(carried) => {
-                self.state = DirectionState::Ended(carried);
+            Driven::Ended(ended) => {
+                self.state = DirectionState::Ended(ended);
                 DirectionProgress::Ended
             }
         }
@@ -201,14 +201,14 @@ impl<'r, R: Clock + Wait> OpenDirection<'r, R> {
 
     /// Breaks it off, out of memory.
     pub(crate) fn break_off(&mut self)
-        ensures state { self.new.state ≡ broken_off self.old.stream self.old.state }
+        ensures state { IsBrokenOffFrom self.old.stream self.old.state self.new.state }
         ensures same { (self.new.stream ≡ self.old.stream) × (self.new.armed ≡ self.old.armed)
             × (self.new.has_turn ≡ self.old.has_turn) }
     {
-        if let DirectionState::Going(flow) = &self.state {
-            let fault = LinkFault::OutOfMemory(flow.link.written());
-            self.state = DirectionState::Ended(break_off(self.stream, &fault, &flow.notes));
-        }
+        self.state = match mem::replace(&mut self.state, DirectionState::Driven) {
+            DirectionState::Going(flow) => DirectionState::Ended(flow.break_off()),
+            other => other,
+        };
     }
 
     /// What it carried, if it has ended.
@@ -217,7 +217,7 @@ impl<'r, R: Clock + Wait> OpenDirection<'r, R> {
         ensures carried { option_copied result ≡ carried_of self.now.state }
     {
         match &self.state {
-            DirectionState::Ended(carried) => Some(carried),
+            DirectionState::Ended(ended) => Some(&ended.carried),
             _ => None,
         }
     }

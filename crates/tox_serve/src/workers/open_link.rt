@@ -2,6 +2,7 @@
 ghost use Rattle.std.specs.Prelude.{◌≡◌, false, true, not, IfSome};
 ghost use Rattle.tox_time.specs.declared.streams.stream.Stream.TheVariants as StreamOf;
 
+use crate::link::break_reason::BreakReason;
 use crate::link::course::Courses;
 use crate::link::end::LinkEnd;
 use crate::workers::flow::Flow;
@@ -49,8 +50,8 @@ pub(crate) struct Opening {
 
 impl<'r, R: Clock + Wait> OpenLink<'r, R> {
     ghost use Rattle.tox_serve.specs.workers.Begun.{IsMadeOf, IsNewDirection};
-    ghost use Rattle.tox_serve.specs.workers.Directions.{broken_off, carried_of, disarmed, is_armed};
-    ghost use Rattle.tox_serve.specs.workers.OpenLinks.{IsSameDirection, IsSameLink, direction_of, end_of_both};
+    ghost use Rattle.tox_serve.specs.workers.Directions.{IsBrokenOffFrom, is_armed};
+    ghost use Rattle.tox_serve.specs.workers.OpenLinks.{Disarms, IsSameLink, SetsTurn, direction_of, end_of};
     ghost use Rattle.tox_serve.specs.workers.Peers.{other_stream, stream_from};
     ghost use Rattle.tox_serve.specs.workers.Reports.{IsAfterSource, IsAfterTarget, IsNotedSo};
     ghost use Rattle.tox_serve.specs.workers.Steps.{DrivesFrom};
@@ -138,12 +139,7 @@ impl<'r, R: Clock + Wait> OpenLink<'r, R> {
     /// Has a turn of a direction wait, unless one does. Whether none did.
     pub(crate) fn claim_turn(&mut self, stream: Stream) -> bool
         ensures claims { result ≡ not (direction_of stream self.old).has_turn }
-        ensures claimed { (direction_of stream self.new).has_turn ≡ true }
-        ensures same_direction { IsSameDirection (direction_of stream self.old)
-            (direction_of stream self.new) }
-        ensures other { direction_of (other_stream stream) self.new
-            ≡ direction_of (other_stream stream) self.old }
-        ensures same { IsSameLink self.old self.new }
+        ensures claimed { SetsTurn stream true self.old self.new }
     {
         match stream {
             Stream::Upstream => self.up.claim_turn(),
@@ -153,12 +149,7 @@ impl<'r, R: Clock + Wait> OpenLink<'r, R> {
 
     /// The turn of a direction has come.
     pub(crate) fn take_turn(&mut self, stream: Stream)
-        ensures taken { (direction_of stream self.new).has_turn ≡ false }
-        ensures same_direction { IsSameDirection (direction_of stream self.old)
-            (direction_of stream self.new) }
-        ensures other { direction_of (other_stream stream) self.new
-            ≡ direction_of (other_stream stream) self.old }
-        ensures same { IsSameLink self.old self.new }
+        ensures { SetsTurn stream false self.old self.new }
     {
         match stream {
             Stream::Upstream => self.up.take_turn(),
@@ -178,15 +169,7 @@ impl<'r, R: Clock + Wait> OpenLink<'r, R> {
 
     /// A timer of a direction is over.
     pub(crate) fn disarm(&mut self, stream: Stream, due: u64)
-        ensures armed { (direction_of stream self.new).armed
-            ≡ disarmed due (direction_of stream self.old).armed }
-        ensures state { (direction_of stream self.new).state
-            ≡ (direction_of stream self.old).state }
-        ensures turn { (direction_of stream self.new).has_turn
-            ≡ (direction_of stream self.old).has_turn }
-        ensures other { direction_of (other_stream stream) self.new
-            ≡ direction_of (other_stream stream) self.old }
-        ensures same { IsSameLink self.old self.new }
+        ensures { Disarms stream due self.old self.new }
     {
         match stream {
             Stream::Upstream => self.up.disarm(due),
@@ -217,8 +200,8 @@ impl<'r, R: Clock + Wait> OpenLink<'r, R> {
 
     /// Breaks the link off, out of memory.
     pub(crate) fn break_off(&mut self)
-        ensures up { self.new.up.state ≡ broken_off StreamOf.Upstream self.old.up.state }
-        ensures down { self.new.down.state ≡ broken_off StreamOf.Downstream self.old.down.state }
+        ensures up { IsBrokenOffFrom StreamOf.Upstream self.old.up.state self.new.up.state }
+        ensures down { IsBrokenOffFrom StreamOf.Downstream self.old.down.state self.new.down.state }
         ensures same { IsSameLink self.old self.new }
     {
         self.sockets.ends_of(Stream::Upstream).reset();
@@ -226,11 +209,17 @@ impl<'r, R: Clock + Wait> OpenLink<'r, R> {
         self.down.break_off();
     }
 
+    /// Why the link broke, if both its directions have ended, and it did.
+    pub(crate) fn break_reason(&self) -> Option<BreakReason> {
+        let up = self.up.carried()?;
+        let down = self.down.carried()?;
+        BreakReason::of(up, down)
+    }
+
     /// How the link ended, if both its directions have.
     pub(crate) fn end(&self) -> Option<LinkEnd>
         ensures number { IfSome result (λ end. end.number ≡ self.now.number) }
-        ensures both { result ≡ end_of_both self.now.number (carried_of self.now.up.state)
-            (carried_of self.now.down.state) }
+        ensures both { result ≡ end_of self.now }
     {
         let up = self.up.carried()?;
         let down = self.down.carried()?;

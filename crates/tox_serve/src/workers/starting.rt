@@ -1,4 +1,5 @@
 //! Starting the threads of a run: one for each worker, and one for each proxy.
+use crate::link::break_reason::BreakReason;
 use crate::link::look_up::look_up;
 use crate::run::ServeRun;
 use crate::runtime::ServeRuntime;
@@ -11,7 +12,6 @@ use std::net::SocketAddr;
 use std::sync::{Arc, Mutex};
 use std::thread;
 use std::thread::Scope;
-use tox_log::BreakCause;
 
 /// Starts the workers and the threads of the proxies, all of which wait until they may go. False if one is refused.
 pub(crate) fn start_workers<'s, E: 's, R: ServeRuntime>(
@@ -119,7 +119,7 @@ fn start_look_up<'s, E: 's, R: ServeRuntime>(
         workers.wake_all();
     });
     if started.is_err() {
-        proxy.upstream.end_look_up(rt, Err(BreakCause::Thread));
+        proxy.upstream.end_look_up(rt, Err(BreakReason::Thread));
         workers.wake_all();
     }
 }
@@ -129,11 +129,11 @@ fn find_addresses<R: ServeRuntime>(
     rt: &R,
     run: &ServeRun<'_>,
     proxy: &ServedProxy<'_>,
-) -> Result<Arc<Vec<SocketAddr>, Global>, BreakCause> {
+) -> Result<Arc<Vec<SocketAddr>, Global>, BreakReason> {
     let served = proxy.links.proxy;
     let found = look_up(rt, run, &served.upstream)?;
     match Arc::new(run.alloc, found) {
         Ok(shared) => Ok(shared),
-        Err(_) => Err(BreakCause::Memory),
+        Err(_) => Err(BreakReason::Memory),
     }
 }

@@ -114,6 +114,7 @@ pub(crate) struct Timers {
 }
 
 impl Timers {
+    ghost use Rattle.tox_serve.specs.workers.Armed.{IsPurged};
     ghost use Rattle.tox_serve.specs.workers.Timers.{IsEarliest, IsNextOf, timer_of, timers_of};
 
     /// No timers.
@@ -137,7 +138,9 @@ impl Timers {
 
     /// Once there are twice as many as were waited for: drops those that no direction waits for any more, such as those of
     /// links that have ended.
-    pub(crate) fn purge<R: Clock + Wait>(&mut self, links: &Links<'_, R>) {
+    pub(crate) fn purge<R: Clock + Wait>(&mut self, links: &Links<'_, R>)
+        ensures { IsPurged links.now.places (timers_of self.old) (timers_of self.new) }
+    {
         if self.heap.len() < self.limit {
             return;
         }

@@ -1,11 +1,11 @@
 //! A proxy's upstream. A name is looked up in threads of its own, so that a look-up that hangs holds up nothing else, and its
 //! addresses are kept for a second.
 use crate::addresses::connect_address;
+use crate::link::break_reason::BreakReason;
 use std::alloc::Global;
 use std::net::SocketAddr;
 use std::sync::{Arc, Condvar, Mutex, Wait};
 use std::time::{Clock, Duration, Instant};
-use tox_log::BreakCause;
 
 /// How long the addresses of a name are kept, in milliseconds.
 const KEPT: u64 = 1_000;
@@ -19,7 +19,7 @@ const MAX_LOOK_UPS: u32 = 32;
 /// The addresses of a name, or why it has none, and when that was found.
 #[derive(Drop)]
 struct Found {
-    addresses: Result<Arc<Vec<SocketAddr>, Global>, BreakCause>,
+    addresses: Result<Arc<Vec<SocketAddr>, Global>, BreakReason>,
     at: Option<Instant>,
 }
 
@@ -27,8 +27,8 @@ struct Found {
 #[derive(Drop)]
 pub(crate) enum Addresses {
     Known(Arc<Vec<SocketAddr>, Global>),
-    /// There are none, for this cause.
-    Refused(BreakCause),
+    /// There are none, for this reason.
+    Refused(BreakReason),
     /// They are asked for.
     Asked,
 }
@@ -37,7 +37,7 @@ pub(crate) enum Addresses {
 fn share(addresses: &Arc<Vec<SocketAddr>, Global>) -> Addresses {
     match addresses.clone() {
         Ok(addresses) => Addresses::Known(addresses),
-        Err(_) => Addresses::Refused(BreakCause::Memory),
+        Err(_) => Addresses::Refused(BreakReason::Memory),
     }
 }
 
@@ -69,7 +69,7 @@ impl Names {
     fn end_look_up<R: Clock>(
         &mut self,
         rt: &R,
-        addresses: Result<Arc<Vec<SocketAddr>, Global>, BreakCause>,
+        addresses: Result<Arc<Vec<SocketAddr>, Global>, BreakReason>,
     ) {
         self.look_ups = self.look_ups.saturating_sub(1);
         if addresses.is_err() && self.has_addresses(rt) {
@@ -141,7 +141,7 @@ impl Upstream {
         match &names.found {
             Some(found) if is_fresh(rt, found.at) => match &found.addresses {
                 Ok(addresses) => share(addresses),
-                Err(cause) => Addresses::Refused(*cause),
+                Err(reason) => Addresses::Refused(*reason),
             },
             _ => {
                 names.asked = true;
@@ -185,7 +185,7 @@ impl Upstream {
     pub(crate) fn end_look_up<R: Wait + Clock>(
         &self,
         rt: &R,
-        addresses: Result<Arc<Vec<SocketAddr>, Global>, BreakCause>,
+        addresses: Result<Arc<Vec<SocketAddr>, Global>, BreakReason>,
     ) {
         self.names.lock(rt).end_look_up(rt, addresses);
         self.changed.notify_all();

@@ -135,7 +135,8 @@ impl<'s, R: ServeRuntime> Worker<'s, R> {
                 self.accept(place);
             }
         }
-        self.fire();
+        let now = self.now();
+        self.fire(now);
         self.take_turns(scratch);
     }
 }

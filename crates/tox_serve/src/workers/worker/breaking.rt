@@ -1,6 +1,7 @@
 //! Links that break before they are open, and the ends of all.
 ghost use Rattle.std.specs.Prelude.{◌≡◌};
 
+use crate::link::break_reason::BreakReason;
 use crate::link::end::LinkEnd;
 use crate::link::logs::broken_link;
 use crate::runtime::ServeRuntime;
@@ -8,28 +9,40 @@ use crate::workers::connecting::Client;
 use crate::workers::link_key::LinkKey;
 use crate::workers::link_name::LinkName;
 use crate::workers::link_state::LinkState;
+use crate::workers::open_link::OpenLink;
 use crate::workers::worker::Worker;
 use crate::workers::worker::accepting::may_accept;
-use tox_log::BreakCause;
 
 impl<'s, R: ServeRuntime> Worker<'s, R> {
-    /// Breaks a link that isn't open, for this cause. Its client is closed.
-    pub(super) fn refuse(&mut self, key: LinkKey, client: Client, cause: BreakCause) {
+    /// Breaks a link that isn't open, for this reason. Its client is closed.
+    pub(super) fn refuse(&mut self, key: LinkKey, client: Client, reason: BreakReason) {
         self.links.close(key);
-        self.end_broken(client, cause);
+        self.end_broken(client, reason);
     }
 
-    pub(super) fn end_broken(&mut self, client: Client, cause: BreakCause) {
+    pub(super) fn end_broken(&mut self, client: Client, reason: BreakReason) {
         let name = client.name();
         drop(client);
-        self.break_link(name, cause);
+        self.break_link(name, reason);
     }
 
-    /// Settles a link that carried nothing, for this cause.
-    pub(super) fn break_link(&self, name: LinkName, cause: BreakCause) {
+    /// Settles a link that carried nothing, for this reason.
+    pub(super) fn break_link(&self, name: LinkName, reason: BreakReason) {
         if let Some(proxy) = self.workers.proxies.get(name.place) {
-            let end = broken_link(self.rt, self.run, &proxy.links, name.number, cause);
+            let end = broken_link(self.rt, self.run, &proxy.links, name.number, reason);
             self.end_link(name, &end);
+        }
+    }
+
+    /// Tells why an open link broke that has ended, if it did.
+    pub(super) fn note_ended(&self, open: &OpenLink<'s, R>) {
+        let name = open.name();
+        let Some(reason) = open.break_reason() else {
+            return;
+        };
+        if !self.run.live.is_stopping(self.rt) {
+            let lines = self.run.lines;
+            lines.note_break(self.rt, name.place, name.number, reason);
         }
     }
 
@@ -73,6 +86,6 @@ impl<'s, R: ServeRuntime> Worker<'s, R> {
 
     /// Breaks a link that isn't open, as the run is stopping.
     fn stop_client(&mut self, key: LinkKey, client: Client) {
-        self.refuse(key, client, BreakCause::Stopped);
+        self.refuse(key, client, BreakReason::Stopped);
     }
 }

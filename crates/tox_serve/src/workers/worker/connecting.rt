@@ -2,6 +2,7 @@
 ghost use Rattle.std.specs.Prelude.{◌≡◌, ◌||◌, ◌↔◌, false, IfSome, IsSome};
 ghost use Rattle.tox_serve.specs.workers.Begun.{IsLinkOf};
 
+use crate::link::break_reason::BreakReason;
 use crate::link::reached::Reached;
 use crate::proxy::accepting::{ACCEPT_REST, is_lack};
 use crate::runtime::ServeRuntime;
@@ -20,9 +21,9 @@ use crate::workers::worker::registering::register;
 use mio::net::TcpStream as BegunStream;
 use std::alloc::Global;
 use std::boxed::Box;
+use std::io::ErrorKind;
 use std::net::{SocketAddr, TcpStream};
 use std::sync::Arc;
-use tox_log::BreakCause;
 use tox_sockets::{Connection, connection_of};
 use tox_time::Stream;
 
@@ -33,30 +34,39 @@ enum Beginning {
     Begun(TcpStream, usize),
     /// There is no descriptor to connect the address at this place.
     Lacks(usize),
-    /// No address is left, or the link can't have its socket, for this cause.
-    Refused(BreakCause),
+    /// No address is left, or the link can't have its socket, for this reason.
+    Refused(BreakReason),
 }
 
 impl<'s, R: ServeRuntime> Worker<'s, R> {
-    /// Begins to connect the first of the addresses, from a place on, that can be tried. Without one the link is broken.
+    /// Begins to connect the first of the addresses, from a place on, that can be tried. Without one the link is broken, for the reason
+    /// of the last one.
     pub(super) fn connect(
         &mut self,
         key: LinkKey,
         client: Client,
         addresses: Arc<Vec<SocketAddr>, Global>,
         from: usize,
+        reason: BreakReason,
     ) {
-        match self.begin_connect(key, &addresses, from) {
+        match self.begin_connect(key, &addresses, from, reason) {
             Beginning::Begun(server, next) => {
                 self.await_connect(key, client, server, addresses, next)
             }
             Beginning::Lacks(place) => self.await_descriptor(key, client, addresses, place),
-            Beginning::Refused(cause) => self.refuse(key, client, cause),
+            Beginning::Refused(reason) => self.refuse(key, client, reason),
         }
     }
 
     /// Begins to connect an address from a place on.
-    fn begin_connect(&self, key: LinkKey, addresses: &[SocketAddr], from: usize) -> Beginning {
+    fn begin_connect(
+        &self,
+        key: LinkKey,
+        addresses: &[SocketAddr],
+        from: usize,
+        reason: BreakReason,
+    ) -> Beginning {
+        let mut reason = reason;
         for place in from..addresses.len() {
             if self.run.live.is_stopping(self.rt) {
                 break;
@@ -67,14 +77,14 @@ impl<'s, R: ServeRuntime> Worker<'s, R> {
                     return if register(&self.registry, &server, Subject::Server(key)) {
                         Beginning::Begun(server, place + 1)
                     } else {
-                        Beginning::Refused(BreakCause::Memory)
+                        Beginning::Refused(BreakReason::Memory)
                     };
                 }
                 Err(error) if is_lack(&error) => return Beginning::Lacks(place),
-                Err(_) => {}
+                Err(error) => reason = BreakReason::Upstream(error.kind()),
             }
         }
-        Beginning::Refused(BreakCause::Upstream)
+        Beginning::Refused(reason)
     }
 
     /// The link waits for its upstream's answer.
@@ -87,7 +97,7 @@ impl<'s, R: ServeRuntime> Worker<'s, R> {
         next: usize,
     ) {
         let Ok(deadline) = self.set_deadline(key) else {
-            self.refuse(key, client, BreakCause::Memory);
+            self.refuse(key, client, BreakReason::Memory);
             return;
         };
         let connecting = Connecting {
@@ -110,7 +120,7 @@ impl<'s, R: ServeRuntime> Worker<'s, R> {
     ) {
         let due = self.now().saturating_add(ACCEPT_REST * MILLI);
         if !self.set_timer(key, due) {
-            self.refuse(key, client, BreakCause::Memory);
+            self.refuse(key, client, BreakReason::Memory);
             return;
         }
         let lacking = Lacking {
@@ -136,7 +146,7 @@ impl<'s, R: ServeRuntime> Worker<'s, R> {
             due: _,
             lack,
         } = lacking;
-        self.connect(key, client, addresses, next);
+        self.connect(key, client, addresses, next, BreakReason::Name);
         drop(lack);
     }
 
@@ -196,7 +206,7 @@ impl<'s, R: ServeRuntime> Worker<'s, R> {
     {
         let mut client = client;
         if event.gone {
-            self.refuse(key, client, BreakCause::Upstream);
+            self.refuse(key, client, BreakReason::Client);
             return None;
         }
         client.note(event);
@@ -207,7 +217,7 @@ impl<'s, R: ServeRuntime> Worker<'s, R> {
     fn note_lacking(&mut self, key: LinkKey, lacking: Lacking<'s>, event: &SocketEvent) {
         let mut lacking = lacking;
         if event.gone {
-            self.refuse(key, lacking.into_client(), BreakCause::Upstream);
+            self.refuse(key, lacking.into_client(), BreakReason::Client);
             return;
         }
         lacking.client.note(event);
@@ -234,7 +244,7 @@ impl<'s, R: ServeRuntime> Worker<'s, R> {
         match connection {
             Connection::There => self.open(key, connecting, false, peer, event),
             Connection::WasReset => self.open(key, connecting, true, peer, event),
-            Connection::Coming | Connection::Refused => {
+            Connection::Coming | Connection::Refused(_) => {
                 self.on_unconnected(key, connecting, connection, peer);
                 None
             }
@@ -250,16 +260,16 @@ impl<'s, R: ServeRuntime> Worker<'s, R> {
         peer: Peer,
     ) {
         if peer == Peer::Client {
-            self.refuse(key, connecting.into_client(), BreakCause::Upstream);
-        } else if connection == Connection::Refused {
-            self.connect_next(key, connecting);
+            self.refuse(key, connecting.into_client(), BreakReason::Client);
+        } else if let Connection::Refused(kind) = connection {
+            self.connect_next(key, connecting, kind);
         } else {
             self.links.put(key, LinkState::Connecting(connecting));
         }
     }
 
-    /// Gives a connect up, and tries the next address.
-    fn connect_next(&mut self, key: LinkKey, connecting: Connecting) {
+    /// Gives a connect up that failed for this reason, and tries the next address.
+    fn connect_next(&mut self, key: LinkKey, connecting: Connecting, kind: ErrorKind) {
         let Connecting {
             client,
             server,
@@ -268,13 +278,13 @@ impl<'s, R: ServeRuntime> Worker<'s, R> {
             deadline: _,
         } = connecting;
         drop(server);
-        self.connect(key, client, addresses, next);
+        self.connect(key, client, addresses, next, BreakReason::Upstream(kind));
     }
 
     /// The timer of a connect is over. It is given up if that is its own, and not one of an address before.
     pub(super) fn on_deadline(&mut self, key: LinkKey, connecting: Connecting, due: u64) {
         if connecting.deadline == Some(due) {
-            self.connect_next(key, connecting);
+            self.connect_next(key, connecting, ErrorKind::TimedOut);
         } else {
             self.links.put(key, LinkState::Connecting(connecting));
         }
@@ -302,7 +312,7 @@ impl<'s, R: ServeRuntime> Worker<'s, R> {
         let name = client.name();
         let Some(mut open) = self.make(client, Reached { server, was_reset }) else {
             self.links.close(key);
-            self.break_link(name, BreakCause::Memory);
+            self.break_link(name, BreakReason::Memory);
             return None;
         };
         // The report may also say that the peer sends no more, which isn't reported again.

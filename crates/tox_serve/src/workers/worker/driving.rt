@@ -1,10 +1,12 @@
 //! Driving the directions of links, each in its turn. An event or a timer gives a turn, and so does a drive that may go on.
-ghost use Rattle.std.specs.Prelude.{◌≡◌, ◌⊎◌};
+ghost use Rattle.std.specs.Prelude.{◌≡◌, ◌<◌, ◌⊎◌, All, IfSome};
 ghost use Rattle.std.specs.Bool.{OnTrue};
 ghost use Rattle.tox_serve.specs.workers.OpenLinks.{IsSameLink};
 ghost use Rattle.tox_serve.specs.workers.Peers.{other_stream};
+ghost use Rattle.tox_serve.specs.workers.Settled.{IsSettled, open_at};
 ghost use Rattle.tox_serve.specs.workers.Timers.{timers_of};
 ghost use Rattle.tox_serve.specs.workers.Turns.{DrivesTurn, HasTurn, IsBrokenOff, IsDrivenAgain};
+ghost use Rattle.tox_serve.specs.workers.Worked.{TakesTimer, TakesTurn};
 
 use crate::runtime::ServeRuntime;
 use crate::workers::link_key::LinkKey;
@@ -108,8 +110,9 @@ impl<'s, R: ServeRuntime> Worker<'s, R> {
 
     /// Gives a direction a turn. Out of memory the link is broken off.
     fn give(&mut self, key: LinkKey, link: &mut OpenLink<'s, R>, stream: Stream)
-        ensures { HasTurn (record { key = key; stream = stream }) link.old link.new
+        ensures given { HasTurn (record { key = key; stream = stream }) link.old link.new
             self.old.turns.items self.new.turns.items ⊎ IsBrokenOff link.old link.new }
+        ensures same { (self.new.links ≡ self.old.links) × (self.new.timers ≡ self.old.timers) }
     {
         if !give_turn(&mut self.turns, link, Turn { key, stream }) {
             link.break_off();
@@ -132,9 +135,10 @@ impl<'s, R: ServeRuntime> Worker<'s, R> {
         stream: Stream,
         scratch: &mut [u8; READ_SIZE],
     )
-        ensures { DrivesTurn (record { key = key; stream = stream }) link.old link.new
+        ensures drives { DrivesTurn (record { key = key; stream = stream }) link.old link.new
             (timers_of self.old.timers) (timers_of self.new.timers)
             self.old.turns.items self.new.turns.items }
+        ensures same { self.new.links ≡ self.old.links }
     {
         let progress = link.drive(self.rt, self.run.alloc, stream, scratch);
         let turn = Turn { key, stream };
@@ -144,7 +148,10 @@ impl<'s, R: ServeRuntime> Worker<'s, R> {
     }
 
     /// Puts a link back that was driven. One that has ended is closed, and its line is printed.
-    pub(super) fn settle(&mut self, key: LinkKey, open: Box<OpenLink<'s, R>>) {
+    pub(super) fn settle(&mut self, key: LinkKey, open: Box<OpenLink<'s, R>>)
+        ensures settled { IsSettled key open.entry self.old.links.places self.new.links.places }
+        ensures same { (self.new.timers ≡ self.old.timers) × (self.new.turns ≡ self.old.turns) }
+    {
         let Some(end) = open.end() else {
             self.links.put(key, LinkState::Open(open));
             return;
@@ -152,6 +159,7 @@ impl<'s, R: ServeRuntime> Worker<'s, R> {
         self.links.close(key);
         self.run.live.remove(self.rt, open.live);
         let name = open.name();
+        self.note_ended(&open);
         drop(open);
         self.end_link(name, &end);
     }
@@ -161,13 +169,18 @@ impl<'s, R: ServeRuntime> Worker<'s, R> {
         let spare = mem::replace(&mut self.no_turns, Vec::new(self.run.alloc));
         let mut turns = mem::replace(&mut self.turns, spare);
         for turn in &turns {
-            self.take_turn(turn.key, turn.stream, scratch);
+            self.take_turn(*turn, scratch);
         }
         turns.clear();
         self.no_turns = turns;
     }
 
-    fn take_turn(&mut self, key: LinkKey, stream: Stream, scratch: &mut [u8; READ_SIZE]) {
+    /// Drives a direction whose turn it is, if its link is open.
+    fn take_turn(&mut self, turn: Turn, scratch: &mut [u8; READ_SIZE])
+        ensures { IfSome (open_at turn.key self.old.links.places)
+            (λ link. TakesTurn turn link self.old self.new) }
+    {
+        let Turn { key, stream } = turn;
         match self.links.take(key) {
             Some(LinkState::Open(open)) => {
                 let mut open = open;
@@ -180,20 +193,26 @@ impl<'s, R: ServeRuntime> Worker<'s, R> {
         }
     }
 
-    /// Takes the timers that are due.
-    pub(super) fn fire(&mut self) {
+    /// Takes the timers that are due by an instant of the worker's clock.
+    pub(super) fn fire(&mut self, now: u64)
+        ensures { All (λ timer. now < timer.due) (timers_of self.new.timers) }
+    {
         self.timers.purge(&self.links);
-        let now = self.now();
-        for _ in 0..u64::MAX {
+        let rt = self.rt;
+        for _ in rt.forever() {
             let Some((due, turn)) = self.timers.pop_due(now) else {
                 return;
             };
             self.on_timer(due, turn);
         }
+        unreachable!()
     }
 
     /// A timer is over: the direction has a turn, or what isn't open goes on.
-    fn on_timer(&mut self, due: u64, turn: Turn) {
+    fn on_timer(&mut self, due: u64, turn: Turn)
+        ensures { IfSome (open_at turn.key self.old.links.places)
+            (λ link. TakesTimer due turn link self.old self.new) }
+    {
         let Turn { key, stream } = turn;
         match self.links.take(key) {
             Some(LinkState::Open(open)) => {

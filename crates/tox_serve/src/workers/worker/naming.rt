@@ -1,4 +1,5 @@
 //! The beginning of a link: its connection was taken, and its upstream may have to be looked up.
+use crate::link::break_reason::BreakReason;
 use crate::proxy::taking::Taken;
 use crate::runtime::ServeRuntime;
 use crate::workers::connecting::Client;
@@ -10,7 +11,6 @@ use crate::workers::upstream::Addresses;
 use crate::workers::worker::Worker;
 use crate::workers::worker::registering::register;
 use std::mem;
-use tox_log::BreakCause;
 use tox_sockets::LinkStart;
 
 impl<'s, R: ServeRuntime> Worker<'s, R> {
@@ -27,7 +27,7 @@ impl<'s, R: ServeRuntime> Worker<'s, R> {
             closing: false,
         };
         let Some(key) = self.links.open() else {
-            self.end_broken(client, BreakCause::Memory);
+            self.end_broken(client, BreakReason::Memory);
             return;
         };
         let socket = &client.taken.client;
@@ -36,19 +36,21 @@ impl<'s, R: ServeRuntime> Worker<'s, R> {
         {
             self.name(key, client);
         } else {
-            self.refuse(key, client, BreakCause::Memory);
+            self.refuse(key, client, BreakReason::Memory);
         }
     }
 
     /// Connects the upstream of a link, or has its name looked up.
     fn name(&mut self, key: LinkKey, client: Client) {
         let Some(proxy) = self.workers.proxies.get(client.proxy) else {
-            self.refuse(key, client, BreakCause::Upstream);
+            self.refuse(key, client, BreakReason::Name);
             return;
         };
         match proxy.upstream.addresses(self.rt) {
-            Addresses::Known(addresses) => self.connect(key, client, addresses, 0),
-            Addresses::Refused(cause) => self.refuse(key, client, cause),
+            Addresses::Known(addresses) => {
+                self.connect(key, client, addresses, 0, BreakReason::Name)
+            }
+            Addresses::Refused(reason) => self.refuse(key, client, reason),
             Addresses::Asked => self.await_name(key, client),
         }
     }
@@ -58,7 +60,7 @@ impl<'s, R: ServeRuntime> Worker<'s, R> {
         if self.naming.push(key).is_ok() {
             self.links.put(key, LinkState::Naming(client));
         } else {
-            self.refuse(key, client, BreakCause::Memory);
+            self.refuse(key, client, BreakReason::Memory);
         }
     }
 

@@ -9,7 +9,7 @@ invariant_of-flow g c = let ready = c.drive.ensures.ready in record {
   readable = ready.working;
   failed = fault-of _ _ ready.cause;
   unlimited = unlimited-of _ _ ready.cause;
-  writable = c.in-Ok-Waits.ensures.working;
+  writable = rw c.if-fail_if_stopped.ensures c.in-Ok-Waits.ensures.working;
 }
 
 pub invariant_of-result : goal.invariant_of-result

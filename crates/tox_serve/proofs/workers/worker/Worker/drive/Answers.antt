@@ -2,8 +2,8 @@
 use Rattle.std.proofs.Common.{inl, inr}
 use Rattle.tox_serve.proofs.workers.worker.Worker.drive.Goals as goal
 
-pub returns-then-not-keep : goal.returns-then-not-keep
-returns-then-not-keep g c = let drove = c.drive-progress.ensures in let states = c.if-not-keep.ensures.states in record {
+pub returns-then-not-keep-clause-drives : goal.returns-then-not-keep-clause-drives
+returns-then-not-keep-clause-drives g c = let drove = c.drive-progress.ensures in let states = c.if-not-keep.ensures.states in record {
   driven = c.drive-progress.new.self;
   answer = c.drive-progress.result;
   drives = drove.drives;
@@ -11,8 +11,8 @@ returns-then-not-keep g c = let drove = c.drive-progress.ensures in let states =
   after = inr (record { up = rw states.0 at c.break_off.ensures.up; down = rw states.1 at c.break_off.ensures.down });
 }
 
-pub returns-else-not-keep : goal.returns-else-not-keep
-returns-else-not-keep g c = let drove = c.drive-progress.ensures in record {
+pub returns-else-not-keep-clause-drives : goal.returns-else-not-keep-clause-drives
+returns-else-not-keep-clause-drives g c = let drove = c.drive-progress.ensures in record {
   driven = c.drive-progress.new.self;
   answer = c.drive-progress.result;
   drives = drove.drives;
