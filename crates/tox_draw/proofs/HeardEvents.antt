@@ -1,5 +1,5 @@
 -- An event more of a log is heard.
-use Rattle.std.proofs.Common.{◌≡◌, ℕ, ◌+◌, ◌-◌, ◌<◌, ◌≤◌, Bool, true, false, List, [], ◌∷◌, ◌++◌, fold, length, replicate, Some, None, refl, ap, sym, subst, ◌∙◌, append_assoc, append-nil, length-append, arith}
+use Rattle.std.proofs.Common.{◌≡◌, ℕ, ◌+◌, ◌-◌, ◌<◌, ◌≤◌, Bool, true, false, List, [], ◌∷◌, ◌++◌, fold, length, replicate, Some, refl, ap, sym, subst, ◌∙◌, append_assoc, append-nil, length-append, arith}
 use Rattle.std.specs.Prelude.{◌||◌}
 use Rattle.std.proofs.lemmas.List.{length-replicate}
 use Rattle.tox_time.specs.declared.streams.item.Item.{Item}
@@ -23,7 +23,8 @@ use Rattle.tox_draw.specs.declared.strand.Strand.{Strand}
 use Rattle.tox_draw.specs.Hearings.{HearsEvent, LeadsTo}
 use Rattle.tox_draw.specs.Lines.{IsStrand, PassesBytes}
 use Rattle.tox_draw.specs.Planning.{DrawsPiece, DrawsPlan, DrawsSourceEnd, piece_behind}
-use Rattle.tox_draw.specs.Recorded.{latest_reading, source_end_of, written_table}
+use Rattle.tox_draw.specs.Recorded.{latest_reading, written_table}
+use Rattle.tox_log.proofs.Hearing.{source-ends, source-same}
 use Rattle.tox_draw.proofs.Planned.{plan-behind}
 
 -- an event behind others
@@ -33,18 +34,6 @@ fold-last before (first ∷ events) event = fold-last (reading_of first) events 
 
 pub latest-more : (events : List LinkEvent) (event : LinkEvent) → latest_reading (events ++ event ∷ []) ≡ reading_of event
 latest-more events event = fold-last 0 events event
-
-pub source-same : (events : List LinkEvent) (event : LinkEvent) → source_end_of (event ∷ []) ≡ None → source_end_of (events ++ event ∷ []) ≡ source_end_of events
-source-same [] event none = none
-source-same (Piece len t ∷ events) event none = source-same events event none
-source-same (SourceEnd t ∷ events) event none = refl
-source-same (Wrote slice now ∷ events) event none = source-same events event none
-
-pub source-ends : (events : List LinkEvent) (t : ℕ) → has_source_end events ≡ false → source_end_of (events ++ SourceEnd t ∷ []) ≡ Some t
-source-ends [] t going = refl
-source-ends (Piece len u ∷ events) t going = source-ends events t going
-source-ends (SourceEnd u ∷ events) t going = let no : true ≡ false = going in cc
-source-ends (Wrote slice now ∷ events) t going = source-ends events t going
 
 written-append : (events more : List LinkEvent) → written_table (events ++ more) ≡ written_table events ++ written_table more
 written-append [] more = refl

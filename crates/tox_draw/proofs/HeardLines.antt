@@ -37,6 +37,7 @@ use Rattle.tox_draw.specs.declared.picture.Picture.{Picture}
 use Rattle.tox_draw.specs.declared.recorded.Hearing.{Hearing}
 use Rattle.tox_draw.specs.declared.recorded.Record.{Record}
 use Rattle.tox_draw.specs.declared.setting.Setting.{Setting}
+use Rattle.tox_draw.specs.Drawn.{IsPictureOn}
 use Rattle.tox_draw.specs.Frames.{IsFrame}
 use Rattle.tox_draw.specs.Hearings.{BeginsHearing, HearsAll, HearsEvent, HearsEvents, HearsLines, HearsLogLine, HearsSoFar, KeepsRecord, LeadsTo, RecordsLog}
 use Rattle.tox_draw.specs.LinkEnds.{end_of}
@@ -262,9 +263,10 @@ pub picture-shown : (result : Result (String Global) AllocError) (setting : Sett
     → ((table : List ℕ) → IsStrand frame table kept.written → IsCurve frame table curve) → picture.written ≡ Some curve
     → picture.source_end ≡ kept.course.source_end → picture.source_reset ≡ kept.course.source_reset → picture.planned_end ≡ end_of kept.due_end → picture.end ≡ kept.end
     → IfOk result (λ text. string_bytes text ≡ picture_text picture)
-    → IfOk result (λ text. (given : Option (List ℕ)) → KeepsRecord frame given kept → IsPictureOf given setting (string_bytes text))
+    → IfOk result (λ text. (given : Option (List ℕ)) → KeepsRecord frame given kept → IsPictureOn frame.time given setting (string_bytes text))
 picture-shown (Ok text) setting frame kept picture curve stands same is_frame arrived planned written has source_end source_reset planned_end end is = λ (given : Option (List ℕ)) (keeps : KeepsRecord frame given kept).
-    let records = keeps.records in record {
+    let records = keeps.records in
+    let shown : IsPictureOf given setting (string_bytes text) = record {
       log = keeps.log;
       says = keeps.says;
       picture = picture;
@@ -284,5 +286,6 @@ picture-shown (Ok text) setting frame kept picture curve stands same is_frame ar
         end = end ∙ records.end;
       };
       is = is;
-    }
+    } in
+    record { shown = shown; axis = ap (λ (frame : Frame). frame.time) same }
 picture-shown (Err error) setting frame kept picture curve stands same is_frame arrived planned written has source_end source_reset planned_end end is = is

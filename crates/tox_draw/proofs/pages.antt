@@ -3,3 +3,4 @@ mod Shown
 mod Drawn
 mod Kept
 mod Linked
+mod Sorted

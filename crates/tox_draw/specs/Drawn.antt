@@ -2,6 +2,8 @@
 use Rattle.std.specs.Prelude.{◌≡◌, ℕ, List, Option}
 use Rattle.std.specs.Io.KnownBytes.{append_known}
 use Rattle.tox_text.specs.Writing.{AppendsFront}
+use Rattle.tox_time.specs.declared.streams.stream.Stream.{Stream}
+use Rattle.tox_draw.specs.declared.axis.Axis.{Axis}
 use Rattle.tox_draw.specs.declared.picture.Picture.{Picture}
 use Rattle.tox_draw.specs.declared.setting.Setting.{Setting}
 use Rattle.tox_draw.specs.declared.setting.Setting.TheVariants.{Alone, OnPage}
@@ -24,9 +26,14 @@ IsPictureText text = IsPictureIn Alone text
 abbrev pub IsPictureAlone : Option (List ℕ) → List ℕ → Type 0
 IsPictureAlone given text = IsPictureOf given Alone text
 
--- the text of a picture of these bytes that stands on a page under a number
-abbrev pub IsPictureOnPage : Option (List ℕ) → ℕ → List ℕ → Type 0
-IsPictureOnPage given number text = IsPictureOf given (OnPage number) text
+-- the text of a picture of these bytes that stands so, with this axis of time
+pub record IsPictureOn (time : Axis) (given : Option (List ℕ)) (setting : Setting) (text : List ℕ) : Type 0 where
+  pub shown : IsPictureOf given setting text
+  pub axis : shown.picture.frame.time ≡ time
+
+-- the text of a picture of these bytes that stands on a page, as that of a link's stream
+abbrev pub IsPictureOnPage : Axis → Option (List ℕ) → ℕ → Stream → List ℕ → Type 0
+IsPictureOnPage time given number stream text = IsPictureOn time given (OnPage number stream) text
 
 -- the text of such a picture was written, and nothing else
 pub record WritesPicture (IsDrawn : List ℕ → Type 0) (old new : Option (List ℕ)) : Type 0 where

@@ -1,5 +1,5 @@
 -- Short forms.
-use Rattle.std.specs.Prelude.{ℕ, ◌+◌, ◌==◌, Bool, List, [], ◌∷◌, ◌++◌, codes, decimal, take, if◌then◌else◌}
+use Rattle.std.specs.Prelude.{ℕ, ◌+◌, ◌==◌, Bool, true, false, not, List, [], ◌∷◌, ◌++◌, codes, decimal, take, if◌then◌else◌}
 use Rattle.std.specs.List.{zip}
 use Rattle.tox_words.specs.Draw.{Draws}
 use Rattle.tox_defs.specs.chain.Applied.{is_applied}
@@ -34,20 +34,26 @@ in_parentheses entry = codes "(" ++ (bare entry ++ codes ")")
 abbrev pub form : Entry → Bool → List ℕ
 form entry applied = if applied then bare entry else in_parentheses entry
 
--- the short form of a toxic behind a mark, if it is applied
+-- the short form of a toxic behind a mark, if it is wanted
 abbrev pub form_if : List ℕ → Entry → Bool → List ℕ
-form_if mark entry applied = if applied then mark ++ bare entry else []
+form_if mark entry wanted = if wanted then mark ++ bare entry else []
 
 -- what stands before the next one: a space behind one that is there
 abbrev pub mark_behind : List ℕ → Bool → List ℕ
-mark_behind mark applied = if applied then codes " " else mark
+mark_behind mark wanted = if wanted then codes " " else mark
 
--- the short forms of the applied toxics, from a place on: the first behind a mark, each other one behind a space
-abbrev pub applied_forms : Draws → List ℕ → ℕ → List Entry → List ℕ
-applied_forms draws mark place [] = []
-applied_forms draws mark place (entry ∷ entries) =
-    form_if mark entry (is_applied entry place draws)
-    ++ applied_forms draws (mark_behind mark (is_applied entry place draws)) (place + 1) entries
+-- whether a toxic is wanted, where the applied ones are, or the others
+abbrev pub is_wanted : Bool → Bool → Bool
+is_wanted true applied = applied
+is_wanted false applied = not applied
+
+-- the short forms of the toxics that are applied, or of the others, from a place on: the first behind a mark, each other one behind a space
+abbrev pub chosen_forms : Draws → Bool → List ℕ → ℕ → List Entry → List ℕ
+chosen_forms draws applied mark place [] = []
+chosen_forms draws applied mark place (entry ∷ entries) =
+    form_if mark entry (is_wanted applied (is_applied entry place draws))
+    ++ chosen_forms draws applied
+    (mark_behind mark (is_wanted applied (is_applied entry place draws))) (place + 1) entries
 
 -- a form of more than 94 characters, as the heading shows it
 abbrev pub cut_form : List ℕ → List ℕ

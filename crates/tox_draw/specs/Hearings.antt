@@ -22,7 +22,8 @@ use Rattle.tox_draw.specs.declared.recorded.Hearing.{Hearing}
 use Rattle.tox_draw.specs.declared.recorded.Record.{Record}
 use Rattle.tox_draw.specs.Lines.{IsStrand}
 use Rattle.tox_draw.specs.Planning.{DrawsPlan, WaitsAt}
-use Rattle.tox_draw.specs.Recorded.{LogText, SaysLog, due_items, last_lines, latest_reading, link_end, source_end_of, written_table}
+use Rattle.tox_draw.specs.Recorded.{LogText, SaysLog, due_items, last_lines, latest_reading, link_end, written_table}
+use Rattle.tox_log.specs.Hearing.{source_end_of}
 
 -- events bring what was heard to a position, and a stream goes on from there
 pub record LeadsTo (events : List LinkEvent) (position : StreamPosition) : Type 0 where

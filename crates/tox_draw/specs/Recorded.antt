@@ -17,6 +17,7 @@ use Rattle.tox_log.specs.declared.last_line.LastLine.{LastLine}
 use Rattle.tox_log.specs.declared.last_line.LastLine.TheVariants.{Ended, Broken as BrokenOff}
 use Rattle.tox_log.specs.EventLines.{event_lines}
 use Rattle.tox_log.specs.HeaderText.{header_text}
+use Rattle.tox_log.specs.Hearing.{source_end_of}
 use Rattle.tox_log.specs.LastText.{last_line}
 use Rattle.tox_log.specs.Numbers.{Lacks}
 use Rattle.tox_draw.specs.declared.curve.Curve.{Curve}
@@ -53,13 +54,6 @@ pub record SaysLog (given : Option (List ℕ)) (log : LogText) : Type 0 where
   pub unended : Lacks 10 torn
   pub ended : IsAtEnd left
   pub ordered : IsStream (heard log.events)
-
--- the instant of the source's end, if it was heard
-abbrev pub source_end_of : List LinkEvent → Option ℕ
-source_end_of [] = None
-source_end_of (Piece len instant ∷ events) = source_end_of events
-source_end_of (SourceEnd instant ∷ events) = Some instant
-source_end_of (Wrote slice reading ∷ events) = source_end_of events
 
 -- the reading at which each byte was written
 abbrev pub written_table : List LinkEvent → List ℕ

@@ -3,7 +3,7 @@ ghost use Rattle.std.specs.Prelude.{◌≡◌, ◌≤◌, ◌<◌, ◌++◌, cod
 ghost use Rattle.std.specs.List.{zip};
 ghost use Rattle.std.specs.Str.{IsCharBoundary};
 ghost use Rattle.tox_draw.specs.Adding.{AddsText};
-ghost use Rattle.tox_draw.specs.Forms.{applied_forms, bare, cut_form, form, form_if, in_parentheses, mark_behind, next_mark, pair, pairs};
+ghost use Rattle.tox_draw.specs.Forms.{bare, chosen_forms, cut_form, form, form_if, in_parentheses, is_wanted, mark_behind, next_mark, pair, pairs};
 ghost use Rattle.tox_defs.specs.Flow.{chain_draws};
 ghost use Rattle.tox_words.specs.Draw.{draws_of};
 
@@ -37,48 +37,58 @@ pub(crate) fn forms_of(
     Ok(forms)
 }
 
-/// The short forms of the toxics of a chain that are applied under these words, in order, separated by spaces.
-pub(crate) fn applied_toxics(
+/// The short forms of the toxics of a chain that are applied under these words, or of the others, in order, separated by spaces.
+pub(crate) fn chosen_toxics(
     alloc: Global,
     chain: &Chain,
     words: &Words,
+    applied: bool,
 ) -> Result<String, AllocError>
     ensures { IfOk result (λ text. string_bytes text
-        ≡ applied_forms (chain_draws chain.now words.now) (codes "") 0 chain.now.entries) }
+        ≡ chosen_forms (chain_draws chain.now words.now) applied (codes "") 0 chain.now.entries) }
 {
     let drawing = Drawing::new(chain.lanes(), words);
     let mut text = String::new(alloc);
-    push_applied(&mut text, chain.entries(), &drawing)?;
+    push_chosen(&mut text, chain.entries(), &drawing, applied)?;
     Ok(text)
 }
 
-/// Adds the short forms of the applied toxics.
-fn push_applied(
+/// Adds the short forms of the toxics that are applied, or of the others.
+fn push_chosen(
     text: &mut String,
     entries: &[Entry],
     drawing: &Drawing<'_>,
+    applied: bool,
 ) -> Result<(), AllocError>
     ensures { OnOk result (AddsText text.old text.new
-        (applied_forms (draws_of drawing.now) (codes "") 0 entries.now)) }
+        (chosen_forms (draws_of drawing.now) applied (codes "") 0 entries.now)) }
 {
     let mut mark = "";
     for (place, entry) in entries.iter().enumerate() {
-        mark = push_if(text, mark, entry, entry.is_applied(place, drawing))?;
+        let wanted = is_wanted(applied, entry.is_applied(place, drawing));
+        mark = push_if(text, mark, entry, wanted)?;
     }
     Ok(())
 }
 
-/// Adds the short form of a toxic behind a mark, if it is applied. Returns what stands before the next one.
+/// Whether a toxic is wanted, where the applied ones are, or the others.
+fn is_wanted(applied: bool, is_applied: bool) -> bool
+    ensures { result ≡ is_wanted applied is_applied }
+{
+    if applied { is_applied } else { !is_applied }
+}
+
+/// Adds the short form of a toxic behind a mark, if it is wanted. Returns what stands before the next one.
 fn push_if(
     text: &mut String,
     mark: &'static str,
     entry: &Entry,
-    applied: bool,
+    wanted: bool,
 ) -> Result<&'static str, AllocError>
-    ensures adds { OnOk result (AddsText text.old text.new (form_if mark.now entry.now applied)) }
-    ensures next { IfOk result (λ next. next.now ≡ mark_behind mark.now applied) }
+    ensures adds { OnOk result (AddsText text.old text.new (form_if mark.now entry.now wanted)) }
+    ensures next { IfOk result (λ next. next.now ≡ mark_behind mark.now wanted) }
 {
-    if !applied {
+    if !wanted {
         return Ok(mark);
     }
     push_marked(text, mark, entry)?;

@@ -1,11 +1,12 @@
 //! `draw --log`: the picture of a recorded link, with what was due beside what was written.
-ghost use Rattle.std.specs.Prelude.{◌≡◌, ℕ, List, Option, false, true, string_bytes, IfOk, OnErr, OnOk};
+ghost use Rattle.std.specs.Prelude.{◌≡◌, ◌≤◌, ℕ, List, Option, false, true, string_bytes, IfOk, OnErr, OnOk};
 ghost use Rattle.tox_time.specs.declared.streams.item.Item.{Item as OneItem};
 ghost use Rattle.tox_log.specs.Reading.{to_hand};
-ghost use Rattle.tox_draw.specs.Drawn.{IsPictureAlone, IsPictureOnPage, WritesPictureFront, WritesPicture};
+ghost use Rattle.tox_draw.specs.Drawn.{IsPictureAlone, IsPictureOn, WritesPictureFront, WritesPicture};
+ghost use Rattle.tox_draw.specs.Axes.{axis_of};
 ghost use Rattle.tox_draw.specs.Frames.{IsFrame};
 ghost use Rattle.tox_draw.specs.Hearings.{BeginsHearing, HearsAll, HearsEvent, HearsLogLine, KeepsRecord, reset_after};
-ghost use Rattle.tox_draw.specs.Recorded.{IsPictureOf, end_at};
+ghost use Rattle.tox_draw.specs.Recorded.{end_at};
 
 use crate::course::{Course, ending_of};
 use crate::form::{cut_forms, forms_of};
@@ -34,6 +35,18 @@ struct Record {
     due_end: Ending,
     written: Strand,
     end: LinkEnd,
+}
+
+/// The greatest values of a log, and what its picture's heading says.
+#[derive(Drop)]
+pub(crate) struct Extent {
+    /// The short forms of the toxics.
+    forms: Vec<String>,
+    /// The greatest instant.
+    pub(crate) latest: Micros,
+    /// How many bytes arrived.
+    arrived: u64,
+    ghost few: { arrived ≤ 1_099_511_627_776 },
 }
 
 /// What a log said so far, with its last reading.
@@ -65,7 +78,7 @@ pub fn draw_log<'a, R: Source, W: Sink>(
         → WritesPictureFront (IsPictureAlone (R.remaining second.old))
         (W.written writer.old) (W.written writer.new) }
 {
-    let drawn = match drawn(alloc, first, second, Setting::Alone) {
+    let drawn = match drawn(alloc, first, second) {
         Ok(drawn) => drawn,
         Err(fault) => return Err(ReplayFault::of(name, &fault)),
     };
@@ -75,37 +88,45 @@ pub fn draw_log<'a, R: Source, W: Sink>(
     Ok(())
 }
 
-/// The picture of a log, to stand on a page under a number. Both readers give that log, as [`draw_log`] has them.
-pub(crate) fn log_picture<R: Source>(
-    alloc: Global,
-    first: &mut R,
-    second: &mut R,
-    number: u64,
-) -> Result<String, LogFault>
+/// The picture of a log that stands alone.
+fn drawn<R: Source>(alloc: Global, first: &mut R, second: &mut R) -> Result<String, LogFault>
     requires first { R.failed first.old ≡ false }
     requires second { R.failed second.old ≡ false }
-    ensures { IfOk result (λ picture.
-        IsPictureOnPage (R.remaining second.old) number (string_bytes picture)) }
+    ensures { IfOk result (λ drawn. IsPictureAlone (R.remaining second.old) (string_bytes drawn)) }
 {
-    drawn(alloc, first, second, Setting::OnPage(number))
+    let extent = extent_of(alloc, first)?;
+    drawn_to(alloc, &extent, &extent.latest, second, Setting::Alone)
 }
 
-/// The picture of a log.
-fn drawn<R: Source>(
+/// Reads a log for the greatest values of its picture.
+pub(crate) fn extent_of<R: Source>(alloc: Global, first: &mut R) -> Result<Extent, LogFault>
+    requires { R.failed first.old ≡ false }
+{
+    let totals = record_of(alloc, first, &Frame::widest())?;
+    let latest = latest(&totals);
+    let arrived = totals.course.arrived.total;
+    Ok(Extent {
+        forms: totals.forms,
+        latest,
+        arrived,
+    })
+}
+
+/// The picture of a log with these greatest values, whose axis of time goes to an instant.
+pub(crate) fn drawn_to<R: Source>(
     alloc: Global,
-    first: &mut R,
+    extent: &Extent,
+    latest: &Micros,
     second: &mut R,
     setting: Setting,
 ) -> Result<String, LogFault>
-    requires first { R.failed first.old ≡ false }
-    requires second { R.failed second.old ≡ false }
-    ensures { IfOk result
-        (λ drawn. IsPictureOf (R.remaining second.old) setting (string_bytes drawn)) }
+    requires { R.failed second.old ≡ false }
+    ensures { IfOk result (λ drawn. IsPictureOn (axis_of latest.now) (R.remaining second.old)
+        setting (string_bytes drawn)) }
 {
-    let totals = record_of(alloc, first, &Frame::widest())?;
     let mut heading = String::new(alloc);
-    let lines = push_heading(&mut heading, &cut_forms(alloc, &totals.forms)?)?;
-    let frame = Frame::new(lines, &latest(&totals), totals.course.arrived.total);
+    let lines = push_heading(&mut heading, &cut_forms(alloc, &extent.forms)?)?;
+    let frame = Frame::new(lines, latest, extent.arrived);
     let record = record_of(alloc, second, &frame)?;
     Ok(picture_of(alloc, setting, record, heading, frame)?)
 }
@@ -120,7 +141,7 @@ fn picture_of(
 ) -> Result<String, AllocError>
     requires { IsFrame frame }
     ensures { IfOk result (λ text. (given : Option (List ℕ)) → KeepsRecord frame given kept
-        → IsPictureOf given setting (string_bytes text)) }
+        → IsPictureOn frame.time given setting (string_bytes text)) }
 {
     let Record {
         forms,

@@ -1,5 +1,5 @@
 -- A line more is heard.
-use Rattle.std.proofs.Common.{◌≡◌, ℕ, All, Bool, true, false, List, [], ◌∷◌, ◌++◌, ◌+◌, ◌-◌, ◌<◌, ◌≤◌, ◌^◌, length, string_bytes, Option, Some, None, inl, inr, refl, sym, ap, ap₂, subst, ◌∙◌, append_assoc, append-nil, arith}
+use Rattle.std.proofs.Common.{◌≡◌, ℕ, All, Bool, true, false, List, [], ◌∷◌, ◌++◌, ◌+◌, ◌-◌, ◌<◌, ◌≤◌, ◌^◌, is_some, length, string_bytes, Option, Some, None, inl, inr, refl, sym, ap, ap₂, subst, ◌∙◌, append_assoc, append-nil, arith}
 use Rattle.std.specs.Prelude.{◌⊎◌}
 use Rattle.std.specs.Io.KnownBytes.{IsAtEnd, prepend_known}
 use Rattle.std.proofs.lemmas.List.{length-append}
@@ -39,7 +39,7 @@ use Rattle.tox_log.specs.Lines.{IsWritable, line_words}
 use Rattle.tox_log.specs.Judging.{Hears, Judged, Refuses, RefusesEnding, source_heard}
 use Rattle.tox_log.specs.declared.replay.Verdict.{Verdict}
 use Rattle.tox_log.specs.declared.replay.Verdict.TheVariants.{Faithful, Unfinished, Unfaithful}
-use Rattle.tox_log.specs.Hearing.{AreCounts, BeginsJudging, HasHeard, HasNoEnding, HasReport, HasStopped, HearsLine, HearsToEnd, IsFaithfulText, IsRefusedText, IsTextOf, IsTold, IsUnfinishedText, SaysOf, SaysSo, HasRefusal}
+use Rattle.tox_log.specs.Hearing.{AreCounts, BeginsJudging, HasHeard, HasNoEnding, HasReport, HasStopped, HearsLine, HearsToEnd, IsFaithfulText, IsRefusedText, IsTextOf, IsTold, IsUnfinishedText, SaysOf, SaysSo, HasRefusal, source_end_of}
 use Rattle.tox_log.proofs.Refusing.{timely-told}
 
 told-front : (told : ℕ → Bool) (events : List LinkEvent) (event : LinkEvent) → IsTold told (events ++ event ∷ []) → IsTold told events
@@ -93,14 +93,14 @@ all-told (event ∷ events) = All-cons (λ event. true ≡ true) event events re
 
 -- the counts of what was heard
 pub counts-of : (means : List Item → List Item) (text : List ℕ) (hearing : Hearing) → (heard : HasHeard means text hearing)
-    → AreCounts heard.events hearing.judge.heard hearing.judge.said hearing.judge.ended hearing.writes
+    → AreCounts heard.events hearing.judge.heard hearing.judge.said hearing.source_end hearing.writes
 counts-of means text hearing heard =
     let judge : Judge = hearing.judge in
     let judged : Judged means (λ _. true) judge heard.events = heard.judged (λ _. true) (all-told heard.events) in
     let bytes = gapless-bytes 0 (said heard.events) judge.said judged.gapless in record {
       took = judged.bytes;
       wrote = omega (arith, bytes);
-      source = judged.closed;
+      source = heard.source_end;
       count = heard.count;
     }
 
@@ -145,10 +145,31 @@ KeepsMore old more new = (values : List ℕ) → length values < 2 ^ 63 → Keep
 pub keeps-none : (late : Lateness) → KeepsMore late [] late
 keeps-none late values few kept = subst (λ values. KeepsLate values late) (sym (append-nil values)) kept
 
+-- whether the source's end was heard
+end-heard : (events : List LinkEvent) → is_some (source_end_of events) ≡ has_source_end events
+end-heard [] = refl
+end-heard (Piece len instant ∷ events) = end-heard events
+end-heard (SourceEnd instant ∷ events) = refl
+end-heard (Wrote slice reading ∷ events) = end-heard events
+
+-- the source's end of events and one more
+pub source-same : (events : List LinkEvent) (event : LinkEvent) → source_end_of (event ∷ []) ≡ None → source_end_of (events ++ event ∷ []) ≡ source_end_of events
+source-same [] event none = none
+source-same (Piece len t ∷ events) event none = source-same events event none
+source-same (SourceEnd t ∷ events) event none = refl
+source-same (Wrote slice now ∷ events) event none = source-same events event none
+
+pub source-ends : (events : List LinkEvent) (t : ℕ) → has_source_end events ≡ false → source_end_of (events ++ SourceEnd t ∷ []) ≡ Some t
+source-ends [] t going = refl
+source-ends (Piece len u ∷ events) t going = source-ends events t going
+source-ends (SourceEnd u ∷ events) t going = let no : true ≡ false = going in cc
+source-ends (Wrote slice now ∷ events) t going = source-ends events t going
+
 -- a hearing goes on with an event
 pub record GoesOn (old new : Hearing) (event : LinkEvent) : Type 0 where
   pub hears : Hears old.judge event new.judge
   pub reset : (new.source_reset ≡ old.source_reset) ⊎ (old.judge.ended ≡ false)
+  pub ends : (events : List LinkEvent) → source_end_of events ≡ old.source_end → has_source_end events ≡ old.judge.ended → source_end_of (events ++ event ∷ []) ≡ new.source_end
   pub count : new.writes ≡ old.writes + length (said (event ∷ []))
   pub late : KeepsMore old.late (lates (event ∷ [])) new.late
 
@@ -176,6 +197,9 @@ hears-event means text old new event writable heard goes = record {
   written = All-append (λ event. IsWritable (Event event)) heard.events (event ∷ []) heard.written
       (All-cons (λ event. IsWritable (Event event)) event [] (event-writable new.source_reset event writable) (All-nil (λ event. IsWritable (Event event))));
   lines = line-next old.source_reset new.source_reset text heard.events event (stays-so goes.reset) heard.lines;
+  source_end =
+      let judged : Judged means (λ _. true) old.judge heard.events = heard.judged (λ _. true) (all-told heard.events) in
+      goes.ends heard.events heard.source_end judged.closed;
   judged = λ told all. goes.hears means told heard.events (told-last told heard.events event all) (heard.judged told (told-front told heard.events event all));
   count =
       let both = length-append (said heard.events) (said (event ∷ [])) in
@@ -244,12 +268,13 @@ says-other-end start means text old new reading last number whole refuses writab
     )
 
 -- what a hearing keeps of the same judge, source's end, writes and lateness
-same-heard : (means : List Item → List Item) (text : List ℕ) (old new : Hearing) → new.judge ≡ old.judge → new.source_reset ≡ old.source_reset → new.writes ≡ old.writes → new.late ≡ old.late
+same-heard : (means : List Item → List Item) (text : List ℕ) (old new : Hearing) → new.judge ≡ old.judge → new.source_end ≡ old.source_end → new.source_reset ≡ old.source_reset → new.writes ≡ old.writes → new.late ≡ old.late
     → HasHeard means text old → HasHeard means text new
-same-heard means text old new judge reset writes late heard = record {
+same-heard means text old new judge source_end reset writes late heard = record {
   events = heard.events;
   written = heard.written;
   lines = heard.lines ∙ ap (λ reset. event_lines reset heard.events) (sym reset);
+  source_end = heard.source_end ∙ sym source_end;
   judged = λ told all. rw judge (heard.judged told all);
   count = heard.count ∙ sym writes;
   late = rw late heard.late;
@@ -257,11 +282,11 @@ same-heard means text old new judge reset writes late heard = record {
 
 -- the last line tells that the stream broke off
 pub says-broken : (start : ℕ) (means : List Item → List Item) (text : List ℕ) (old new : Hearing) (cause : BreakCause) (bytes : ℕ) → new.verdict ≡ Unfinished → new.broken ≡ Some cause
-    → new.judge ≡ old.judge → new.source_reset ≡ old.source_reset → new.writes ≡ old.writes → new.late ≡ old.late → HasHeard means text old
+    → new.judge ≡ old.judge → new.source_end ≡ old.source_end → new.source_reset ≡ old.source_reset → new.writes ≡ old.writes → new.late ≡ old.late → HasHeard means text old
     → SaysOf start means (text ++ (line_words (Last (Broken cause bytes)) ++ 10 ∷ [])) true new
-says-broken start means text old new cause bytes going broken judge reset writes late heard =
+says-broken start means text old new cause bytes going broken judge source_end reset writes late heard =
     let lines : List ℕ = text ++ (line_words (Last (Broken cause bytes)) ++ 10 ∷ []) in
-    let stopped : HasNoEnding means lines true new (Some cause) = (refl, record { front = text; bytes = bytes; heard = same-heard means text old new judge reset writes late heard; lines = refl }) in
+    let stopped : HasNoEnding means lines true new (Some cause) = (refl, record { front = text; bytes = bytes; heard = same-heard means text old new judge source_end reset writes late heard; lines = refl }) in
     subst (SaysSo start means lines true new) (sym going) (subst (HasNoEnding means lines true new) (sym broken) stopped)
 
 -- the last line tells of an open link, and the judge stays one after the events
@@ -280,6 +305,7 @@ says-open start means text old judge reading going whole stays heard =
           events = heard.events;
           written = heard.written;
           lines = heard.lines;
+          source_end = heard.source_end;
           judged = λ told all. stays told heard.events (heard.judged told all);
           count = heard.count;
           late = heard.late;
@@ -290,13 +316,15 @@ says-open start means text old judge reading going whole stays heard =
     subst (SaysSo start means lines true new) (sym going) (subst (HasNoEnding means lines true new) (sym whole) left)
 
 -- the last line tells the ending
-pub says-ended : (start : ℕ) (means : List Item → List Item) (text : List ℕ) (old new : Hearing) (reading : ℕ) (last : Ending) → new.broken ≡ None → new.source_reset ≡ old.source_reset → new.writes ≡ old.writes
+pub says-ended : (start : ℕ) (means : List Item → List Item) (text : List ℕ) (old new : Hearing) (reading : ℕ) (last : Ending) → new.broken ≡ None → new.source_end ≡ old.source_end → new.source_reset ≡ old.source_reset → new.writes ≡ old.writes
     → KeepsMore old.late (ending_late reading last) new.late → HasHeard means text old
     → (new.judge.heard ≡ old.judge.heard) × (new.judge.said ≡ old.judge.said) × (new.judge.ended ≡ old.judge.ended)
     → ((means : List Item → List Item) (told : ℕ → Bool) (log : List LinkEvent) → told reading ≡ true → Judged means told old.judge log
     → ReportsAt means (λ t. told t ≡ true) log old.judge.heard old.judge.said last (source_heard old.judge.ended) reading)
     → SaysSo start means (text ++ (line_words (Last (Ended reading last)) ++ 10 ∷ [])) true new (Faithful last)
-says-ended start means text old new reading last whole reset writes late heard counts reports =
+says-ended start means text old new reading last whole source_end reset writes late heard counts reports =
+    let judged : Judged means (λ _. true) old.judge heard.events = heard.judged (λ _. true) (all-told heard.events) in
+    let ended : is_some new.source_end ≡ old.judge.ended = ap is_some (source_end ∙ sym heard.source_end) ∙ end-heard heard.events ∙ judged.closed in
     let few = few-writes means text old heard in
     let same = lates-count heard.events in (
       refl,
@@ -307,9 +335,9 @@ says-ended start means text old new reading last whole reset writes late heard c
         events = heard.events;
         reading = reading;
         lines = ap (λ lines. lines ++ (line_words (Last (Ended reading last)) ++ 10 ∷ [])) (heard.lines ∙ ap (λ reset. event_lines reset heard.events) (sym reset));
-        counts = rw (counts.0, counts.1, counts.2, writes) (counts-of means text old heard);
+        counts = rw (counts.0, counts.1, source_end, writes) (counts-of means text old heard);
         values = refl;
-        report = λ told all says. rw (counts.0, counts.1, counts.2) (reports means told heard.events says (heard.judged told all));
+        report = λ told all says. rw (counts.0, counts.1, ended) (reports means told heard.events says (heard.judged told all));
       },
     )
 
@@ -387,7 +415,7 @@ behind-header before (Some bytes) header torn lines (Some left) lacks none given
 
 -- how far a log came that tells no ending
 stopped-so : (means : List Item → List Item) (text : List ℕ) (over : Bool) (hearing : Hearing) (broken : Option BreakCause) → HasNoEnding means text over hearing broken
-    → (late : List ℕ) × KeepsLate late hearing.late × HasStopped means text broken hearing.judge.heard hearing.judge.said hearing.judge.ended hearing.source_reset hearing.writes late
+    → (late : List ℕ) × KeepsLate late hearing.late × HasStopped means text broken hearing.judge.heard hearing.judge.said hearing.source_end hearing.source_reset hearing.writes late
 stopped-so means text over hearing None (inl says) =
     let heard = says.1 in (
       lates heard.events,
@@ -452,20 +480,20 @@ pub record KeepsHearing (hearing : Hearing) (judged : JudgedLog) : Type 0 where
   pub broken : judged.broken ≡ hearing.broken
   pub heard : judged.heard ≡ hearing.judge.heard
   pub said : judged.said ≡ hearing.judge.said
-  pub ended : judged.source_ended ≡ hearing.judge.ended
+  pub source_end : judged.source_end ≡ hearing.source_end
   pub reset : judged.source_reset ≡ hearing.source_reset
   pub writes : judged.writes ≡ hearing.writes
   pub late : (values : List ℕ) → KeepsLate values hearing.late → IsLate values judged.late
 
 kept-report : (means : List Item → List Item) (text : List ℕ) (hearing : Hearing) (judged : JudgedLog) (late : List ℕ) (ending : Ending) → KeepsHearing hearing judged
-    → HasReport means text hearing.judge.heard hearing.judge.said hearing.judge.ended hearing.source_reset hearing.writes late ending
-    → HasReport means text judged.heard judged.said judged.source_ended judged.source_reset judged.writes late ending
-kept-report means text hearing judged late ending kept report = rw (kept.heard, kept.said, kept.ended, kept.reset, kept.writes) report
+    → HasReport means text hearing.judge.heard hearing.judge.said hearing.source_end hearing.source_reset hearing.writes late ending
+    → HasReport means text judged.heard judged.said judged.source_end judged.source_reset judged.writes late ending
+kept-report means text hearing judged late ending kept report = rw (kept.heard, kept.said, kept.source_end, kept.reset, kept.writes) report
 
 kept-stopped : (means : List Item → List Item) (text : List ℕ) (hearing : Hearing) (judged : JudgedLog) (late : List ℕ) → KeepsHearing hearing judged
-    → HasStopped means text hearing.broken hearing.judge.heard hearing.judge.said hearing.judge.ended hearing.source_reset hearing.writes late
-    → HasStopped means text judged.broken judged.heard judged.said judged.source_ended judged.source_reset judged.writes late
-kept-stopped means text hearing judged late kept stopped = rw (kept.broken, kept.heard, kept.said, kept.ended, kept.reset, kept.writes) stopped
+    → HasStopped means text hearing.broken hearing.judge.heard hearing.judge.said hearing.source_end hearing.source_reset hearing.writes late
+    → HasStopped means text judged.broken judged.heard judged.said judged.source_end judged.source_reset judged.writes late
+kept-stopped means text hearing judged late kept stopped = rw (kept.broken, kept.heard, kept.said, kept.source_end, kept.reset, kept.writes) stopped
 
 module _ (before after : Option (List ℕ)) (log last : OpenLog) (hearing end : Hearing) (judged : JudgedLog) (opened : Opens before after log) (begun : BeginsJudging log.heading log.chain hearing)
     (heard : HearsToEnd log last after hearing end) (kept : KeepsHearing end judged) (heading : judged.heading ≡ last.heading) (chain : judged.chain ≡ last.chain)

@@ -1,5 +1,5 @@
 -- What a verdict says of the lines that were read.
-use Rattle.std.specs.Prelude.{◌≡◌, ℕ, ◌+◌, ◌⊎◌, Bool, true, false, List, [], ◌∷◌, ◌++◌, All, length, string_bytes, Option, Some, None}
+use Rattle.std.specs.Prelude.{◌≡◌, ℕ, ◌+◌, ◌⊎◌, Bool, true, false, List, [], ◌∷◌, ◌++◌, All, is_some, length, string_bytes, Option, Some, None}
 use Rattle.std.specs.Io.KnownBytes.{prepend_known}
 use Rattle.tox_time.specs.streams.Stream.{IsStream}
 use Rattle.tox_words.specs.Seeded.{seeded_words}
@@ -12,9 +12,9 @@ use Rattle.tox_time.specs.declared.streams.item.Item.{Item}
 use Rattle.tox_time.specs.declared.streams.ending.Ending.{Ending}
 use Rattle.tox_time.specs.declared.streams.ending.Ending.TheVariants.{StillOpen}
 use Rattle.tox_link.specs.declared.notes.LinkEvent.{LinkEvent}
-use Rattle.tox_link.specs.declared.notes.LinkEvent.TheVariants.{SourceEnd}
+use Rattle.tox_link.specs.declared.notes.LinkEvent.TheVariants.{Piece, SourceEnd, Wrote}
 use Rattle.tox_time.specs.streams.Table.{slices_table}
-use Rattle.tox_link.specs.log.Log.{has_source_end, heard_bytes, reading_of, said, IsFaithful}
+use Rattle.tox_link.specs.log.Log.{heard_bytes, reading_of, said, IsFaithful}
 use Rattle.tox_link.specs.Reports.{ReportsAt}
 use Rattle.tox_log.specs.declared.event_line.LogLine.{LogLine}
 use Rattle.tox_log.specs.declared.event_line.LogLine.TheVariants.{Event, SourceReset, Last}
@@ -35,18 +35,26 @@ use Rattle.tox_log.specs.Judging.{HasNoReport, Judged, source_heard}
 abbrev pub IsTold : (ℕ → Bool) → List LinkEvent → Type 0
 IsTold told events = All (λ event. told (reading_of event) ≡ true) events
 
--- by these events so many bytes were heard and said, the source's end was heard or not, and there were so many writes
-pub record AreCounts (events : List LinkEvent) (taken written : ℕ) (ended : Bool) (writes : ℕ) : Type 0 where
+-- the instant of the source's end, if it was heard
+abbrev pub source_end_of : List LinkEvent → Option ℕ
+source_end_of [] = None
+source_end_of (Piece len instant ∷ events) = source_end_of events
+source_end_of (SourceEnd instant ∷ events) = Some instant
+source_end_of (Wrote slice reading ∷ events) = source_end_of events
+
+-- by these events so many bytes were heard and said, the source's end was heard then or not at all, and there were so many writes
+pub record AreCounts (events : List LinkEvent) (taken written : ℕ) (source_end : Option ℕ) (writes : ℕ) : Type 0 where
   pub took : heard_bytes events ≡ taken
   pub wrote : length (slices_table (said events)) ≡ written
-  pub source : has_source_end events ≡ ended
+  pub source : source_end_of events ≡ source_end
   pub count : length (said events) ≡ writes
 
--- the text is the lines of these events, whose source was reset or not as the hearing has it, and the hearing is one after them
+-- the text is the lines of these events, whose source ended and was reset or not as the hearing has it, and the hearing is one after them
 pub record HasHeard (means : List Item → List Item) (text : List ℕ) (hearing : Hearing) : Type 0 where
   pub events : List LinkEvent
   pub written : All (λ event. IsWritable (Event event)) events
   pub lines : text ≡ event_lines hearing.source_reset events
+  pub source_end : source_end_of events ≡ hearing.source_end
   pub judged : (told : ℕ → Bool) → IsTold told events → Judged means told hearing.judge events
   pub count : length (said events) ≡ hearing.writes
   pub late : KeepsLate (lates events) hearing.late
@@ -73,15 +81,15 @@ HasNoEnding means text over hearing None =
 HasNoEnding means text over hearing (Some cause) = (over ≡ true) × HasBroken means text hearing cause
 
 -- the text is the lines of events and a last line with this ending, and the link with these events reports so: it took and wrote so
--- many bytes in so many writes, which were so late with its ending, and its source had ended or not, by a reset or not
-pub record HasReport (means : List Item → List Item) (text : List ℕ) (taken written : ℕ) (ended reset : Bool) (writes : ℕ) (late : List ℕ) (ending : Ending) : Type 0 where
+-- many bytes in so many writes, which were so late with its ending, and its source had ended then or not at all, by a reset or not
+pub record HasReport (means : List Item → List Item) (text : List ℕ) (taken written : ℕ) (source_end : Option ℕ) (reset : Bool) (writes : ℕ) (late : List ℕ) (ending : Ending) : Type 0 where
   pub events : List LinkEvent
   pub reading : ℕ
   pub lines : text ≡ event_lines reset events ++ last_line (Ended reading ending)
-  pub counts : AreCounts events taken written ended writes
+  pub counts : AreCounts events taken written source_end writes
   pub values : late ≡ lates events ++ ending_late reading ending
   pub report : (told : ℕ → Bool) → IsTold told events → told reading ≡ true
-      → ReportsAt means (λ t. told t ≡ true) events taken written ending (source_heard ended) reading
+      → ReportsAt means (λ t. told t ≡ true) events taken written ending (source_heard (is_some source_end)) reading
 
 -- whatever the clock told, no log with these events that goes on with this one is faithful
 abbrev pub IsRefusedEvent : (List Item → List Item) → List LinkEvent → LinkEvent → Type 0
@@ -113,7 +121,7 @@ pub record HasRefusal (means : List Item → List Item) (text : List ℕ) (start
 abbrev pub SaysSo : ℕ → (List Item → List Item) → List ℕ → Bool → Hearing → Verdict → Type 0
 SaysSo start means text over hearing (Faithful ending) =
     (over ≡ true) × (hearing.broken ≡ None) × (late : List ℕ) × KeepsLate late hearing.late
-    × HasReport means text hearing.judge.heard hearing.judge.said hearing.judge.ended hearing.source_reset hearing.writes late ending
+    × HasReport means text hearing.judge.heard hearing.judge.said hearing.source_end hearing.source_reset hearing.writes late ending
 SaysSo start means text over hearing Unfinished = HasNoEnding means text over hearing hearing.broken
 SaysSo start means text over hearing (Unfaithful number) = (hearing.broken ≡ None) × HasRefusal means text start number
 
@@ -164,7 +172,7 @@ pub record IsFaithfulText (given : Option (List ℕ)) (judged : JudgedLog) (endi
   pub means : List Item → List Item
   pub text : IsTextOf given judged lines means
   pub late : List ℕ
-  pub report : HasReport means lines judged.heard judged.said judged.source_ended judged.source_reset judged.writes late ending
+  pub report : HasReport means lines judged.heard judged.said judged.source_end judged.source_reset judged.writes late ending
   pub percentiles : IsLate late judged.late
   pub whole : judged.broken ≡ None
 
@@ -184,12 +192,12 @@ TellsNoEnding (Some cause) last = (bytes : ℕ) × (last ≡ last_line (Broken c
 
 -- the text is the lines of events that are faithful, and no last line or one that tells no settled ending; and these are the events'
 -- counts, and how late its writes were
-pub record HasStopped (means : List Item → List Item) (text : List ℕ) (broken : Option BreakCause) (taken written : ℕ) (ended reset : Bool) (writes : ℕ) (late : List ℕ) : Type 0 where
+pub record HasStopped (means : List Item → List Item) (text : List ℕ) (broken : Option BreakCause) (taken written : ℕ) (source_end : Option ℕ) (reset : Bool) (writes : ℕ) (late : List ℕ) : Type 0 where
   pub events : List LinkEvent
   pub last : List ℕ
   pub lines : text ≡ event_lines reset events ++ last
   pub tells : TellsNoEnding broken last
-  pub counts : AreCounts events taken written ended writes
+  pub counts : AreCounts events taken written source_end writes
   pub values : late ≡ lates events
   pub faithful : (told : ℕ → Bool) → IsTold told events → IsFaithful means (λ t. told t ≡ true) events
 
@@ -199,5 +207,5 @@ pub record IsUnfinishedText (given : Option (List ℕ)) (judged : JudgedLog) : T
   pub means : List Item → List Item
   pub text : IsTextOf given judged lines means
   pub late : List ℕ
-  pub stopped : HasStopped means lines judged.broken judged.heard judged.said judged.source_ended judged.source_reset judged.writes late
+  pub stopped : HasStopped means lines judged.broken judged.heard judged.said judged.source_end judged.source_reset judged.writes late
   pub percentiles : IsLate late judged.late

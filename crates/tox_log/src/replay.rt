@@ -57,8 +57,8 @@ pub struct JudgedLog {
     pub verdict: Verdict,
     /// Why the stream broke off, where the last line says so and the log is faithful up to it.
     pub broken: Option<BreakCause>,
-    /// Whether the source's end was heard, and whether it is told as a reset by its peer.
-    pub source_ended: bool,
+    /// When the source's end was heard, and whether it is told as a reset by its peer.
+    pub source_end: Option<Micros>,
     pub source_reset: bool,
     /// How many bytes were heard and said, and in how many writes.
     pub heard: u64,
@@ -74,6 +74,7 @@ struct Hearing {
     judge: Judge,
     verdict: Verdict,
     broken: Option<BreakCause>,
+    source_end: Option<Micros>,
     source_reset: bool,
     writes: u64,
     late: Lateness,
@@ -108,7 +109,7 @@ pub fn judge_log<R: Source>(alloc: Global, reader: &mut R) -> Result<JudgedLog, 
         chain,
         verdict: hearing.verdict,
         broken: hearing.broken,
-        source_ended: hearing.judge.ended,
+        source_end: hearing.source_end,
         source_reset: hearing.source_reset,
         heard: hearing.judge.heard,
         said: hearing.judge.said,
@@ -156,6 +157,7 @@ fn begin(alloc: Global, log: &OpenLog) -> Result<Hearing, LogFault>
         judge: begin_judge(alloc, plan, words)?,
         verdict: Verdict::Unfinished,
         broken: None,
+        source_end: None,
         source_reset: false,
         writes: 0,
         late: Lateness::new(alloc),
@@ -284,6 +286,7 @@ fn hear_source_end(
         return Err(LogFault::BadLine(number));
     }
     hear_end(&mut hearing.judge, instant);
+    hearing.source_end = Some(*instant);
     hearing.source_reset = is_reset;
     Ok(())
 }

@@ -1,69 +1,13 @@
--- A row more in a report.
-use Rattle.std.proofs.Common.{◌≡◌, ℕ, Bool, true, false, cond, not, ◌||◌, List, [], ◌∷◌, ◌++◌, filter, count_by, length, Result, Ok, Err, IfErr, OnErr, inl, inr, refl, ap, sym, subst, ◌∙◌, append-nil}
-use Rattle.std.proofs.lemmas.List.Elements.{filter-append}
-use Rattle.std.proofs.lemmas.List.Sums.{length-filter}
-use Rattle.tox_draw.specs.declared.pages.kind.Kind.TheVariants as kind
+-- What a fault leaves of a report.
+use Rattle.std.proofs.Common.{◌≡◌, ℕ, List, Result, Ok, Err, IfErr, OnErr, inl, inr, refl, sym, subst}
 use Rattle.tox_draw.specs.declared.pages.report.Report.{Report}
-use Rattle.tox_draw.specs.declared.pages.row.Row.{Row}
-use Rattle.tox_draw.specs.pages.Kinds.{has}
 use Rattle.tox_log.specs.declared.fault.ReplayFault.{ReplayFault}
 use Rattle.tox_log.specs.declared.fault.ReplayFault.TheVariants.{OutOfMemory, WriteFault, Unreadable, BadLog, LogTooDeep, NotFaithful}
 use Rattle.std.specs.Prelude.{◌⊎◌}
 use Rattle.std.specs.Borrow.{Bor}
 use Rattle.tox_log.specs.declared.fault.LogFault.TheVariants as cause
 use Rattle.tox_log.specs.FaultText.{IsFaultIn}
-use Rattle.tox_draw.specs.pages.Reports.{AddsRow, KeepsFault, KeepsOn, RefusesLog, is_marked}
-
--- a row behind others, which passes or not
-filter_one : (test : Row → Bool) (rows : List Row) (row : Row) (passes : Bool) → test row ≡ passes
-    → filter test (rows ++ row ∷ []) ≡ filter test rows ++ cond passes (row ∷ []) []
-filter_one test rows row passes is =
-    filter-append test rows (row ∷ []) ∙ ap (λ b. filter test rows ++ cond b (row ∷ []) []) is
-
-pub AddsRow-marked : (old new : Report) (row : Row) → is_marked row ≡ true → new.marked.items ≡ old.marked.items ++ row ∷ []
-    → new.unmarked.items ≡ old.unmarked.items → AddsRow old row new
-AddsRow-marked old new row is more same rows kept = record {
-  marked = more ∙ ap (λ xs. xs ++ row ∷ []) kept.marked ∙ sym (filter_one is_marked rows row true is);
-  unmarked = same ∙ kept.unmarked ∙ sym (filter_one (λ r. not (is_marked r)) rows row false (ap not is) ∙ append-nil _);
-}
-
-pub AddsRow-unmarked : (old new : Report) (row : Row) → is_marked row ≡ false → new.marked.items ≡ old.marked.items
-    → new.unmarked.items ≡ old.unmarked.items ++ row ∷ [] → AddsRow old row new
-AddsRow-unmarked old new row is same more rows kept = record {
-  marked = same ∙ kept.marked ∙ sym (filter_one is_marked rows row false is ∙ append-nil _);
-  unmarked = more ∙ ap (λ xs. xs ++ row ∷ []) kept.unmarked ∙ sym (filter_one (λ r. not (is_marked r)) rows row true (ap not is));
-}
-
-pub KeepsOn-same : (old new : Report) → new.marked.items ≡ old.marked.items → new.unmarked.items ≡ old.unmarked.items → KeepsOn old new
-KeepsOn-same old new marked unmarked rows kept = record { marked = marked ∙ kept.marked; unmarked = unmarked ∙ kept.unmarked }
-
--- what passes the narrower test passes the wider one
-one_filtered : (test : Row → Bool) (row : Row) (rest others : List Row) (b c : Bool) → test row ≡ b → (b ≡ true → c ≡ true) → filter test rest ≡ others
-    → filter test (cond c (row ∷ rest) rest) ≡ cond b (row ∷ others) others
-one_filtered test row rest others true true is wide same =
-    ap (λ b. cond b (row ∷ filter test rest) (filter test rest)) is ∙ ap (λ rows. row ∷ rows) same
-one_filtered test row rest others true false is wide same = let no : false ≡ true = wide refl in cc
-one_filtered test row rest others false true is wide same =
-    ap (λ b. cond b (row ∷ filter test rest) (filter test rest)) is ∙ same
-one_filtered test row rest others false false is wide same = same
-
-filter-kept : (test kept : Row → Bool) → ((row : Row) → test row ≡ true → kept row ≡ true) → (rows : List Row)
-    → filter test (filter kept rows) ≡ filter test rows
-filter-kept test kept wide [] = refl
-filter-kept test kept wide (row ∷ rows) =
-    one_filtered test row (filter kept rows) (filter test rows) (test row) (kept row) refl (wide row) (filter-kept test kept wide rows)
-
-pub count_by-kept : (test kept : Row → Bool) → ((row : Row) → test row ≡ true → kept row ≡ true) → (rows : List Row)
-    → count_by test (filter kept rows) ≡ count_by test rows
-count_by-kept test kept wide rows =
-    sym (length-filter test (filter kept rows)) ∙ ap (λ (some : List Row). length some) (filter-kept test kept wide rows) ∙ length-filter test rows
-
-marked_wide : (a b : Bool) → b ≡ true → (a || b) ≡ true
-marked_wide true b is = refl
-marked_wide false b is = is
-
-pub unfaithful_is_marked : (row : Row) → has kind.Unfaithful row ≡ true → is_marked row ≡ true
-unfaithful_is_marked row is = marked_wide (has kind.Refused row) (has kind.Unfaithful row) is
+use Rattle.tox_draw.specs.pages.Reports.{KeepsFault, KeepsOn, RefusesLog}
 
 -- a fault other than out of memory
 pub RefusesLog-told : (name : List ℕ) (old new : Report) (fault : ReplayFault) → (fault ≡ OutOfMemory → ⊥) → KeepsFault name fault old new → RefusesLog name old new fault

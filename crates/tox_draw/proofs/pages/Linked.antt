@@ -1,28 +1,26 @@
 -- How many links a set of their names has.
-use Rattle.std.proofs.Common.{◌≡◌, ℕ, ◌+◌, ◌||◌, Bool, true, false, cond, List, [], ◌∷◌, ◌++◌, map, length, take, get_or, refl, ap, ap₂, sym, ◌∙◌, append-nil}
+use Rattle.std.proofs.Common.{◌≡◌, ℕ, ◌+◌, ◌||◌, Bool, true, false, cond, List, [], ◌∷◌, ◌++◌, map, length, take, get_or, refl, ap, ap₂, sym, ◌∙◌}
 use Rattle.std.specs.Cmp.{IsEquivalence}
 use Rattle.std.specs.List.{AllByRecursion, IsDistinct, list_any}
 use Rattle.std.specs.Set.{distinct_count, is_member}
 use Rattle.std.proofs.lemmas.Cmp.{and_equiv, nat_eq_equiv, nat_list_eq_equiv, on_equiv}
-use Rattle.std.proofs.lemmas.Grind.{flat_map-append}
-use Rattle.std.proofs.lemmas.List.{length-map, take_more}
+use Rattle.std.proofs.lemmas.List.{length-map, map-append, take_more}
 use Rattle.std.proofs.lemmas.List.Folds.{list_any-append}
 use Rattle.std.proofs.lemmas.Map.Keys.{IsDistinct-cons, IsDistinct-head, IsDistinct-tail}
 use Rattle.std.proofs.lemmas.Map.Made.{IsDistinct-from_count, length-from_keys}
 use Rattle.tox_text.proofs.Listed.{IsAt}
 use Rattle.tox_draw.specs.declared.pages.row.Row.{Row}
-use Rattle.tox_draw.specs.pages.Links.{Link, links_of, same_link, told_link}
+use Rattle.tox_draw.specs.pages.Links.{Link, link_of, same_link}
 
 same_link_equiv : IsEquivalence same_link
 same_link_equiv = and_equiv (on_equiv (λ (l : Link). l.0) nat_list_eq_equiv) (on_equiv (λ (l : Link). l.1) nat_eq_equiv)
 
 -- the links of one row more
-pub links_of-more : (rows : List Row) (i : ℕ) (row : Row) → IsAt rows i row → links_of (take (i + 1) rows) ≡ links_of (take i rows) ++ told_link row.told
+pub links_of-more : (rows : List Row) (i : ℕ) (row : Row) → IsAt rows i row → map link_of (take (i + 1) rows) ≡ map link_of (take i rows) ++ link_of row ∷ []
 links_of-more rows i row here =
-    ap links_of (take_more rows i here.default here.below)
-    ∙ flat_map-append (λ (r : Row). told_link r.told) (take i rows) (get_or rows i here.default ∷ [])
-    ∙ ap (λ ys. links_of (take i rows) ++ ys) (append-nil (told_link (get_or rows i here.default).told))
-    ∙ ap (λ (r : Row). links_of (take i rows) ++ told_link r.told) (sym here.is)
+    ap (map link_of) (take_more rows i here.default here.below)
+    ∙ map-append link_of (take i rows) (get_or rows i here.default ∷ [])
+    ∙ ap (λ (r : Row). map link_of (take i rows) ++ link_of r ∷ []) (sym here.is)
 
 either : (new before : Bool) → cond new true before ≡ (before || (new || false))
 either true true = refl

@@ -5,8 +5,6 @@ use Rattle.tox_draw.specs.declared.pages.kind.Kind.TheVariants as kind
 use Rattle.tox_draw.specs.declared.pages.outcome.Outcome.{Outcome}
 use Rattle.tox_draw.specs.declared.pages.outcome.Outcome.TheVariants as outcome
 use Rattle.tox_draw.specs.declared.pages.row.Row.{Row}
-use Rattle.tox_draw.specs.declared.pages.row.Told.{Told}
-use Rattle.tox_draw.specs.declared.pages.row.Told.TheVariants.{Stream, Fault}
 
 abbrev pub is_reset : Outcome → Bool
 is_reset (outcome.Reset t) = true
@@ -30,25 +28,14 @@ abbrev pub is_unfaithful : Outcome → Bool
 is_unfaithful (outcome.Unfaithful line) = true
 is_unfaithful other = false
 
--- whether a judged log is of a kind
+-- whether an outcome is of a kind
 abbrev pub outcome_has : Kind → Outcome → Bool
-outcome_has kind.Judged outcome = true
-outcome_has kind.Refused outcome = false
 outcome_has kind.Reset outcome = is_reset outcome
 outcome_has kind.Cut outcome = is_cut outcome
 outcome_has kind.Broken outcome = is_broken outcome
 outcome_has kind.Unfinished outcome = is_unfinished outcome
 outcome_has kind.Unfaithful outcome = is_unfaithful outcome
 
--- whether a log that can't be judged is of a kind
-abbrev pub fault_has : Kind → Bool
-fault_has kind.Refused = true
-fault_has other = false
-
-abbrev pub told_has : Kind → Told → Bool
-told_has kind (Stream facts) = outcome_has kind facts.outcome
-told_has kind (Fault fault) = fault_has kind
-
 -- whether a row is of a kind
 abbrev pub has : Kind → Row → Bool
-has kind row = told_has kind row.told
+has kind row = outcome_has kind row.facts.outcome

@@ -1,5 +1,5 @@
 -- What came of a stream.
-use Rattle.std.specs.Prelude.{ℕ, ◌==◌, ◌&&◌, Bool, List, codes, Option, Some, None, if◌then◌else◌}
+use Rattle.std.specs.Prelude.{ℕ, ◌==◌, ◌&&◌, Bool, List, codes, is_some, Option, Some, None, if◌then◌else◌}
 use Rattle.tox_log.specs.declared.last_line.BreakCause.{BreakCause}
 use Rattle.tox_log.specs.declared.replay.JudgedLog.{JudgedLog}
 use Rattle.tox_log.specs.declared.replay.Verdict.{Verdict}
@@ -42,4 +42,4 @@ outcome_from (verdict.Faithful (ending.Closed t)) broken whole reset = closed_ou
 
 -- what came of the stream of a judged log
 abbrev pub outcome_of : JudgedLog → Outcome
-outcome_of log = outcome_from log.verdict log.broken (log.source_ended && (log.said == log.heard)) log.source_reset
+outcome_of log = outcome_from log.verdict log.broken (is_some log.source_end && (log.said == log.heard)) log.source_reset

@@ -1,75 +1,58 @@
--- The page of some rows, and how it is written.
-use Rattle.std.specs.Prelude.{◌≡◌, ℕ, ◌+◌, Bool, true, false, List, [], ◌∷◌, ◌++◌, codes, flat_map, take, ltb, Option, Result, Ok, Err, string_bytes}
+-- The page of some logs, and how it is written.
+use Rattle.std.specs.Prelude.{◌≡◌, ℕ, ◌+◌, Bool, true, false, List, ◌++◌, codes, flat_map, length, take, ltb, Option, Result, Ok, Err}
 use Rattle.std.specs.List.{enumerate_from}
-use Rattle.std.specs.Option.{ForSome}
 use Rattle.std.specs.Io.KnownBytes.{append_known}
-use Rattle.std.specs.declared.string.String.{String}
-use Rattle.std.specs.declared.alloc.Global.{Global}
 use Rattle.tox_text.specs.Writing.{AppendsFront, Passes}
-use Rattle.tox_draw.specs.Drawn.{IsPictureOnPage}
 use Rattle.tox_draw.specs.declared.pages.fault.PageFault.{PageFault}
 use Rattle.tox_draw.specs.declared.pages.fault.PageFault.TheVariants.{OutOfMemory, WriteFault}
+use Rattle.tox_draw.specs.declared.pages.link_logs.LinkLogs.{LinkLogs}
+use Rattle.tox_draw.specs.declared.pages.row.Refusal.{Refusal}
 use Rattle.tox_draw.specs.declared.pages.row.Row.{Row}
-use Rattle.tox_draw.specs.declared.pages.row.StreamFacts.{StreamFacts}
-use Rattle.tox_draw.specs.declared.pages.row.Told.{Told}
-use Rattle.tox_draw.specs.declared.pages.row.Told.TheVariants.{Stream, Fault}
-use Rattle.tox_draw.specs.pages.Figures.{figure}
+use Rattle.tox_draw.specs.pages.Conversations.{AreSections}
 use Rattle.tox_draw.specs.pages.Fronts.{page_front}
+use Rattle.tox_draw.specs.pages.LinkLogs.{page_links}
 use Rattle.tox_draw.specs.pages.Links.{link_count}
-use Rattle.tox_draw.specs.pages.Logs.{KnownLog, OpensLog}
-use Rattle.tox_draw.specs.pages.Rows.{row_of}
+use Rattle.tox_draw.specs.pages.Logs.{KnownLog}
+use Rattle.tox_draw.specs.pages.Rows.{link_row, refusal_row}
 
--- a row at a place. It leads to its figure if it is one of the first, so many of them
-abbrev pub placed_row : ℕ → ℕ × Row → List ℕ
-placed_row pictures placed = row_of placed.1 (placed.0 + 1) (ltb placed.0 pictures)
+-- the row of a link at a place. It leads to its conversation if it is one of the first, so many of them
+abbrev pub placed_row : ℕ → ℕ × LinkLogs → List ℕ
+placed_row shown placed = link_row placed.1 (placed.0 + 1) (ltb placed.0 shown)
 
--- the rows of the table
-abbrev pub table_rows : List Row → ℕ → List ℕ
-table_rows rows pictures = flat_map (placed_row pictures) (enumerate_from 0 rows)
+-- the rows of the logs that can't be judged
+abbrev pub refusal_rows : List Refusal → List ℕ
+refusal_rows refusals = flat_map refusal_row refusals
+
+-- the rows of the links
+abbrev pub link_rows : List LinkLogs → ℕ → List ℕ
+link_rows links shown = flat_map (placed_row shown) (enumerate_from 0 links)
 
 -- behind the rows
 unfoldable pub table_end : List ℕ
-table_end = codes "</tbody>\n</table>\n</div>\n<h2>Pictures</h2>\n"
+table_end = codes "</tbody>\n</table>\n</div>\n<h2>Conversations</h2>\n"
 
--- behind the pictures
+-- behind the conversations
 unfoldable pub page_end : List ℕ
 page_end = codes "</main>\n</body>\n</html>\n"
 
--- the head, the totals and the table
-unfoldable pub page_table : List Row → ℕ → List ℕ
-page_table rows pictures =
-    page_front rows (link_count rows) ++ (table_rows rows pictures ++ table_end)
+-- the list of the logs that can't be judged and of the links
+unfoldable pub page_list : List Refusal → List LinkLogs → ℕ → List ℕ
+page_list refusals links shown =
+    refusal_rows refusals ++ (link_rows links shown ++ table_end)
 
--- a picture of the bytes that a reader of a log gave, under a number
-pub record IsPictureOfLog (known : KnownLog) (number : ℕ) (text : List ℕ) : Type 0 where
-  pub given : Option (List ℕ)
-  pub opened : OpensLog known given
-  pub drawn : IsPictureOnPage given number text
+-- the list and the conversations of the first links, so many of them, up to the end of the page
+pub record IsPageBody (known : List ℕ → KnownLog) (refusals : List Refusal) (links : List LinkLogs)
+    (shown : ℕ) (text : List ℕ) : Type 0 where
+  pub sections : List ℕ
+  pub drawn : AreSections known 1 (take shown links) sections
+  pub whole : text ≡ page_list refusals links shown ++ (sections ++ page_end)
 
--- a log's figure of this number, with its picture or the sentence that stands for one
-pub record IsFigure (known : KnownLog) (number : ℕ) (facts : StreamFacts) (text : List ℕ) : Type 0 where
-  pub picture : Option (String Global)
-  pub drawn : ForSome picture (λ shown. IsPictureOfLog known number (string_bytes shown))
-  pub is : text ≡ figure facts number picture
-
--- what stands for a log below the table: a figure, or nothing if it can't be judged
-abbrev pub StandsBelow : KnownLog → ℕ → Told → List ℕ → Type 0
-StandsBelow known number (Stream facts) text = IsFigure known number facts text
-StandsBelow known number (Fault fault) text = text ≡ []
-
--- what stands for some logs, of which the first has this number, by what is known of each name
-abbrev pub AreFigures : (List ℕ → KnownLog) → ℕ → List Row → List ℕ → Type 0
-AreFigures known number [] text = text ≡ []
-AreFigures known number (row ∷ rows) text =
-    (first : List ℕ) × (others : List ℕ)
-    × StandsBelow (known (string_bytes row.name)) number row.told first
-    × AreFigures known (number + 1) rows others × (text ≡ first ++ others)
-
--- the page of these rows, with pictures of the first, so many of them
-pub record IsPage (known : List ℕ → KnownLog) (rows : List Row) (pictures : ℕ) (text : List ℕ) : Type 0 where
-  pub figures : List ℕ
-  pub drawn : AreFigures known 1 (take pictures rows) figures
-  pub whole : text ≡ page_table rows pictures ++ (figures ++ page_end)
+-- the page of these logs under a title, with the conversations of the first links, so many of them
+pub record IsPage (known : List ℕ → KnownLog) (title : List ℕ) (refusals : List Refusal)
+    (rows : List Row) (shown : ℕ) (text : List ℕ) : Type 0 where
+  pub body : List ℕ
+  pub below : IsPageBody known refusals (page_links rows) shown body
+  pub whole : text ≡ page_front title (length refusals) rows (link_count rows) ++ body
 
 -- whether a fault is that of the writer
 abbrev pub is_writers : PageFault → Bool
@@ -99,9 +82,10 @@ LeavesPage (Ok done) old new failed text = (new ≡ append_known old text) × (f
 LeavesPage (Err fault) old new failed text =
     AppendsFront old new text × (failed ≡ is_writers fault)
 
--- the page of these rows was written
-pub record WritesPage (known : List ℕ → KnownLog) (result : Result (Unit {0}) PageFault)
-    (rows : List Row) (pictures : ℕ) (old new : Option (List ℕ)) (failed : Bool) : Type 0 where
+-- the page of these logs was written
+pub record WritesPage (known : List ℕ → KnownLog) (title : List ℕ)
+    (result : Result (Unit {0}) PageFault) (refusals : List Refusal) (rows : List Row) (shown : ℕ)
+    (old new : Option (List ℕ)) (failed : Bool) : Type 0 where
   pub text : List ℕ
-  pub page : IsPage known rows pictures text
+  pub page : IsPage known title refusals rows shown text
   pub left : LeavesPage result old new failed text

@@ -1,50 +1,37 @@
--- The rows that a report keeps.
-use Rattle.std.specs.Prelude.{◌≡◌, ℕ, ◌||◌, Bool, not, List, [], ◌∷◌, ◌++◌, codes, filter, Option, string_bytes}
+-- What a report keeps of logs.
+use Rattle.std.specs.Prelude.{◌≡◌, ℕ, Bool, true, false, List, [], ◌∷◌, ◌++◌, codes, Option, string_bytes}
 use Rattle.tox_words.specs.Seeded.{seeded_words}
 use Rattle.tox_defs.specs.Flow.{chain_draws}
 use Rattle.tox_log.specs.declared.fault.ReplayFault.{ReplayFault}
 use Rattle.tox_log.specs.declared.fault.ReplayFault.TheVariants.{OutOfMemory}
 use Rattle.tox_log.specs.declared.replay.JudgedLog.{JudgedLog}
 use Rattle.tox_log.specs.FaultText.{replay_fault_text}
-use Rattle.tox_draw.specs.Forms.{applied_forms}
-use Rattle.tox_draw.specs.declared.pages.kind.Kind.TheVariants as kind
+use Rattle.tox_draw.specs.Forms.{chosen_forms}
 use Rattle.tox_draw.specs.declared.pages.report.Report.{Report}
+use Rattle.tox_draw.specs.declared.pages.row.Refusal.{Refusal}
 use Rattle.tox_draw.specs.declared.pages.row.Row.{Row}
 use Rattle.tox_draw.specs.declared.pages.row.StreamFacts.{StreamFacts}
-use Rattle.tox_draw.specs.declared.pages.row.Told.{Told}
-use Rattle.tox_draw.specs.declared.pages.row.Told.TheVariants.{Stream, Fault}
-use Rattle.tox_draw.specs.pages.Kinds.{has}
 use Rattle.tox_draw.specs.pages.Logs.{IsJudged, KnownLog, OpensLog}
 use Rattle.tox_draw.specs.pages.Outcomes.{outcome_of}
+use Rattle.tox_draw.specs.pages.StreamEnds.{cutter_of, stream_end_of}
 
--- whether a row is marked: that of a log that can't be judged, or isn't faithful
-abbrev pub is_marked : Row → Bool
-is_marked row = has kind.Refused row || has kind.Unfaithful row
+-- a report keeps these logs that can't be judged, and these that were judged, in this order
+pub record KeepsLogs (report : Report) (refusals : List Refusal) (rows : List Row) : Type 0 where
+  pub refused : report.refusals.items ≡ refusals
+  pub judged : report.rows.items ≡ rows
 
--- the rows in the order of the page: those that are marked, and then the others
-abbrev pub page_order : List Row → List Row
-page_order rows = filter is_marked rows ++ filter (λ row. not (is_marked row)) rows
-
--- a report keeps these rows, which came in this order
-pub record KeepsRows (report : Report) (rows : List Row) : Type 0 where
-  pub marked : report.marked.items ≡ filter is_marked rows
-  pub unmarked : report.unmarked.items ≡ filter (λ row. not (is_marked row)) rows
-
--- all rows stay
+-- all logs stay
 abbrev pub KeepsOn : Report → Report → Type 0
-KeepsOn old new = (rows : List Row) → KeepsRows old rows → KeepsRows new rows
+KeepsOn old new = KeepsLogs new old.refusals.items old.rows.items
 
--- a row came behind all others
-abbrev pub AddsRow : Report → Row → Report → Type 0
-AddsRow old row new = (rows : List Row) → KeepsRows old rows → KeepsRows new (rows ++ row ∷ [])
+-- the words of a log's link and stream
+abbrev pub log_words : JudgedLog → List ℕ
+log_words log = seeded_words log.heading.seed log.heading.number log.heading.stream
 
--- the short forms of the toxics that the stream of a log met
-abbrev pub met_toxics : JudgedLog → List ℕ
-met_toxics log =
-    applied_forms
-    (chain_draws log.chain
-    (seeded_words log.heading.seed log.heading.number log.heading.stream))
-    (codes "") 0 log.chain.entries
+-- the short forms of the toxics that the stream of a log met, or of the others
+abbrev pub chosen_of : JudgedLog → Bool → List ℕ
+chosen_of log applied =
+    chosen_forms (chain_draws log.chain (log_words log)) applied (codes "") 0 log.chain.entries
 
 -- what a judged log says of its stream
 pub record IsStreamOf (log : JudgedLog) (facts : StreamFacts) : Type 0 where
@@ -52,37 +39,31 @@ pub record IsStreamOf (log : JudgedLog) (facts : StreamFacts) : Type 0 where
   pub link : facts.link ≡ log.heading.number
   pub stream : facts.stream ≡ log.heading.stream
   pub seed : facts.seed ≡ log.heading.seed
-  pub toxics : string_bytes facts.toxics ≡ met_toxics log
+  pub toxics : string_bytes facts.toxics ≡ chosen_of log true
+  pub skipped : string_bytes facts.skipped ≡ chosen_of log false
   pub heard : facts.heard ≡ log.heard
   pub said : facts.said ≡ log.said
   pub outcome : facts.outcome ≡ outcome_of log
+  pub end : facts.end
+      ≡ stream_end_of (outcome_of log) log.source_end log.source_reset
+      (cutter_of log.chain (log_words log))
   pub late : facts.late ≡ log.late
 
--- a judged log is told by what it says of its stream
-abbrev pub TellsStream : JudgedLog → Told → Type 0
-TellsStream log (Stream facts) = IsStreamOf log facts
-TellsStream log (Fault fault) = ⊥
-
--- a fault is told by its text
-abbrev pub TellsFault : ReplayFault → Told → Type 0
-TellsFault fault (Stream facts) = ⊥
-TellsFault fault (Fault text) = string_bytes text ≡ replay_fault_text fault
-
--- a row came for the log of this name, which was judged so
+-- the log of this name, which was judged so, came behind the others
 pub record KeepsLog (name : List ℕ) (log : JudgedLog) (old new : Report) : Type 0 where
   pub row : Row
   pub named : string_bytes row.name ≡ name
-  pub told : TellsStream log row.told
-  pub added : AddsRow old row new
+  pub told : IsStreamOf log row.facts
+  pub added : KeepsLogs new old.refusals.items (old.rows.items ++ row ∷ [])
 
--- a row came for the log of this name, which can't be judged for this fault
+-- the log of this name, which can't be judged for this fault, came behind the others
 pub record KeepsFault (name : List ℕ) (fault : ReplayFault) (old new : Report) : Type 0 where
-  pub row : Row
-  pub named : string_bytes row.name ≡ name
-  pub told : TellsFault fault row.told
-  pub added : AddsRow old row new
+  pub refusal : Refusal
+  pub named : string_bytes refusal.name ≡ name
+  pub told : string_bytes refusal.fault ≡ replay_fault_text fault
+  pub added : KeepsLogs new (old.refusals.items ++ refusal ∷ []) old.rows.items
 
--- the log of this name was opened and judged, and a row came for it
+-- the log of this name was opened and judged, and came behind the others
 pub record TakesLog (known : KnownLog) (name : List ℕ) (old new : Report) : Type 0 where
   pub given : Option (List ℕ)
   pub opened : OpensLog known given
@@ -90,7 +71,7 @@ pub record TakesLog (known : KnownLog) (name : List ℕ) (old new : Report) : Ty
   pub judged : IsJudged given log
   pub kept : KeepsLog name log old new
 
--- what a fault leaves: a row with its text. Out of memory the rows stay
+-- what a fault leaves: the log with its text. Out of memory all logs stay
 abbrev pub RefusesLog : List ℕ → Report → Report → ReplayFault → Type 0
 RefusesLog name old new OutOfMemory = KeepsOn old new
 RefusesLog name old new fault = KeepsFault name fault old new

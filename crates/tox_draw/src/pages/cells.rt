@@ -1,9 +1,10 @@
 //! The cells of a row.
 ghost use Rattle.std.specs.Prelude.{◌≡◌, OnOk};
 ghost use Rattle.tox_draw.specs.Adding.{AddsText};
-ghost use Rattle.tox_draw.specs.pages.Cells.{counted_cell, number_cell, text_cell, word_cell};
+ghost use Rattle.tox_draw.specs.pages.Cells.{instant_cell, millis_cell, number_cell, text_cell, word_cell};
 
 use crate::pages::escaping::Escaped;
+use crate::pages::millis::Millis;
 use std::alloc::AllocError;
 
 /// Adds a cell of a text, behind its tag.
@@ -15,24 +16,34 @@ pub(crate) fn push_text_cell(text: &mut String, tag: &str, word: &str) -> Result
     write!(text, "{tag}{word}</td>")
 }
 
-/// Adds a cell of a number behind a mark.
+/// Adds a cell of a number.
 #[tactic(auto, unfolding(crate::specs::pages::Cells::number_cell))]
-pub(crate) fn push_number_cell(text: &mut String, mark: &str, number: u64) -> Result<(), AllocError>
-    ensures { OnOk result (AddsText text.old text.new (number_cell mark.now number)) }
+pub(crate) fn push_number_cell(text: &mut String, number: u64) -> Result<(), AllocError>
+    ensures { OnOk result (AddsText text.old text.new (number_cell number)) }
 {
-    write!(text, "<td class=\"number\">{mark}{number}</td>")
+    write!(text, "<td class=\"number\">{number}</td>")
 }
 
-/// Adds a cell of a word and a number.
-#[tactic(auto, unfolding(crate::specs::pages::Cells::counted_cell))]
-pub(crate) fn push_counted_cell(
+/// Adds a cell of microseconds in milliseconds, behind a mark.
+#[tactic(auto, unfolding(crate::specs::pages::Cells::millis_cell))]
+pub(crate) fn push_millis_cell(text: &mut String, mark: &str, micros: u64) -> Result<(), AllocError>
+    ensures { OnOk result (AddsText text.old text.new (millis_cell mark.now micros)) }
+{
+    let millis = Millis(micros);
+    write!(text, "<td class=\"number\">{mark}{millis}</td>")
+}
+
+/// Adds a cell of a word and an instant.
+#[tactic(auto, unfolding(crate::specs::pages::Cells::instant_cell))]
+pub(crate) fn push_instant_cell(
     text: &mut String,
     word: &str,
-    number: u64,
+    micros: u64,
 ) -> Result<(), AllocError>
-    ensures { OnOk result (AddsText text.old text.new (counted_cell word.now number)) }
+    ensures { OnOk result (AddsText text.old text.new (instant_cell word.now micros)) }
 {
-    write!(text, "<td>{word}{number}</td>")
+    let millis = Millis(micros);
+    write!(text, "<td>{word}{millis}</td>")
 }
 
 /// Adds a cell of a word.

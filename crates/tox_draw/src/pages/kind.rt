@@ -3,15 +3,11 @@ ghost use Rattle.std.specs.Prelude.{◌≡◌, ◌≤◌, count_by, length};
 ghost use Rattle.tox_draw.specs.pages.Kinds.{has, is_broken, is_cut, is_reset, is_unfaithful, is_unfinished, outcome_has};
 
 use crate::pages::outcome::Outcome;
-use crate::pages::row::{Row, Told};
+use crate::pages::row::Row;
 
 /// What the totals count.
 #[derive(Clone, Copy)]
 pub(crate) enum Kind {
-    /// Logs that were judged.
-    Judged,
-    /// Logs that can't be judged.
-    Refused,
     Reset,
     Cut,
     Broken,
@@ -37,19 +33,14 @@ pub(crate) fn count_of(rows: &[Row], kind: Kind) -> u64
 pub(crate) fn has(kind: Kind, row: &Row) -> bool
     ensures { result ≡ has kind row.now }
 {
-    match &row.told {
-        Told::Fault(_) => matches!(kind, Kind::Refused),
-        Told::Stream(facts) => outcome_has(kind, &facts.outcome),
-    }
+    outcome_has(kind, &row.facts.outcome)
 }
 
-/// Whether a judged log is of a kind.
+/// Whether an outcome is of a kind.
 fn outcome_has(kind: Kind, outcome: &Outcome) -> bool
     ensures { result ≡ outcome_has kind outcome.now }
 {
     match kind {
-        Kind::Judged => true,
-        Kind::Refused => false,
         Kind::Reset => matches!(outcome, Outcome::Reset(_)),
         Kind::Cut => matches!(outcome, Outcome::Cut(_)),
         Kind::Broken => matches!(outcome, Outcome::Broken(_)),

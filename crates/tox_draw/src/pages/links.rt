@@ -2,7 +2,7 @@
 ghost use Rattle.std.specs.Prelude.{◌≡◌, IfOk};
 ghost use Rattle.tox_draw.specs.pages.Links.{link_count};
 
-use crate::pages::row::{Row, Told};
+use crate::pages::row::Row;
 use std::alloc::{AllocError, Global};
 use std::collections::HashSet;
 
@@ -19,12 +19,9 @@ pub(crate) fn link_count(alloc: Global, rows: &[Row]) -> Result<u64, AllocError>
 {
     let mut links = HashSet::new(alloc);
     for row in rows {
-        let Told::Stream(facts) = &row.told else {
-            continue;
-        };
         links.insert(LinkName {
-            proxy: facts.proxy.as_str(),
-            number: facts.link,
+            proxy: row.facts.proxy.as_str(),
+            number: row.facts.link,
         })?;
     }
     Ok(links.len() as u64)

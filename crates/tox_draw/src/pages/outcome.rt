@@ -33,7 +33,7 @@ impl Outcome {
             Verdict::Faithful(Ending::StillOpen) => Outcome::Open,
             Verdict::Faithful(Ending::Reset(instant)) => Outcome::Reset(instant),
             Verdict::Faithful(Ending::Closed(instant)) => {
-                let whole = log.source_ended && log.said == log.heard;
+                let whole = log.source_end.is_some() && log.said == log.heard;
                 closed(instant, whole, log.source_reset)
             }
         }

@@ -1,70 +1,54 @@
-//! The page of a report: the rows, and then the pictures.
-ghost use Rattle.std.specs.Prelude.{◌≡◌, ◌≤◌, ◌<◌, ◌^◌, List, false, length, ltb, string_bytes, take, IfOk, OnOk};
-ghost use Rattle.std.specs.Option.{ForSome};
+//! The page of a report: the list of the links, and then their conversations.
+ghost use Rattle.std.specs.Prelude.{◌≡◌, List, false, length, string_bytes, IfOk, OnOk};
+ghost use Rattle.tox_draw.specs.declared.pages.row.Refusal.{Refusal as OneRefusal};
 ghost use Rattle.tox_draw.specs.declared.pages.row.Row.{Row as OneRow};
-ghost use Rattle.tox_draw.specs.pages.Figures.{figure};
 ghost use Rattle.tox_draw.specs.pages.Fronts.{page_front};
 ghost use Rattle.tox_draw.specs.pages.Links.{link_count};
-ghost use Rattle.tox_draw.specs.pages.Pages.{AreFigures, IsFigure, IsPage, IsPictureOfLog, LeavesPage, Shows, ShowsSome, StandsBelow, WritesPage, page_end, page_table, table_end, table_rows};
-ghost use Rattle.tox_draw.specs.pages.Reports.{KeepsRows, page_order};
-ghost use Rattle.tox_draw.specs.pages.Rows.{row_of};
+ghost use Rattle.tox_draw.specs.pages.Pages.{IsPage, IsPageBody, LeavesPage, Shows, ShowsSome, WritesPage, link_rows, page_end, page_list, refusal_rows, table_end};
+ghost use Rattle.tox_draw.specs.pages.Reports.{KeepsLogs};
+ghost use Rattle.tox_draw.specs.pages.Rows.{link_row, refusal_row};
 
+use crate::pages::conversations::print_sections;
 use crate::pages::fault::PageFault;
-use crate::pages::figure::push_figure;
 use crate::pages::front::push_front;
+use crate::pages::link_logs::LinkLogs;
 use crate::pages::links::link_count;
 use crate::pages::log_store::LogStore;
+use crate::pages::ordering::page_links;
 use crate::pages::report::Report;
-use crate::pages::row::{Row, StreamFacts, Told};
-use crate::pages::table::push_row;
-use crate::recorded::log_picture;
+use crate::pages::row::{Refusal, Row};
+use crate::pages::table::{push_link_row, push_refusal_row};
 use std::alloc::{AllocError, Global};
-use tox_log::LogFault;
 use tox_text::Buffer;
 use tox_text::Part::Word;
 use tox_time::Sink;
 
 /// Behind the rows.
-const TABLE_END: &str = "</tbody>\n</table>\n</div>\n<h2>Pictures</h2>\n";
+const TABLE_END: &str = "</tbody>\n</table>\n</div>\n<h2>Conversations</h2>\n";
 
-/// Behind the pictures.
+/// Behind the conversations.
 const PAGE_END: &str = "</main>\n</body>\n</html>\n";
 
 impl Report {
-    /// Writes the page: the totals, a row for each log, and the pictures of the first rows, at most so many. Their logs are
-    /// read again. After an `Err` a prefix of the page is written.
+    /// Writes the page under a title: the totals, the list of the links, and the conversations of the first links, at most so
+    /// many. Their logs are read again. After an `Err` a prefix of the page is written.
     pub fn write<S: LogStore, W: Sink>(
         self,
         alloc: Global,
         store: &S,
-        pictures: usize,
+        title: &str,
+        shown: usize,
         writer: &mut W,
     ) -> Result<(), PageFault>
         requires { W.failed writer.old ≡ false }
-        ensures { (rows : List OneRow) → KeepsRows self rows
-            → WritesPage (S.known store.now) result (page_order rows) pictures
+        ensures { (refusals : List OneRefusal) (rows : List OneRow) → KeepsLogs self refusals rows
+            → WritesPage (S.known store.now) title.now result refusals rows shown
             (W.written writer.old) (W.written writer.new) (W.failed writer.new) }
     {
-        let rows = self.into_rows()?;
-        write_rows(alloc, store, &rows, pictures, writer)
+        let mut buffer = Buffer::new();
+        print_page(alloc, &mut buffer, writer, store, title, self, shown)?;
+        flush(&mut buffer, writer)
     }
-}
-
-/// Writes the page of these rows.
-fn write_rows<S: LogStore, W: Sink>(
-    alloc: Global,
-    store: &S,
-    rows: &[Row],
-    pictures: usize,
-    writer: &mut W,
-) -> Result<(), PageFault>
-    requires { W.failed writer.old ≡ false }
-    ensures { WritesPage (S.known store.now) result rows.now pictures (W.written writer.old)
-        (W.written writer.new) (W.failed writer.new) }
-{
-    let mut buffer = Buffer::new();
-    print_page(alloc, &mut buffer, writer, store, rows, pictures)?;
-    flush(&mut buffer, writer)
 }
 
 fn flush<W: Sink>(buffer: &mut Buffer, writer: &mut W) -> Result<(), PageFault>
@@ -83,35 +67,41 @@ fn print_page<S: LogStore, W: Sink>(
     buffer: &mut Buffer,
     writer: &mut W,
     store: &S,
-    rows: &[Row],
-    pictures: usize,
+    title: &str,
+    report: Report,
+    shown: usize,
 ) -> Result<(), PageFault>
     requires { W.failed writer.old ≡ false }
-    ensures { ShowsSome (IsPage (S.known store.now) rows.now pictures)
+    ensures { ShowsSome
+        (IsPage (S.known store.now) title.now report.refusals.items report.rows.items shown)
         result (W.written writer.old) buffer.old (W.written writer.new) buffer.new
         (W.failed writer.new) }
 {
-    print_table(alloc, buffer, writer, rows, pictures)?;
-    let count = rows.len().min(pictures);
-    print_figures(alloc, buffer, writer, store, rows, count)?;
-    print_page_end(buffer, writer)
+    let Report { refusals, rows } = report;
+    print_front(alloc, buffer, writer, title, &refusals, &rows)?;
+    let links = page_links(alloc, rows)?;
+    print_body(alloc, buffer, writer, store, &refusals, &links, shown)
 }
 
-/// Prints the head, the totals and the table.
-fn print_table<W: Sink>(
+/// Prints the list, and the conversations of so many of the first links.
+fn print_body<S: LogStore, W: Sink>(
     alloc: Global,
     buffer: &mut Buffer,
     writer: &mut W,
-    rows: &[Row],
-    pictures: usize,
+    store: &S,
+    refusals: &[Refusal],
+    links: &[LinkLogs],
+    shown: usize,
 ) -> Result<(), PageFault>
     requires { W.failed writer.old ≡ false }
-    ensures { Shows result (W.written writer.old) buffer.old (W.written writer.new) buffer.new
-        (W.failed writer.new) (page_table rows.now pictures) }
+    ensures { ShowsSome (IsPageBody (S.known store.now) refusals.now links.now shown)
+        result (W.written writer.old) buffer.old (W.written writer.new) buffer.new
+        (W.failed writer.new) }
 {
-    print_front(alloc, buffer, writer, rows)?;
-    print_rows(alloc, buffer, writer, rows, pictures)?;
-    print_table_end(buffer, writer)
+    print_list(alloc, buffer, writer, refusals, links, shown)?;
+    let count = links.len().min(shown);
+    print_sections(alloc, buffer, writer, store, links, count)?;
+    print_page_end(buffer, writer)
 }
 
 /// Prints all that stands before the rows.
@@ -119,27 +109,39 @@ fn print_front<W: Sink>(
     alloc: Global,
     buffer: &mut Buffer,
     writer: &mut W,
+    title: &str,
+    refusals: &[Refusal],
     rows: &[Row],
 ) -> Result<(), PageFault>
     requires { W.failed writer.old ≡ false }
     ensures { Shows result (W.written writer.old) buffer.old (W.written writer.new) buffer.new
-        (W.failed writer.new) (page_front rows.now (link_count rows.now)) }
+        (W.failed writer.new)
+        (page_front title.now (length refusals.now) rows.now (link_count rows.now)) }
 {
-    let text = front_text(alloc, rows)?;
+    let text = front_text(alloc, title, refusals, rows)?;
     print_text(buffer, writer, text.as_str())
 }
 
-fn front_text(alloc: Global, rows: &[Row]) -> Result<String, AllocError>
-    ensures { IfOk result
-        (λ text. string_bytes text ≡ page_front rows.now (link_count rows.now)) }
+fn front_text(
+    alloc: Global,
+    title: &str,
+    refusals: &[Refusal],
+    rows: &[Row],
+) -> Result<String, AllocError>
+    ensures { IfOk result (λ text. string_bytes text
+        ≡ page_front title.now (length refusals.now) rows.now (link_count rows.now)) }
 {
     let links = link_count(alloc, rows)?;
     let mut text = String::new(alloc);
-    push_front(&mut text, rows, links)?;
+    push_front(&mut text, title, refusals, rows, links)?;
     Ok(text)
 }
 
-fn print_text<W: Sink>(buffer: &mut Buffer, writer: &mut W, text: &str) -> Result<(), PageFault>
+pub(crate) fn print_text<W: Sink>(
+    buffer: &mut Buffer,
+    writer: &mut W,
+    text: &str,
+) -> Result<(), PageFault>
     requires { W.failed writer.old ≡ false }
     ensures { Shows result (W.written writer.old) buffer.old (W.written writer.new) buffer.new
         (W.failed writer.new) text.now }
@@ -148,6 +150,24 @@ fn print_text<W: Sink>(buffer: &mut Buffer, writer: &mut W, text: &str) -> Resul
         Ok(()) => Ok(()),
         Err(_) => Err(PageFault::WriteFault),
     }
+}
+
+/// Prints the rows of the logs that can't be judged, and those of the links. So many of the first lead to conversations.
+fn print_list<W: Sink>(
+    alloc: Global,
+    buffer: &mut Buffer,
+    writer: &mut W,
+    refusals: &[Refusal],
+    links: &[LinkLogs],
+    shown: usize,
+) -> Result<(), PageFault>
+    requires { W.failed writer.old ≡ false }
+    ensures { Shows result (W.written writer.old) buffer.old (W.written writer.new) buffer.new
+        (W.failed writer.new) (page_list refusals.now links.now shown) }
+{
+    print_refusals(alloc, buffer, writer, refusals)?;
+    print_links(alloc, buffer, writer, links, shown)?;
+    print_table_end(buffer, writer)
 }
 
 #[tactic(auto, unfolding(crate::specs::pages::Pages::table_end))]
@@ -168,138 +188,57 @@ fn print_page_end<W: Sink>(buffer: &mut Buffer, writer: &mut W) -> Result<(), Pa
     print_text(buffer, writer, PAGE_END)
 }
 
-/// Prints the rows. So many of the first lead to pictures.
-fn print_rows<W: Sink>(
+/// Prints the rows of the logs that can't be judged.
+fn print_refusals<W: Sink>(
     alloc: Global,
     buffer: &mut Buffer,
     writer: &mut W,
-    rows: &[Row],
-    pictures: usize,
+    refusals: &[Refusal],
 ) -> Result<(), PageFault>
     requires { W.failed writer.old ≡ false }
     ensures { Shows result (W.written writer.old) buffer.old (W.written writer.new) buffer.new
-        (W.failed writer.new) (table_rows rows.now pictures) }
+        (W.failed writer.new) (refusal_rows refusals.now) }
 {
     let mut text = String::new(alloc);
-    for (place, row) in rows.iter().enumerate() {
-        set_row(&mut text, row, place as u64 + 1, place < pictures)?;
+    for refusal in refusals {
+        set_refusal(&mut text, refusal)?;
         print_text(buffer, writer, text.as_str())?;
     }
     Ok(())
 }
 
-/// Makes a text that of a row.
-fn set_row(text: &mut String, row: &Row, number: u64, linked: bool) -> Result<(), AllocError>
-    ensures { OnOk result (string_bytes text.new ≡ row_of row.now number linked) }
+/// Makes a text the row of a log that can't be judged.
+fn set_refusal(text: &mut String, refusal: &Refusal) -> Result<(), AllocError>
+    ensures { OnOk result (string_bytes text.new ≡ refusal_row refusal.now) }
 {
     text.clear();
-    push_row(text, row, number, linked)
+    push_refusal_row(text, refusal)
 }
 
-/// Prints the figures of so many of the first rows.
-fn print_figures<S: LogStore, W: Sink>(
+/// Prints the rows of the links. So many of the first lead to conversations.
+fn print_links<W: Sink>(
     alloc: Global,
     buffer: &mut Buffer,
     writer: &mut W,
-    store: &S,
-    rows: &[Row],
-    count: usize,
+    links: &[LinkLogs],
+    shown: usize,
 ) -> Result<(), PageFault>
-    requires works { W.failed writer.old ≡ false }
-    requires there { count ≤ length rows.now }
-    ensures { ShowsSome (AreFigures (S.known store.now) 1 (take count rows.now))
-        result (W.written writer.old) buffer.old (W.written writer.new) buffer.new
-        (W.failed writer.new) }
+    requires { W.failed writer.old ≡ false }
+    ensures { Shows result (W.written writer.old) buffer.old (W.written writer.new) buffer.new
+        (W.failed writer.new) (link_rows links.now shown) }
 {
-    for place in 0..count {
-        print_figure(alloc, buffer, writer, store, &rows[place], place as u64 + 1)?;
+    let mut text = String::new(alloc);
+    for (place, link) in links.iter().enumerate() {
+        set_row(&mut text, link, place as u64 + 1, place < shown)?;
+        print_text(buffer, writer, text.as_str())?;
     }
     Ok(())
 }
 
-/// Prints the figure of a row. A log that can't be judged has none.
-fn print_figure<S: LogStore, W: Sink>(
-    alloc: Global,
-    buffer: &mut Buffer,
-    writer: &mut W,
-    store: &S,
-    row: &Row,
-    number: u64,
-) -> Result<(), PageFault>
-    requires { W.failed writer.old ≡ false }
-    ensures { ShowsSome
-        (StandsBelow (S.known store.now (string_bytes row.now.name)) number row.now.told)
-        result (W.written writer.old) buffer.old (W.written writer.new) buffer.new
-        (W.failed writer.new) }
+/// Makes a text the row of a link.
+fn set_row(text: &mut String, link: &LinkLogs, number: u64, linked: bool) -> Result<(), AllocError>
+    ensures { OnOk result (string_bytes text.new ≡ link_row link.now number linked) }
 {
-    match &row.told {
-        Told::Stream(facts) => {
-            print_drawn(
-                alloc,
-                buffer,
-                writer,
-                store,
-                row.name.as_str(),
-                facts,
-                number,
-            )
-        }
-        Told::Fault(_) => Ok(()),
-    }
-}
-
-/// Prints the figure of the log of this name.
-fn print_drawn<S: LogStore, W: Sink>(
-    alloc: Global,
-    buffer: &mut Buffer,
-    writer: &mut W,
-    store: &S,
-    name: &str,
-    facts: &StreamFacts,
-    number: u64,
-) -> Result<(), PageFault>
-    requires { W.failed writer.old ≡ false }
-    ensures { ShowsSome (IsFigure (S.known store.now name.now) number facts.now)
-        result (W.written writer.old) buffer.old (W.written writer.new) buffer.new
-        (W.failed writer.new) }
-{
-    let picture = picture_of(alloc, store, name, number)?;
-    let text = figure_text(alloc, facts, number, &picture)?;
-    print_text(buffer, writer, text.as_str())
-}
-
-fn figure_text(
-    alloc: Global,
-    facts: &StreamFacts,
-    number: u64,
-    picture: &Option<String>,
-) -> Result<String, AllocError>
-    ensures { IfOk result (λ text. string_bytes text ≡ figure facts.now number picture.now) }
-{
-    let mut text = String::new(alloc);
-    push_figure(&mut text, facts, number, picture)?;
-    Ok(text)
-}
-
-/// The picture of the log of this name. None if the log can't be read again.
-fn picture_of<S: LogStore>(
-    alloc: Global,
-    store: &S,
-    name: &str,
-    number: u64,
-) -> Result<Option<String>, AllocError>
-    ensures { IfOk result (λ picture. ForSome picture
-        (λ shown. IsPictureOfLog (S.known store.now name.now) number (string_bytes shown))) }
-{
-    let Some(mut first) = store.open(name) else {
-        return Ok(None);
-    };
-    let Some(mut second) = store.open(name) else {
-        return Ok(None);
-    };
-    match log_picture(alloc, &mut first, &mut second, number) {
-        Ok(picture) => Ok(Some(picture)),
-        Err(LogFault::OutOfMemory) => Err(AllocError),
-        Err(_) => Ok(None),
-    }
+    text.clear();
+    push_link_row(text, link, number, linked)
 }

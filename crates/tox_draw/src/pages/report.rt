@@ -1,39 +1,40 @@
 //! The logs of a run, judged one by one.
-ghost use Rattle.std.specs.Prelude.{◌≡◌, List, [], ◌∷◌, ◌++◌, None, Some, Err, count_by, string_bytes, IsErr, IfOk, IfErr, OnOk, OnErr, ◌⊎◌};
+ghost use Rattle.std.specs.Prelude.{◌≡◌, List, [], ◌∷◌, ◌++◌, None, Some, Err, count_by, string_bytes, IsErr, IfErr, OnOk, OnErr, ◌⊎◌};
 ghost use Rattle.tox_log.specs.FaultText.{IsFaultIn};
-ghost use Rattle.tox_draw.specs.pages.Kinds.{has};
+ghost use Rattle.tox_draw.specs.declared.pages.row.Refusal.{Refusal as OneRefusal};
 ghost use Rattle.tox_draw.specs.declared.pages.row.Row.{Row as OneRow};
-ghost use Rattle.tox_draw.specs.pages.Reports.{AddsRow, KeepsRows, KeepsFault, KeepsLog, KeepsOn, RefusesLog, TakesLog, TellsFault, page_order};
+ghost use Rattle.tox_draw.specs.pages.Kinds.{has};
+ghost use Rattle.tox_draw.specs.pages.Reports.{KeepsFault, KeepsLog, KeepsLogs, KeepsOn, RefusesLog, TakesLog};
 
 use crate::pages::judging::facts_of;
 use crate::pages::kind::{Kind, count_of};
 use crate::pages::log_store::LogStore;
-use crate::pages::row::{Row, Told};
+use crate::pages::row::{Refusal, Row};
 use std::alloc::{AllocError, Global};
 use tox_log::{JudgedLog, ReplayFault, judge_log};
 
-/// The logs of a run, judged. Keeps a row for each.
+/// The logs of a run, judged, in the order given.
 #[derive(Drop)]
 pub struct Report {
-    /// The logs that can't be judged or aren't faithful, in the order given.
-    marked: Vec<Row>,
+    /// The logs that can't be judged.
+    pub(crate) refusals: Vec<Refusal>,
     /// The others.
-    unmarked: Vec<Row>,
+    pub(crate) rows: Vec<Row>,
 }
 
 impl Report {
     /// No log yet.
     pub fn new(alloc: Global) -> Report
-        ensures { KeepsRows result [] }
+        ensures { KeepsLogs result [] [] }
     {
         Report {
-            marked: Vec::new(alloc),
-            unmarked: Vec::new(alloc),
+            refusals: Vec::new(alloc),
+            rows: Vec::new(alloc),
         }
     }
 
-    /// Judges the log of this name. One that can't be judged has a row with its fault, which is returned too. After
-    /// [`OutOfMemory`](ReplayFault::OutOfMemory) it has no row.
+    /// Judges the log of this name. Of one that can't be judged the fault is kept, and returned too. After
+    /// [`OutOfMemory`](ReplayFault::OutOfMemory) the log isn't kept.
     pub fn judge<'a, S: LogStore>(
         &mut self,
         alloc: Global,
@@ -59,24 +60,13 @@ impl Report {
 
     /// How many logs are unfaithful.
     pub fn unfaithful(&self) -> u64
-        ensures { (rows : List OneRow) → KeepsRows self.now rows
-            → result ≡ count_by (has Kind.Unfaithful) rows }
+        ensures { (refusals : List OneRefusal) (rows : List OneRow)
+            → KeepsLogs self.now refusals rows → result ≡ count_by (has Kind.Unfaithful) rows }
     {
-        count_of(&self.marked, Kind::Unfaithful)
+        count_of(&self.rows, Kind::Unfaithful)
     }
 
-    /// The rows in the order of the page.
-    pub(crate) fn into_rows(self) -> Result<Vec<Row>, AllocError>
-        ensures { IfOk result (λ ordered. (rows : List OneRow) → KeepsRows self rows
-            → ordered.items ≡ page_order rows) }
-    {
-        let mut rows = self.marked;
-        let mut unmarked = self.unmarked;
-        rows.append(&mut unmarked)?;
-        Ok(rows)
-    }
-
-    /// Adds the row of a log that was judged.
+    /// Keeps a log that was judged.
     fn keep_log<'a>(
         &mut self,
         alloc: Global,
@@ -97,11 +87,13 @@ impl Report {
         ensures ok { OnOk result (KeepsLog name.now log.now self.old self.new) }
         ensures kept { OnErr result (KeepsOn self.old self.new) }
     {
-        let told = Told::Stream(facts_of(alloc, log)?);
-        self.add(alloc, name, told)
+        let facts = facts_of(alloc, log)?;
+        let name = String::from_str(alloc, name)?;
+        self.rows.push(Row { name, facts })?;
+        Ok(())
     }
 
-    /// Adds the row of a log that can't be judged, and returns its fault.
+    /// Keeps a log that can't be judged, and returns its fault.
     fn keep_fault<'a>(
         &mut self,
         alloc: Global,
@@ -130,31 +122,9 @@ impl Report {
         ensures ok { OnOk result (KeepsFault name.now fault.now self.old self.new) }
         ensures kept { OnErr result (KeepsOn self.old self.new) }
     {
-        let told = Told::Fault(format!(in alloc; "{fault}")?);
-        self.add(alloc, name, told)
+        let name = String::from_str(alloc, name)?;
+        let fault = format!(in alloc; "{fault}")?;
+        self.refusals.push(Refusal { name, fault })?;
+        Ok(())
     }
-
-    fn add(&mut self, alloc: Global, name: &str, told: Told) -> Result<(), AllocError>
-        ensures ok { OnOk result ((row : OneRow) × (string_bytes row.name ≡ name.now)
-            × (row.told ≡ told) × AddsRow self.old row self.new) }
-        ensures kept { OnErr result (KeepsOn self.old self.new) }
-    {
-        let row = Row {
-            name: String::from_str(alloc, name)?,
-            told,
-        };
-        if row.is_marked() {
-            push_row(&mut self.marked, row)
-        } else {
-            push_row(&mut self.unmarked, row)
-        }
-    }
-}
-
-fn push_row(rows: &mut Vec<Row>, row: Row) -> Result<(), AllocError>
-    ensures ok { OnOk result (rows.new.items ≡ rows.old.items ++ row ∷ []) }
-    ensures kept { OnErr result (rows.new.items ≡ rows.old.items) }
-{
-    rows.push(row)?;
-    Ok(())
 }

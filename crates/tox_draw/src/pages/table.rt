@@ -1,33 +1,25 @@
-//! The rows of the table.
-ghost use Rattle.std.specs.Prelude.{◌≡◌, codes, OnOk};
-ghost use Rattle.tox_draw.specs.pages.Cells.{text_cell};
+//! The rows of the list: the logs that can't be judged, and the links.
+ghost use Rattle.std.specs.Prelude.{◌≡◌, OnOk};
 ghost use Rattle.tox_draw.specs.Adding.{AddsText};
-ghost use Rattle.tox_draw.specs.pages.Rows.{broken_cell, count_cells, ending_cell, exactness, fault_row, late_cells, link_cells, percentile_cells, result_cells, row_head, row_of, row_tag, stream_row, sum_cells, timed_cells, verdict_cell};
+ghost use Rattle.tox_draw.specs.pages.Rows.{fact_cells, fault_row, head_cells, latest_cell, link_row, mark_tag, no_cells, one_cells, opposite_cells, outcome_cells, refusal_row, row_head, stream_cells, unfaithful_words, verdict_words};
 
-use crate::pages::cells::{push_counted_cell, push_number_cell, push_text_cell, push_word_cell};
+use crate::pages::cells::{push_millis_cell, push_number_cell, push_word_cell};
 use crate::pages::escaping::Escaped;
+use crate::pages::link_logs::LinkLogs;
 use crate::pages::outcome::Outcome;
-use crate::pages::row::{Row, StreamFacts, Told};
+use crate::pages::row::{Refusal, StreamFacts};
+use crate::pages::stream_row::{push_count_cells, push_toxics};
 use crate::parts::push_word;
 use std::alloc::AllocError;
-use tox_log::Percentiles;
-
-/// Adds the row of a log. A linked one leads to the picture of this number.
-pub(crate) fn push_row(
-    text: &mut String,
-    row: &Row,
-    number: u64,
-    linked: bool,
-) -> Result<(), AllocError>
-    ensures { OnOk result (AddsText text.old text.new (row_of row.now number linked)) }
-{
-    match &row.told {
-        Told::Stream(facts) => push_stream_row(text, facts, number, linked),
-        Told::Fault(fault) => push_fault_row(text, row.name.as_str(), fault.as_str()),
-    }
-}
+use tox_time::Stream;
 
 /// Adds the row of a log that can't be judged.
+pub(crate) fn push_refusal_row(text: &mut String, refusal: &Refusal) -> Result<(), AllocError>
+    ensures { OnOk result (AddsText text.old text.new (refusal_row refusal.now)) }
+{
+    push_fault_row(text, refusal.name.as_str(), refusal.fault.as_str())
+}
+
 #[tactic(auto, unfolding(crate::specs::pages::Rows::fault_row))]
 fn push_fault_row(text: &mut String, name: &str, fault: &str) -> Result<(), AllocError>
     ensures { OnOk result (AddsText text.old text.new (fault_row name.now fault.now)) }
@@ -40,67 +32,50 @@ fn push_fault_row(text: &mut String, name: &str, fault: &str) -> Result<(), Allo
     )
 }
 
-/// Adds the row of a log that was judged.
-#[tactic(auto, using(crate::proofs::Growing::adds_then), unfolding(crate::specs::pages::Rows::stream_row))]
-fn push_stream_row(
+/// Adds the row of a link. A linked one leads to the conversation of this number.
+#[tactic(auto, using(crate::proofs::Growing::adds_then), unfolding(crate::specs::pages::Rows::link_row))]
+pub(crate) fn push_link_row(
     text: &mut String,
-    facts: &StreamFacts,
+    link: &LinkLogs,
     number: u64,
     linked: bool,
 ) -> Result<(), AllocError>
-    ensures { OnOk result (AddsText text.old text.new (stream_row facts.now number linked)) }
+    ensures { OnOk result (AddsText text.old text.new (link_row link.now number linked)) }
 {
-    push_link_cells(text, facts, number, linked)?;
-    push_result_cells(text, facts)
+    push_head_cells(text, link, number, linked)?;
+    push_fact_cells(text, link)?;
+    push_outcome_cells(text, link)
 }
 
-/// Adds a row up to its toxics: what tells the stream.
-#[tactic(auto, using(crate::proofs::Growing::adds_then), unfolding(crate::specs::pages::Rows::link_cells))]
-fn push_link_cells(
+/// Adds a row up to who ended the link.
+#[tactic(auto, using(crate::proofs::Growing::adds_then), unfolding(crate::specs::pages::Rows::head_cells))]
+fn push_head_cells(
     text: &mut String,
-    facts: &StreamFacts,
+    link: &LinkLogs,
     number: u64,
     linked: bool,
 ) -> Result<(), AllocError>
-    ensures { OnOk result (AddsText text.old text.new (link_cells facts.now number linked)) }
+    ensures { OnOk result (AddsText text.old text.new (head_cells link.now number linked)) }
 {
-    push_row_tag(text, &facts.outcome)?;
+    let facts = &link.first().facts;
+    push_mark_tag(text, link.is_marked())?;
     push_row_head(text, facts.proxy.as_str(), number, linked)?;
-    push_number_cell(text, "", facts.link)?;
-    push_word_cell(text, facts.stream.name())?;
-    push_toxics(text, facts.toxics.as_str())
+    push_number_cell(text, facts.link)?;
+    push_word_cell(text, link.ended_by())
 }
 
-fn push_toxics(text: &mut String, toxics: &str) -> Result<(), AllocError>
-    ensures { OnOk result
-        (AddsText text.old text.new (text_cell (codes "<td class=\"toxics\">") toxics.now)) }
+/// Adds the tag of a row, which is marked or not.
+pub(crate) fn push_mark_tag(text: &mut String, marked: bool) -> Result<(), AllocError>
+    ensures { OnOk result (AddsText text.old text.new (mark_tag marked)) }
 {
-    push_text_cell(text, "<td class=\"toxics\">", toxics)
-}
-
-/// Adds the rest of a row: what came of the stream.
-#[tactic(auto, using(crate::proofs::Growing::adds_then), unfolding(crate::specs::pages::Rows::result_cells))]
-fn push_result_cells(text: &mut String, facts: &StreamFacts) -> Result<(), AllocError>
-    ensures { OnOk result (AddsText text.old text.new (result_cells facts.now)) }
-{
-    push_count_cells(text, facts)?;
-    push_ending(text, &facts.outcome)?;
-    push_verdict(text, &facts.outcome)?;
-    push_late(text, &facts.outcome, &facts.late)?;
-    push_word(text, "</tr>\n")
-}
-
-/// Adds the tag of a row. Those of unfaithful logs are marked.
-fn push_row_tag(text: &mut String, outcome: &Outcome) -> Result<(), AllocError>
-    ensures { OnOk result (AddsText text.old text.new (row_tag outcome.now)) }
-{
-    match outcome {
-        Outcome::Unfaithful(_) => push_word(text, "<tr class=\"marked\">"),
-        _ => push_word(text, "<tr>"),
+    if marked {
+        push_word(text, "<tr class=\"marked\">")
+    } else {
+        push_word(text, "<tr>")
     }
 }
 
-/// Adds the head of a row: the proxy's name, which leads to the picture of this number where there is one.
+/// Adds the head of a row: the proxy's name, which leads to the conversation of this number where there is one.
 #[tactic(auto, unfolding(crate::specs::pages::Rows::bare_head, crate::specs::pages::Rows::linked_head))]
 fn push_row_head(
     text: &mut String,
@@ -114,105 +89,108 @@ fn push_row_head(
     if linked {
         write!(
             text,
-            "<th scope=\"row\"><a href=\"#log-{number}\">{proxy}</a></th>"
+            "<th scope=\"row\"><a href=\"#link-{number}\">{proxy}</a></th>"
         )
     } else {
         write!(text, "<th scope=\"row\">{proxy}</th>")
     }
 }
 
-/// Adds the cells of what was heard and said. Of an unfaithful log they are empty.
-fn push_count_cells(text: &mut String, facts: &StreamFacts) -> Result<(), AllocError>
-    ensures { OnOk result (AddsText text.old text.new
-        (count_cells facts.now.outcome facts.now.heard facts.now.said)) }
+/// Adds the cells of both streams: the client's, and the server's.
+fn push_fact_cells(text: &mut String, link: &LinkLogs) -> Result<(), AllocError>
+    ensures { OnOk result (AddsText text.old text.new (fact_cells link.now)) }
+{
+    match link {
+        LinkLogs::One(row) => push_one_cells(text, row.facts.stream, &row.facts),
+        LinkLogs::Both(upstream, downstream) => {
+            push_opposite_cells(text, &upstream.facts, &downstream.facts)
+        }
+    }
+}
+
+/// Adds the cells of a stream, and empty ones for the other.
+#[tactic(auto, using(crate::proofs::Growing::adds_then))]
+fn push_one_cells(text: &mut String, stream: Stream, facts: &StreamFacts) -> Result<(), AllocError>
+    ensures { OnOk result (AddsText text.old text.new (one_cells stream facts.now)) }
+{
+    match stream {
+        Stream::Upstream => {
+            push_stream_cells(text, facts)?;
+            push_no_cells(text)
+        }
+        Stream::Downstream => {
+            push_no_cells(text)?;
+            push_stream_cells(text, facts)
+        }
+    }
+}
+
+/// Adds the cells of a stream that has no log.
+#[tactic(auto, unfolding(crate::specs::pages::Rows::no_cells))]
+fn push_no_cells(text: &mut String) -> Result<(), AllocError>
+    ensures { OnOk result (AddsText text.old text.new no_cells) }
+{
+    push_word(text, "<td></td><td></td><td></td>")
+}
+
+#[tactic(auto, using(crate::proofs::Growing::adds_then))]
+fn push_opposite_cells(
+    text: &mut String,
+    upstream: &StreamFacts,
+    downstream: &StreamFacts,
+) -> Result<(), AllocError>
+    ensures { OnOk result
+        (AddsText text.old text.new (opposite_cells upstream.now downstream.now)) }
+{
+    push_stream_cells(text, upstream)?;
+    push_stream_cells(text, downstream)
+}
+
+/// Adds how many bytes a stream's source gave and how many passed, and the toxics that it met.
+#[tactic(auto, using(crate::proofs::Growing::adds_then), unfolding(crate::specs::pages::Rows::stream_cells))]
+fn push_stream_cells(text: &mut String, facts: &StreamFacts) -> Result<(), AllocError>
+    ensures { OnOk result (AddsText text.old text.new (stream_cells facts.now)) }
+{
+    push_count_cells(text, facts)?;
+    push_toxics(text, facts.toxics.as_str())
+}
+
+/// Adds the rest of a row: the worse verdict, and the greatest lateness.
+#[tactic(auto, using(crate::proofs::Growing::adds_then), unfolding(crate::specs::pages::Rows::outcome_cells))]
+fn push_outcome_cells(text: &mut String, link: &LinkLogs) -> Result<(), AllocError>
+    ensures { OnOk result (AddsText text.old text.new (outcome_cells link.now)) }
+{
+    push_worst_verdict(text, link.worst())?;
+    push_latest_cell(text, &link.latest())?;
+    push_word(text, "</tr>\n")
+}
+
+fn push_worst_verdict(text: &mut String, facts: &StreamFacts) -> Result<(), AllocError>
+    ensures { OnOk result
+        (AddsText text.old text.new (verdict_words facts.now.outcome facts.now.stream)) }
 {
     match facts.outcome {
-        Outcome::Unfaithful(_) => push_word(text, "<td></td><td></td>"),
-        _ => push_sum_cells(text, facts.heard, facts.said),
+        Outcome::Unfaithful(line) => push_unfaithful(text, facts.stream.name(), line),
+        _ => push_word_cell(text, facts.outcome.verdict()),
     }
 }
 
-#[tactic(auto, using(crate::proofs::Growing::adds_then), unfolding(crate::specs::pages::Rows::sum_cells))]
-fn push_sum_cells(text: &mut String, heard: u64, said: u64) -> Result<(), AllocError>
-    ensures { OnOk result (AddsText text.old text.new (sum_cells heard said)) }
+/// Adds the cell of a stream whose log isn't faithful up to the line of this number.
+#[tactic(auto, unfolding(crate::specs::pages::Rows::unfaithful_words))]
+fn push_unfaithful(text: &mut String, stream: &str, line: u64) -> Result<(), AllocError>
+    ensures { OnOk result (AddsText text.old text.new (unfaithful_words stream.now line)) }
 {
-    push_number_cell(text, "", heard)?;
-    push_number_cell(text, "", said)
+    write!(
+        text,
+        "<td class=\"verdict\">unfaithful, {stream} line {line}</td>"
+    )
 }
 
-/// Adds the cell of the ending.
-fn push_ending(text: &mut String, outcome: &Outcome) -> Result<(), AllocError>
-    ensures { OnOk result (AddsText text.old text.new (ending_cell outcome.now)) }
+fn push_latest_cell(text: &mut String, latest: &Option<u64>) -> Result<(), AllocError>
+    ensures { OnOk result (AddsText text.old text.new (latest_cell latest.now)) }
 {
-    match outcome {
-        Outcome::Open => push_word_cell(text, "open"),
-        Outcome::Closed(instant) => push_counted_cell(text, "closed ", instant.get()),
-        Outcome::SourceReset(instant) => {
-            push_counted_cell(text, "source reset, closed ", instant.get())
-        }
-        Outcome::Cut(instant) => push_counted_cell(text, "cut, closed ", instant.get()),
-        Outcome::Reset(instant) => push_counted_cell(text, "reset ", instant.get()),
-        Outcome::Broken(cause) => push_broken(text, cause.name()),
-        Outcome::Missing => push_word_cell(text, "no end"),
-        Outcome::Unfaithful(_) => push_word_cell(text, ""),
+    match latest {
+        Some(latest) => push_millis_cell(text, "", *latest),
+        None => push_word(text, "<td></td>"),
     }
-}
-
-#[tactic(auto, unfolding(crate::specs::pages::Rows::broken_cell))]
-fn push_broken(text: &mut String, cause: &str) -> Result<(), AllocError>
-    ensures { OnOk result (AddsText text.old text.new (broken_cell cause.now)) }
-{
-    write!(text, "<td>broken {cause}</td>")
-}
-
-/// Adds the cell of the verdict.
-#[tactic(auto, unfolding(crate::specs::pages::Rows::unfaithful_cell))]
-fn push_verdict(text: &mut String, outcome: &Outcome) -> Result<(), AllocError>
-    ensures { OnOk result (AddsText text.old text.new (verdict_cell outcome.now)) }
-{
-    match outcome {
-        Outcome::Unfaithful(line) => {
-            write!(text, "<td class=\"verdict\">unfaithful, line {line}</td>")
-        }
-        _ => push_word_cell(text, outcome.verdict()),
-    }
-}
-
-/// Adds the cells of the lateness. They are empty of an unfaithful log, and where nothing was timed.
-fn push_late(
-    text: &mut String,
-    outcome: &Outcome,
-    late: &Option<Percentiles>,
-) -> Result<(), AllocError>
-    ensures { OnOk result (AddsText text.old text.new (late_cells outcome.now late.now)) }
-{
-    match outcome {
-        Outcome::Unfaithful(_) => push_word(text, "<td></td><td></td><td></td>"),
-        _ => push_timed(text, late),
-    }
-}
-
-fn push_timed(text: &mut String, late: &Option<Percentiles>) -> Result<(), AllocError>
-    ensures { OnOk result (AddsText text.old text.new (timed_cells late.now)) }
-{
-    match late {
-        Some(late) => push_percentiles(text, late),
-        None => push_word(text, "<td></td><td></td><td></td>"),
-    }
-}
-
-#[tactic(auto, using(crate::proofs::Growing::adds_then), unfolding(crate::specs::pages::Rows::percentile_cells))]
-fn push_percentiles(text: &mut String, late: &Percentiles) -> Result<(), AllocError>
-    ensures { OnOk result (AddsText text.old text.new (percentile_cells late.now)) }
-{
-    let mark = exactness(late.exact);
-    push_number_cell(text, mark, late.median)?;
-    push_number_cell(text, mark, late.p99)?;
-    push_number_cell(text, "", late.max)
-}
-
-fn exactness(exact: bool) -> &'static str
-    ensures { result.now ≡ exactness exact }
-{
-    if exact { "" } else { "~" }
 }

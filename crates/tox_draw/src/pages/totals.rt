@@ -1,12 +1,13 @@
 //! What the logs of a run come to.
-ghost use Rattle.std.specs.Prelude.{◌≡◌, count_by, OnOk};
+ghost use Rattle.std.specs.Prelude.{◌≡◌, count_by, length, OnOk};
 ghost use Rattle.tox_draw.specs.pages.Kinds.{has};
 ghost use Rattle.tox_draw.specs.Adding.{AddsText};
-ghost use Rattle.tox_draw.specs.pages.Totals.{greater, latest_entry, latest_of, latest_with, number_entry, outcome_entries, row_totals_text, seed_entry, seed_of, seed_with, told_latest, told_seed, word_entry};
+ghost use Rattle.tox_draw.specs.pages.Totals.{greater, late_with, latest_entry, latest_of, number_entry, outcome_entries, row_totals_text, seed_entry, seed_of, seed_with, word_entry, worst_entry};
 
 use crate::pages::kind::{Kind, count_of};
+use crate::pages::millis::Millis;
 use crate::pages::outcome::Outcome;
-use crate::pages::row::{Row, StreamFacts, Told};
+use crate::pages::row::{Refusal, Row, StreamFacts};
 use std::alloc::AllocError;
 use tox_log::Percentiles;
 
@@ -20,15 +21,21 @@ pub(crate) enum Seed {
     Several,
 }
 
-/// Adds what the rows come to. They are of so many links.
+/// Adds what the logs come to: those that can't be judged, and the rows of the others, which are of so many links.
 #[tactic(auto, using(crate::proofs::Growing::adds_then), unfolding(crate::specs::pages::Totals::row_totals_text))]
-pub(crate) fn push_totals(text: &mut String, rows: &[Row], links: u64) -> Result<(), AllocError>
-    ensures { OnOk result (AddsText text.old text.new (row_totals_text rows.now links)) }
+pub(crate) fn push_totals(
+    text: &mut String,
+    refusals: &[Refusal],
+    rows: &[Row],
+    links: u64,
+) -> Result<(), AllocError>
+    ensures { OnOk result
+        (AddsText text.old text.new (row_totals_text (length refusals.now) rows.now links)) }
 {
     push_number_entry(text, "Links", links)?;
-    push_number_entry(text, "Streams", count_of(rows, Kind::Judged))?;
+    push_number_entry(text, "Streams", rows.len() as u64)?;
     push_outcomes(text, rows)?;
-    push_number_entry(text, "Not judged", count_of(rows, Kind::Refused))?;
+    push_number_entry(text, "Not judged", refusals.len() as u64)?;
     push_seed(text, &seed_of(rows))?;
     push_latest(text, &latest_of(rows))
 }
@@ -77,17 +84,24 @@ fn push_seed(text: &mut String, seed: &Seed) -> Result<(), AllocError>
     }
 }
 
-#[tactic(auto, unfolding(crate::specs::pages::Totals::worst_entry))]
 fn push_latest(text: &mut String, latest: &Option<u64>) -> Result<(), AllocError>
     ensures { OnOk result (AddsText text.old text.new (latest_entry latest.now)) }
 {
     match latest {
-        Some(latest) => writeln!(
-            text,
-            "<div><dt>Worst lateness</dt><dd>{latest} us</dd></div>"
-        ),
+        Some(latest) => push_worst(text, *latest),
         None => push_word_entry(text, "Worst lateness", "none timed"),
     }
+}
+
+#[tactic(auto, unfolding(crate::specs::pages::Totals::worst_entry))]
+fn push_worst(text: &mut String, latest: u64) -> Result<(), AllocError>
+    ensures { OnOk result (AddsText text.old text.new (worst_entry latest)) }
+{
+    let millis = Millis(latest);
+    writeln!(
+        text,
+        "<div><dt>Worst lateness</dt><dd>{millis} ms</dd></div>"
+    )
 }
 
 /// The seed of the rows.
@@ -96,21 +110,12 @@ fn seed_of(rows: &[Row]) -> Seed
 {
     let mut seed = Seed::Unknown;
     for row in rows {
-        seed = told_seed(seed, &row.told);
+        seed = seed_with(seed, row.facts.seed);
     }
     seed
 }
 
-/// The seed of what was told before, and of one more log.
-fn told_seed(seed: Seed, told: &Told) -> Seed
-    ensures { result ≡ told_seed seed told.now }
-{
-    match told {
-        Told::Stream(facts) => seed_with(seed, facts.seed),
-        Told::Fault(_) => seed,
-    }
-}
-
+/// The seed of some logs, and of one more.
 fn seed_with(seed: Seed, other: u64) -> Seed
     ensures { result ≡ seed_with seed other }
 {
@@ -133,24 +138,14 @@ fn latest_of(rows: &[Row]) -> Option<u64>
 {
     let mut latest = None;
     for row in rows {
-        latest = told_latest(latest, &row.told);
+        latest = late_with(latest, &row.facts);
     }
     latest
 }
 
-/// The greatest lateness of what was told before, and of one more log.
-fn told_latest(latest: Option<u64>, told: &Told) -> Option<u64>
-    ensures { result ≡ told_latest latest told.now }
-{
-    match told {
-        Told::Stream(facts) => latest_with(latest, facts),
-        Told::Fault(_) => latest,
-    }
-}
-
-/// An unfaithful log tells no lateness.
-fn latest_with(latest: Option<u64>, facts: &StreamFacts) -> Option<u64>
-    ensures { result ≡ latest_with latest facts.now.outcome facts.now.late }
+/// The greatest lateness of some logs, and of one more. An unfaithful one tells none.
+pub(crate) fn late_with(latest: Option<u64>, facts: &StreamFacts) -> Option<u64>
+    ensures { result ≡ late_with latest facts.now }
 {
     match &facts.outcome {
         Outcome::Unfaithful(_) => latest,

@@ -14,12 +14,12 @@ use Rattle.tox_log.proofs.replay.hear_ending.Goals as goal
 pub returns-in_default-clause-hears : goal.returns-in_default-clause-hears
 returns-in_default-clause-hears c = λ start means text writable whole heard at.
     let none : ending_late c.args.reading.now c.args.ending.now ≡ [] = c.in_default.ensures in
-    says-ended start means text c.args.hearing.now (record c.args.hearing.now { judge = c.judge_ending.new.judge; verdict = Faithful c.args.ending.now }) c.args.reading.now c.args.ending.now whole refl refl
+    says-ended start means text c.args.hearing.now (record c.args.hearing.now { judge = c.judge_ending.new.judge; verdict = Faithful c.args.ending.now }) c.args.reading.now c.args.ending.now whole refl refl refl
     (subst (λ more. KeepsMore c.args.hearing.now.late more c.args.hearing.now.late) (sym none) (keeps-none c.args.hearing.now.late)) heard c.judge_ending.ensures.counts (c.judge_ending.ensures.reports (search rules))
 
 pub returns-in_ok-add-clause-hears : goal.returns-in_ok-add-clause-hears
 returns-in_ok-add-clause-hears c = λ start means text writable whole heard at.
-    says-ended start means text c.args.hearing.now (record c.args.hearing.now { judge = c.judge_ending.new.judge; verdict = Faithful c.args.ending.now; late = c.add.new.self }) c.args.reading.now c.args.ending.now whole refl refl
+    says-ended start means text c.args.hearing.now (record c.args.hearing.now { judge = c.judge_ending.new.judge; verdict = Faithful c.args.ending.now; late = c.add.new.self }) c.args.reading.now c.args.ending.now whole refl refl refl
     (subst (λ more. KeepsMore c.args.hearing.now.late more c.add.new.self) (sym c.in-Some.ensures) c.in_ok-add.ensures) heard c.judge_ending.ensures.counts (c.judge_ending.ensures.reports (search rules))
 
 pub returns-in-Refused-clause-hears : goal.returns-in-Refused-clause-hears

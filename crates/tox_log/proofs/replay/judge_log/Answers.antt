@@ -12,19 +12,19 @@ use Rattle.tox_log.proofs.replay.judge_log.Goals as goal
 pub returns-clause-faithful : goal.returns-clause-faithful
 returns-clause-faithful g c = λ ending faithful.
     faithful-text (g.R.Source.remaining c.args.reader.now) (g.R.Source.remaining c.new.new.reader) c.in_ok-log.log c.hear_lines.new.log c.in_ok-hearing.hearing c.hear_lines.new.hearing _
-    c.in_ok-log.ensures.opens c.in_ok-hearing.ensures.begins c.in_ok-hear_lines.ensures.says (record { verdict = refl; broken = refl; heard = refl; said = refl; ended = refl; reset = refl; writes = refl; late = c.percentiles-late.ensures })
+    c.in_ok-log.ensures.opens c.in_ok-hearing.ensures.begins c.in_ok-hear_lines.ensures.says (record { verdict = refl; broken = refl; heard = refl; said = refl; source_end = refl; reset = refl; writes = refl; late = c.percentiles-late.ensures })
     c.into_parts-heading.ensures.0 c.into_parts-heading.ensures.1 c.in_ok-log.ensures.numbered ending faithful
 
 pub returns-clause-refused : goal.returns-clause-refused
 returns-clause-refused g c = λ number unfaithful.
     refused-text (g.R.Source.remaining c.args.reader.now) (g.R.Source.remaining c.new.new.reader) c.in_ok-log.log c.hear_lines.new.log c.in_ok-hearing.hearing c.hear_lines.new.hearing _
-    c.in_ok-log.ensures.opens c.in_ok-hearing.ensures.begins c.in_ok-hear_lines.ensures.says (record { verdict = refl; broken = refl; heard = refl; said = refl; ended = refl; reset = refl; writes = refl; late = c.percentiles-late.ensures })
+    c.in_ok-log.ensures.opens c.in_ok-hearing.ensures.begins c.in_ok-hear_lines.ensures.says (record { verdict = refl; broken = refl; heard = refl; said = refl; source_end = refl; reset = refl; writes = refl; late = c.percentiles-late.ensures })
     c.into_parts-heading.ensures.0 c.into_parts-heading.ensures.1 c.in_ok-log.ensures.numbered number unfaithful
 
 pub returns-clause-unfinished : goal.returns-clause-unfinished
 returns-clause-unfinished g c = λ unfinished.
     unfinished-text (g.R.Source.remaining c.args.reader.now) (g.R.Source.remaining c.new.new.reader) c.in_ok-log.log c.hear_lines.new.log c.in_ok-hearing.hearing c.hear_lines.new.hearing _
-    c.in_ok-log.ensures.opens c.in_ok-hearing.ensures.begins c.in_ok-hear_lines.ensures.says (record { verdict = refl; broken = refl; heard = refl; said = refl; ended = refl; reset = refl; writes = refl; late = c.percentiles-late.ensures })
+    c.in_ok-log.ensures.opens c.in_ok-hearing.ensures.begins c.in_ok-hear_lines.ensures.says (record { verdict = refl; broken = refl; heard = refl; said = refl; source_end = refl; reset = refl; writes = refl; late = c.percentiles-late.ensures })
     c.into_parts-heading.ensures.0 c.into_parts-heading.ensures.1 c.in_ok-log.ensures.numbered unfinished
 
 pub returns-in_err-log-clause-reads : goal.returns-in_err-log-clause-reads

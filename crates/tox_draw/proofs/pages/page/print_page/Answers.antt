@@ -1,38 +1,41 @@
--- The table, the figures, and the page's end.
-use Rattle.std.proofs.Common.{◌++◌, refl, take}
+-- The front, and then what stands below it.
+use Rattle.std.proofs.Common.{[], ◌++◌, ◌∙◌, length, refl}
 use Rattle.std.proofs.lemmas.Result.{err_from_is_err_and}
-use Rattle.tox_draw.proofs.pages.Drawn.{AreFigures-any, AreFigures-min}
-use Rattle.tox_draw.proofs.pages.Shown.{Shows-failed, Shows-then}
-use Rattle.tox_draw.specs.pages.Pages.{page_end, page_table}
+use Rattle.tox_draw.proofs.pages.Drawn.{IsPageBody-any}
+use Rattle.tox_draw.proofs.pages.Shown.{AppendsFront-none, Shows-failed, Shows-then}
+use Rattle.tox_draw.specs.pages.Fronts.{page_front}
+use Rattle.tox_draw.specs.pages.LinkLogs.{page_links}
+use Rattle.tox_draw.specs.pages.Links.{link_count}
 use Rattle.tox_draw.proofs.pages.page.print_page.Goals as goal
 
-pub returns-in_err-print_table : goal.returns-in_err-print_table
-returns-in_err-print_table g c =
+pub returns-in_err-print_front : goal.returns-in_err-print_front
+returns-in_err-print_front g c =
     let exit = err_from_is_err_and c.from_residual.result c.from_residual.ensures.1 in
-    let figures = AreFigures-any (g.S.LogStore.known c.args.store.now) 1 (take c.args.pictures c.args.rows.now) in
+    let body = IsPageBody-any (g.S.LogStore.known c.args.store.now) c.args.report.refusals.items (page_links c.args.report.rows.items) c.args.shown in
     record {
-      text = page_table c.args.rows.now c.args.pictures ++ (figures.0 ++ page_end);
-      is = record { figures = figures.0; drawn = figures.1; whole = refl };
-      shows = Shows-failed c.from_residual.result exit.0 _ _ _ _ _ _ _ _ exit.1 exit.2 c.in_err-print_table.ensures;
+      text = page_front c.args.title.now (length c.args.report.refusals.items) c.args.report.rows.items (link_count c.args.report.rows.items) ++ body.0;
+      is = record { body = body.0; below = body.1; whole = refl };
+      shows = Shows-failed c.from_residual.result exit.0 _ _ _ _ _ _ _ _ exit.1 exit.2 (rw (c.deref.ensures.value, c.deref-2.ensures.value) at c.in_err-print_front.ensures);
     }
 
-pub returns-in_err-print_figures : goal.returns-in_err-print_figures
-returns-in_err-print_figures g c =
-    let exit = err_from_is_err_and c.from_residual-in_err-print_figures.result c.from_residual-in_err-print_figures.ensures.1 in
-    let figures = c.in_err-print_figures.ensures in
+pub returns-in_err-links : goal.returns-in_err-links
+returns-in_err-links g c =
+    let printed = rw (c.deref.ensures.value, c.deref-2.ensures.value) at c.in_ok-print_front.ensures in
+    let exit = err_from_is_err_and c.from_residual-in_err-links.result c.from_residual-in_err-links.ensures.1 in
+    let body = IsPageBody-any (g.S.LogStore.known c.args.store.now) c.args.report.refusals.items (page_links c.args.report.rows.items) c.args.shown in
     record {
-      text = page_table c.args.rows.now c.args.pictures ++ (figures.text ++ page_end);
-      is = record { figures = figures.text; drawn = AreFigures-min (g.S.LogStore.known c.args.store.now) c.args.rows.now c.args.pictures c.min-count.result figures.text c.min-count.ensures figures.is; whole = refl };
-      shows = Shows-then c.from_residual-in_err-print_figures.result _ _ _ _ _ _ _ _ _ c.in_ok-print_table.ensures.0
-          (Shows-failed c.from_residual-in_err-print_figures.result exit.0 _ _ _ _ _ _ _ _ exit.1 exit.2 figures.shows);
+      text = page_front c.args.title.now (length c.args.report.refusals.items) c.args.report.rows.items (link_count c.args.report.rows.items) ++ body.0;
+      is = record { body = body.0; below = body.1; whole = refl };
+      shows = Shows-then c.from_residual-in_err-links.result _ _ _ _ _ _ _ _ _ printed.0
+          (Shows-failed c.from_residual-in_err-links.result exit.0 _ _ _ _ _ _ [] body.0 exit.1 exit.2 (AppendsFront-none _ _, printed.1));
     }
 
 pub returns : goal.returns
 returns g c =
-    let figures = c.in_ok-print_figures.ensures in
+    let printed = rw (c.deref.ensures.value, c.deref-2.ensures.value) at c.in_ok-print_front.ensures in
+    let below = rw (c.deref-3.ensures.value, c.deref-4.ensures.value ∙ c.in_ok-links.ensures) at c.print_body.ensures in
     record {
-      text = page_table c.args.rows.now c.args.pictures ++ (figures.text ++ page_end);
-      is = record { figures = figures.text; drawn = AreFigures-min (g.S.LogStore.known c.args.store.now) c.args.rows.now c.args.pictures c.min-count.result figures.text c.min-count.ensures figures.is; whole = refl };
-      shows = Shows-then c.print_page_end.result _ _ _ _ _ _ _ _ _ c.in_ok-print_table.ensures.0
-          (Shows-then c.print_page_end.result _ _ _ _ _ _ _ _ _ figures.shows.0 c.print_page_end.ensures);
+      text = page_front c.args.title.now (length c.args.report.refusals.items) c.args.report.rows.items (link_count c.args.report.rows.items) ++ below.text;
+      is = record { body = below.text; below = below.is; whole = refl };
+      shows = Shows-then c.print_body.result _ _ _ _ _ _ _ _ _ printed.0 below.shows;
     }

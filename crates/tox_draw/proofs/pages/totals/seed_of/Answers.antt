@@ -4,9 +4,9 @@ use Rattle.std.proofs.lemmas.List.{take_all}
 use Rattle.tox_draw.specs.declared.pages.totals.Seed.{Seed}
 use Rattle.tox_draw.specs.declared.pages.totals.Seed.TheVariants.{Unknown}
 use Rattle.tox_draw.specs.declared.pages.row.Row.{Row}
-use Rattle.tox_draw.specs.pages.Totals.{told_seed}
+use Rattle.tox_draw.specs.pages.Totals.{seed_with}
 use Rattle.tox_draw.proofs.pages.totals.seed_of.Goals as goal
 
 pub returns : goal.returns
 returns c =
-    c.loop-row.invariant ∙ ap (fold (λ (before : Seed) (row : Row). told_seed before row.told) Unknown) (take_all c.loop-row.row-index c.args.rows.now c.loop-row-test.false)
+    c.loop-row.invariant ∙ ap (fold (λ (before : Seed) (row : Row). seed_with before row.facts.seed) Unknown) (take_all c.loop-row.row-index c.args.rows.now c.loop-row-test.false)
