@@ -1,17 +1,24 @@
 //! An argument of a command: a row of the command's table, and how `clap` is told of it.
+use crate::value_kind::ValueKind;
 use clap::builder::ValueParser;
 use clap::{Arg, ArgAction};
 use std::alloc::{AllocError, Global};
 
 /// An argument. A table begins with one of the constants below, and says what is different.
 #[derive(Clone, Copy)]
-pub(crate) struct Argument {
-    pub(crate) name: &'static str,
+pub struct Argument {
+    pub name: &'static str,
+    /// The letter of its short form. Empty: it has none.
+    pub short: &'static str,
     /// Whether it is written as `--name`. Otherwise its values stand alone.
-    pub(crate) dashed: bool,
+    pub dashed: bool,
     /// The name of a value in the help. A flag has no value, and doesn't show it.
-    pub(crate) value: &'static str,
-    pub(crate) help: &'static str,
+    pub value: &'static str,
+    /// What a value names.
+    pub kind: ValueKind,
+    pub help: &'static str,
+    /// Of an option of the program: whether each command has it too.
+    pub shared: bool,
     /// What a value may be.
     pub(crate) reads: ValueParser<'static>,
     /// The fewest values that one use takes.
@@ -20,7 +27,7 @@ pub(crate) struct Argument {
     pub(crate) most: usize,
     pub(crate) action: ArgAction,
     /// Whether it must be there.
-    pub(crate) needed: bool,
+    pub needed: bool,
     /// It must be there unless one of these is. Empty: it may always be absent.
     pub(crate) unless: &'static [&'static str],
     /// It can't stand beside these.
@@ -32,9 +39,12 @@ pub(crate) struct Argument {
 /// An option with a text.
 pub(crate) const OPTION: Argument = Argument {
     name: "",
+    short: "",
     dashed: true,
     value: "",
+    kind: ValueKind::Plain,
     help: "",
+    shared: false,
     reads: ValueParser::String,
     least: 1,
     most: 1,
@@ -75,6 +85,19 @@ pub(crate) const PLACES: Argument = Argument {
 };
 
 impl Argument {
+    /// Whether it may stand more than once on a command line.
+    pub fn is_repeatable(&self) -> bool {
+        self.action == ArgAction::Append
+    }
+
+    /// The names that a value may be. Empty: they aren't listed.
+    pub fn names(&self) -> &'static [&'static str] {
+        match self.reads {
+            ValueParser::Names(names) => names,
+            _ => &[],
+        }
+    }
+
     /// The argument as `clap` has it.
     pub(crate) fn arg<'a>(&self, alloc: Global) -> Result<Arg<'a>, AllocError> {
         let arg = Arg::new(alloc, self.name)
@@ -88,6 +111,10 @@ impl Argument {
             arg.long(self.name)
         } else {
             arg
+        };
+        let arg = match self.short.chars().next() {
+            Some(letter) => arg.short(letter),
+            None => arg,
         };
         arg.required_unless_present_any(self.unless)?
             .conflicts_with_all(self.without)?

@@ -2,6 +2,7 @@
 ghost use Rattle.std.specs.Prelude.{◌≤◌};
 
 use crate::argument::{Argument, FLAG, OPTION, PLACES};
+use crate::value_kind::ValueKind;
 use clap::ArgMatches;
 use clap::builder::ValueParser;
 use std::alloc::{AllocError, Global};
@@ -10,6 +11,7 @@ use tox_words::MAX_CONNECTIONS;
 pub(crate) const CONFIG: Argument = Argument {
     name: "config",
     value: "FILE",
+    kind: ValueKind::File,
     help: "The populate file: the proxies, in JSON",
     needed: true,
     ..OPTION
@@ -18,6 +20,7 @@ pub(crate) const CONFIG: Argument = Argument {
 pub(crate) const SCRIPT: Argument = Argument {
     name: "script",
     value: "FILE",
+    kind: ValueKind::File,
     help: "The script: the toxics of connections, in TOML",
     needed: true,
     ..OPTION
@@ -40,6 +43,9 @@ pub(crate) const SEED: Argument = Argument {
     ..OPTION
 };
 
+/// The longest time that connects may be given, in milliseconds.
+pub(crate) const MAX_CONNECT_TIMEOUT: u64 = 600_000;
+
 /// An option with a number of connections.
 pub(crate) const CONNECTIONS: Argument = Argument {
     value: "N",
@@ -57,6 +63,7 @@ pub(crate) const JSON: Argument = Argument {
 pub(crate) const FILES: Argument = Argument {
     name: "files",
     value: "FILE",
+    kind: ValueKind::File,
     help: "The logs; - takes their names from standard input, one a line",
     least: 1,
     needed: true,

@@ -6,18 +6,7 @@ use crate::command_line::{Task, incomplete};
 use crate::help;
 use clap::{ArgMatches, Error};
 use std::alloc::Global;
-
-/// What `check` is given.
-#[derive(Clone, Copy, Debug)]
-pub struct CheckArguments<'a> {
-    /// The name of the populate file.
-    pub config: &'a str,
-    /// The name of the script file.
-    pub script: &'a str,
-    /// Whether a warning is a fault.
-    pub strict: bool,
-    pub verbose: bool,
-}
+use tox_proxy::CheckRequest;
 
 pub(crate) const CHECK: CommandForm = CommandForm {
     name: "check",
@@ -44,7 +33,7 @@ pub(crate) fn check_task<'a>(alloc: Global, given: &ArgMatches<'a>) -> Result<Ta
     let Some((config, script)) = files_of(given) else {
         return Err(incomplete(alloc));
     };
-    Ok(Task::Check(CheckArguments {
+    Ok(Task::Check(CheckRequest {
         config,
         script,
         strict: given.get_flag("strict"),

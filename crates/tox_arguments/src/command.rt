@@ -5,13 +5,13 @@ use std::alloc::{AllocError, Global};
 
 /// A command as its table has it.
 #[derive(Clone, Copy)]
-pub(crate) struct CommandForm {
-    pub(crate) name: &'static str,
-    pub(crate) about: &'static str,
+pub struct CommandForm {
+    pub name: &'static str,
+    pub about: &'static str,
     /// What stands below the arguments in the help.
-    pub(crate) examples: &'static str,
+    pub examples: &'static str,
     /// The arguments, in the order of the help.
-    pub(crate) arguments: &'static [Argument],
+    pub arguments: &'static [Argument],
 }
 
 impl CommandForm {

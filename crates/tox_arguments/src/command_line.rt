@@ -1,18 +1,22 @@
 //! The command line, as `clap` reads it: which task it asks for, and how it is refused.
-use crate::check::{CheckArguments, check_task};
-use crate::commands::toxi;
-use crate::forecast::{ForecastArguments, forecast_task};
+use crate::check::check_task;
+use crate::commands::{explain_of, toxi, toxi_with_arguments};
+use crate::forecast::forecast_task;
 use crate::link::{DrawArguments, LinkArguments, draw_task, link_task};
 use crate::migrate::migrate_task;
-use crate::pick::{PickArguments, pick_task};
+use crate::pick::pick_task;
 use crate::replay::{ReplayArguments, replay_task};
 use crate::report::{ReportArguments, report_task};
 use crate::serve::{InlineArguments, ServeArguments, serve_task};
-use crate::topics::{HelpText, help_task};
+use crate::table::ARGUMENTS;
+use crate::topic::HelpText;
+use crate::topics::help_task;
+use crate::wait::{WaitArguments, wait_task};
 use clap::error::ErrorKind;
 use clap::{ArgMatches, Error};
 use std::alloc::Global;
 use std::convert::AsStr;
+use tox_proxy::{CheckRequest, ForecastRequest, PickRequest};
 use tox_time::Cap;
 
 /// What the command line asks for.
@@ -22,26 +26,38 @@ pub enum Task<'a> {
     Draw(DrawArguments<'a>),
     Plan(LinkArguments<'a>),
     Stages(Cap, LinkArguments<'a>),
-    Check(CheckArguments<'a>),
-    Pick(PickArguments<'a>),
-    Forecast(ForecastArguments<'a>),
+    Check(CheckRequest<'a>),
+    Pick(PickRequest<'a>),
+    Forecast(ForecastRequest<'a>),
     /// The name of a script file.
     Migrate(&'a str),
     Serve(ServeArguments<'a>),
     /// What `serve` would be given in files, and the folder that gets them.
     PrintFiles(InlineArguments<'a>, &'a str),
+    Wait(WaitArguments<'a>),
     Replay(ReplayArguments<'a>),
     Help(HelpText),
     Report(ReportArguments<'a>),
+    /// The table of all arguments.
+    Arguments,
+}
+
+/// A command line that was read.
+#[derive(Debug, Drop)]
+pub struct CommandLine<'a> {
+    pub task: Task<'a>,
+    /// Whether faults are to be explained, also where standard error is no terminal.
+    pub explain: bool,
 }
 
 /// Reads the command line. An error is `clap`'s own text, help too.
 #[inline(never)]
-pub fn read<'a, S: AsStr>(alloc: Global, words: &'a [S]) -> Result<Task<'a>, Error> {
-    match matches_of(alloc, words) {
-        Ok(matches) => task_of(alloc, &matches),
-        Err(refusal) => Err(refusal),
-    }
+pub fn read<'a, S: AsStr>(alloc: Global, words: &'a [S]) -> Result<CommandLine<'a>, Error> {
+    let matches = matches_of(alloc, words)?;
+    Ok(CommandLine {
+        task: task_of(alloc, &matches)?,
+        explain: explain_of(&matches),
+    })
 }
 
 /// The task of a command with its options.
@@ -57,9 +73,11 @@ fn task_of<'a>(alloc: Global, matches: &ArgMatches<'a>) -> Result<Task<'a>, Erro
         "forecast" => forecast_task(alloc, given),
         "migrate" => migrate_task(alloc, given),
         "serve" => serve_task(alloc, given),
+        "wait" => wait_task(alloc, given),
         "replay" => replay_task(alloc, given),
         "report" => report_task(alloc, given),
         "help" => help_task(alloc, given),
+        "arguments" => Ok(Task::Arguments),
         _ => Err(incomplete(alloc)),
     }
 }
@@ -69,7 +87,20 @@ pub(crate) fn matches_of<'a, S: AsStr>(
     alloc: Global,
     words: &'a [S],
 ) -> Result<ArgMatches<'a>, Error> {
-    toxi(alloc)?.try_get_matches_from(words)
+    let toxi = if asks_for_table(words) {
+        toxi_with_arguments(alloc)?
+    } else {
+        toxi(alloc)?
+    };
+    toxi.try_get_matches_from(words)
+}
+
+/// Whether the hidden command is asked for.
+fn asks_for_table<S: AsStr>(words: &[S]) -> bool {
+    match words.get(1) {
+        Some(word) => word.as_str() == ARGUMENTS.name,
+        None => false,
+    }
 }
 
 /// The refusal of a command line without a command or without an option that it needs. `clap` has

@@ -1,4 +1,5 @@
 //! The program's command line, as `clap` is told of it.
+use crate::argument::{Argument, FLAG};
 use crate::check::CHECK;
 use crate::command::CommandForm;
 use crate::forecast::FORECAST;
@@ -9,30 +10,92 @@ use crate::pick::PICK;
 use crate::replay::REPLAY;
 use crate::report::REPORT;
 use crate::serve::SERVE;
+use crate::table::ARGUMENTS;
 use crate::topics::HELP;
-use clap::Command;
+use crate::wait::WAIT;
+use clap::{ArgAction, ArgMatches, Command};
 use std::alloc::{AllocError, Global};
 
 /// The version, and the kit that proves and builds it.
-const VERSION: &str = "0.4.0 (rattle-kit-13f logic dac8208d650f15bf)";
+pub const VERSION: &str = "0.5.0 (rattle-kit-13f logic dac8208d650f15bf)";
+
+const EXPLAIN: Argument = Argument {
+    name: "explain",
+    help: "Explains a fault below its line, which is done on a terminal anyway",
+    shared: true,
+    ..FLAG
+};
+
+/// The program, with the options that stand before a command.
+pub const PROGRAM: CommandForm = CommandForm {
+    name: "toxi",
+    about: "A TCP proxy that adds scripted faults",
+    examples: help::PROGRAM,
+    arguments: &[
+        EXPLAIN,
+        Argument {
+            name: "help",
+            short: "h",
+            help: "Print help",
+            action: ArgAction::Help,
+            shared: true,
+            ..FLAG
+        },
+        Argument {
+            name: "version",
+            short: "V",
+            help: "Print version",
+            action: ArgAction::Version,
+            ..FLAG
+        },
+    ],
+};
 
 /// The commands, in the order of the help.
-const COMMANDS: [&CommandForm; 12] = [
-    &DRY, &DRAW, &PLAN, &STAGES, &CHECK, &PICK, &FORECAST, &MIGRATE, &SERVE, &REPLAY, &REPORT,
-    &HELP,
+pub const COMMANDS: [&CommandForm; 13] = [
+    &DRY, &DRAW, &PLAN, &STAGES, &CHECK, &PICK, &FORECAST, &MIGRATE, &SERVE, &WAIT, &REPLAY,
+    &REPORT, &HELP,
 ];
+
+/// Whether faults are to be explained. The option may stand before the command or behind it.
+pub(crate) fn explain_of(given: &ArgMatches<'_>) -> bool {
+    let behind = match given.subcommand() {
+        Some((_, others)) => others.get_flag(EXPLAIN.name),
+        None => false,
+    };
+    behind || given.get_flag(EXPLAIN.name)
+}
 
 /// The program's command line.
 pub(crate) fn toxi<'a>(alloc: Global) -> Result<Command<'a>, AllocError> {
-    let mut toxi = Command::new(alloc, "toxi")
-        .bin_name("toxi")?
+    let mut toxi = PROGRAM
+        .command(alloc)?
+        .bin_name(PROGRAM.name)?
         .version(VERSION)
-        .about("A TCP proxy that adds scripted faults")
-        .after_help(help::PROGRAM)
+        .disable_help_flag(true)
+        .disable_version_flag(true)
         .disable_help_subcommand(true)
         .subcommand_required(true);
     for form in COMMANDS {
-        toxi = toxi.subcommand(form.command(alloc)?)?;
+        toxi = toxi.subcommand(command_of(alloc, form)?)?;
     }
     Ok(toxi)
+}
+
+/// The program's command line with the hidden command, for words that ask for it. Where a command is missing, `clap` lists the hidden
+/// ones too.
+pub(crate) fn toxi_with_arguments<'a>(alloc: Global) -> Result<Command<'a>, AllocError> {
+    let arguments = command_of(alloc, &ARGUMENTS)?.hide(true);
+    toxi(alloc)?.subcommand(arguments)
+}
+
+/// A command with its arguments, and behind them those of the program that each command has.
+fn command_of<'a>(alloc: Global, form: &CommandForm) -> Result<Command<'a>, AllocError> {
+    let mut command = form.command(alloc)?;
+    for argument in PROGRAM.arguments {
+        if argument.shared {
+            command = command.arg(argument.arg(alloc)?)?;
+        }
+    }
+    Ok(command)
 }

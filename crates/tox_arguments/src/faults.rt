@@ -48,10 +48,12 @@ P0 OutOfMemory: memory was refused while a file was read; free memory and run it
 P1 FileFault <the file's name>: it can't be opened or read (a folder too); look at the name and its rights
 P2 FileTooLong <the file's name>: it has more than 16,777,216 bytes; split it
 P3 UnknownProxy <the proxy's name>: the populate file has no such proxy; look for the name in the populate file
-P4 ListenRefused <the proxy's name>: its address can't be listened at; look for a port that is taken, a host that isn't this machine's, or a missing right
+P4 ListenRefused <the proxy's name, or --ready>: its address can't be listened at; look for a port that is taken, a host that isn't this machine's, or a missing right
 P5 BadStream: it is neither `upstream` nor `downstream`; give one of the two
 P6 LogRefused <the folder's name>: the folder of logs can't be made, or isn't empty; name a fresh folder
-P7 FilesRefused <the folder's name>: the folder of `--print-files` can't be made, isn't empty, or doesn't take the files; name a fresh folder";
+P7 FilesRefused <the folder's name>: the folder of `--print-files` can't be made, isn't empty, or doesn't take the files; name a fresh folder
+P8 NotReady <the address>: it accepted no connection within the time of `wait`; look whether a server listens there, or give more time with `--within`
+P9 BadAddress <the text>: it is no address; write `host:port`, with a port up to 65535";
 
 const FAULTS_Q: &str = "\
 Q1 BadForm <the TOXIC's number>: it is no short form; write `type` or `type:key=value,key=value`, with no space
@@ -61,7 +63,7 @@ const FAULTS_S: &str = "\
 S0 OutOfMemory: memory was refused while the script was read; free memory and run it again
 S1 NotToml: the script is no TOML document, or no UTF-8; look for a missing quote, or a key that stands twice
 S2 Field <rule, toxic, field>: the field is missing, of the wrong kind or out of its range; mend that field; `unknown` is a key that doesn't belong there; rule 0 is the document, toxic 0 the rule
-S3 UnknownType <the TOXIC's number, or rule, toxic>: there is no such type; take one of the seven in `toxi help toxics`
+S3 UnknownType <the TOXIC's number, or rule, toxic>: there is no such type; take one of those in `toxi help toxics`
 S4 UnknownAttribute <the TOXIC's number, or rule, toxic>: the type has no such attribute; see the type's attributes in `toxi help toxics`
 S5 OutOfRange <the TOXIC's number, or rule, toxic>: an attribute is no whole number in its range; see its range in `toxi help toxics`; `rate` and `average_size` have no default
 S6 Variation <the TOXIC's number, or rule, toxic>: `size_variation` isn't below `average_size`; lower it
@@ -79,7 +81,7 @@ W2 TooMany: more than 4096 words; give fewer: they go round
 W3 BadWord <place>: that part is no word; a word is 1 to 10 digits, up to 4294967295";
 
 /// The line of a code, in capital letters or not.
-pub(crate) fn fault_of(code: &str) -> Option<&'static str> {
+pub fn fault_of(code: &str) -> Option<&'static str> {
     for group in &FAULTS {
         if let Some(line) = line_of(group, code) {
             return Some(line);

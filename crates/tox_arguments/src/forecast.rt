@@ -1,34 +1,13 @@
 //! The command `forecast` and its options.
-ghost use Rattle.std.specs.Prelude.{◌≤◌};
-
 use crate::argument::{Argument, OPTION};
 use crate::arguments::{CONFIG, CONNECTIONS, JSON, PROXY, SCRIPT, SEED, proxy_of};
 use crate::command::CommandForm;
 use crate::command_line::{Task, incomplete};
 use crate::help;
+use crate::value_kind::ValueKind;
 use clap::{ArgMatches, Error};
 use std::alloc::Global;
-
-/// What `forecast` is given.
-#[derive(Clone, Copy, Debug)]
-pub struct ForecastArguments<'a> {
-    /// The name of the populate file.
-    pub config: &'a str,
-    /// The name of the script file.
-    pub script: &'a str,
-    /// The name of the proxy.
-    pub proxy: &'a str,
-    /// The number of connections, 1 to 1,000,000.
-    pub links: u64,
-    /// The name of the stream whose lines are wanted. None: both.
-    pub stream: Option<&'a str>,
-    /// The name of an applied toxic that a wanted line has. None: any line.
-    pub named: Option<&'a str>,
-    pub seed: u64,
-    /// Whether each line is an object of JSON.
-    pub json: bool,
-    pub ghost numbered: { (1 ≤ links) × (links ≤ 1_000_000) },
-}
+use tox_proxy::ForecastRequest;
 
 pub(crate) const FORECAST: CommandForm = CommandForm {
     name: "forecast",
@@ -48,7 +27,8 @@ pub(crate) const FORECAST: CommandForm = CommandForm {
         Argument {
             name: "stream",
             value: "STREAM",
-            help: "Only lines of this stream: upstream or downstream",
+            kind: ValueKind::Stream,
+            help: "Only lines of this stream [possible values: upstream, downstream]",
             ..OPTION
         },
         Argument {
@@ -66,7 +46,7 @@ pub(crate) fn forecast_task<'a>(alloc: Global, given: &ArgMatches<'a>) -> Result
     let Some(asked) = proxy_of(given, "links") else {
         return Err(incomplete(alloc));
     };
-    Ok(Task::Forecast(ForecastArguments {
+    Ok(Task::Forecast(ForecastRequest {
         config: asked.config,
         script: asked.script,
         proxy: asked.proxy,

@@ -203,13 +203,32 @@ for one proxy, `default`, whose toxics are named down_1, up_1 and so on. The out
 The bytes are those written upstream and downstream. An end is open, closed, reset or broken: a write failed, the upstream wasn't
 reached, or memory or a thread was refused.
 
+Each connection takes a number, and with it a fault. So probes connect to the address of --ready, whose connections are closed at once.
+
 Examples:
   toxi serve --listen localhost:18080 --upstream localhost:8080 --seed 1 --down latency:latency=100
   toxi serve --config proxies.json --script script.toml --seed 1 --workers 2 --log logs
   toxi serve --listen localhost:0 --upstream localhost:1 --seed 1 --links 1
 The last prints, after one connection to the port that it prints first, while port 1 is closed,
   link default 1 up 0 broken down 0 broken
-  total default 1 up 0 down 0";
+  total default 1 up 0 down 0
+and on standard error
+  toxi: broken default 1: upstream localhost:1: connection refused";
+
+/// Below the options of `toxi wait`.
+pub const WAIT: &str = "\
+It prints nothing, and ends with status 0 once a connection was accepted. While none is, or the host's name isn't found, it tries again
+every 50 milliseconds. After the time of --within it ends with P8 and status 1. An address without a host is one of this machine.
+
+At a proxy a wait takes a connection's number, as any client does. At the address of `serve --ready` it takes none.
+
+Examples:
+  toxi serve --listen :18080 --upstream localhost:8080 --seed 1 --ready :18081 &
+  toxi wait localhost:18081 --within 5000";
+
+/// Below the options of `toxi arguments`.
+pub const ARGUMENTS: &str = "\
+The completions of shells and the man page are made of it. Its form may change with each version.";
 
 /// Below the options of `toxi help`.
 pub const HELP: &str = "\
@@ -219,7 +238,7 @@ Examples:
   toxi help C5";
 
 /// The toxics, as the help of `toxi dry` begins.
-pub(crate) fn toxics() -> &'static str {
+pub fn toxics() -> &'static str {
     match DRY.split_once("\n\nThe input has") {
         Some((toxics, _)) => toxics,
         None => DRY,
@@ -247,9 +266,12 @@ A script is a document of TOML. Each connection of a proxy meets the toxics of t
 
   version      1 or 2; absent, it is 1
   lanes        16 or 32, in version 2 alone; absent, they are 32; in version 1 each chain has 16
+  rule         the rules: an array of tables, each below [[rule]]
   proxy        the proxy's name, 1 to 255 bytes
   first, last  the connections of the rule, 1 to 1000000; without last it has no upper end
+  toxic        the toxics of the rule: an array of tables, each below [[rule.toxic]]
   name         1 to 64 bytes, none of them a control character; absent, it is <type>_<stream>
+  type         one of those that `toxi help toxics` shows
   stream       upstream or downstream; absent, it is downstream
   toxicity     the chance in thousandths, 0 to 1000, or in version 2 a text such as \"0.25\"; absent, it is 1000
   attributes   those of the type, as `toxi help toxics` shows them; an absent one is 0
@@ -276,10 +298,11 @@ Example:
 /// Below the options of `toxi report`.
 pub const REPORT: &str = "\
 A FILE is the log of one stream of one link; `toxi replay --help` tells how it is judged. The output is one HTML page that needs
-nothing beside it: totals, a row for each log, and the pictures of the first rows. Rows stand in the order given, those of logs
-that can't be judged or aren't faithful first.
+nothing beside it: totals, a row for each link with who ended it, and the conversations of the first links, both streams on one
+axis of time. Two logs make a link if they stand beside each other. Logs that can't be judged come first, and then links with a
+log that isn't faithful.
 
 Status 1 if a log can't be judged or is unfaithful, as `toxi replay` has it. docs/REPORT.md describes the page.
 
 Example:
-  find logs -name '*.log' | toxi report - > run.html";
+  find logs -name '*.log' | sort -V | toxi report - > run.html";

@@ -4,6 +4,7 @@ use crate::arguments::strs_of;
 use crate::command::CommandForm;
 use crate::command_line::Task;
 use crate::help;
+use crate::value_kind::ValueKind;
 use clap::builder::ValueParser;
 use clap::{ArgMatches, Error};
 use std::alloc::{AllocError, Global};
@@ -76,6 +77,7 @@ const WORDS: Argument = Argument {
 const TOXICS: Argument = Argument {
     name: "toxics",
     value: "TOXIC",
+    kind: ValueKind::Toxic,
     help: "The toxics that the link meets, in order, at most one for each lane",
     ..PLACES
 };
@@ -83,6 +85,7 @@ const TOXICS: Argument = Argument {
 const LOG: Argument = Argument {
     name: "log",
     value: "FILE",
+    kind: ValueKind::File,
     help: "Draws the log of a stream of `serve` instead: what was due beside what was written",
     without: &["lanes", "words", "toxics"],
     ..OPTION

@@ -1,30 +1,13 @@
 //! The command `pick` and its options.
-ghost use Rattle.std.specs.Prelude.{◌≤◌};
-
 use crate::argument::{Argument, OPTION};
 use crate::arguments::{CONFIG, CONNECTIONS, PROXY, SCRIPT, SEED, proxy_of};
 use crate::command::CommandForm;
 use crate::command_line::{Task, incomplete};
 use crate::help;
+use crate::value_kind::ValueKind;
 use clap::{ArgMatches, Error};
 use std::alloc::Global;
-
-/// What `pick` is given.
-#[derive(Clone, Copy, Debug)]
-pub struct PickArguments<'a> {
-    /// The name of the populate file.
-    pub config: &'a str,
-    /// The name of the script file.
-    pub script: &'a str,
-    /// The name of the proxy.
-    pub proxy: &'a str,
-    /// The number of the connection, 1 to 1,000,000.
-    pub conn: u64,
-    /// The name of the stream.
-    pub stream: &'a str,
-    pub seed: u64,
-    pub ghost numbered: { (1 ≤ conn) × (conn ≤ 1_000_000) },
-}
+use tox_proxy::PickRequest;
 
 pub(crate) const PICK: CommandForm = CommandForm {
     name: "pick",
@@ -43,7 +26,8 @@ pub(crate) const PICK: CommandForm = CommandForm {
         Argument {
             name: "stream",
             value: "STREAM",
-            help: "upstream or downstream",
+            kind: ValueKind::Stream,
+            help: "The stream [possible values: upstream, downstream]",
             needed: true,
             ..OPTION
         },
@@ -56,7 +40,7 @@ pub(crate) fn pick_task<'a>(alloc: Global, given: &ArgMatches<'a>) -> Result<Tas
     let Some((asked, stream)) = proxy_of(given, "conn").zip(given.get_str("stream")) else {
         return Err(incomplete(alloc));
     };
-    Ok(Task::Pick(PickArguments {
+    Ok(Task::Pick(PickRequest {
         config: asked.config,
         script: asked.script,
         proxy: asked.proxy,

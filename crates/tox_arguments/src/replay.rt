@@ -4,6 +4,7 @@ use crate::arguments::{FILES, JSON, strs_of};
 use crate::command::CommandForm;
 use crate::command_line::{Task, refusal};
 use crate::help;
+use crate::value_kind::ValueKind;
 use clap::error::ErrorKind;
 use clap::{ArgMatches, Error};
 use std::alloc::{AllocError, Global};
@@ -62,6 +63,7 @@ pub(crate) const REPLAY: CommandForm = CommandForm {
         Argument {
             name: "as",
             value: "TOXIC",
+            kind: ValueKind::Toxic,
             help: "With --result: a toxic in place of the log's; may be repeated",
             beside: &["result"],
             ..OPTIONS

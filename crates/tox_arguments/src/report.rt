@@ -8,7 +8,10 @@ use clap::builder::ValueParser;
 use clap::{ArgMatches, Error};
 use std::alloc::Global;
 
-/// How many pictures a page has unless `--pictures` tells.
+/// The title of a page unless `--title` tells.
+const DEFAULT_TITLE: &str = "Toxi report";
+
+/// How many links of a page have pictures unless `--pictures` tells.
 const DEFAULT_PICTURES: usize = 100;
 
 /// The most pictures that a page may be given.
@@ -17,7 +20,9 @@ const MAX_PICTURES: u64 = 1_000_000;
 /// What `report` is given.
 #[derive(Debug, Drop)]
 pub struct ReportArguments<'a> {
-    /// How many of the first rows have pictures.
+    /// The title of the page.
+    pub title: &'a str,
+    /// How many of the first links have conversations, with their pictures.
     pub pictures: usize,
     /// The names of the logs, or `-` for names on standard input.
     pub files: Vec<&'a str>,
@@ -25,13 +30,19 @@ pub struct ReportArguments<'a> {
 
 pub(crate) const REPORT: CommandForm = CommandForm {
     name: "report",
-    about: "Prints a page of a run: what its logs are, with their pictures",
+    about: "Prints a page of a run: its links, with their pictures",
     examples: help::REPORT,
     arguments: &[
         Argument {
+            name: "title",
+            value: "TEXT",
+            help: "The title of the page [default: Toxi report]",
+            ..OPTION
+        },
+        Argument {
             name: "pictures",
             value: "N",
-            help: "How many of the first rows have pictures, 0 to 1000000 [default: 100]",
+            help: "How many of the first links have pictures, 0 to 1000000 [default: 100]",
             reads: ValueParser::Unsigned(0, MAX_PICTURES),
             ..OPTION
         },
@@ -42,6 +53,7 @@ pub(crate) const REPORT: CommandForm = CommandForm {
 /// The task of `report`.
 pub(crate) fn report_task<'a>(alloc: Global, given: &ArgMatches<'a>) -> Result<Task<'a>, Error> {
     Ok(Task::Report(ReportArguments {
+        title: given.get_str("title").unwrap_or(DEFAULT_TITLE),
         pictures: given
             .get_one::<usize>("pictures")
             .unwrap_or(DEFAULT_PICTURES),

@@ -1,19 +1,18 @@
 //! The command `serve` and its options.
 use crate::argument::{Argument, FLAG, OPTION, OPTIONS};
-use crate::arguments::{CONFIG, CONNECTIONS, JSON, SCRIPT, SEED, files_of};
+use crate::arguments::{CONFIG, CONNECTIONS, JSON, MAX_CONNECT_TIMEOUT, SCRIPT, SEED, files_of};
 use crate::command::CommandForm;
 use crate::command_line::{Task, incomplete};
 use crate::help;
+use crate::value_kind::ValueKind;
 use clap::builder::ValueParser;
 use clap::{ArgMatches, Error};
 use std::alloc::{AllocError, Global};
+use tox_proxy::{Inline, InlineToxic, LineForm, LogLimits, ServeOptions};
 use tox_time::Stream;
 
 /// The most threads that drive all links.
 const MAX_WORKERS: u64 = 64;
-
-/// The longest time that a connect may be given, in milliseconds.
-const MAX_CONNECT_TIMEOUT: u64 = 600_000;
 
 /// The most bytes that a log may be given.
 const MAX_LOG_BYTES: u64 = 1 << 40;
@@ -28,19 +27,13 @@ const DEFAULT_LOG_BYTES: u64 = 67_108_864;
 #[derive(Debug, Drop)]
 pub struct ServeArguments<'a> {
     pub source: ServeSource<'a>,
-    pub seed: u64,
-    /// After how many connections each proxy stops listening. None: it goes on.
-    pub links: Option<u64>,
-    /// How many milliseconds a connect may take. None: as many as the system lets it.
-    pub connect_timeout: Option<u32>,
-    /// How many threads drive all links. None: each link has threads of its own.
-    pub workers: Option<u32>,
-    /// What is logged. None: nothing is.
-    pub logs: Option<LogArguments<'a>>,
-    /// Whether a line tells what each stream of a link meets, once its upstream is reached.
-    pub verbose: bool,
-    /// Whether each line is a JSON object.
-    pub json: bool,
+    /// None: one is drawn.
+    pub seed: Option<u64>,
+    /// The folder of logs, where links are logged.
+    pub folder: Option<&'a str>,
+    /// Whether what `check` finds isn't told on standard error.
+    pub quiet: bool,
+    pub options: ServeOptions<'a>,
 }
 
 /// What is served.
@@ -60,28 +53,25 @@ pub struct InlineArguments<'a> {
     /// What it connects to.
     pub upstream: &'a str,
     /// The toxics of both streams, in the order typed.
-    pub toxics: Vec<ToxicArgument<'a>>,
+    pub toxics: Vec<InlineToxic<'a>>,
 }
 
-/// A toxic on the command line.
-#[derive(Clone, Copy, Debug)]
-pub struct ToxicArgument<'a> {
-    /// The number of its word on the command line.
+impl<'a> InlineArguments<'a> {
+    /// What is to be set up.
+    pub fn inline(&self) -> Inline<'_> {
+        Inline {
+            listen: self.listen,
+            upstream: self.upstream,
+            toxics: &self.toxics,
+        }
+    }
+}
+
+/// A toxic, and the number of its word on the command line.
+#[derive(Clone, Copy)]
+struct PlacedToxic<'a> {
     place: usize,
-    pub stream: Stream,
-    /// Its short form.
-    pub toxic: &'a str,
-}
-
-/// What `serve` logs.
-#[derive(Clone, Copy, Debug)]
-pub struct LogArguments<'a> {
-    /// The folder of the logs.
-    pub folder: &'a str,
-    /// How many links of each proxy are logged.
-    pub links: u64,
-    /// How many bytes a log has at most.
-    pub bytes: u64,
+    toxic: InlineToxic<'a>,
 }
 
 pub(crate) const SERVE: CommandForm = CommandForm {
@@ -100,7 +90,17 @@ pub(crate) const SERVE: CommandForm = CommandForm {
             unless: &["listen"],
             ..SCRIPT
         },
-        SEED,
+        Argument {
+            needed: false,
+            unless: &["any-seed"],
+            ..SEED
+        },
+        Argument {
+            name: "any-seed",
+            help: "In place of --seed: draws a seed, and prints it on standard error",
+            without: &["seed"],
+            ..FLAG
+        },
         Argument {
             name: "listen",
             value: "ADDRESS",
@@ -119,6 +119,7 @@ pub(crate) const SERVE: CommandForm = CommandForm {
         Argument {
             name: "down",
             value: "TOXIC",
+            kind: ValueKind::Toxic,
             help: "With --listen: a toxic from the server to the client; may be repeated",
             beside: &["listen"],
             ..OPTIONS
@@ -126,6 +127,7 @@ pub(crate) const SERVE: CommandForm = CommandForm {
         Argument {
             name: "up",
             value: "TOXIC",
+            kind: ValueKind::Toxic,
             help: "With --listen: a toxic from the client to the server; may be repeated",
             beside: &["listen"],
             ..OPTIONS
@@ -133,6 +135,7 @@ pub(crate) const SERVE: CommandForm = CommandForm {
         Argument {
             name: "print-files",
             value: "DIR",
+            kind: ValueKind::Folder,
             help: "With --listen: writes proxies.json and script.toml that mean the same, and ends",
             beside: &["listen"],
             ..OPTION
@@ -151,6 +154,12 @@ pub(crate) const SERVE: CommandForm = CommandForm {
             ..OPTION
         },
         Argument {
+            name: "ready",
+            value: "ADDRESS",
+            help: "An address for probes, which listens once all proxies do, and whose connections don't count",
+            ..OPTION
+        },
+        Argument {
             name: "workers",
             value: "N",
             help: "How many threads drive all links, 1 to 64 [default: each link has four of its own]",
@@ -161,6 +170,7 @@ pub(crate) const SERVE: CommandForm = CommandForm {
         Argument {
             name: "log",
             value: "DIR",
+            kind: ValueKind::Folder,
             help: "The folder that gets a log of each stream; it is made, or must be empty",
             ..OPTION
         },
@@ -183,23 +193,25 @@ pub(crate) const SERVE: CommandForm = CommandForm {
             help: "Prints what `check` says at the start, and a line for each stream of a link as its upstream is reached",
             ..FLAG
         },
+        Argument {
+            name: "quiet",
+            help: "Leaves out what `check` says at the start on standard error",
+            ..FLAG
+        },
         JSON,
     ],
 };
 
 /// The task of `serve` with files or with one proxy. `clap` has rejected both.
 pub(crate) fn serve_task<'a>(alloc: Global, given: &ArgMatches<'a>) -> Result<Task<'a>, Error> {
-    let Some(seed) = given.get_one::<u64>("seed") else {
-        return Err(incomplete(alloc));
-    };
     match files_of(given) {
-        Some((config, script)) => Ok(serving(given, seed, ServeSource::Files { config, script })),
-        None => inline_task(alloc, given, seed),
+        Some((config, script)) => Ok(serving(given, ServeSource::Files { config, script })),
+        None => inline_task(alloc, given),
     }
 }
 
 /// The task of `serve` with one proxy: to serve it, or to print the files that mean the same.
-fn inline_task<'a>(alloc: Global, given: &ArgMatches<'a>, seed: u64) -> Result<Task<'a>, Error> {
+fn inline_task<'a>(alloc: Global, given: &ArgMatches<'a>) -> Result<Task<'a>, Error> {
     let Some((listen, upstream)) = given.get_str("listen").zip(given.get_str("upstream")) else {
         return Err(incomplete(alloc));
     };
@@ -210,63 +222,44 @@ fn inline_task<'a>(alloc: Global, given: &ArgMatches<'a>, seed: u64) -> Result<T
     };
     Ok(match given.get_str("print-files") {
         Some(folder) => Task::PrintFiles(inline, folder),
-        None => serving(given, seed, ServeSource::Inline(inline)),
+        None => serving(given, ServeSource::Inline(inline)),
     })
 }
 
-/// The task to serve. `clap` has rejected numbers that are too large.
-fn serving<'a>(given: &ArgMatches<'a>, seed: u64, source: ServeSource<'a>) -> Task<'a> {
+/// The task to serve.
+fn serving<'a>(given: &ArgMatches<'a>, source: ServeSource<'a>) -> Task<'a> {
     Task::Serve(ServeArguments {
         source,
-        seed,
-        links: given.get_one::<u64>("links"),
-        connect_timeout: given.get_one::<u32>("connect-timeout"),
-        workers: given.get_one::<u32>("workers"),
-        logs: logs_of(given),
-        verbose: given.get_flag("verbose"),
-        json: given.get_flag("json"),
+        seed: given.get_one::<u64>("seed"),
+        folder: given.get_str("log"),
+        quiet: given.get_flag("quiet"),
+        options: options_of(given),
     })
 }
 
-/// The toxics of both streams, in the order typed.
-fn toxics_of<'a>(
-    alloc: Global,
-    given: &ArgMatches<'a>,
-) -> Result<Vec<ToxicArgument<'a>>, AllocError> {
-    let mut toxics = Vec::new(alloc);
-    add_toxics(&mut toxics, given, "down", Stream::Downstream)?;
-    add_toxics(&mut toxics, given, "up", Stream::Upstream)?;
-    toxics.sort_by_key(|toxic| toxic.place)?;
-    Ok(toxics)
-}
-
-/// Adds the toxics of an option, each with the number of its word.
-fn add_toxics<'a>(
-    toxics: &mut Vec<ToxicArgument<'a>>,
-    given: &ArgMatches<'a>,
-    name: &str,
-    stream: Stream,
-) -> Result<(), AllocError> {
-    let Some((texts, places)) = given.get_strs(name).zip(given.indices_of(name)) else {
-        return Ok(());
-    };
-    for (toxic, place) in texts.iter().zip(places) {
-        toxics.push(ToxicArgument {
-            place: *place,
-            stream,
-            toxic,
-        })?;
+/// The options of serving. `clap` has rejected numbers that are too large.
+fn options_of<'a>(given: &ArgMatches<'a>) -> ServeOptions<'a> {
+    ServeOptions {
+        links: given.get_one::<u64>("links"),
+        connect_timeout: given.get_one::<u32>("connect-timeout"),
+        ready: given.get_str("ready"),
+        workers: given.get_one::<u32>("workers"),
+        logs: limits_of(given),
+        verbose: given.get_flag("verbose"),
+        form: if given.get_flag("json") {
+            LineForm::Json
+        } else {
+            LineForm::Words
+        },
     }
-    Ok(())
 }
 
-/// What `serve` logs.
-fn logs_of<'a>(given: &ArgMatches<'a>) -> Option<LogArguments<'a>> {
-    let Some(folder) = given.get_str("log") else {
+/// How much is logged, where links are.
+fn limits_of(given: &ArgMatches<'_>) -> Option<LogLimits> {
+    if given.get_str("log").is_none() {
         return None;
-    };
-    Some(LogArguments {
-        folder,
+    }
+    Some(LogLimits {
         links: given
             .get_one::<u64>("log-links")
             .unwrap_or(DEFAULT_LOG_LINKS),
@@ -274,4 +267,40 @@ fn logs_of<'a>(given: &ArgMatches<'a>) -> Option<LogArguments<'a>> {
             .get_one::<u64>("log-bytes")
             .unwrap_or(DEFAULT_LOG_BYTES),
     })
+}
+
+/// The toxics of both streams, in the order typed.
+fn toxics_of<'a>(
+    alloc: Global,
+    given: &ArgMatches<'a>,
+) -> Result<Vec<InlineToxic<'a>>, AllocError> {
+    let mut placed = Vec::new(alloc);
+    add_toxics(&mut placed, given, "down", Stream::Downstream)?;
+    add_toxics(&mut placed, given, "up", Stream::Upstream)?;
+    placed.sort_by_key(|toxic| toxic.place)?;
+    let mut toxics = Vec::new(alloc);
+    for typed in &placed {
+        toxics.push(typed.toxic)?;
+    }
+    Ok(toxics)
+}
+
+/// Adds the toxics of an option, each with the number of its word.
+fn add_toxics<'a>(
+    placed: &mut Vec<PlacedToxic<'a>>,
+    given: &ArgMatches<'a>,
+    name: &str,
+    stream: Stream,
+) -> Result<(), AllocError> {
+    let Some((texts, places)) = given.get_strs(name).zip(given.indices_of(name)) else {
+        return Ok(());
+    };
+    for (short, place) in texts.iter().zip(places) {
+        let toxic = InlineToxic { stream, short };
+        placed.push(PlacedToxic {
+            place: *place,
+            toxic,
+        })?;
+    }
+    Ok(())
 }

@@ -4,17 +4,10 @@ use crate::command::CommandForm;
 use crate::command_line::{Task, incomplete, matches_of};
 use crate::faults::fault_of;
 use crate::help;
+use crate::topic::{HelpText, Topic};
+use crate::value_kind::ValueKind;
 use clap::{ArgMatches, Error};
 use std::alloc::Global;
-
-/// A text of help.
-#[derive(Clone, Copy, Debug, PartialEq, Eq)]
-pub enum HelpText {
-    /// This text.
-    One(&'static str),
-    /// The lines of all faults.
-    Faults,
-}
 
 pub(crate) const HELP: CommandForm = CommandForm {
     name: "help",
@@ -23,6 +16,7 @@ pub(crate) const HELP: CommandForm = CommandForm {
     arguments: &[Argument {
         name: "topic",
         value: "TOPIC",
+        kind: ValueKind::Topic,
         help: "A command, toxics, scripts, faults, or the code of a fault",
         ..PLACE
     }],
@@ -32,11 +26,8 @@ pub(crate) const HELP: CommandForm = CommandForm {
 /// program's, since `clap` answers the first `--help`.
 pub(crate) fn help_task<'a>(alloc: Global, given: &ArgMatches<'a>) -> Result<Task<'a>, Error> {
     let topic = given.get_str("topic").unwrap_or("--help");
-    if topic == "faults" {
-        return Ok(Task::Help(HelpText::Faults));
-    }
     match text_of(topic) {
-        Some(text) => Ok(Task::Help(HelpText::One(text))),
+        Some(text) => Ok(Task::Help(text)),
         None => Err(command_help(alloc, topic)),
     }
 }
@@ -50,10 +41,9 @@ fn command_help(alloc: Global, name: &str) -> Error {
 }
 
 /// The text of a topic that is no command.
-fn text_of(topic: &str) -> Option<&'static str> {
-    match topic {
-        "toxics" => Some(help::toxics()),
-        "scripts" => Some(help::SCRIPTS),
-        code => fault_of(code),
+fn text_of(topic: &str) -> Option<HelpText> {
+    match Topic::of_name(topic) {
+        Some(topic) => Some(topic.text()),
+        None => fault_of(topic).map(HelpText::One),
     }
 }

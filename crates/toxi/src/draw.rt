@@ -1,41 +1,48 @@
 //! `toxi draw`: the picture of a link, on standard output.
 ghost use Rattle.std.specs.Prelude.{◌≡◌, false};
 
+use crate::explaining::Explaining;
 use crate::fault::Fault;
-use crate::link::read_link;
+use crate::kept_input::KeptInput;
+use crate::link::{link_status, read_link};
+use crate::log_fault::fail_log;
+use crate::piped_output::PipedOutput;
+use crate::progress::{Progress, Terminals};
 use std::alloc::Global;
+use std::fs;
+use std::process::ExitCode;
 use std::rt::Files;
-use std::{fs, io};
-use thiserror::Error;
+use std::time::Clock;
 use tox_arguments::{DrawArguments, LinkArguments};
 use tox_proxy::{ReplayFault, Verdict, draw_log, draw_run, judge_log};
 use tox_time::{Real, Sink};
 
-/// Why a picture was not printed, or not whole.
-#[derive(Debug, Drop, Error)]
-pub enum DrawFault<'a> {
-    /// Of the link, or of its arrivals.
-    #[error("{0}")]
-    Link(Fault),
-    #[error("{0}")]
-    Log(ReplayFault<'a>),
-}
-
-/// Draws a link whose arrivals are on standard input, or a log.
+/// Draws a link whose arrivals are on standard input, or a log. Returns the status of the program.
 #[inline(never)]
-pub fn draw<'a, R: Input + Print + Files + AllocGlobal>(
+pub fn draw<R: Input + Print + Eprint + Files + AllocGlobal + Clock>(
     rt: &R,
-    arguments: &DrawArguments<'a>,
-) -> Result<(), DrawFault<'a>> {
+    explaining: Explaining,
+    terminals: Terminals,
+    arguments: &DrawArguments<'_>,
+) -> ExitCode {
+    let mut output = PipedOutput::new();
     match arguments {
-        DrawArguments::Link(link) => match draw_link(rt, link) {
-            Ok(()) => Ok(()),
-            Err(fault) => Err(DrawFault::Link(fault)),
-        },
+        DrawArguments::Link(link) => {
+            let mut input = KeptInput::new(rt.alloc(), explaining);
+            match draw_link(rt, link, &mut input, &mut output) {
+                Err(_) if output.reader_left() => ExitCode::SUCCESS,
+                done => link_status(rt, explaining, link, &input, done),
+            }
+        }
         DrawArguments::Log(name) => {
-            match draw_file(rt, rt.alloc(), name, &mut Real::new(io::writer(rt))) {
-                Ok(()) => Ok(()),
-                Err(fault) => Err(DrawFault::Log(fault)),
+            let progress = Progress::new(rt, terminals, Some(1));
+            let mut writer = Real::new(progress.writer(output.writer(rt)));
+            let drawn = draw_file(rt, rt.alloc(), &progress, name, &mut writer);
+            progress.clear();
+            match drawn {
+                Ok(()) => ExitCode::SUCCESS,
+                Err(_) if output.reader_left() => ExitCode::SUCCESS,
+                Err(fault) => fail_log(rt, explaining, name, &fault),
             }
         }
     }
@@ -45,10 +52,12 @@ pub fn draw<'a, R: Input + Print + Files + AllocGlobal>(
 fn draw_link<R: Input + Print + AllocGlobal>(
     rt: &R,
     link: &LinkArguments<'_>,
+    input: &mut KeptInput,
+    output: &mut PipedOutput,
 ) -> Result<(), Fault> {
     let link = read_link(rt.alloc(), link)?;
-    let mut reader = Real::new(rt.reader());
-    let mut writer = Real::new(io::writer(rt));
+    let mut reader = Real::new(input.reader(rt.reader()));
+    let mut writer = Real::new(output.writer(rt));
     draw_run(
         rt.alloc(),
         &mut reader,
@@ -60,18 +69,20 @@ fn draw_link<R: Input + Print + AllocGlobal>(
 }
 
 /// Judges the log in a file, and draws it unless it is unfaithful.
-fn draw_file<'a, R: Files, W: Sink>(
+fn draw_file<'a, 'p, R: Eprint + Files + Clock, W: Sink>(
     rt: &R,
     alloc: Global,
+    progress: &'p Progress<'p, R>,
     name: &'a str,
     writer: &mut W,
 ) -> Result<(), ReplayFault<'a>>
     requires { W.failed writer.old ≡ false }
 {
+    progress.begin_log(name, 3);
     let Ok(file) = fs::open(rt, name) else {
         return Err(ReplayFault::Unreadable(name));
     };
-    match judge_log(alloc, &mut Real::new(file)) {
+    match judge_log(alloc, &mut Real::new(progress.reader(file))) {
         Ok(log) => {
             if let Verdict::Unfaithful(_) = log.verdict {
                 return Err(ReplayFault::NotFaithful(1));
@@ -88,8 +99,8 @@ fn draw_file<'a, R: Files, W: Sink>(
     draw_log(
         alloc,
         name,
-        &mut Real::new(first),
-        &mut Real::new(second),
+        &mut Real::new(progress.reader(first)),
+        &mut Real::new(progress.reader(second)),
         writer,
     )
 }

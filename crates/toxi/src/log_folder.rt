@@ -11,34 +11,10 @@ use std::{fs, io};
 use thiserror::Error;
 use tox_proxy::{LogFiles, Room, VisibleName};
 
-/// The folder of logs can't be made, or isn't empty.
+/// The folder of logs isn't taken.
 #[derive(Clone, Copy, Debug, Error)]
 #[error("P6 LogRefused {}", VisibleName(.0))]
 pub struct LogRefused<'a>(pub &'a str);
-
-/// Makes the folder of logs.
-pub fn make_folder<'a, R: Files + AllocGlobal + Copy>(
-    rt: &R,
-    folder: &'a str,
-) -> Result<(), LogRefused<'a>> {
-    if is_made(rt, folder) {
-        Ok(())
-    } else {
-        Err(LogRefused(folder))
-    }
-}
-
-/// Makes a folder, and its parents. False if it can't be made, or isn't empty.
-pub fn is_made<R: Files + AllocGlobal + Copy>(rt: &R, folder: &str) -> bool {
-    fs::create_dir_all(rt, folder).is_ok() && is_empty(rt, folder)
-}
-
-fn is_empty<R: Files + AllocGlobal + Copy>(rt: &R, folder: &str) -> bool {
-    match fs::read_dir(rt, folder) {
-        Ok(mut entries) => entries.next().is_none(),
-        Err(_) => false,
-    }
-}
 
 /// The logs in a folder. None where no folder is named: then no log is kept.
 #[derive(Drop)]

@@ -1,9 +1,13 @@
 //! The names of logs on the command line and on standard input.
 use crate::fail;
 use std::io::{BufRead, BufReader};
-use std::str;
+use std::rt::Files;
+use std::{fs, str};
 use tox_arguments::NAMES_ON_INPUT;
 use tox_proxy::ReplayFault;
+
+/// The first line of a log.
+const LOG_TITLE: &str = "toxi log 1";
 
 /// What is done with each log.
 pub trait LogTask<R> {
@@ -18,14 +22,23 @@ pub trait LogTask<R> {
 #[derive(Clone, Copy, Debug, PartialEq, Eq)]
 pub enum NamesTaken {
     All,
-    /// Standard input couldn't be read to its end. The fault was told.
+    /// The names on standard input couldn't be read to their end. The fault was told.
     Some,
     /// The task, or a fault that was told, ended it.
     Ended,
 }
 
+/// How many logs are named. None if some of their names are on standard input.
+pub fn log_count(files: &[&str]) -> Option<u64> {
+    if files.iter().any(|file| *file == NAMES_ON_INPUT) {
+        None
+    } else {
+        Some(files.len() as u64)
+    }
+}
+
 /// Hands each log to a task, in order: those of the command line, and in place of `-` those whose names are on standard input.
-pub fn take_names<R: Input + Eprint + AllocGlobal, T: LogTask<R>>(
+pub fn take_names<R: Input + Eprint + Files + AllocGlobal, T: LogTask<R>>(
     rt: &R,
     files: &[&str],
     task: &mut T,
@@ -48,7 +61,10 @@ pub fn take_names<R: Input + Eprint + AllocGlobal, T: LogTask<R>>(
 }
 
 /// Hands on the logs whose names are on standard input.
-fn take_named<R: Input + Eprint + AllocGlobal, T: LogTask<R>>(rt: &R, task: &mut T) -> NamesTaken {
+fn take_named<R: Input + Eprint + Files + AllocGlobal, T: LogTask<R>>(
+    rt: &R,
+    task: &mut T,
+) -> NamesTaken {
     let alloc = rt.alloc();
     let Ok(reader) = BufReader::new(alloc, rt.reader()) else {
         fail(rt, &ReplayFault::OutOfMemory);
@@ -61,6 +77,12 @@ fn take_named<R: Input + Eprint + AllocGlobal, T: LogTask<R>>(rt: &R, task: &mut
         };
         if !take_line(rt, &line, task) {
             return NamesTaken::Ended;
+        }
+        if line.as_slice() == LOG_TITLE.as_bytes() && fs::metadata(rt, LOG_TITLE).is_err() {
+            let _ = eprintln!(rt;
+                "toxi: warning: standard input has the lines of a log, and - takes names of logs, one a line"
+            );
+            return NamesTaken::Some;
         }
     }
     NamesTaken::All

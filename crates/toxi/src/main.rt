@@ -1,21 +1,30 @@
 //! The program `toxi`: a TCP proxy that adds scripted faults.
 #![tactic(auto)]
 
-mod check;
+mod any_seed;
+mod arguments;
 mod draw;
 mod dry;
+mod explaining;
 mod fault;
-mod forecast;
+mod files_question;
+mod files_status;
+mod folder;
 mod help;
 mod inline;
+mod kept_files;
+mod kept_input;
 mod link;
+mod log_fault;
 mod log_folder;
 mod log_names;
 mod migrate;
 mod near;
 mod output;
-mod pick;
+mod piped_output;
 mod plan;
+mod progress;
+mod reasons;
 mod replay;
 mod replay_texts;
 mod report;
@@ -23,12 +32,19 @@ mod serve;
 mod shutdown;
 mod stages;
 mod status;
+mod told_warnings;
+mod wait;
 mod warnings;
 mod watch;
 
+use crate::explaining::Explaining;
+use crate::files_question::{FilesQuestion, answer_files};
+use crate::piped_output::lacks_reader;
+use crate::progress::Terminals;
 use clap::Error;
 use clap::error::ErrorKind;
 use std::fmt::Display;
+use std::io::IsTerminal;
 use std::net::{Net, TcpListener, TcpStream};
 use std::process::ExitCode;
 use std::rt::Files;
@@ -56,7 +72,14 @@ fn main(rt: HostRuntime) -> ExitCode {
         return fail(&rt, &"L0 OutOfMemory");
     };
     match tox_arguments::read(rt.alloc(), arguments.as_slice()) {
-        Ok(task) => perform(&rt, &task),
+        Ok(line) => {
+            let terminals = Terminals {
+                output: rt.stdout().is_terminal(),
+                errors: rt.stderr().is_terminal(),
+            };
+            let explaining = Explaining::of(&rt, line.explain, terminals.errors);
+            perform(&rt, explaining, terminals, &line.task)
+        },
         Err(refusal) => refuse(&rt, &refusal),
     }
 }
@@ -76,27 +99,32 @@ fn perform<
         + Send
         + Sync
         + 'static,
->(rt: &R, task: &Task<'_>) -> ExitCode
+>(rt: &R, explaining: Explaining, terminals: Terminals, task: &Task<'_>) -> ExitCode
 where
     R::File: Send + 'static,
     R::Dir: Send + 'static,
 {
     match task {
-        Task::Dry(link) => tell(rt, dry::dry(rt, link)),
-        Task::Draw(arguments) => tell(rt, draw::draw(rt, arguments)),
-        Task::Plan(link) => tell(rt, plan::plan(rt, link)),
-        Task::Stages(cap, link) => tell(rt, stages::stages(rt, cap, link)),
-        Task::Check(arguments) => check::check(rt, arguments),
-        Task::Pick(arguments) => tell(rt, pick::pick(rt, arguments)),
-        Task::Forecast(arguments) => tell(rt, forecast::forecast(rt, arguments)),
-        Task::Migrate(script) => tell(rt, migrate::migrate(rt, script)),
-        Task::PrintFiles(arguments, folder) => {
-            tell(rt, inline::print_files(rt, arguments, folder))
+        Task::Dry(link) => dry::dry(rt, explaining, link),
+        Task::Draw(arguments) => draw::draw(rt, explaining, terminals, arguments),
+        Task::Plan(link) => plan::plan(rt, explaining, link),
+        Task::Stages(cap, link) => stages::stages(rt, explaining, cap, link),
+        Task::Check(request) => {
+            let explaining = explaining.with_verbose(request.verbose);
+            answer_files(rt, explaining, FilesQuestion::Check(request))
         }
-        Task::Serve(arguments) => watch::serve(rt, arguments),
-        Task::Replay(arguments) => replay::replay(rt, arguments),
-        Task::Report(arguments) => report::report(rt, arguments),
+        Task::Pick(request) => answer_files(rt, explaining, FilesQuestion::Pick(request)),
+        Task::Forecast(request) => answer_files(rt, explaining, FilesQuestion::Forecast(request)),
+        Task::Migrate(script) => migrate::migrate(rt, explaining, script),
+        Task::PrintFiles(arguments, folder) => {
+            inline::print_files(rt, explaining, arguments, folder)
+        }
+        Task::Serve(arguments) => watch::serve(rt, explaining, arguments),
+        Task::Wait(arguments) => wait::wait(rt, explaining, arguments),
+        Task::Replay(arguments) => replay::replay(rt, explaining, terminals, arguments),
+        Task::Report(arguments) => report::report(rt, explaining, terminals, arguments),
         Task::Help(text) => tell(rt, help::help(rt, *text)),
+        Task::Arguments => tell(rt, arguments::arguments(rt)),
     }
 }
 
@@ -120,7 +148,9 @@ fn refuse<R: Print + Eprint>(rt: &R, refusal: &Error) -> ExitCode {
         return fail(rt, &"L0 OutOfMemory");
     }
     match refusal.print(rt) {
-        Err(_) if !refusal.use_stderr() => fail(rt, &"L4 WriteFault"),
+        Err(error) if !refusal.use_stderr() && !lacks_reader(&error) => {
+            fail(rt, &"L4 WriteFault")
+        }
         // If what is wrong can't be printed, only the status tells of it.
         _ => ExitCode::from(refusal.exit_code() as u8),
     }

@@ -1,32 +1,42 @@
 //! `toxi replay`: what logs are, on standard output.
 ghost use Rattle.std.specs.Prelude.{◌≡◌, false};
 
-use crate::log_names::{LogTask, NamesTaken, take_names};
+use crate::explaining::{Explaining, fail_explained};
+use crate::log_fault::fail_log;
+use crate::log_names::{LogTask, NamesTaken, log_count, take_names};
+use crate::piped_output::PipedOutput;
+use crate::progress::{Progress, Terminals};
 use crate::replay_texts::print_log;
-use crate::{fail, tell};
 use std::alloc::Global;
+use std::fs;
 use std::process::ExitCode;
 use std::rt::Files;
-use std::{fs, io};
+use std::time::Clock;
 use tox_arguments::{ReplayArguments, ReplayMode};
 use tox_proxy::{ReplayFault, Verdict, write_judged, write_judged_json};
 use tox_time::{Real, Sink};
 
 /// Judges logs, or prints what one of them says.
 #[inline(never)]
-pub fn replay<R: Input + Print + Eprint + Files + AllocGlobal>(
+pub fn replay<R: Input + Print + Eprint + Files + AllocGlobal + Clock>(
     rt: &R,
+    explaining: Explaining,
+    terminals: Terminals,
     arguments: &ReplayArguments<'_>,
 ) -> ExitCode {
+    let progress = Progress::new(rt, terminals, log_count(&arguments.files));
     match (&arguments.mode, arguments.files.first()) {
-        (ReplayMode::Verdicts, _) | (_, None) => judge_logs(rt, &arguments.files, arguments.json),
-        (mode, Some(file)) => tell(rt, print_log(rt, mode, file)),
+        (ReplayMode::Verdicts, _) | (_, None) => judge_logs(rt, explaining, &progress, arguments),
+        (mode, Some(file)) => print_log(rt, explaining, &progress, mode, file),
     }
 }
 
 /// How the lines of logs are written, and what came of the logs so far.
 #[derive(Drop)]
-struct Judging {
+struct Judging<'p, R> {
+    explaining: Explaining,
+    progress: &'p Progress<'p, R>,
+    output: PipedOutput,
     /// Whether each line is a JSON object.
     json: bool,
     /// How many are unfaithful.
@@ -35,15 +45,18 @@ struct Judging {
     failed: bool,
 }
 
-impl<R: Print + Eprint + Files + AllocGlobal> LogTask<R> for Judging {
+impl<'p, R: Print + Eprint + Files + AllocGlobal + Clock> LogTask<R> for Judging<'p, R> {
     /// Judges the log in a file, and prints its line or its fault. False if the replay ends.
     fn take(&mut self, rt: &R, name: &str) -> bool {
-        let mut writer = Real::new(io::writer(rt));
-        match judge_into(rt, rt.alloc(), name, self.json, &mut writer) {
+        let json = self.json;
+        let progress = self.progress;
+        let mut writer = Real::new(progress.writer(self.output.writer(rt)));
+        match judge_into(rt, rt.alloc(), progress, name, json, &mut writer) {
             Ok(Verdict::Unfaithful(_)) => self.unfaithful = self.unfaithful.saturating_add(1),
             Ok(_) => {}
+            Err(_) if self.output.reader_left() => return false,
             Err(fault) => {
-                self.fail(rt, &fault);
+                self.fail(rt, name, &fault);
                 return !fault.ends();
             }
         }
@@ -51,41 +64,53 @@ impl<R: Print + Eprint + Files + AllocGlobal> LogTask<R> for Judging {
     }
 
     fn miss(&mut self, rt: &R, name: &str) -> bool {
-        self.fail(rt, &ReplayFault::Unreadable(name));
+        self.fail(rt, name, &ReplayFault::Unreadable(name));
         true
     }
 }
 
-impl Judging {
+impl<'p, R: Eprint + Files + AllocGlobal + Clock> Judging<'p, R> {
     /// Tells the fault of a log.
-    fn fail(&mut self, rt: &impl Eprint, fault: &ReplayFault<'_>) {
-        fail(rt, fault);
+    fn fail(&mut self, rt: &R, name: &str, fault: &ReplayFault<'_>) {
+        self.progress.clear();
+        fail_log(rt, self.explaining, name, fault);
         self.failed = true;
     }
 }
 
 /// Judges the logs in order.
-fn judge_logs<R: Input + Print + Eprint + Files + AllocGlobal>(
+fn judge_logs<'p, R: Input + Print + Eprint + Files + AllocGlobal + Clock>(
     rt: &R,
-    files: &[&str],
-    json: bool,
+    explaining: Explaining,
+    progress: &'p Progress<'p, R>,
+    arguments: &ReplayArguments<'_>,
 ) -> ExitCode {
     let mut judging = Judging {
-        json,
+        explaining,
+        progress,
+        output: PipedOutput::new(),
+        json: arguments.json,
         unfaithful: 0,
         failed: false,
     };
-    match take_names(rt, files, &mut judging) {
-        NamesTaken::All => last_status(rt, judging.unfaithful, judging.failed),
-        NamesTaken::Some => last_status(rt, judging.unfaithful, true),
-        NamesTaken::Ended => ExitCode::FAILURE,
+    let taken = take_names(rt, &arguments.files, &mut judging);
+    progress.clear();
+    match taken {
+        NamesTaken::All => last_status(rt, explaining, judging.unfaithful, judging.failed),
+        NamesTaken::Some => last_status(rt, explaining, judging.unfaithful, true),
+        NamesTaken::Ended => judging.output.status_of_early_end(),
     }
 }
 
 /// The status where so many logs are unfaithful, and a fault was told or not.
-pub fn last_status(rt: &impl Eprint, unfaithful: u64, failed: bool) -> ExitCode {
+pub fn last_status<R: Eprint + AllocGlobal>(
+    rt: &R,
+    explaining: Explaining,
+    unfaithful: u64,
+    failed: bool,
+) -> ExitCode {
     if unfaithful > 0 {
-        return fail(rt, &ReplayFault::NotFaithful(unfaithful));
+        return fail_explained(rt, explaining, &ReplayFault::NotFaithful(unfaithful));
     }
     if failed {
         ExitCode::FAILURE
@@ -95,19 +120,21 @@ pub fn last_status(rt: &impl Eprint, unfaithful: u64, failed: bool) -> ExitCode 
 }
 
 /// Judges the log in a file, and prints its line.
-fn judge_into<'a, R: Files, W: Sink>(
+fn judge_into<'a, 'p, R: Eprint + Files + Clock, W: Sink>(
     rt: &R,
     alloc: Global,
+    progress: &'p Progress<'p, R>,
     name: &'a str,
     json: bool,
     writer: &mut W,
 ) -> Result<Verdict, ReplayFault<'a>>
     requires { W.failed writer.old ≡ false }
 {
+    progress.begin_log(name, 1);
     let Ok(file) = fs::open(rt, name) else {
         return Err(ReplayFault::Unreadable(name));
     };
-    let mut reader = Real::new(file);
+    let mut reader = Real::new(progress.reader(file));
     if json {
         write_judged_json(alloc, name, &mut reader, writer)
     } else {

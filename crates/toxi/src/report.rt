@@ -1,27 +1,33 @@
 //! `toxi report`: the page of a run, on standard output.
-use crate::fail;
-use crate::log_names::{LogTask, NamesTaken, take_names};
+use crate::explaining::{Explaining, fail_explained};
+use crate::log_fault::fail_log;
+use crate::log_names::{LogTask, NamesTaken, log_count, take_names};
+use crate::piped_output::PipedOutput;
+use crate::progress::{CountedReader, Progress, Terminals};
 use crate::replay::last_status;
+use std::fs;
 use std::marker::PhantomData;
 use std::process::ExitCode;
 use std::rt::Files;
-use std::{fs, io};
+use std::time::Clock;
 use tox_arguments::ReportArguments;
 use tox_proxy::{LogStore, Report};
 use tox_time::Real;
 
 /// The logs in files.
 #[derive(Clone, Copy)]
-struct LogsInFiles<'r, R> {
-    rt: &'r R,
+struct LogsInFiles<'p, R> {
+    rt: &'p R,
+    progress: &'p Progress<'p, R>,
 }
 
-impl<'r, R: Files> LogStore for LogsInFiles<'r, R> {
-    type Reader = Real<R::File>;
+impl<'p, R: Eprint + Files + Clock> LogStore for LogsInFiles<'p, R> {
+    type Reader = Real<CountedReader<'p, R::File, R>>;
 
-    fn open(&self, name: &str) -> Option<Real<R::File>> {
+    fn open(&self, name: &str) -> Option<Real<CountedReader<'p, R::File, R>>> {
+        self.progress.begin_log(name, 1);
         match fs::open(self.rt, name) {
-            Ok(file) => Some(Real::new(file)),
+            Ok(file) => Some(Real::new(self.progress.reader(file))),
             Err(_) => None,
         }
     }
@@ -43,23 +49,21 @@ impl<R: Files> LogStore for NoFiles<R> {
 
 /// A report, and whether a fault was told.
 #[derive(Drop)]
-struct Collected {
+struct Collected<'p, R> {
+    explaining: Explaining,
+    progress: &'p Progress<'p, R>,
     report: Report,
     failed: bool,
 }
 
-impl Collected {
+impl<'p, R: Eprint + Files + AllocGlobal + Clock> Collected<'p, R> {
     /// Judges the log of this name. False if the report ends.
-    fn judge<R: Eprint + AllocGlobal, S: LogStore>(
-        &mut self,
-        rt: &R,
-        logs: &S,
-        name: &str,
-    ) -> bool {
+    fn judge<S: LogStore>(&mut self, rt: &R, logs: &S, name: &str) -> bool {
         match self.report.judge(rt.alloc(), logs, name) {
             Ok(()) => true,
             Err(fault) => {
-                fail(rt, &fault);
+                self.progress.clear();
+                fail_log(rt, self.explaining, name, &fault);
                 self.failed = true;
                 !fault.ends()
             }
@@ -67,9 +71,13 @@ impl Collected {
     }
 }
 
-impl<R: Eprint + Files + AllocGlobal> LogTask<R> for Collected {
+impl<'p, R: Eprint + Files + AllocGlobal + Clock> LogTask<R> for Collected<'p, R> {
     fn take(&mut self, rt: &R, name: &str) -> bool {
-        self.judge(rt, &LogsInFiles { rt }, name)
+        let logs = LogsInFiles {
+            rt: self.progress.runtime(),
+            progress: self.progress,
+        };
+        self.judge(rt, &logs, name)
     }
 
     fn miss(&mut self, rt: &R, name: &str) -> bool {
@@ -80,11 +88,16 @@ impl<R: Eprint + Files + AllocGlobal> LogTask<R> for Collected {
 
 /// Judges the logs, and then prints their page.
 #[inline(never)]
-pub fn report<R: Input + Print + Eprint + Files + AllocGlobal>(
+pub fn report<R: Input + Print + Eprint + Files + AllocGlobal + Clock>(
     rt: &R,
+    explaining: Explaining,
+    terminals: Terminals,
     arguments: &ReportArguments<'_>,
 ) -> ExitCode {
+    let progress = Progress::new(rt, terminals, log_count(&arguments.files));
     let mut collected = Collected {
+        explaining,
+        progress: &progress,
         report: Report::new(rt.alloc()),
         failed: false,
     };
@@ -93,21 +106,35 @@ pub fn report<R: Input + Print + Eprint + Files + AllocGlobal>(
         NamesTaken::Some => collected.failed = true,
         NamesTaken::All => {}
     }
-    let Collected { report, failed } = collected;
-    print_page(rt, arguments.pictures, report, failed)
+    let Collected { report, failed, .. } = collected;
+    progress.begin_pictures();
+    print_page(rt, explaining, &progress, arguments, report, failed)
 }
 
 /// Prints the page of a report. A fault was told before or not.
-fn print_page<R: Print + Eprint + Files + AllocGlobal>(
-    rt: &R,
-    pictures: usize,
+fn print_page<'p, R: Print + Eprint + Files + AllocGlobal + Clock>(
+    rt: &'p R,
+    explaining: Explaining,
+    progress: &'p Progress<'p, R>,
+    arguments: &ReportArguments<'_>,
     report: Report,
     failed: bool,
 ) -> ExitCode {
     let unfaithful = report.unfaithful();
-    let mut writer = Real::new(io::writer(rt));
-    match report.write(rt.alloc(), &LogsInFiles { rt }, pictures, &mut writer) {
-        Ok(()) => last_status(rt, unfaithful, failed),
-        Err(fault) => fail(rt, &fault),
+    let mut output = PipedOutput::new();
+    let mut writer = Real::new(progress.writer(output.writer(rt)));
+    let logs = LogsInFiles { rt, progress };
+    let written = report.write(
+        rt.alloc(),
+        &logs,
+        arguments.title,
+        arguments.pictures,
+        &mut writer,
+    );
+    progress.clear();
+    match written {
+        Ok(()) => last_status(rt, explaining, unfaithful, failed),
+        Err(_) if output.reader_left() => ExitCode::SUCCESS,
+        Err(fault) => fail_explained(rt, explaining, &fault),
     }
 }

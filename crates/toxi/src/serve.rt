@@ -1,20 +1,27 @@
 //! `toxi serve`: proxies that listen. Each line is on standard output as it comes.
+use crate::any_seed::any_seed;
+use crate::explaining::Explaining;
 use crate::fail;
-use crate::inline::set_up_inline;
-use crate::log_folder::{LogFolder, make_folder};
-use crate::near::tell_near_scripted;
+use crate::files_status::{FileNames, fail_files};
+use crate::folder::make_folder;
+use crate::kept_files::KeptFiles;
+use crate::log_folder::{LogFolder, LogRefused};
 use crate::output::PatientOutput;
+use crate::reasons::{listen_reason, printed, text_of};
 use crate::shutdown::Shutdown;
+use crate::told_warnings::tell_warnings;
 use crate::warnings::print_warnings;
 use std::alloc::Global;
 use std::fmt::Display;
 use std::fs;
 use std::rt::Files;
 use std::sync::{Mutex, Wait};
-use tox_arguments::{LogArguments, ServeArguments, ServeSource};
+use std::time::Clock;
+use tox_arguments::{ServeArguments, ServeSource};
+use tox_explain::Inputs;
 use tox_proxy::{
-    Gaps, InlineFault, LineForm, LogLimits, RealFiles, Room, ServeFault, ServeOptions,
-    ServeRuntime, Setup, SetupFault, read_setup, serve_with,
+    BrokenText, InlineFault, Notices, Room, ServeFault, ServeOptions, ServeRuntime, Setup,
+    find_proxy, inline_setup, read_setup, serve_with,
 };
 
 /// A file that gives and takes nothing.
@@ -41,43 +48,65 @@ enum Source {
 /// What `serve` is asked for, kept by the thread that serves.
 #[derive(Drop)]
 pub struct ServeJob {
+    explaining: Explaining,
     source: Source,
-    seed: u64,
+    /// None: one is drawn.
+    seed: Option<u64>,
+    /// The address for probes.
+    ready: Option<String>,
     /// The folder of logs.
     folder: Option<String>,
-    options: ServeOptions,
+    /// Whether warnings aren't told.
+    quiet: bool,
+    /// All but the address for probes.
+    options: ServeOptions<'static>,
 }
 
 impl ServeJob {
     /// What a command line asks for.
-    pub fn of(alloc: Global, arguments: &ServeArguments<'_>) -> Result<ServeJob, InlineFault> {
+    pub fn of(
+        alloc: Global,
+        explaining: Explaining,
+        arguments: &ServeArguments<'_>,
+    ) -> Result<ServeJob, InlineFault> {
         let source = source_of(alloc, &arguments.source)?;
-        let options = ServeOptions {
-            links: arguments.links,
-            connect_timeout: arguments.connect_timeout,
-            workers: arguments.workers,
-            logs: limits_of(&arguments.logs),
-            verbose: arguments.verbose,
-            form: form_of(arguments.json),
-        };
-        let folder = match &arguments.logs {
-            Some(logs) => Some(owned(alloc, logs.folder)?),
-            None => None,
-        };
+        let folder = owned_where(alloc, arguments.folder)?;
+        let ready = owned_where(alloc, arguments.options.ready)?;
         Ok(ServeJob {
+            explaining,
             source,
             seed: arguments.seed,
+            ready,
             folder,
-            options,
+            quiet: arguments.quiet,
+            options: kept(&arguments.options),
         })
     }
 
     /// The folder of logs.
     fn folder(&self) -> Option<&str> {
-        match &self.folder {
-            Some(folder) => Some(folder.as_str()),
-            None => None,
+        text_of(&self.folder)
+    }
+
+    /// The options of serving.
+    fn options(&self) -> ServeOptions<'_> {
+        ServeOptions {
+            ready: text_of(&self.ready),
+            ..self.options
         }
+    }
+}
+
+/// Options, kept, but for the address for probes.
+fn kept(options: &ServeOptions<'_>) -> ServeOptions<'static> {
+    ServeOptions {
+        links: options.links,
+        connect_timeout: options.connect_timeout,
+        ready: None,
+        workers: options.workers,
+        logs: options.logs,
+        verbose: options.verbose,
+        form: options.form,
     }
 }
 
@@ -89,7 +118,7 @@ fn source_of(alloc: Global, source: &ServeSource<'_>) -> Result<Source, InlineFa
             script: owned(alloc, script)?,
         }),
         ServeSource::Inline(arguments) => {
-            let made = set_up_inline(alloc, arguments)?;
+            let made = inline_setup(alloc, &arguments.inline())?;
             Ok(Source::Inline(made.setup))
         }
     }
@@ -99,23 +128,11 @@ fn owned(alloc: Global, text: &str) -> Result<String, InlineFault> {
     text.to_string(alloc).map_err(|_| InlineFault::OutOfMemory)
 }
 
-/// How lines are written.
-fn form_of(json: bool) -> LineForm {
-    if json {
-        LineForm::Json
-    } else {
-        LineForm::Words
-    }
-}
-
-/// How much is logged.
-fn limits_of(logs: &Option<LogArguments<'_>>) -> Option<LogLimits> {
-    match logs {
-        Some(logs) => Some(LogLimits {
-            links: logs.links,
-            bytes: logs.bytes,
-        }),
-        None => None,
+/// A text, kept where there is one.
+fn owned_where(alloc: Global, text: Option<&str>) -> Result<Option<String>, InlineFault> {
+    match text {
+        Some(text) => Ok(Some(owned(alloc, text)?)),
+        None => Ok(None),
     }
 }
 
@@ -131,33 +148,46 @@ where
 {
     match &job.source {
         Source::Inline(setup) => serve_setup(rt, job, setup, shutdown),
-        Source::Files { config, script } => match read_setup(
-            &RealFiles::new(rt),
-            rt.alloc(),
-            config.as_str(),
-            script.as_str(),
-        ) {
-            Ok(setup) => serve_setup(rt, job, &setup, shutdown),
-            Err(fault) => refused(rt, script.as_str(), &fault, job.options.verbose),
-        },
+        Source::Files { config, script } => {
+            serve_files(rt, job, config.as_str(), script.as_str(), shutdown)
+        }
     }
 }
 
-/// Tells why the files are refused, and what was meant where it is asked for. Returns the status of the program.
-fn refused<R: Eprint + Files + AllocGlobal>(
+/// Serves what the files of these names set up.
+fn serve_files<R: Print + Eprint + Files + AllocGlobal + ServeRuntime>(
     rt: &R,
+    job: &ServeJob,
+    config: &str,
     script: &str,
-    fault: &SetupFault<'_>,
-    verbose: bool,
-) -> u8 {
-    fail(rt, fault);
-    if verbose {
-        tell_near_scripted(rt, script, fault);
+    shutdown: &Shutdown,
+) -> u8
+where
+    R::File: Send + 'static,
+    R::Dir: Send + 'static,
+{
+    let files = KeptFiles::new(rt, rt.alloc(), job.explaining);
+    let read = read_setup(&files, rt.alloc(), config, script);
+    let files = files.into_read();
+    match read {
+        Ok(setup) => {
+            // What is served needs no memory for the files.
+            drop(files);
+            serve_setup(rt, job, &setup, shutdown)
+        }
+        Err(fault) => {
+            let names = FileNames {
+                config,
+                script,
+                stream: None,
+            };
+            fail_files(rt, job.explaining, &names, &files, &fault);
+            1
+        }
     }
-    1
 }
 
-/// Makes the folder of logs, prints the warnings that are asked for, and serves.
+/// Makes the folder of logs, tells and prints the warnings, and serves.
 fn serve_setup<R: Print + Eprint + Files + AllocGlobal + ServeRuntime>(
     rt: &R,
     job: &ServeJob,
@@ -169,35 +199,123 @@ where
     R::Dir: Send + 'static,
 {
     if let Some(folder) = job.folder() {
-        if let Err(fault) = make_folder(rt, folder) {
-            return status_of(rt, Err(fault));
+        if let Err(reason) = make_folder(rt, folder) {
+            let nowhere = RefusedAddress::none();
+            return refused(rt, job, nowhere, printed(rt, &reason), &LogRefused(folder));
         }
+    }
+    let seed = seed_of(rt, job, shutdown);
+    if !job.quiet {
+        tell_warnings(rt, setup, Room::new(rt, &shutdown.stop, ERRORS));
     }
     if job.options.verbose {
         // A warning that can't be printed is no reason not to serve.
         let _ = print_warnings(rt, setup, job.options.form, shutdown);
     }
-    status_of(rt, serve_proxies(rt, setup, job, shutdown))
+    let Err(fault) = serve_proxies(rt, setup, job, seed, shutdown) else {
+        return 0;
+    };
+    let refusal = RefusedAddress::of(setup, job, &fault);
+    let reason = if job.explaining.needs_inputs() {
+        let address = refusal.listen.or(refusal.ready);
+        address.and_then(|address| listen_reason(rt, address))
+    } else {
+        None
+    };
+    refused(rt, job, refusal, reason, &fault)
 }
 
-fn status_of<F: Display + Drop>(rt: &impl Eprint, done: Result<(), F>) -> u8 {
-    match done {
-        Ok(()) => 0,
-        Err(fault) => {
-            fail(rt, &fault);
-            1
+/// The seed that is given, or else one that is drawn and told on standard error.
+fn seed_of<R: Eprint + Files + Wait + Clock>(rt: &R, job: &ServeJob, shutdown: &Shutdown) -> u64 {
+    if let Some(seed) = job.seed {
+        return seed;
+    }
+    let seed = any_seed(rt);
+    if Room::new(rt, &shutdown.stop, ERRORS).wait() {
+        let _ = eprintln!(rt; "toxi: seed {seed}");
+    }
+    seed
+}
+
+/// The address that can't be listened at, if that is the fault: a proxy's, or the one for probes.
+#[derive(Clone, Copy)]
+struct RefusedAddress<'a> {
+    listen: Option<&'a str>,
+    ready: Option<&'a str>,
+}
+
+impl<'a> RefusedAddress<'a> {
+    fn none() -> RefusedAddress<'a> {
+        RefusedAddress {
+            listen: None,
+            ready: None,
+        }
+    }
+
+    /// The address that a fault is about.
+    fn of(setup: &'a Setup, job: &'a ServeJob, fault: &ServeFault<'_>) -> RefusedAddress<'a> {
+        RefusedAddress {
+            listen: refused_proxy(setup, fault),
+            ready: refused_ready(job, fault),
         }
     }
 }
 
-/// Tells on standard error how many lines were dropped.
+/// The address of the proxy that can't be listened at, if that is the fault.
+fn refused_proxy<'a>(setup: &'a Setup, fault: &ServeFault<'_>) -> Option<&'a str> {
+    let ServeFault::ListenRefused(name) = fault else {
+        return None;
+    };
+    let proxy = find_proxy(&setup.proxies, name)?;
+    Some(proxy.listen.as_str())
+}
+
+/// The address for probes, if it can't be listened at.
+fn refused_ready<'a>(job: &'a ServeJob, fault: &ServeFault<'_>) -> Option<&'a str> {
+    match fault {
+        ServeFault::ReadyRefused => text_of(&job.ready),
+        _ => None,
+    }
+}
+
+/// Tells why nothing is served, with the reason that the system gives. Returns the status of the program.
+fn refused<R: Eprint + AllocGlobal, F: Display>(
+    rt: &R,
+    job: &ServeJob,
+    refusal: RefusedAddress<'_>,
+    reason: Option<String>,
+    fault: &F,
+) -> u8 {
+    fail(rt, fault);
+    explain_refusal(rt, job.explaining, refusal, text_of(&reason), fault);
+    1
+}
+
+/// Explains why nothing is served.
+fn explain_refusal<'x, R: Eprint + AllocGlobal, F: Display>(
+    rt: &R,
+    explaining: Explaining,
+    refusal: RefusedAddress<'x>,
+    reason: Option<&'x str>,
+    fault: &F,
+) {
+    let inputs = Inputs {
+        listen: refusal.listen,
+        ready: refusal.ready,
+        reason,
+        ..Inputs::none()
+    };
+    explaining.explain(rt, fault, &inputs);
+}
+
+/// Tells on standard error how many lines were dropped, and why links broke.
 #[derive(Drop)]
-struct ToldGaps<'a, R> {
+struct ToldNotices<'a, R> {
     rt: &'a R,
     room: Room<'a, R>,
 }
 
-impl<'a, R: Eprint + Wait> Gaps for ToldGaps<'a, R> {
+impl<'a, R: Eprint + Wait> Notices for ToldNotices<'a, R> {
     fn dropped(&self, lines: u64) {
         if !self.room.wait() {
             return;
@@ -206,6 +324,13 @@ impl<'a, R: Eprint + Wait> Gaps for ToldGaps<'a, R> {
         let rt = self.rt;
         let _ = eprintln!(rt; "toxi: {lines} line{ending} dropped: the output wasn't read");
     }
+
+    fn broken(&self, text: &BrokenText<'_>) {
+        if self.room.wait() {
+            let rt = self.rt;
+            let _ = eprintln!(rt; "toxi: {text}");
+        }
+    }
 }
 
 /// Serves the proxies of the files.
@@ -213,6 +338,7 @@ fn serve_proxies<'a, R: Print + Eprint + Files + AllocGlobal + ServeRuntime>(
     rt: &R,
     setup: &'a Setup,
     job: &ServeJob,
+    seed: u64,
     shutdown: &Shutdown,
 ) -> Result<(), ServeFault<'a>>
 where
@@ -221,7 +347,7 @@ where
 {
     let stop = &shutdown.stop;
     let out = Mutex::new(PatientOutput::new(rt, shutdown));
-    let gaps = ToldGaps {
+    let notices = ToldNotices {
         rt,
         room: Room::new(rt, stop, ERRORS),
     };
@@ -236,11 +362,11 @@ where
         rt.alloc(),
         &setup.proxies,
         &setup.script,
-        job.seed,
+        seed,
         &out,
-        &gaps,
+        &notices,
         stop,
         &files,
-        &job.options,
+        &job.options(),
     )
 }

@@ -1,7 +1,8 @@
 //! `toxi serve` in a thread of its own, beside the first one, which waits for its end or a signal. A program ends once its first
 //! thread does, so nothing that hangs in serving can hold up the end.
+use crate::explaining::Explaining;
 use crate::fail;
-use crate::near::tell_near_short;
+use crate::inline::fail_inline;
 use crate::serve::{ServeJob, hold_descriptor, serve_job};
 use crate::shutdown::Shutdown;
 use crate::status::ProcessStatus;
@@ -100,6 +101,7 @@ struct Progress {
 #[inline(never)]
 pub fn serve<R: Print + Eprint + Files + AllocGlobal + ServeRuntime>(
     rt: &R,
+    explaining: Explaining,
     arguments: &ServeArguments<'_>,
 ) -> ExitCode
 where
@@ -110,9 +112,10 @@ where
     let _output = hold_descriptor(rt);
     let _errors = hold_descriptor(rt);
     let mut process = ProcessStatus::open(rt);
-    match ServeJob::of(rt.alloc(), arguments) {
+    let explaining = explaining.with_verbose(arguments.options.verbose);
+    match ServeJob::of(rt.alloc(), explaining, arguments) {
         Ok(job) => serve_watched(rt, job, &mut process),
-        Err(fault) => refused(rt, arguments, &fault),
+        Err(fault) => refused(rt, explaining, arguments, &fault),
     }
 }
 
@@ -160,19 +163,17 @@ where
     started.is_ok()
 }
 
-/// Tells why nothing is served, and what was meant where it is asked for.
+/// Tells why nothing is served.
 fn refused<R: Eprint + AllocGlobal>(
     rt: &R,
+    explaining: Explaining,
     arguments: &ServeArguments<'_>,
     fault: &InlineFault,
 ) -> ExitCode {
-    let status = fail(rt, fault);
-    if let ServeSource::Inline(inline) = &arguments.source {
-        if arguments.verbose {
-            tell_near_short(rt, &inline.toxics, fault);
-        }
+    match &arguments.source {
+        ServeSource::Inline(inline) => fail_inline(rt, explaining, inline, None, fault),
+        ServeSource::Files { .. } => fail(rt, fault),
     }
-    status
 }
 
 /// Waits for the end of serving. Told to end by a signal, it waits on only while that gets on, and the status is 0 then.

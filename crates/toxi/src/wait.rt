@@ -1,0 +1,17 @@
+//! `toxi wait`: until an address accepts a connection.
+use crate::explaining::{Explaining, fail_explained};
+use std::process::ExitCode;
+use tox_arguments::WaitArguments;
+use tox_proxy::{ServeRuntime, wait_until_ready};
+
+#[inline(never)]
+pub fn wait<R: Eprint + AllocGlobal + ServeRuntime>(
+    rt: &R,
+    explaining: Explaining,
+    arguments: &WaitArguments<'_>,
+) -> ExitCode {
+    match wait_until_ready(rt, rt.alloc(), arguments.address, arguments.within) {
+        Ok(()) => ExitCode::SUCCESS,
+        Err(fault) => fail_explained(rt, explaining, &fault),
+    }
+}
