@@ -19,10 +19,10 @@ pub use tox_runs::{
     stages_run,
 };
 pub use tox_serve::{
-    Gaps, LineForm, NoGaps, Room, ServeFault, ServeOptions, ServeRuntime, Stop, serve, serve_with,
-    tells_to_stop,
+    BrokenText, LineForm, NoNotices, Notices, Room, ServeFault, ServeOptions, ServeRuntime, Stop,
+    WaitFault, listen_address, serve, serve_with, tells_to_stop, wait_until_ready,
 };
 pub use tox_text::{
-    DryFault, JsonField, PrintMigratedFault, PrintPickFault, VisibleName, WriteFault, nearest,
-    print_migrated, print_pick, print_plan, write_object,
+    DryFault, JsonField, JsonItem, JsonValue, PrintMigratedFault, PrintPickFault, VisibleName,
+    WriteFault, nearest, print_migrated, print_pick, print_plan, write_object,
 };

@@ -1,7 +1,7 @@
 //! The peers of served links: an upstream and a client, over sockets of this machine.
 use std::alloc::Global;
 use std::io;
-use std::io::{Read, Write};
+use std::io::{ErrorKind, Read, Write};
 use std::net::{Net, Shutdown, TcpListener, TcpStream};
 use std::process::Abort;
 
@@ -37,17 +37,29 @@ pub fn echo_all(listener: &TcpListener) {
     }
 }
 
-/// A client that has sent these bytes, and sends no more. Takes no memory.
-pub fn send<R: Net<Stream = TcpStream> + Abort>(rt: &R, address: &str, bytes: &[u8]) -> TcpStream {
-    let stream = TcpStream::connect(rt, address).expect(rt, "a connection");
+/// A client that has sent these bytes, and sends no more. None where the connection was reset before its connect returned. Takes no
+/// memory.
+pub fn send<R: Net<Stream = TcpStream> + Abort>(
+    rt: &R,
+    address: &str,
+    bytes: &[u8],
+) -> Option<TcpStream> {
+    let stream = match TcpStream::connect(rt, address) {
+        Ok(stream) => stream,
+        Err(error) if error.kind() == ErrorKind::ConnectionReset => return None,
+        Err(error) => panic!(rt; "no connection: {error}"),
+    };
     let mut socket = &stream;
     let _ = socket.write_all(bytes);
     let _ = stream.shutdown(Shutdown::Write);
-    stream
+    Some(stream)
 }
 
-/// Reads until the connection is closed. Takes no memory.
-pub fn drain(stream: &TcpStream) {
+/// Reads until the connection is closed, if there is one. Takes no memory.
+pub fn drain(client: &Option<TcpStream>) {
+    let Some(stream) = client else {
+        return;
+    };
     let mut socket = stream;
     let mut answer = [0; 16];
     for _ in 0..u64::MAX {

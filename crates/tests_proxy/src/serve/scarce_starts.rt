@@ -1,6 +1,7 @@
-//! The start of serving, with too little memory and too few threads: the queues of lines, the thread that writes them, and the
-//! thread of a proxy.
+//! The start of serving, with too little memory and too few threads: the queues of lines, the thread that writes them, the address for
+//! probes with its thread, and the thread of a proxy.
 use crate::comparing::assert_equal;
+use crate::serve::probes::free_address;
 use crate::setups::setup_of;
 use std::net::{Net, TcpListener, TcpStream};
 use std::process::Abort;
@@ -9,7 +10,7 @@ use std::test::Fail;
 use std::thread::Threads;
 use std::time::Clock;
 use tests_support::{Refusals, Scarcity, Tried, try_each, with_stacks};
-use tox_proxy::{NoGaps, NoLogs, ServeFault, ServeOptions, Setup, Stop, serve_with};
+use tox_proxy::{NoLogs, NoNotices, ServeFault, ServeOptions, Setup, Stop, serve_with};
 
 /// Room for all lines.
 const OUT_SIZE: usize = 1_024;
@@ -58,16 +59,19 @@ fn serve_with_pages<
         + 'static
         + AllocGlobal
         + Abort,
->(rt: &R, scarcity: &mut Scarcity, pages: usize, setup: &Setup) -> Tried {
+>(rt: &R, scarcity: &mut Scarcity, pages: usize, setup: &Setup, ready: Option<&str>) -> Tried {
     let (alloc, proxies, script) = (rt.alloc(), setup.proxies.as_slice(), &setup.script);
     let out: Vec<u8> = Vec::with_capacity(alloc, OUT_SIZE).expect(rt, "memory");
     let out = Mutex::new(out);
     let stop = Stop::new();
     stop.tell(rt);
-    let options = ServeOptions::default();
+    let options = ServeOptions {
+        ready,
+        ..ServeOptions::default()
+    };
     scarcity.leave_pages(alloc, pages).expect(rt, "memory");
     let answer = serve_with(
-        rt, alloc, proxies, script, 1, &out, &NoGaps, &stop, &NoLogs, &options,
+        rt, alloc, proxies, script, 1, &out, &NoNotices, &stop, &NoLogs, &options,
     );
     scarcity.end();
     tried_of(&answer, &out.into_inner())
@@ -85,11 +89,11 @@ fn start_behind<
         + 'static
         + AllocGlobal
         + Abort,
->(rt: &R, threads: usize) -> Result<Refusals, Fail> {
+>(rt: &R, threads: usize, ready: Option<&str>) -> Result<Refusals, Fail> {
     let setup = setup_of(rt, CONFIG, b"");
     let mut scarcity = with_stacks(rt, rt.alloc(), threads).expect(rt, "memory");
     try_each(&mut scarcity, PAGES, |scarcity, pages| {
-        Ok(serve_with_pages(rt, scarcity, pages, &setup))
+        Ok(serve_with_pages(rt, scarcity, pages, &setup, ready))
     })
 }
 
@@ -102,7 +106,7 @@ fn compare(rt: &(impl Abort + Eprint), refusals: &Refusals, last: Tried) {
 
 #[test]
 fn the_queues_of_lines_are_refused_memory(rt: HostRuntime) -> Result<(), Fail> {
-    let refusals = start_behind(&rt, 3)?;
+    let refusals = start_behind(&rt, 3, None)?;
     compare(&rt, &refusals, Tried::Answered);
     assert!(rt; refusals.memory >= QUEUE_PAGES);
     Ok(())
@@ -110,12 +114,32 @@ fn the_queues_of_lines_are_refused_memory(rt: HostRuntime) -> Result<(), Fail> {
 
 #[test]
 fn the_writer_of_lines_is_refused(rt: HostRuntime) -> Result<(), Fail> {
-    compare(&rt, &start_behind(&rt, 0)?, Tried::NoThread);
+    compare(&rt, &start_behind(&rt, 0, None)?, Tried::NoThread);
     Ok(())
 }
 
 #[test]
 fn a_proxy_is_refused_its_thread(rt: HostRuntime) -> Result<(), Fail> {
-    compare(&rt, &start_behind(&rt, 1)?, Tried::NoThread);
+    compare(&rt, &start_behind(&rt, 1, None)?, Tried::NoThread);
+    Ok(())
+}
+
+#[test]
+fn an_address_for_probes_is_refused_memory(rt: HostRuntime) -> Result<(), Fail> {
+    compare(
+        &rt,
+        &start_behind(&rt, 4, Some(&free_address(&rt)))?,
+        Tried::Answered,
+    );
+    Ok(())
+}
+
+#[test]
+fn what_answers_probes_is_refused_its_thread(rt: HostRuntime) -> Result<(), Fail> {
+    compare(
+        &rt,
+        &start_behind(&rt, 1, Some(&free_address(&rt)))?,
+        Tried::NoThread,
+    );
     Ok(())
 }

@@ -9,7 +9,7 @@ use std::sync::{Mutex, Wait};
 use std::thread;
 use std::thread::Threads;
 use std::time::{Clock, Duration};
-use tox_proxy::{NoGaps, NoLogs, ServeFault, ServeOptions, Setup, Stop, serve, serve_with};
+use tox_proxy::{NoLogs, NoNotices, ServeFault, ServeOptions, Setup, Stop, serve, serve_with};
 
 /// Three bytes pass downstream.
 const THREE_BYTES: &str = "\
@@ -23,7 +23,7 @@ attributes = { bytes = 3 }
 ";
 
 /// A proxy from one address to another, and a script.
-fn setup_between(
+pub fn setup_between(
     rt: &(impl Abort + AllocGlobal),
     listen: &str,
     upstream: &str,
@@ -37,7 +37,7 @@ fn setup_between(
 }
 
 /// The address at which a listener is found, or one where nobody listens.
-fn address_of(rt: &(impl Abort + AllocGlobal), listener: Option<&TcpListener>) -> String {
+pub fn address_of(rt: &(impl Abort + AllocGlobal), listener: Option<&TcpListener>) -> String {
     let text = match listener {
         Some(listener) => {
             let address = listener.local_addr().expect(rt, "an address");
@@ -61,7 +61,7 @@ fn first_address(rt: &(impl Abort + AllocGlobal), lines: &[u8]) -> Option<String
 }
 
 /// Waits for the address of the first line.
-fn listening<R: Wait + Clock + Abort + AllocGlobal>(rt: &R, out: &Mutex<Vec<u8>>) -> String {
+pub fn listening<R: Wait + Clock + Abort + AllocGlobal>(rt: &R, out: &Mutex<Vec<u8>>) -> String {
     for _ in rt.forever() {
         thread::sleep(rt, Duration::from_millis(1));
         if let Some(address) = first_address(rt, &out.lock(rt)) {
@@ -72,7 +72,7 @@ fn listening<R: Wait + Clock + Abort + AllocGlobal>(rt: &R, out: &Mutex<Vec<u8>>
 }
 
 /// Compares what stands behind the first line.
-fn compare_behind(rt: &impl Abort, lines: &[u8], expected: &str) {
+pub fn compare_behind(rt: &impl Abort, lines: &[u8], expected: &str) {
     let text = str::from_utf8(lines).expect(rt, "UTF-8");
     let (_, rest) = text.split_once('\n').expect(rt, "a line");
     assert_equal(rt, &rest, &expected);
@@ -126,7 +126,7 @@ fn run<
         Some(stop) => {
             let options = ServeOptions::default();
             serve_with(
-                rt, alloc, proxies, script, 1, lines, &NoGaps, stop, &NoLogs, &options,
+                rt, alloc, proxies, script, 1, lines, &NoNotices, stop, &NoLogs, &options,
             )
         }
         None => serve(rt, alloc, proxies, script, 1, Some(1), lines),

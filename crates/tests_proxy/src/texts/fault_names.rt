@@ -7,7 +7,7 @@ use tox_defs::{ShortFault, TooManyToxics};
 use tox_network::StepFault;
 use tox_proxy::{
     DryFault, FileFault, PickFault, PrintMigratedFault, PrintPickFault, ServeFault, ToxicsFault,
-    WriteFault,
+    WaitFault, WriteFault,
 };
 use tox_script::ScriptFault;
 use tox_time::ArrivalFault;
@@ -28,6 +28,7 @@ enum Fault {
     PrintPick(PrintPickFault),
     Pick(PickFault<'static>),
     Serve(ServeFault<'static>),
+    Wait(WaitFault<'static>),
     TooManyToxics(TooManyToxics),
     Write(WriteFault),
 }
@@ -54,6 +55,7 @@ fn compare_one(rt: &(impl Abort + AllocGlobal), fault: &Fault, name: &str) {
         Fault::PrintPick(fault) => compare_printed(rt, fault, name),
         Fault::Pick(fault) => compare_printed(rt, fault, name),
         Fault::Serve(fault) => compare_printed(rt, fault, name),
+        Fault::Wait(fault) => compare_printed(rt, fault, name),
         Fault::TooManyToxics(fault) => compare_printed(rt, fault, name),
         Fault::Write(fault) => compare_printed(rt, fault, name),
     }
@@ -142,6 +144,12 @@ const RUNS: &[(Fault, &str)] = &[
         Fault::PrintPick(PrintPickFault::WriteFault),
         "L4 WriteFault",
     ),
+    (
+        Fault::Serve(ServeFault::ReadyRefused),
+        "P4 ListenRefused --ready",
+    ),
+    (Fault::Wait(WaitFault::OutOfMemory), "L0 OutOfMemory"),
+    (Fault::Wait(WaitFault::SpawnRefused), "F1 SpawnRefused"),
 ];
 
 #[test]
@@ -170,6 +178,14 @@ const LINES: &[(Fault, &str)] = &[
     (
         Fault::Serve(ServeFault::ListenRefused("the\nshop")),
         "P4 ListenRefused the\\x0ashop",
+    ),
+    (
+        Fault::Wait(WaitFault::NotReady("the\nshop")),
+        "P8 NotReady the\\x0ashop",
+    ),
+    (
+        Fault::Wait(WaitFault::BadAddress("\u{202e}:1")),
+        "P9 BadAddress \\u202e:1",
     ),
 ];
 
