@@ -2,7 +2,7 @@
 
 # run_each_time ARGUMENT..: runs a command so, and ends with its status.
 run_each_time() {
-    if [ "${1-}" = serve ] && [ "${2-}" != --help ]; then
+    if serves "$@" && [ "${2-}" != --help ]; then
         echo "toxi: \`serve\` runs the proved program: run \`./build\` first" >&2
         exit 1
     fi

@@ -8,7 +8,8 @@ import sys
 PROGRAM = os.path.join(os.path.dirname(importlib.util.find_spec("toxi").origin), "bin", "toxi")
 
 if __name__ == "__main__":
-    if sys.argv[1:2] == ["serve"]:
+    # An option may stand before the command.
+    if next((word for word in sys.argv[1:] if word != "--explain"), None) == "serve":
         # The program looks for these signals itself where they are blocked, and then ends with its totals.
         signal.pthread_sigmask(signal.SIG_BLOCK, {signal.SIGTERM, signal.SIGINT})
     try:

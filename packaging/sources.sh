@@ -1,9 +1,18 @@
-# Sourced by tree, ../package and the tests, where `root` is the repository: what is packed beside the program.
+# Sourced by tree, ../package, ../install and the tests, where `root` is the repository: what is packed beside the program.
 
 # The pages of the manual. The others are for those who change the program.
 PAGES="CI CLOCK CONTAINERS DRAW FAULTS FINDING FROM-TOXIPROXY MEANING PERFORMANCE PROFILE REPLAY REPORT SCRIPTS SWEEPING TESTING-WITH-TOXI TOXICS"
 # Folders that are packed as they are.
 FOLDERS="docs/pictures examples python/toxi"
+
+# date_of_source: the day of the source, so that the same commit gives the same files.
+date_of_source() {
+    if [ -n "${SOURCE_DATE_EPOCH-}" ]; then
+        date -u -d "@$SOURCE_DATE_EPOCH" +%F
+    else
+        git -C "$root" log -1 --format=%cd --date=short 2>/dev/null || date +%F
+    fi
+}
 
 # files_of NAME..: the files of the repository that have these names or are below them, without what a tool has left there.
 files_of() {
