@@ -1,6 +1,7 @@
 """Proxies on 127.0.0.1 before one upstream, and what a process costs."""
 import json
 import os
+import re
 import resource
 import signal
 import socket
@@ -10,6 +11,8 @@ import time
 TOXI = os.path.join(os.path.dirname(os.path.abspath(__file__)), "..", "..", "crates", "toxi", "out", "toxi")
 # The ways in which `toxi serve` drives links.
 ENGINES = {"threads": [], "workers": ["--workers", "2"]}
+# With SIGTERM blocked `toxi serve` looks for the signal itself, and ends with its totals.
+BLOCKED = ["env", "--block-signal=TERM"]
 TICKS = os.sysconf("SC_CLK_TCK")
 PAGE = os.sysconf("SC_PAGE_SIZE")
 
@@ -31,13 +34,17 @@ def free_port():
         return probe.getsockname()[1]
 
 
+def listens(port):
+    """Whether somebody listens at a port. A connection that tries it would be a link of the proxy."""
+    with open("/proc/net/tcp") as file:
+        return any(words[1].endswith(f":{port:04X}") and words[3] == "0A" for words in map(str.split, file))
+
+
 def wait_for(port):
     for _ in range(200):
-        try:
-            socket.create_connection(("127.0.0.1", port)).close()
+        if listens(port):
             return
-        except ConnectionRefusedError:
-            time.sleep(0.02)
+        time.sleep(0.02)
     raise SystemExit(f"nobody listens at port {port}")
 
 
@@ -59,25 +66,32 @@ def direct(upstream):
     return Proxy("no proxy", upstream, None)
 
 
-def toxi(folder, upstream, engine, script="", options=(), name=None):
-    """A proxy of Toxi's that drives links in one of its ways."""
-    name = name or engine
-    config = os.path.join(folder, f"{name}.json")
-    rules = os.path.join(folder, f"{name}.toml")
+def serve(folder, name, entries, script, options, before=(), stderr=None):
+    """Starts `toxi serve` of the entries of a populate file: the process, the port of each proxy, and the path of the lines. The files are called after `name`."""
+    config, rules, lines = (os.path.join(folder, f"{name}.{kind}") for kind in ("json", "toml", "out"))
     with open(config, "w") as file:
-        json.dump([{"name": "bench", "listen": "127.0.0.1:0", "upstream": f"127.0.0.1:{upstream}"}], file)
+        json.dump(entries, file)
     with open(rules, "w") as file:
         file.write(script)
-    command = [TOXI, "serve", "--config", config, "--script", rules, "--seed", "1", *ENGINES[engine], *options]
-    lines = open(os.path.join(folder, f"{name}.out"), "w")
-    process = subprocess.Popen(command, stdout=lines)
+    with open(lines, "w") as out:
+        process = subprocess.Popen([*before, TOXI, "serve", "--config", config, "--script", rules, *options], stdout=out, stderr=stderr)
     for _ in range(200):
-        with open(lines.name) as told:
-            words = told.readline().split()
-        if len(words) == 3:
-            return Proxy(name, int(words[2].rsplit(":", 1)[1]), process)
+        with open(lines) as told:
+            ports = dict(re.findall(r"^listening (\S+) \S+:(\d+)$", told.read(), re.M))
+        if len(ports) == len(entries):
+            return process, {each: int(port) for each, port in ports.items()}, lines
+        if process.poll() is not None:
+            break
         time.sleep(0.02)
-    raise SystemExit("toxi doesn't listen")
+    process.kill()
+    raise SystemExit(f"toxi doesn't listen; {stderr.name if stderr else 'standard error'} says why")
+
+
+def toxi(folder, upstream, engine, script="", options=(), name=None):
+    """A proxy of Toxi's that drives links in one of its ways."""
+    entry = {"name": "bench", "listen": "127.0.0.1:0", "upstream": f"127.0.0.1:{upstream}"}
+    process, ports, _ = serve(folder, name or engine, [entry], script, ["--seed", "1", *ENGINES[engine], *options])
+    return Proxy(name or engine, ports["bench"], process)
 
 
 def toxi_latency(folder, upstream):
@@ -94,17 +108,22 @@ def socat(folder, upstream):
 
 
 def haproxy(folder, upstream):
+    return balancer(folder, "haproxy", [f"127.0.0.1:{upstream}"])
+
+
+def balancer(folder, name, servers):
+    """haproxy before servers, which get connections in turn. A connection that one refuses goes to another. There are no health checks, since some take a connection's number."""
     port = free_port()
-    config = os.path.join(folder, "haproxy.cfg")
+    config = os.path.join(folder, f"{name}.cfg")
     with open(config, "w") as file:
         file.write(
             f"global\n nbthread 2\n maxconn {most_links()}\n"
-            "defaults\n mode tcp\n timeout connect 5s\n timeout client 300s\n timeout server 300s\n"
-            f"listen bench\n bind 127.0.0.1:{port}\n server one 127.0.0.1:{upstream}\n"
+            "defaults\n mode tcp\n option redispatch 1\n timeout connect 5s\n timeout client 300s\n timeout server 300s\n"
+            f"listen bench\n bind 127.0.0.1:{port}\n" + "".join(f" server s{place} {server}\n" for place, server in enumerate(servers))
         )
     process = subprocess.Popen(["haproxy", "-f", config, "-db"], stderr=subprocess.DEVNULL)
     wait_for(port)
-    return Proxy("haproxy", port, process)
+    return Proxy(name, port, process)
 
 
 def seconds_used(pid):
@@ -112,6 +131,12 @@ def seconds_used(pid):
     with open(f"/proc/{pid}/stat") as file:
         fields = file.read().rsplit(")", 1)[1].split()
     return (int(fields[11]) + int(fields[12])) / TICKS
+
+
+def family(pid):
+    """A process and its children."""
+    with open(f"/proc/{pid}/task/{pid}/children") as file:
+        return [pid, *map(int, file.read().split())]
 
 
 def memory(pid):

@@ -33,9 +33,9 @@ def said_by(*command):
     return subprocess.run(command, check=True, stdout=subprocess.PIPE, stderr=subprocess.DEVNULL, text=True, timeout=120).stdout
 
 
-def wrk(path, links):
+def wrk(path, links, seconds=SECONDS):
     def rate(port):
-        said = said_by("wrk", "-t2", f"-c{links}", f"-d{SECONDS}s", f"http://127.0.0.1:{port}/{path}")
+        said = said_by("wrk", "-t2", f"-c{links}", f"-d{seconds}s", f"http://127.0.0.1:{port}/{path}")
         return float(re.search(r"Requests/sec:\s+([\d.]+)", said)[1])
     return rate
 
@@ -67,8 +67,10 @@ def compare(folder, port, what, rate, unit):
     print(f"{what}, {unit}: {ratios}", flush=True)
 
 
-def nginx(folder):
+def nginx(folder, host="127.0.0.1", most=None):
+    """nginx at a free port of an address. It answers at most so many requests a second, and lets the others wait."""
     port = proxies.free_port()
+    limits = [f"limit_req_zone $server_port zone=all:1m rate={most}r/s;", "limit_req zone=all burst=10000;"] if most else ["", ""]
     for name, size in (("small", 1_000), ("large", 1_000_000)):
         with open(os.path.join(folder, name), "wb") as file:
             file.write(os.urandom(size))
@@ -78,7 +80,7 @@ def nginx(folder):
         file.write(
             f"worker_processes 2; daemon off; pid {folder}/nginx.pid; error_log /dev/null;\n"
             "events { worker_connections 8192; }\n"
-            f"http {{ access_log off; keepalive_requests 100000000; server {{ listen 127.0.0.1:{port}; root {folder}; }} }}\n"
+            f"http {{ access_log off; keepalive_requests 100000000; {limits[0]} server {{ listen {host}:{port}; root {folder}; {limits[1]} }} }}\n"
         )
     process = subprocess.Popen(["nginx", "-c", config], stderr=subprocess.DEVNULL)
     proxies.wait_for(port)
