@@ -9,6 +9,7 @@ from typing import Any, Awaitable, Callable, Coroutine, Generator, List, Optiona
 
 from .commands import ERRORS, Answer
 from .process import STOP_LIMIT, signals_blocked, tied_to_parent
+from .program import environment
 
 Child = TypeVar("Child")
 
@@ -101,7 +102,7 @@ def _send(child: asyncio.subprocess.Process, number: int) -> None:
 
 def _start(command: Sequence[str], given: int) -> Coroutine[Any, Any, asyncio.subprocess.Process]:
     """Starts a command with pipes, and `given` as the standard input."""
-    return asyncio.create_subprocess_exec(*command, stdin=given, stdout=subprocess.PIPE, stderr=subprocess.PIPE)
+    return asyncio.create_subprocess_exec(*command, stdin=given, stdout=subprocess.PIPE, stderr=subprocess.PIPE, env=environment())
 
 
 @dataclass

@@ -98,10 +98,10 @@ class AsyncToxi(ToxiBase):
             toxics += picked(each, answer.printed)
         return toxics
 
-    async def page(self, path: Optional[StrPath] = None) -> Path:
+    async def page(self, path: Optional[StrPath] = None, title: Optional[str] = None) -> Path:
         """Writes the page of its logs so far, as `Toxi.page`."""
         target = self._run.page_path() if path is None else Path(path)
-        answer = await async_answer_of(self._run.report_command(), names_of(await asyncio.to_thread(self._run.logs)))
+        answer = await async_answer_of(self._run.report_command(title), names_of(await asyncio.to_thread(self._run.logs)))
         return await asyncio.to_thread(written_page, answer, target)
 
     def _running(self) -> AsyncProcess:

@@ -3,6 +3,8 @@ import subprocess
 from dataclasses import dataclass
 from typing import List, Optional, Sequence
 
+from .program import environment
+
 # Names of files may have any bytes.
 ERRORS = "surrogateescape"
 
@@ -29,7 +31,7 @@ class Answer:
 def answer_of(command: Sequence[str], given: str = "", timeout: Optional[float] = None) -> Answer:
     """Runs a command with a text on standard input. Raises `TimeoutError` after `timeout` seconds."""
     try:
-        ran = subprocess.run(command, input=given, capture_output=True, encoding="utf-8", errors=ERRORS, timeout=timeout, check=False)
+        ran = subprocess.run(command, input=given, capture_output=True, encoding="utf-8", errors=ERRORS, timeout=timeout, env=environment(), check=False)
     except subprocess.TimeoutExpired:
         raise TimeoutError(f"{command[0]} didn't answer within {timeout} s") from None
     return Answer(ran.returncode, ran.stdout, ran.stderr)

@@ -1,4 +1,5 @@
 """What can go wrong."""
+import itertools
 import re
 from typing import Optional, Sequence
 
@@ -7,6 +8,8 @@ from .places import Rules, place_of
 FAULT = re.compile(r"toxi: ([A-Z]\d)(?: (.*))?")
 # A fault of a script: the rule and the toxic behind the name.
 PLACED = re.compile(r"S\d \w+ (\d+) (\d+)(?: (\w+))?")
+# What a line of an explanation begins with.
+INDENT = "  "
 
 
 class ToxiError(Exception):
@@ -20,14 +23,16 @@ class ToxiEnded(ToxiError):
 class ToxiFault(ToxiError):
     """The program refused its files or couldn't serve.
 
-    `line` is the fault's line without `toxi: `, `code` its code, and `place` where it stands in the rules, or None.
+    `line` is the fault's line without `toxi: `, `code` its code, and `place` where it stands in the rules, or None. `explanation` has
+    the lines below it: what is there, what is accepted, and what to write.
     """
 
-    def __init__(self, line: str, place: Optional[str] = None) -> None:
-        super().__init__(f"{line}, at {place}" if place else line)
+    def __init__(self, line: str, place: Optional[str] = None, explanation: Sequence[str] = ()) -> None:
+        super().__init__("\n".join([f"{line}, at {place}" if place else line, *(f"  {each}" for each in explanation)]))
         self.line = line
         self.code = line.split(" ")[0]
         self.place = place
+        self.explanation = tuple(explanation)
 
 
 class ToxiWarning(UserWarning):
@@ -36,9 +41,11 @@ class ToxiWarning(UserWarning):
 
 def error_of(said: Sequence[str], status: Optional[int], rules: Rules) -> ToxiError:
     """The error of a program that ended with this status and these lines on standard error."""
-    for line in reversed(said):
+    for place, line in reversed(list(enumerate(said))):
         if FAULT.fullmatch(line):
             fault = line[len("toxi: ") :]
             found = PLACED.fullmatch(fault)
-            return ToxiFault(fault, place_of(rules, int(found[1]), int(found[2])) if found else None)
+            below = itertools.takewhile(lambda each: each.startswith(INDENT), said[place + 1 :])
+            explanation = [each[len(INDENT) :] for each in below]
+            return ToxiFault(fault, place_of(rules, int(found[1]), int(found[2])) if found else None, explanation)
     return ToxiEnded(f"toxi ended with status {status}: " + ("\n".join(said) or "nothing on standard error"))

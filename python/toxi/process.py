@@ -8,6 +8,8 @@ import time
 import weakref
 from typing import IO, Callable, Iterator, List, Optional, Sequence
 
+from .program import environment
+
 # The program looks for these signals itself when they are blocked, and then ends with its totals.
 STOPPING = {signal.SIGTERM, signal.SIGINT}
 # `serve` ends within 2 seconds of SIGTERM, or some more with thousands of links. A busy machine gets more, in seconds.
@@ -29,6 +31,7 @@ class Process:
                 stderr=subprocess.PIPE,
                 encoding="utf-8",
                 errors="replace",
+                env=environment(),
             )
             # Runs at the interpreter's exit too.
             self._kill = weakref.finalize(self, _kill, self._child)

@@ -5,7 +5,7 @@ import re
 import shutil
 import subprocess
 from pathlib import Path
-from typing import Optional
+from typing import Dict, Optional
 
 from . import __version__
 from .errors import ToxiError
@@ -29,6 +29,11 @@ def found_program(told: Optional[str] = None) -> str:
     if version != __version__:
         raise ToxiError(f"{program} is of version {version}, and the package toxi of {__version__}")
     return program
+
+
+def environment() -> Dict[str, str]:
+    """The environment of the program: this process's, in which explanations of faults are asked for unless it refuses them."""
+    return {"TOXI_EXPLAIN": "1", **os.environ}
 
 
 def startable(program: str) -> str:

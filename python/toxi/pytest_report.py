@@ -85,7 +85,7 @@ class Section:
     def _page_line(self, run: Run, since: Position) -> str:
         """Writes a page. A report must not fail, so what goes wrong is told in place of the path."""
         try:
-            return f"page {page_of(run, self._page_path(run), since)}"
+            return f"page {page_of(run, self._page_path(run), since, self.item.nodeid)}"
         except (OSError, ToxiError) as error:
             return f"page not written: {error}"
 

@@ -1,4 +1,5 @@
 """One start of `toxi serve`: its files, its commands, and what it printed."""
+import os
 import re
 import shlex
 from dataclasses import dataclass, field
@@ -83,9 +84,10 @@ class Run:
         command = self._command("pick")
         return [*command, "--seed", str(self.seed), "--proxy", proxy, "--conn", str(number), "--stream", stream]
 
-    def report_command(self) -> List[str]:
-        """The command that prints the page of the logs whose names it is given."""
-        return [self.program, "report", "-"]
+    def report_command(self, title: Optional[str] = None) -> List[str]:
+        """The command that prints the page of the logs whose names it is given. The title is that of the running test unless told."""
+        told = running_test() if title is None else title
+        return [self.program, "report", *([] if told is None else [f"--title={told}"]), "-"]
 
     def listening(self) -> Dict[str, Address]:
         """Where the proxies listen, by their printed names."""
@@ -131,6 +133,11 @@ def logged_link(log: Path) -> Optional[Tuple[str, int]]:
         next(lines, "")
         found = LOGGED.fullmatch(next(lines, ""))
     return (found[1], int(found[2])) if found else None
+
+
+def running_test() -> Optional[str]:
+    """The id of the test that pytest runs."""
+    return os.environ.get("PYTEST_CURRENT_TEST", "").rpartition(" (")[0] or None
 
 
 def names_of(logs: Sequence[Path]) -> str:

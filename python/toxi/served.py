@@ -116,9 +116,12 @@ class Toxi(ToxiBase):
             toxics += picked(each, answer.printed)
         return toxics
 
-    def page(self, path: Optional[StrPath] = None) -> Path:
-        """Writes the page of its logs so far, as `toxi report` prints it, and returns where: `report.html` beside the logs, unless told."""
-        return page_of(self._run, path)
+    def page(self, path: Optional[StrPath] = None, title: Optional[str] = None) -> Path:
+        """Writes the page of its logs so far, as `toxi report` prints it, and returns where: `report.html` beside the logs, unless told.
+
+        Its title is the id of the test that pytest runs, unless told.
+        """
+        return page_of(self._run, path, title=title)
 
     def _running(self) -> Process:
         if self._process is None:
@@ -158,7 +161,7 @@ class Toxi(ToxiBase):
         self._require_held()
 
 
-def page_of(run: Run, path: Optional[StrPath] = None, since: Position = Position()) -> Path:
+def page_of(run: Run, path: Optional[StrPath] = None, since: Position = Position(), title: Optional[str] = None) -> Path:
     """Writes the page of a run's logs, but for those of links that had ended at a position. Returns where."""
     target = run.page_path() if path is None else Path(path)
-    return written_page(answer_of(run.report_command(), names_of(run.logs(since))), target)
+    return written_page(answer_of(run.report_command(title), names_of(run.logs(since))), target)

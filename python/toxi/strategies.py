@@ -44,7 +44,7 @@ def toxics(
     bytes: int = CONVERSATION,
     trickle: bool = False,
 ) -> "SearchStrategy[Toxic]":
-    """Toxics of `stream`, or of both, and of `kinds`, types such as `"latency"`, or of all seven.
+    """Toxics of `stream`, or of both, and of `kinds`, types such as `"latency"`, or of all kinds.
 
     `within` is the client's limit in seconds. A single delay is below a tenth of it or above it, and those that add up over a conversation of 1 KB, or
     of `bytes` where that is more, stay below half of it. With `trickle` a bandwidth or a slicer may take longer than that. `bytes` is also how far into
