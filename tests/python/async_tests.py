@@ -7,7 +7,7 @@ import subprocess
 import tempfile
 import unittest
 
-from services import http_service
+from services import Pages, serving
 from toxi import AsyncToxi, LimitData, Proxy, ResetPeer, Rule, ToxiEnded, ToxiError, ToxiFault, ToxiWarning
 
 PATIENCE = 20
@@ -40,9 +40,7 @@ def lives(process):
 
 class AsyncTests(unittest.IsolatedAsyncioTestCase):
     def setUp(self):
-        service = http_service()
-        self.upstream = {"shop": service.__enter__()}
-        self.addCleanup(service.__exit__, None, None, None)
+        self.upstream = {"shop": self.enterContext(serving(Pages)).address}
 
     async def test_a_link_and_its_end(self):
         async with AsyncToxi(self.upstream, CUT, seed=7) as toxi:

@@ -130,6 +130,11 @@ class FaultTests(unittest.TestCase):
         self.assertEqual((fault.line, fault.code), ("S6 Variation 2 2", "S6"))
         self.assertIn("toxic 2 of rule 2: Slicer(", str(fault))
 
+    def test_a_fault_is_explained(self):
+        fault = self.fault(NOWHERE, [Rule("shop", [Latency(latency=4_000_000)])])
+        self.assertEqual(fault.explanation[-1], "latency is in whole milliseconds, 0 to 3600000")
+        self.assertTrue(str(fault).endswith(f"\n  {fault.explanation[-1]}"))
+
     def test_a_rule_itself(self):
         self.assertIn("rule 1: Rule(", self.fault(NOWHERE, [Rule("shop", first=3, last=2)]).place)
 

@@ -8,26 +8,22 @@ import sys
 import tempfile
 import unittest
 
-import planted_clients as planted
 from find_tests import children
+from plain.terminals import read_all
+from services import Lines, serving
 
 # It takes what there is of a body for the whole one, and its status 7 says that it has failed.
 CUT_BODY = """exec 3<>/dev/tcp/${TOXI_SHOP%:*}/${TOXI_SHOP#*:} || exit 7
-echo ask >&3; read -r -t 0.5 size <&3 || exit 7
+echo hello >&3; read -r -t 0.5 size <&3 || exit 7
 read -r -t 0.5 -N "$size" body <&3; test -n "$body" || exit 7
 echo "$body" >&2; test "$body" = hello"""
-WAITS = "exec 3<>/dev/tcp/${TOXI_SHOP%:*}/${TOXI_SHOP#*:}; echo ask >&3; read -r -N 7 answer <&3 || exit 7"
+WAITS = "exec 3<>/dev/tcp/${TOXI_SHOP%:*}/${TOXI_SHOP#*:}; echo hello >&3; read -r -N 7 answer <&3 || exit 7"
 
 
 class FindCommandTests(unittest.TestCase):
     def setUp(self):
-        service = planted.line_service()
-        server = service.__enter__()
-        self.addCleanup(service.__exit__, None, None, None)
-        folder = tempfile.TemporaryDirectory()
-        self.addCleanup(folder.cleanup)
-        self.folder = folder.name
-        self.shop = f"shop={planted.upstream(server)}"
+        self.folder = self.enterContext(tempfile.TemporaryDirectory())
+        self.shop = f"shop={self.enterContext(serving(Lines)).address}"
 
     def tearDown(self):
         self.assertEqual(children(), [])
@@ -98,7 +94,7 @@ class FindCommandTests(unittest.TestCase):
             run.send_signal(number)
             self.assertEqual(run.communicate(timeout=20)[0], "")
             self.assertEqual(run.returncode, 130)
-            self.assertRegex(os.read(shown, 1000), rb"stopped, nothing found by \d+ runs\r\n$")
+            self.assertRegex(read_all(shown), r"stopped, nothing found by \d+ runs\n$")
             os.close(shown)
 
     def test_a_search_that_is_stopped_hands_over_what_it_has(self):

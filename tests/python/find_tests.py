@@ -1,4 +1,5 @@
 """`find_fault` on clients with a planted bug: each is found, and shrunk to what a person would write. Needs Hypothesis."""
+import asyncio
 import glob
 import http.client
 import itertools
@@ -11,7 +12,8 @@ import threading
 import unittest
 from pathlib import Path
 
-import planted_clients as planted
+import clients
+from services import Lines, serving
 from toxi import Found, LimitData, Link, ResetPeer, Rule, Timeout, ToxiError, find_fault, rerun, script_text
 from toxi.client_source import FunctionSource
 
@@ -41,24 +43,32 @@ def children():
     return found
 
 
+async def hangs_in_a_loop(addresses):
+    """As `clients.waits`, under asyncio."""
+    reader, writer = await asyncio.open_connection(*addresses["shop"])
+    writer.write(clients.REQUEST)
+    try:
+        return await reader.readexactly(len(b"5\nhello"))
+    except asyncio.IncompleteReadError as error:
+        raise ConnectionError("cut") from error
+    finally:
+        writer.close()
+
+
 class Searching(unittest.TestCase):
     """A service, a folder for what is found, and no process left."""
 
     def setUp(self):
-        service = planted.line_service()
-        self.server = service.__enter__()
-        self.addCleanup(service.__exit__, None, None, None)
-        self.folder = tempfile.TemporaryDirectory()
-        self.addCleanup(self.folder.cleanup)
-        self.shop = {"shop": planted.upstream(self.server)}
+        self.server = self.enterContext(serving(Lines))
+        self.folder = self.enterContext(tempfile.TemporaryDirectory())
+        self.shop = {"shop": self.server.address}
 
     def tearDown(self):
         self.assertEqual(children(), [])
 
     def found(self, client, upstreams=None, **options):
-        target = Path(tempfile.mkdtemp(dir=self.folder.name))
+        target = Path(tempfile.mkdtemp(dir=self.folder))
         return find_fault(upstreams or self.shop, client, within=WITHIN, budget=BUDGET, folder=target, **options)
-
 
 
 class FindTests(Searching):
@@ -68,41 +78,42 @@ class FindTests(Searching):
         self.assertEqual((found.failed, found.repeated), (10, 10))
 
     def test_one_recv(self):
-        found = self.found(planted.one_recv)
+        found = self.found(clients.one_recv)
         self.require(found, "wrong answer", FIRST)
-        self.assertEqual([met.link for met in found.connections], [Link("shop", 1, 4, "closed", 0, "closed")])
+        self.assertEqual([met.link for met in found.connections], [Link("shop", 1, 6, "closed", 0, "closed")])
 
     def test_cut_body(self):
-        self.require(self.found(planted.cut_body), "wrong answer", [Rule("shop", [LimitData(bytes=2)], last=1)])
+        self.require(self.found(clients.cut_body), "wrong answer", [Rule("shop", [LimitData(bytes=2)], last=1)])
 
     def test_sends_twice(self):
         def clear():
             self.server.count = 0
 
-        found = self.found(planted.sends_twice, before=clear, check=lambda _: self.server.count == 1)
+        found = self.found(clients.sends_twice, before=clear, check=lambda _: self.server.count == 1)
         self.require(found, "wrong answer", [Rule("shop", [ResetPeer(after=1)], last=1)])
 
     def test_no_time_limit(self):
-        for client in (planted.waits, planted.hangs_in_a_loop):
+        for client in (clients.waits, hangs_in_a_loop):
             with self.subTest(client.__name__):
                 self.require(self.found(client), "hang", [Rule("shop", [Timeout()], last=1)])
 
     def test_keeps_a_dead_connection(self):
-        found = self.found(planted.keeps_dead)
+        found = self.found(clients.keeps_dead)
         self.require(found, "exception NoRecovery", FIRST)
-        self.assertEqual(set(re.findall('File "(.*?)"', found.detail)), {planted.__file__})
+        self.assertEqual(set(re.findall('File "(.*?)"', found.detail)), {clients.__file__})
 
     def test_two_faults_at_once(self):
-        with planted.line_service() as other:
-            upstreams = {"first": planted.upstream(self.server), "second": planted.upstream(other)}
-            found = self.found(planted.careless_fallback, upstreams)
-        second = Rule("second", [LimitData(bytes=2)], last=1)
-        self.require(found, "wrong answer", [Rule("first", [LimitData(bytes=0)], last=1), second])
+        with serving(Lines) as other:
+            upstreams = {"first": self.server.address, "second": other.address}
+            found = self.found(clients.careless_fallback, upstreams)
+        rules = [Rule("first", [LimitData(bytes=0)], last=1), Rule("second", [LimitData(bytes=2)], last=1)]
+        # Rules of different proxies make as small a fault in either order.
+        self.require(found, "wrong answer", sorted(rules, key=lambda rule: found.script.index(f'"{rule.proxy}"')))
         self.assertEqual([met.link.proxy for met in found.connections], ["first", "second"])
 
     def test_a_correct_client_has_none(self):
         runs = []
-        self.assertIsNone(self.found(planted.whole, runs=300, watch=lambda progress: runs.append(progress.runs)))
+        self.assertIsNone(self.found(clients.whole, runs=300, watch=lambda progress: runs.append(progress.runs)))
         self.assertEqual(runs, list(range(1, 301)))
 
 
@@ -110,7 +121,7 @@ class HandedOverTests(Searching):
     """The folder, and searches that end early."""
 
     def test_the_folder_runs_it_again(self):
-        found = self.found(planted.cut_body)
+        found = self.found(clients.cut_body)
         files = {"again.sh", "logs", "proxies.json", "report.html", "script.toml", "seed", "test_found.py"}
         self.assertEqual(set(os.listdir(found.folder)), files)
         self.assertEqual((found.folder / "script.toml").read_text(), found.script)
@@ -122,17 +133,17 @@ class HandedOverTests(Searching):
         mended = subprocess.run(found.command, shell=True, capture_output=True, text=True, check=False)
         self.assertEqual((mended.returncode, mended.stderr), (0, ""))
         with self.assertRaisesRegex(AssertionError, "^wrong answer under "):
-            rerun(found.folder, planted.cut_body, within=WITHIN)
+            rerun(found.folder, clients.cut_body, within=WITHIN)
         with self.assertRaisesRegex(ToxiError, "isn't empty"):
-            find_fault(self.shop, planted.cut_body, folder=found.folder)
+            find_fault(self.shop, clients.cut_body, folder=found.folder)
 
     def test_what_was_allowed_is_imported_by_its_names(self):
         allowed = (http.client.HTTPException, ConnectionError, OwnConnectionError)
-        source = FunctionSource(planted.whole, planted.parts, allowed, None).test_text("about", 2.0, 3)
+        source = FunctionSource(clients.whole, clients.parts, allowed, None).test_text("about", 2.0, 3)
         for line in (
-            f"sys.path[:0] = [{os.path.dirname(planted.__file__)!r}]",
-            "from planted_clients import whole as client",
-            "from planted_clients import parts as check",
+            f"sys.path[:0] = [{os.path.dirname(clients.__file__)!r}]",
+            "from clients import whole as client",
+            "from clients import parts as check",
             "from http.client import HTTPException",
             "from find_tests import OwnConnectionError as ConnectionError3",
             "    rerun(Path(__file__).parent, client, check=check, allowed=(HTTPException, ConnectionError, ConnectionError3), within=2.0, times=3)",
@@ -145,7 +156,7 @@ class HandedOverTests(Searching):
 
         def stuck(addresses):
             try:
-                return planted.whole(addresses)
+                return clients.whole(addresses)
             except OSError:
                 released.wait()
 
@@ -159,7 +170,7 @@ class HandedOverTests(Searching):
 
         def every_other(addresses):
             try:
-                return planted.whole(addresses)
+                return clients.whole(addresses)
             except OSError:
                 if next(turns) % 2:
                     raise
@@ -170,7 +181,7 @@ class HandedOverTests(Searching):
         self.assertIn("times=10)", (found.folder / "test_found.py").read_text())
 
     def test_the_budget_ends_a_search(self):
-        found = find_fault(self.shop, planted.waits, within=WITHIN, budget=8.0, folder=Path(self.folder.name, "found"))
+        found = find_fault(self.shop, clients.waits, within=WITHIN, budget=8.0, folder=Path(self.folder, "found"))
         self.assertEqual(found.kind, "hang")
         self.assertLess(found.seconds, 8.0 + 2 * WITHIN)
 
@@ -191,7 +202,7 @@ class HandedOverTests(Searching):
                 raise ValueError("before")
 
         with self.assertRaisesRegex(ValueError, "^before$"):
-            self.found(planted.whole, before=before)
+            self.found(clients.whole, before=before)
 
 
 if __name__ == "__main__":

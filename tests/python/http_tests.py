@@ -6,7 +6,7 @@ import unittest
 import urllib.error
 import urllib.request
 
-from services import http_service
+from services import Pages, serving
 from toxi import Bandwidth, Latency, LimitData, Link, ResetPeer, Rule, SlowClose, Timeout, Toxi
 
 # Longer than anything here takes on a busy machine, in seconds.
@@ -32,8 +32,8 @@ class HttpTests(unittest.TestCase):
     def served(self, *rules, **options):
         """A `Toxi` before a server, for as long as the test."""
         with contextlib.ExitStack() as stack:
-            upstream = stack.enter_context(http_service())
-            toxi = stack.enter_context(Toxi({"shop": upstream}, rules, **options))
+            server = stack.enter_context(serving(Pages))
+            toxi = stack.enter_context(Toxi({"shop": server.address}, rules, **options))
             self.addCleanup(stack.pop_all().close)
         return toxi
 

@@ -4,8 +4,8 @@ import re
 import shlex
 import subprocess
 
-import planted_clients as planted
 import pytest
+from services import Lines, serving
 
 RED = """
 from toxi import Rule, ResetPeer
@@ -47,6 +47,7 @@ def test_red_report(run, tmp_path):
     with open(page, encoding="utf-8") as text:
         shown = text.read()
     assert shown.startswith("<!DOCTYPE html>")
+    assert "<title>sub/test_red.py::test_red</title>" in shown
     assert all(word in shown for word in ("shop", "upstream", "downstream", "unfinished"))
 
 
@@ -68,13 +69,10 @@ def test_program_option(run):
 
 def test_find_fault(run_pytest, tmp_path):
     pytest.importorskip("hypothesis")
-    folder = os.path.dirname(planted.__file__)
-    with planted.line_service() as server:
+    with serving(Lines) as server:
         test = f"""
-import sys
-sys.path.insert(0, {folder!r})
-from planted_clients import cut_body, whole
-SHOP = {{"shop": {planted.upstream(server)!r}}}
+from clients import cut_body, whole
+SHOP = {{"shop": {server.address!r}}}
 def test_cut(toxi):
     assert toxi.find_fault(SHOP, cut_body, within=1.0, budget=300) is None
 def test_whole(toxi):
@@ -90,12 +88,11 @@ def test_whole(toxi):
 
 def test_what_check_raises_is_shown_without_frames_of_the_package(run_pytest):
     pytest.importorskip("hypothesis")
-    with planted.line_service() as server:
+    with serving(Lines) as server:
         test = f"""
-import functools, itertools, sys
+import functools, itertools
 import pytest
-sys.path.insert(0, {os.path.dirname(planted.__file__)!r})
-from planted_clients import whole
+from clients import whole
 def raises_at(run, runs, *answer):
     if next(runs) >= run:
         raise KeyError("shown")
@@ -104,7 +101,7 @@ def raises_at(run, runs, *answer):
 @pytest.mark.parametrize("run", [0, 5])
 @pytest.mark.parametrize("call", ["find_fault", "sweep_faults"])
 def test_it(toxi, call, run, option):
-    getattr(toxi, call)({{"shop": {planted.upstream(server)!r}}}, whole, within=1.0, **{{option: functools.partial(raises_at, run, itertools.count())}})
+    getattr(toxi, call)({{"shop": {server.address!r}}}, whole, within=1.0, **{{option: functools.partial(raises_at, run, itertools.count())}})
 """
         printed = run_pytest({"test_raises.py": test})
     assert "8 failed" in printed

@@ -1,14 +1,15 @@
 """`examples/hangs.toml` before a real PostgreSQL: the handshake passes, and the query hangs. With Debian's postgresql."""
 import contextlib
+import functools
 import glob
 import os
 import re
 import shutil
-import socket
 import subprocess
 import tempfile
-import time
 import unittest
+
+from services import running
 
 from toxi import Toxi
 
@@ -18,28 +19,19 @@ PROGRAMS = sorted(glob.glob("/usr/lib/postgresql/*/bin"))[-1]
 AS_SERVER = {"user": "postgres"} if os.geteuid() == 0 else {}
 # Longer than anything here takes on a busy machine, in seconds.
 PATIENCE = 60
-PORT_TRIES = 5
 
 
 def ran(name, *arguments):
     return subprocess.run([os.path.join(PROGRAMS, name), *arguments], stdout=subprocess.DEVNULL, check=False, **AS_SERVER).returncode == 0
 
 
-def started(data):
-    """A server over these files, and its port. Another process may take a free port before the server does, so it is tried again."""
-    for _ in range(PORT_TRIES):
-        with socket.create_server(("127.0.0.1", 0)) as free:
-            port = str(free.getsockname()[1])
-        options = ["-D", data, "-p", port, "-c", "listen_addresses=127.0.0.1", "-c", "unix_socket_directories="]
-        server = subprocess.Popen([os.path.join(PROGRAMS, "postgres"), *options], stderr=subprocess.DEVNULL, **AS_SERVER)
-        end = time.monotonic() + PATIENCE
-        while server.poll() is None and time.monotonic() < end:
-            if ran("pg_isready", "-h", "127.0.0.1", "-p", port):
-                return server, port
-            time.sleep(0.05)
-        server.kill()
-        server.wait()
-    raise RuntimeError("PostgreSQL didn't start")
+def server_command(data, port):
+    """A server over these files."""
+    return [os.path.join(PROGRAMS, "postgres"), "-D", data, "-p", str(port), "-c", "listen_addresses=127.0.0.1", "-c", "unix_socket_directories="]
+
+
+def answers(port):
+    return ran("pg_isready", "-h", "127.0.0.1", "-p", str(port))
 
 
 @contextlib.contextmanager
@@ -50,12 +42,8 @@ def postgres():
             shutil.chown(data, AS_SERVER["user"])
         if not ran("initdb", "-D", data, "-U", "postgres", "-A", "trust", "--no-sync"):
             raise RuntimeError("initdb made no database")
-        server, port = started(data)
-        try:
-            yield f"127.0.0.1:{port}"
-        finally:
-            server.terminate()
-            server.wait(PATIENCE)
+        with running(functools.partial(server_command, data), answers, **AS_SERVER) as address:
+            yield address
 
 
 def psql(toxi, *queries, timeout=PATIENCE):

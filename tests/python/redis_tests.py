@@ -1,17 +1,15 @@
 """A Redis client under faults, with Debian's python3-pytest, python3-redis and redis-server."""
 import concurrent.futures
-import socket
-import subprocess
 import time
 
 import pytest
 import redis
+from services import running
 
 from toxi import Bandwidth, Latency, LimitData, ResetPeer, Rule, Timeout
 
 # Longer than anything here takes on a busy machine, in seconds.
 PATIENCE = 20
-PORT_TRIES = 5
 
 
 def answers(port):
@@ -22,29 +20,11 @@ def answers(port):
         return False
 
 
-def start_redis(folder):
-    """A server and its port. Another process may take a free port before the server does, so it is tried again."""
-    for _ in range(PORT_TRIES):
-        with socket.create_server(("127.0.0.1", 0)) as free:
-            port = free.getsockname()[1]
-        options = ["--port", str(port), "--bind", "127.0.0.1", "--save", "", "--dir", str(folder)]
-        server = subprocess.Popen(["redis-server", *options], stdout=subprocess.DEVNULL)
-        end = time.monotonic() + PATIENCE
-        while server.poll() is None and time.monotonic() < end:
-            if answers(port):
-                return server, port
-            time.sleep(0.02)
-        server.kill()
-        server.wait()
-    raise RuntimeError("redis-server didn't start")
-
-
 @pytest.fixture(scope="session")
 def upstream(tmp_path_factory):
-    server, port = start_redis(tmp_path_factory.mktemp("redis"))
-    yield f"127.0.0.1:{port}"
-    server.kill()
-    server.wait()
+    folder = str(tmp_path_factory.mktemp("redis"))
+    with running(lambda port: ["redis-server", "--port", str(port), "--bind", "127.0.0.1", "--save", "", "--dir", folder], answers) as address:
+        yield address
 
 
 @pytest.fixture

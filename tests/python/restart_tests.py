@@ -5,7 +5,7 @@ import socket
 import tempfile
 import unittest
 
-from services import http_service
+from services import Pages, serving
 from toxi import LimitData, Proxy, ResetPeer, Rule, Toxi, ToxiEnded, ToxiError, ToxiFault
 from http_tests import CUT, PATIENCE, get, succeeds
 
@@ -34,9 +34,7 @@ def is_taken(address):
 
 class RestartTests(unittest.TestCase):
     def setUp(self):
-        service = http_service()
-        self.upstream = {"shop": service.__enter__()}
-        self.addCleanup(service.__exit__, None, None, None)
+        self.upstream = {"shop": self.enterContext(serving(Pages)).address}
 
     def served(self, *given, **options):
         toxi = Toxi(self.upstream, *given, **options)

@@ -1,38 +1,93 @@
-"""Services for the tests: HTTP servers on ports that the system chooses."""
+"""Services for the tests, on ports that the system chooses."""
 import contextlib
 import http.server
+import socket
+import socketserver
+import subprocess
 import threading
+import time
+from typing import Any, Callable, Iterator, List
+
+# How long a program may take until it answers, in seconds, and how often a port is tried.
+PATIENCE = 60
+PORT_TRIES = 5
 
 
-class Handler(http.server.BaseHTTPRequestHandler):
+class Server(socketserver.ThreadingTCPServer):
+    """A server whose clients may vanish. `count` is the number of requests that it took."""
+
+    daemon_threads = True
+    request_queue_size = 100
+    count = 0
+
+    @property
+    def address(self) -> str:
+        return f"127.0.0.1:{self.server_address[1]}"
+
+    def handle_error(self, *_: Any) -> None:
+        pass
+
+
+class Lines(socketserver.StreamRequestHandler):
+    """Answers each line in one piece: the number of its bytes, a line feed, and its bytes without the line's end."""
+
+    server: Server
+
+    def handle(self) -> None:
+        for line in self.rfile:
+            self.server.count += 1
+            body = line.strip()
+            self.wfile.write(b"%d\n" % len(body) + body)
+
+
+class Pages(http.server.BaseHTTPRequestHandler):
     """Answers `GET /N` with N bytes."""
 
-    def do_GET(self):
+    server: Server
+
+    def do_GET(self) -> None:
+        self.server.count += 1
         size = int(self.path[1:])
         self.send_response(200)
         self.send_header("Content-Length", str(size))
         self.end_headers()
         self.wfile.write(b"x" * size)
 
-    def log_message(self, *_):
-        pass
-
-
-class Server(http.server.ThreadingHTTPServer):
-    """A server whose clients may vanish."""
-
-    daemon_threads = True
-
-    def handle_error(self, *_):
+    def log_message(self, *_: Any) -> None:
         pass
 
 
 @contextlib.contextmanager
-def http_service():
-    """A server for as long as the `with` statement. Gives its address."""
-    with Server(("127.0.0.1", 0), Handler) as server:
+def serving(handler: Callable[..., socketserver.BaseRequestHandler]) -> Iterator[Server]:
+    """A server for as long as the `with` statement."""
+    with Server(("127.0.0.1", 0), handler) as server:
         threading.Thread(target=server.serve_forever, args=(0.01,), daemon=True).start()
         try:
-            yield "127.0.0.1:%d" % server.server_address[1]
+            yield server
         finally:
             server.shutdown()
+
+
+@contextlib.contextmanager
+def running(command: Callable[[int], List[str]], answers: Callable[[int], bool], **how: Any) -> Iterator[str]:
+    """A program that serves on a port, for as long as the `with` statement. Gives its address.
+
+    Another process may take a free port before the program does, so it is tried again.
+    """
+    for _ in range(PORT_TRIES):
+        with socket.create_server(("127.0.0.1", 0)) as free:
+            port: int = free.getsockname()[1]
+        with subprocess.Popen(command(port), stdout=subprocess.DEVNULL, stderr=subprocess.DEVNULL, **how) as program:
+            try:
+                end = time.monotonic() + PATIENCE
+                while program.poll() is None and time.monotonic() < end:
+                    if answers(port):
+                        yield f"127.0.0.1:{port}"
+                        return
+                    time.sleep(0.02)
+            finally:
+                program.terminate()
+                with contextlib.suppress(subprocess.TimeoutExpired):
+                    program.wait(PATIENCE)
+                program.kill()
+    raise RuntimeError(f"{command(port)[0]} didn't start")

@@ -12,18 +12,19 @@ import time
 import unittest
 import xml.dom.minidom
 
-from swept_clients import PATIENCE, echo_service
+from clients import PATIENCE
+from plain.terminals import read_all
+from services import Lines, serving
 
 SWEEP = [sys.executable, "-m", "toxi.sweep_command"]
 LIMIT = 120
 # A command that takes a cut body for a whole one, or is correct, or has no time limit.
-CLIENT = f"""
-import os, sys, socket
-sys.path.insert(0, {os.path.dirname(os.path.abspath(__file__))!r})
-import swept_clients
+CLIENT = """
+import os, sys
+import clients
 host, port = os.environ["TOXI_SHOP"].split(":")
 try:
-    sys.exit(0 if swept_clients.NAME({{"shop": (host, int(port))}}) == b"hello" else 1)
+    sys.exit(0 if clients.NAME({"shop": (host, int(port))}) == b"hello" else 1)
 except OSError:
     sys.exit(3)
 """
@@ -31,12 +32,8 @@ except OSError:
 
 class SweepCommandTests(unittest.TestCase):
     def setUp(self):
-        folder = tempfile.TemporaryDirectory()
-        self.addCleanup(folder.cleanup)
-        self.folder = folder.name
-        stack = contextlib.ExitStack()
-        self.addCleanup(stack.close)
-        self.upstream = stack.enter_context(echo_service())
+        self.folder = self.enterContext(tempfile.TemporaryDirectory())
+        self.upstream = self.enterContext(serving(Lines)).address
 
     def command(self, name, *options):
         path = os.path.join(self.folder, f"{name}.py")
@@ -48,11 +45,13 @@ class SweepCommandTests(unittest.TestCase):
         return subprocess.run(command, cwd=self.folder, capture_output=True, text=True, timeout=LIMIT, check=False)
 
     def test_a_bug_its_files_and_its_last_line(self):
-        ran = self.run_it(self.command("cut_body", "--fault", "closed", "--jobs", "4", "--json", "table.json", "--page", "table.html"))
+        ran = self.run_it(self.command("patient_cut_body", "--fault", "closed", "--jobs", "4", "--json", "table.json", "--page", "table.html"))
         lines = ran.stdout.split("\n")[:-1]
         self.assertEqual((ran.returncode, ran.stderr), (1, ""))
         self.assertEqual(lines[0], "shop 1: 6 bytes upstream, 7 downstream")
-        self.assertEqual(lines[2:5], ["downstream 2..6 closed: status 1", "upstream 0..6 closed: status 3", "downstream 0..1 closed: status 3"])
+        self.assertEqual((lines[2], lines[4]), ("downstream 2..6 closed: status 1", "downstream 0..1 closed: status 3"))
+        # On a busy machine the answer may come before the close behind the last byte of the request.
+        self.assertRegex(lines[3], r"^upstream 0\.\.[56] closed: status 3$")
         with open(os.path.join(self.folder, "table.json")) as file:
             self.assertEqual(json.load(file)["rows"][0]["outcome"], "status 1")
         xml.dom.minidom.parse(os.path.join(self.folder, "table.html"))
@@ -65,14 +64,14 @@ class SweepCommandTests(unittest.TestCase):
         self.assertNotIn("wrong", ran.stdout)
 
     def test_no_time_limit(self):
-        ran = self.run_it(self.command("without_limit", "--fault", "silent", "--jobs", "4", "--within", "2"))
+        ran = self.run_it(self.command("waits", "--fault", "silent", "--jobs", "4", "--within", "2"))
         self.assertEqual(ran.returncode, 1)
         self.assertIn("downstream 0..6 silent: hang, 3 of 7 run\n", ran.stdout)
         self.assert_nothing_is_left()
 
     def test_ctrl_c_tells_what_there_is_and_leaves_nothing(self):
         for jobs in ("1", "3"):
-            command = self.command("without_limit", "--fault", "silent", "--within", "60", "--jobs", jobs)
+            command = self.command("waits", "--fault", "silent", "--within", "60", "--jobs", jobs)
             environment = {**os.environ, "TMPDIR": self.folder}
             with subprocess.Popen(command, env=environment, stdout=subprocess.PIPE, text=True) as sweep:
                 time.sleep(3)
@@ -83,7 +82,7 @@ class SweepCommandTests(unittest.TestCase):
             self.assert_nothing_is_left()
 
     def test_an_ignored_signal_stays_ignored(self):
-        command = ["nohup", *self.command("without_limit", "--fault", "silent", "--jobs", "4", "--within", "3")]
+        command = ["nohup", *self.command("waits", "--fault", "silent", "--jobs", "4", "--within", "3")]
         with subprocess.Popen(command, env={**os.environ, "TMPDIR": self.folder}, stdout=subprocess.PIPE, stderr=subprocess.DEVNULL, text=True) as sweep:
             time.sleep(2)
             sweep.send_signal(signal.SIGHUP)
@@ -104,12 +103,12 @@ class SweepCommandTests(unittest.TestCase):
         return False
 
     def test_progress_on_a_terminal(self):
-        outer, inner = pty.openpty()
-        with open(outer, "rb", buffering=0) as terminal:
-            ran = subprocess.run(self.command("correct", "--fault", "closed", "--most", "4"), stdout=subprocess.DEVNULL, stderr=inner, timeout=LIMIT, check=False)
-            os.close(inner)
-            self.assertEqual(ran.returncode, 0)
-            self.assertRegex(terminal.read(10_000).decode(), r"4 of 4: \d allowed, \d right")
+        shown, end = pty.openpty()
+        ran = subprocess.run(self.command("correct", "--fault", "closed", "--most", "4"), stdout=subprocess.DEVNULL, stderr=end, timeout=LIMIT, check=False)
+        os.close(end)
+        self.assertEqual(ran.returncode, 0)
+        self.assertRegex(read_all(shown), r"4 of 4: \d allowed, \d right")
+        os.close(shown)
 
     def test_usage(self):
         for command in (SWEEP, [*SWEEP, "--upstream", "shop=x:1"], [*SWEEP, "--upstream", "shop", "--", "true"], [*SWEEP, "--upstream", "shop=x:1", "--fault", "cut", "--", "true"]):

@@ -2,14 +2,12 @@
 import os
 import re
 
-from swept_clients import echo_service
+from services import Lines, serving
 
 TESTS = """
-import sys
-sys.path.insert(0, FOLDER)
-from swept_clients import correct, cut_body
+from clients import correct, patient_cut_body
 def test_red(toxi):
-    sweep = toxi.sweep_faults({"shop": UPSTREAM}, cut_body, faults=["closed"], jobs=4)
+    sweep = toxi.sweep_faults({"shop": UPSTREAM}, patient_cut_body, faults=["closed"], jobs=4)
     assert not sweep.failures
 def test_green(toxi):
     sweep = toxi.sweep_faults({"shop": UPSTREAM}, correct, faults=["closed"], most=4)
@@ -23,9 +21,8 @@ def test_wide_without(toxi_session):
 
 
 def test_red_and_green_sweeps(run_pytest, tmp_path):
-    with echo_service() as upstream:
-        names = {"FOLDER": os.path.dirname(os.path.abspath(__file__)), "UPSTREAM": upstream}
-        tests = re.sub("|".join(names), lambda found: repr(names[found[0]]), TESTS)
+    with serving(Lines) as server:
+        tests = TESTS.replace("UPSTREAM", repr(server.address))
         printed = run_pytest({"test_shop.py": tests}, "--toxi-seed", "7", "--toxi-artifacts", "kept")
     assert "3 failed, 1 passed" in printed
     assert "assert not [<shop 1 downstream 2..6 closed: wrong answer>]" in printed

@@ -1,5 +1,5 @@
 """`sweep_faults`: what a client makes of a conversation that ends behind each of its bytes. Needs nothing installed."""
-import contextlib
+import functools
 import itertools
 import json
 import threading
@@ -7,7 +7,8 @@ import time
 import unittest
 import xml.dom.minidom
 
-from swept_clients import Refused, correct, cut_body, echo_service, one_recv, without_limit
+from clients import PATIENCE, Refused, correct, one_recv, patient_cut_body, waits
+from services import Lines, serving
 
 from toxi import LimitData, Rule, Toxi, ToxiError, sweep_faults
 from toxi.chosen_points import chosen_points
@@ -35,9 +36,7 @@ downstream 0..7 slow: right"""
 class SweepTests(unittest.TestCase):
     @classmethod
     def setUpClass(cls):
-        with contextlib.ExitStack() as stack:
-            cls.upstream = stack.enter_context(echo_service())
-            cls.addClassCleanup(stack.pop_all().close)
+        cls.upstream = cls.enterClassContext(serving(Lines)).address
 
     def sweep(self, client, **options):
         return sweep_faults({"shop": self.upstream}, client, **options)
@@ -56,23 +55,23 @@ class SweepTests(unittest.TestCase):
         self.assertNotIn("wrong", str(sweep))
 
     def test_one_recv_taken_for_a_whole_answer(self):
-        sweep = self.sweep(one_recv, faults=("closed", "sliced"), jobs=4)
+        sweep = self.sweep(functools.partial(one_recv, limit=PATIENCE), faults=("closed", "sliced"), jobs=4)
         self.assertIn("downstream 0..6 closed: wrong answer", map(str, sweep.failures))
         self.assertIn(("downstream", "sliced"), {(row.stream, row.fault) for row in sweep.failures})
 
     def test_a_cut_body_taken_for_a_whole_one(self):
-        sweep = self.sweep(cut_body, faults=["closed"])
+        sweep = self.sweep(patient_cut_body, faults=["closed"])
         self.assertEqual([str(row) for row in sweep.rows][0], "downstream 2..6 closed: wrong answer")
         self.assertEqual(len(sweep.failures), 1)
         (row,) = sweep.failures
         self.assertEqual((row.rule, row.first.detail), (Rule("shop", [LimitData(bytes=2)], last=1), "b''"))
         with Toxi({"shop": self.upstream}, [row.rule]) as toxi:
-            self.assertEqual(cut_body({"shop": toxi.address()}), b"")
+            self.assertEqual(patient_cut_body({"shop": toxi.address()}), b"")
 
     def test_no_time_limit(self):
         for jobs in (1, 4):
             with self.subTest(jobs=jobs):
-                found = self.rows(without_limit, faults=["silent"], jobs=jobs, within=0.5)
+                found = self.rows(waits, faults=["silent"], jobs=jobs, within=0.5)
                 self.assertEqual(found[:2], ["upstream 0..5 silent: hang, 3 of 6 run", "downstream 0..6 silent: hang, 3 of 7 run"])
                 self.assertEqual(found[2:], ["upstream 6 silent: right", "downstream 7 silent: right"])
 
@@ -161,7 +160,7 @@ class SweepTests(unittest.TestCase):
 
     def test_json_and_page(self):
         def client(addresses):
-            return cut_body(addresses)
+            return patient_cut_body(addresses)
 
         sweep = self.sweep(client, faults=["closed", "reset"], most=20, seed=3)
         table = json.loads(sweep.json_text())

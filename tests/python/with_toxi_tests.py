@@ -7,7 +7,7 @@ import tempfile
 import time
 import unittest
 
-from services import http_service
+from services import Pages, serving
 
 ROOT = os.path.dirname(os.path.dirname(os.path.dirname(os.path.abspath(__file__))))
 WITH_TOXI = os.path.join(ROOT, "examples", "with-toxi")
@@ -49,14 +49,14 @@ class WithToxiTests(unittest.TestCase):
         )
 
     def test_a_command_that_passes(self):
-        with http_service() as upstream:
-            self.proxies(["my-shop.1"], upstream)
+        with serving(Pages) as server:
+            self.proxies(["my-shop.1"], server.address)
             ran = self.run_it("python3", "-c", FETCH.format("MY_SHOP_1"))
         self.assertEqual((ran.returncode, ran.stdout, ran.stderr), (0, "100\n", ""))
 
     def test_a_command_that_fails(self):
-        with http_service() as upstream:
-            self.proxies(["my-shop.1"], upstream)
+        with serving(Pages) as server:
+            self.proxies(["my-shop.1"], server.address)
             ran = self.run_it("python3", "-c", FETCH.format("MY_SHOP_1"), script="cut.toml")
         self.assertEqual((ran.returncode, ran.stdout), (1, ""))
         self.assertRegex(ran.stderr, r"\nseed 7\n")
@@ -64,8 +64,8 @@ class WithToxiTests(unittest.TestCase):
         self.assertRegex(ran.stderr, r"\ntotal my-shop.1 1 up \d+ down 5\n")
 
     def test_logs(self):
-        with http_service() as upstream:
-            self.proxies(["my-shop.1"], upstream)
+        with serving(Pages) as server:
+            self.proxies(["my-shop.1"], server.address)
             ran = self.run_it("python3", "-c", FETCH.format("MY_SHOP_1"), script="cut.toml", log=("--log", "logs"))
         self.assertRegex(ran.stderr, r"\nfind logs -name '\*\.log' \| \S+ replay -\n")
         self.assertEqual(sorted(os.listdir(os.path.join(self.folder, "logs"))), ["@0-1-downstream.log", "@0-1-upstream.log"])

@@ -1,0 +1,1 @@
+"""Pages of `toxi report`, as parsers and a browser see them."""

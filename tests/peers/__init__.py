@@ -1,0 +1,1 @@
+"""Hostile peers of `toxi serve`, and the cases that `tests/hostile` runs."""

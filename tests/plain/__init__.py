@@ -1,0 +1,1 @@
+"""Plain readings of the manual, which the tests compare the program with."""

@@ -1,0 +1,97 @@
+"""When faults are explained. What explanations say is a table of tests/rows, mistakes.toml."""
+import os
+import pty
+import subprocess
+import threading
+
+from plain.terminals import read_all
+
+FAULT = "toxi: Q1 BadForm 1\n"
+EXPLAINED = """toxi: Q1 BadForm 1
+  toxic 1: latency=1s
+  a type and a colon are missing before the attributes
+  write latency:latency=1000
+"""
+PATIENCE = 30
+# What a row of `explains_where_asked` gives: the arguments, TOXI_EXPLAIN, and what is said.
+ROWS = [
+    (["plan", "latency=1s"], None, FAULT),
+    (["plan", "latency=1s"], "", FAULT),
+    (["plan", "latency=1s"], "0", FAULT),
+    (["plan", "latency=1s"], "yes", FAULT),
+    (["plan", "latency=1s"], "1", EXPLAINED),
+    (["plan", "--explain", "latency=1s"], None, EXPLAINED),
+    (["--explain", "plan", "latency=1s"], None, EXPLAINED),
+    (["plan", "latency=1s", "--explain"], "0", EXPLAINED),
+]
+
+
+def environment(asked):
+    return dict(os.environ) if asked is None else os.environ | {"TOXI_EXPLAIN": asked}
+
+
+def run(program, arguments, asked, error, folder):
+    """Runs a command with this standard error."""
+    return subprocess.run(
+        [program, *arguments], env=environment(asked), stdin=subprocess.DEVNULL, stdout=subprocess.DEVNULL, stderr=error, timeout=PATIENCE, cwd=folder, check=False
+    )
+
+
+def said(program, arguments, asked, folder):
+    """What a command says on standard error."""
+    return run(program, arguments, asked, subprocess.PIPE, folder).stderr.decode()
+
+
+def said_on_terminal(program, arguments, asked, folder):
+    """What a command says where standard error is a terminal."""
+    ours, theirs = pty.openpty()
+    run(program, arguments, asked, theirs, folder)
+    os.close(theirs)
+    text = read_all(ours)
+    os.close(ours)
+    return text
+
+
+def said_of_pipe(program, arguments, folder, name, text):
+    """What is said of a file that comes by a FIFO, to which nobody writes again."""
+    path = os.path.join(folder, name)
+    os.mkfifo(path)
+
+    def write():
+        with open(path, "w", encoding="utf-8") as pipe:
+            pipe.write(text)
+
+    writer = threading.Thread(target=write)
+    writer.start()
+    told = said(program, arguments, "1", folder)
+    writer.join()
+    return told
+
+
+def explains_where_asked(program, folder):
+    for arguments, asked, wanted in ROWS:
+        found = said(program, arguments, asked, folder)
+        assert found == wanted, (arguments, asked, found)
+
+
+def explains_on_a_terminal(program, folder):
+    for asked, wanted in ((None, EXPLAINED), ("0", FAULT), ("1", EXPLAINED)):
+        found = said_on_terminal(program, ["plan", "latency=1s"], asked, folder)
+        assert found == wanted, (asked, found)
+
+
+def explains_a_script_by_a_fifo(program, folder):
+    """It isn't read again."""
+    with open(os.path.join(folder, "proxies.json"), "w", encoding="utf-8") as file:
+        file.write("[]")
+    found = said_of_pipe(program, ["check", "--config", "proxies.json", "--script", "script.toml"], folder, "script.toml", "version = 3\n")
+    assert found == "toxi: S2 Field 0 0 version\n  script.toml:1: version = 3\n  version: 1 or 2; absent, it is 1\n", found
+
+
+def waits_for_no_second_log(program, folder):
+    """A FIFO that takes the place of a log is read once."""
+    found = said_of_pipe(program, ["replay", "log"], folder, "log", "no log\n")
+    assert found.splitlines()[0] == "toxi: G1 BadLog log 1", found
+
+
+CASES = [explains_where_asked, explains_on_a_terminal, explains_a_script_by_a_fifo, waits_for_no_second_log]
