@@ -11,6 +11,7 @@ import tempfile
 import time
 import unittest
 import xml.dom.minidom
+from pathlib import Path
 
 from clients import PATIENCE
 from plain.terminals import read_all
@@ -71,15 +72,24 @@ class SweepCommandTests(unittest.TestCase):
 
     def test_ctrl_c_tells_what_there_is_and_leaves_nothing(self):
         for jobs in ("1", "3"):
-            command = self.command("waits", "--fault", "silent", "--within", "60", "--jobs", jobs)
+            runs = Path(self.folder, f"runs by {jobs}")
+            before = f"echo >> {shlex.quote(str(runs))}"
+            command = self.command("waits", "--fault", "silent", "--within", "60", "--jobs", jobs, "--before", before)
             environment = {**os.environ, "TMPDIR": self.folder}
             with subprocess.Popen(command, env=environment, stdout=subprocess.PIPE, text=True) as sweep:
-                time.sleep(3)
+                self.wait_for_a_fault(runs)
                 sweep.send_signal(signal.SIGINT)
                 printed = sweep.communicate(timeout=LIMIT)[0]
             self.assertEqual(sweep.returncode, 130)
             self.assertRegex(printed, r"not run: \d+ of 8 runs: it was interrupted\n")
             self.assert_nothing_is_left()
+
+    def wait_for_a_fault(self, runs):
+        """Two runs have no fault. `runs` has a line for each that has begun."""
+        end = time.monotonic() + LIMIT
+        while not runs.exists() or len(runs.read_text()) < 3:
+            self.assertLess(time.monotonic(), end)
+            time.sleep(0.05)
 
     def test_an_ignored_signal_stays_ignored(self):
         command = ["nohup", *self.command("waits", "--fault", "silent", "--jobs", "4", "--within", "3")]
