@@ -10,7 +10,7 @@ import unittest
 
 from find_tests import children
 from plain.terminals import read_all
-from services import Lines, serving
+from services import Lines, serving, sigint_heeded
 
 # It takes what there is of a body for the whole one, and its status 7 says that it has failed.
 CUT_BODY = """exec 3<>/dev/tcp/${TOXI_SHOP%:*}/${TOXI_SHOP#*:} || exit 7
@@ -35,12 +35,10 @@ class FindCommandTests(unittest.TestCase):
         return subprocess.run(self.command(*words), cwd=self.folder, capture_output=True, text=True, check=False)
 
     def started(self, terminal, *words):
-        """Tests that a script starts by `&` have SIGINT ignored, and so would have the command."""
-        before = signal.signal(signal.SIGINT, signal.default_int_handler)
         try:
-            return subprocess.Popen(self.command(*words), cwd=self.folder, stdout=subprocess.PIPE, stderr=terminal, text=True)
+            with sigint_heeded():
+                return subprocess.Popen(self.command(*words), cwd=self.folder, stdout=subprocess.PIPE, stderr=terminal, text=True)
         finally:
-            signal.signal(signal.SIGINT, before)
             os.close(terminal)
 
     def test_a_wrong_status_is_found_and_run_again(self):

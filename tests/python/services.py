@@ -1,6 +1,7 @@
 """Services for the tests, on ports that the system chooses."""
 import contextlib
 import http.server
+import signal
 import socket
 import socketserver
 import subprocess
@@ -55,6 +56,16 @@ class Pages(http.server.BaseHTTPRequestHandler):
 
     def log_message(self, *_: Any) -> None:
         pass
+
+
+@contextlib.contextmanager
+def sigint_heeded() -> Iterator[None]:
+    """Programs that are started meanwhile heed SIGINT. A script that starts the tests by `&` has it ignored, and so would they."""
+    before = signal.signal(signal.SIGINT, signal.default_int_handler)
+    try:
+        yield
+    finally:
+        signal.signal(signal.SIGINT, before)
 
 
 @contextlib.contextmanager

@@ -15,7 +15,7 @@ from pathlib import Path
 
 from clients import PATIENCE
 from plain.terminals import read_all
-from services import Lines, serving
+from services import Lines, serving, sigint_heeded
 
 SWEEP = [sys.executable, "-m", "toxi.sweep_command"]
 LIMIT = 120
@@ -76,7 +76,9 @@ class SweepCommandTests(unittest.TestCase):
             before = f"echo >> {shlex.quote(str(runs))}"
             command = self.command("waits", "--fault", "silent", "--within", "60", "--jobs", jobs, "--before", before)
             environment = {**os.environ, "TMPDIR": self.folder}
-            with subprocess.Popen(command, env=environment, stdout=subprocess.PIPE, text=True) as sweep:
+            with sigint_heeded():
+                started = subprocess.Popen(command, env=environment, stdout=subprocess.PIPE, text=True)
+            with started as sweep:
                 self.wait_for_a_fault(runs)
                 sweep.send_signal(signal.SIGINT)
                 printed = sweep.communicate(timeout=LIMIT)[0]
