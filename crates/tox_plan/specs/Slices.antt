@@ -1,5 +1,5 @@
 -- Slices lent from the offered piece.
-use Rattle.std.specs.Prelude.{◌≡◌, ◌-◌, true, false, List, [], ◌∷◌, Option, Some, None}
+use Rattle.std.specs.Prelude.{◌≡◌, ◌-◌, true, List, [], ◌∷◌, Option, Some, None}
 use Rattle.std.specs.Iterator.{Count, at_most}
 use Rattle.tox_time.specs.declared.streams.slice.Slice.{Slice}
 use Rattle.tox_time.specs.declared.streams.item.Item.{Item}
@@ -9,7 +9,7 @@ use Rattle.tox_lend.specs.Lent.{IsExactSlice}
 use Rattle.tox_lend.specs.declared.lent.Lent.{Lent}
 use Rattle.tox_plan.specs.declared.slices.Slices.{Slices}
 use Rattle.tox_plan.specs.RunnerView.{RunnerView, to_come, HasNoChunk}
-use Rattle.tox_plan.specs.Cuts.{IsCut, BeginsApart}
+use Rattle.tox_plan.specs.Cuts.{GivesCut}
 use Rattle.tox_plan.specs.OpCursors.{ops_of}
 
 -- the piece has the start, the length and the instant of the last accepted offer
@@ -35,14 +35,10 @@ pub record KeepsPiece (old new : Slices) : Type 0 where
   pub finished : new.runner.finished ≡ old.runner.finished
   pub pieces : new.runner.pieces ≡ old.runner.pieces
 
--- the next slice of the runner, as the piece's own bytes at its positions; the runner still holds the piece
+-- the runner gives its next slice, which is lent as the piece's own bytes at its positions
 pub record LendsNext (old new : Slices) (lent : Lent) : Type 0 where
   pub slice : Slice
-  pub cut : IsCut old.runner new.runner slice
-  pub starts : slice.span.start ≡ old.runner.position
-  pub stops : new.runner.position ≡ slice.span.stop
-  pub busy : new.runner.idle ≡ false
-  pub apart : BeginsApart slice.instant (to_come new.runner (Quiet ∷ []))
+  pub gives : GivesCut old.runner new.runner slice
   pub exact : IsExactSlice old.piece.now slice.span slice.instant lent
 
 -- nothing of the piece is left, and the runner is idle
