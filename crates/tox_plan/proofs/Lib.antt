@@ -15,3 +15,4 @@ pub mod Deadlines
 pub mod Givens
 pub mod Orders
 pub mod Unended
+pub mod EndsBy

@@ -4,6 +4,7 @@ pub mod RunnerView
 pub mod RunnerInside
 pub mod Cuts
 pub mod Delivering
+pub mod EndsBy
 pub mod Given
 pub mod NewRunner
 pub mod Slices

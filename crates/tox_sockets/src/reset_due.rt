@@ -1,5 +1,6 @@
 //! By when a plan ends its stream, whatever arrives.
 ghost use Rattle.std.specs.Prelude.{◌≡◌, ◌<◌, ◌^◌, None, fold};
+ghost use Rattle.tox_plan.specs.EndsBy.{EndsEachStream};
 ghost use Rattle.tox_sockets.specs.ResetDue.{after_op, later_by, not_before};
 
 use tox_compile::earlier;
@@ -9,7 +10,8 @@ use tox_time::{Ending, Micros};
 /// The instant by which operations end every stream. None if no such instant is known: a stream may go on for ever, or how
 /// long its bytes take depends on their number.
 pub fn reset_due(ops: &[Op]) -> Option<Micros>
-    ensures { result ≡ fold after_op None ops.now }
+    ensures value { result ≡ fold after_op None ops.now }
+    ensures ended { EndsEachStream ops.now result }
 {
     due_behind(None, ops)
 }
