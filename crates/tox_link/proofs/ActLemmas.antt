@@ -85,12 +85,15 @@ module _ (core : CoreView) (last : Ending) where
     quiet-emptied : IsEmptied after_quiet
     quiet-emptied = record { found = emptied.found; waiting = emptied.waiting; drained = record { idle = emptied.drained.idle; none = final-no_chunk last } }
 
+    pub quiet-only : (items : List Item) → remaining_output after_quiet items ≡ final_of last ∷ []
+    quiet-only items = output-emptied after_quiet quiet-emptied none items
+
     pub settled-quiet : (now d : ℕ) → core_deadline core ≡ Some d → d ≤ now
         → ((e position since : ℕ) (items : List Item) → deadline_of (ops_of core.runner.cursors) ≡ Some e → e ≤ since → IsStreamFrom position since items → to_come core.runner items ≡ final_of last ∷ [])
         → Settled core after_quiet now
     settled-quiet now d is passed same = record {
       leaves = record {
-        output = λ position since items later stream. same-of _ _ (output-emptied after_quiet quiet-emptied none items
+        output = λ position since items later stream. same-of _ _ (quiet-only items
             ∙ sym (same d position since items is (omega (arith, passed, later)) stream) ∙ sym (output-emptied core emptied none items));
         position = refl;
       };

@@ -317,53 +317,6 @@ pub says-asked : (old core : CoreView) (now : ℕ) (act : Act) (until : Option �
 says-asked old core now act None answered is = let same : Answered old core now WaitForInput = subst (Answered old core now) is answered in says-still old core now WaitForInput same same.output
 says-asked old core now act (Some t) answered is = let same : Answered old core now (WaitUntil t) = subst (Answered old core now) is answered in says-still old core now (WaitUntil t) same same.output.1
 
--- the answer of an end
-module _ (old core : CoreView) (now : ℕ) (last : Ending) (answered : Answered old core now (End last)) where
-  no-slice : (next : Option ℕ) → next_instant (remaining_output old (Quiet ∷ [])) ≡ next → next ≡ None
-  no-slice None is = refl
-  no-slice (Some t) is = absurd (answered.slice t is)
-
-  said-end : End last ≡ idle_act old.ended now (core_deadline old) (core_ending core)
-  said-end = answered.idle (no-slice (next_instant (remaining_output old (Quiet ∷ []))) refl)
-
-  no-wait : (deadline : Option ℕ) → End last ≡ wait_act deadline → ⊥
-  no-wait None same = cc
-  no-wait (Some t) same = cc
-
-  pub end-known : core_ending core ≡ None → ⊥
-  end-known none = no-wait (core_deadline old) (said-end ∙ ap (idle_act old.ended now (core_deadline old)) none)
-
-  reached-closed : (t : ℕ) (test : Bool) → nat_le t now ≡ test → End last ≡ (if test then End (ClosedAt t) else WaitUntil t) → t ≤ now
-  reached-closed t true is same = leb-true t now is
-  reached-closed t false is same = absurd (cc)
-
-  reached-reset : (t : ℕ) (test : Bool) → nat_le t now ≡ test → End last ≡ (if test then End (ResetAt t) else WaitUntil t) → t ≤ now
-  reached-reset t true is same = leb-true t now is
-  reached-reset t false is same = absurd (cc)
-
-  reached-by : (ending : Ending) → End last ≡ end_act old.ended now ending → IsReached now ending
-  reached-by StillOpen same = tt
-  reached-by (ClosedAt t) same = reached-closed t (nat_le t now) refl same
-  reached-by (ResetAt t) same = reached-reset t (nat_le t now) refl same
-
-  open-ended : (ended : Bool) → End last ≡ end_act ended now StillOpen → ended ≡ true
-  open-ended true same = refl
-  open-ended false same = absurd (cc)
-
-  pub end-reached : (ending : Ending) → core_ending core ≡ Some ending → IsReached now ending
-  end-reached ending known = reached-by ending (said-end ∙ ap (idle_act old.ended now (core_deadline old)) known)
-
-  pub end-closed : (ending : Ending) → core_ending core ≡ Some ending → ending ≡ StillOpen → old.ended ≡ true
-  end-closed ending known open_still = open-ended old.ended (said-end ∙ ap (idle_act old.ended now (core_deadline old)) known ∙ ap (end_act old.ended now) open_still)
-
--- a source that goes on has not told its core an end
-pub core-closed : (link : PolledLink) → IsHeld link → link.core.ended ≡ true → link.ended ≡ true
-core-closed link held closed = by link.ended held.going
-  where
-    by : (ended : Bool) → (ended ≡ false → link.core.ended ≡ false) → ended ≡ true
-    by true going = refl
-    by false going = let same = going refl in absurd (cc)
-
 -- the core was asked
 pub drove-asked : (told : ℕ → Type 0) (link new : PolledLink) (core : CoreView) (now : ℕ) (act : Act) (left known : Option (List ℕ)) (events : Option (List LinkEvent)) → IsHeld link → link.unwritten ≡ None → Answered link.core core now act
     → KeepsCarried told link.core (noted_of act now) core → new ≡ record link { core = core; unwritten = begun_by act now }

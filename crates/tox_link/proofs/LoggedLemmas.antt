@@ -1,6 +1,9 @@
 -- The log of a link that is carried, step by step.
-use Rattle.std.proofs.Common.{◌≡◌, ℕ, ◌+◌, ◌≤◌, ◌⊎◌, Bool, true, false, List, [], ◌∷◌, ◌++◌, length, length-append, replicate, None, refl, ap, ◌∙◌, sym, subst, append-nil, arith}
-use Rattle.std.specs.Prelude.{is_some, ◌||◌}
+use Rattle.std.proofs.Common.{◌≡◌, ℕ, ◌+◌, ◌≤◌, ◌⊎◌, Bool, true, false, List, [], ◌∷◌, ◌++◌, length, length-append, replicate, None, refl, ap, ◌∙◌, sym, subst, append-nil, arith, Option, Some}
+use Rattle.std.specs.Prelude.{is_some, ◌||◌, nat_le, if◌then◌else◌}
+use Rattle.std.proofs.lemmas.Bool.{leb-true}
+use Rattle.tox_time.specs.declared.streams.ending.Ending.{Ending}
+use Rattle.tox_time.specs.declared.streams.ending.Ending.TheVariants.{StillOpen, Closed as ClosedAt, Reset as ResetAt}
 use Rattle.std.proofs.lemmas.List.{length-replicate}
 use Rattle.tox_time.specs.declared.streams.item.Item.{Item}
 use Rattle.tox_time.specs.declared.streams.item.Item.TheVariants.{Quiet}
@@ -13,10 +16,11 @@ use Rattle.tox_link.specs.declared.carrying.writer_side.WriterSide.{WriterSide}
 use Rattle.tox_link.specs.declared.link_core.act.Act.{Act}
 use Rattle.tox_link.specs.declared.link_core.act.Act.TheVariants.{Write, WaitUntil, WaitForInput, End}
 use Rattle.tox_link.specs.log.Carried.{Carried, KeepsCarried, ReadsOn, noted_of}
-use Rattle.tox_link.specs.link_core.Core.{CoreView, TakesSlice, remaining_output, core_position}
+use Rattle.tox_link.specs.link_core.Core.{CoreView, TakesSlice, remaining_output, core_position, core_deadline, core_ending, next_instant}
+use Rattle.tox_link.specs.link_core.Acts.{Answered, IsSliceAct, end_act, idle_act}
 use Rattle.tox_link.specs.Hangups.{IsResetAt}
 use Rattle.tox_link.specs.log.Log.{heard, said, has_source_end}
-use Rattle.tox_link.specs.log.Logged.{Logged, KeepsLogged, LogsFrom, CutsOff, CutsOffFrom}
+use Rattle.tox_link.specs.log.Logged.{HasEnded, IsReached, Logged, KeepsLogged, LogsFrom, CutsOff, CutsOffFrom}
 use Rattle.tox_link.specs.carrying.Side.{IsFresh}
 use Rattle.tox_link.specs.Sources.{read_end_of}
 use Rattle.tox_link.proofs.Logs.{gapless-bytes, has_source_end-append, end-same, by-later}
@@ -111,3 +115,44 @@ logs-on told first old new log more logs keeps means start = keeps means log (lo
 
 pub cuts-on : (told : ℕ → Type 0) (first old : WriterSide) (log : List LinkEvent) (written : ℕ) → LogsFrom told first log old → CutsOff told old written → CutsOffFrom told first log written
 cuts-on told first old log written logs cuts means start = cuts means log (logs means start)
+
+-- an end that is answered is reached, and stays open only behind the source's end
+module _ (last : Ending) (now : ℕ) where
+  reached-closed : (ended : Bool) (t : ℕ) (test : Bool) → nat_le t now ≡ test → End last ≡ (if test then End (ClosedAt t) else WaitUntil t) → IsReached now last × (last ≡ StillOpen → ended ≡ true)
+  reached-closed ended t true is same = let its : last ≡ ClosedAt t = cc in (subst (IsReached now) (sym its) (leb-true t now is), λ still. absurd (cc))
+  reached-closed ended t false is same = absurd (cc)
+
+  reached-reset : (ended : Bool) (t : ℕ) (test : Bool) → nat_le t now ≡ test → End last ≡ (if test then End (ResetAt t) else WaitUntil t) → IsReached now last × (last ≡ StillOpen → ended ≡ true)
+  reached-reset ended t true is same = let its : last ≡ ResetAt t = cc in (subst (IsReached now) (sym its) (leb-true t now is), λ still. absurd (cc))
+  reached-reset ended t false is same = absurd (cc)
+
+  reached-by : (ended : Bool) (ending : Ending) → End last ≡ end_act ended now ending → IsReached now last × (last ≡ StillOpen → ended ≡ true)
+  reached-by true StillOpen same = let its : last ≡ StillOpen = cc in (subst (IsReached now) (sym its) tt, λ still. refl)
+  reached-by false StillOpen same = absurd (cc)
+  reached-by ended (ClosedAt t) same = reached-closed ended t (nat_le t now) refl same
+  reached-by ended (ResetAt t) same = reached-reset ended t (nat_le t now) refl same
+
+  reached-idle : (ended : Bool) (deadline : Option ℕ) (ending : Option Ending) → End last ≡ idle_act ended now deadline ending → IsReached now last × (last ≡ StillOpen → ended ≡ true)
+  reached-idle ended None None same = absurd (cc)
+  reached-idle ended (Some t) None same = absurd (cc)
+  reached-idle ended deadline (Some ending) same = reached-by ended ending same
+
+-- a core that answers an end has ended so
+pub ended-so : (told : ℕ → Type 0) (old new : CoreView) (now : ℕ) (act : Act) (last : Ending) (source_ended : Bool) → Answered old new now act → act ≡ End last → told now → (source_ended ≡ false → old.ended ≡ false)
+    → HasEnded told new source_ended last
+ended-so told old new now act last source_ended answered is says going =
+    let said = reached-idle last now old.ended (core_deadline old) (core_ending new) (sym is ∙ answered.idle (none (next_instant (remaining_output old (Quiet ∷ []))) refl)) in
+    record {
+      only = answered.over last is;
+      says = subst told (sym answered.latest) says;
+      reached = subst (λ t. IsReached t last) (sym answered.latest) said.0;
+      stays_open = λ still. closed source_ended going (said.1 still);
+    }
+  where
+    none : (next : Option ℕ) → next_instant (remaining_output old (Quiet ∷ [])) ≡ next → next_instant (remaining_output old (Quiet ∷ [])) ≡ None
+    none None found = found
+    none (Some t) found = absurd (subst (IsSliceAct t now) is (answered.slice t found))
+
+    closed : (ended : Bool) → (ended ≡ false → old.ended ≡ false) → old.ended ≡ true → ended ≡ true
+    closed true going over = refl
+    closed false going over = let still = going refl in absurd (cc)

@@ -21,6 +21,9 @@ use Rattle.tox_plan.specs.Delivering.{PreservesOutput}
 use Rattle.tox_plan.proofs.Deliveries.{goes-cut}
 use Rattle.tox_plan.proofs.RunnerOutput.{to_come-ended}
 use Rattle.tox_link.specs.declared.link_core.waiting.WaitingPiece.{WaitingPiece}
+use Rattle.tox_link.specs.declared.link_core.act.Act.{Act}
+use Rattle.tox_link.specs.declared.link_core.act.Act.TheVariants.{Write, WaitUntil, WaitForInput, End}
+use Rattle.tox_link.specs.link_core.Acts.{After, Answered}
 use Rattle.tox_link.specs.link_core.Core.{CoreView, remaining_output, arrivals_from, end_or, Looked, GivesUp, core_position, kept_lens, kept_start, next_start, IsDrained}
 use Rattle.tox_link.specs.link_core.CoreKept.{IsCore, IsOver, IsFoundSlice, AreTimely, arrived_by, total_len}
 use Rattle.tox_link.proofs.WaitingLemmas.{timely-earlier}
@@ -48,8 +51,40 @@ gives-both a b c first second = record {
 }
 
 -- whatever room there is
-pub gives-anyhow : (old new : CoreView) (before after : ℕ) → GivesUp old new → GivesUp (record old { room = before }) (record new { room = after })
+gives-anyhow : (old new : CoreView) (before after : ℕ) → GivesUp old new → GivesUp (record old { room = before }) (record new { room = after })
 gives-anyhow old new before after gives = record { first = gives.first; lens = gives.lens; start = gives.start; before = gives.before }
+
+after-anyhow : (old new : CoreView) (before after now : ℕ) (act : Act) → After old now act new → After (record old { room = before }) now act (record new { room = after })
+after-anyhow old new before after now (Write slice) (due, takes) =
+    (due, record { tables = takes.tables; endings = takes.endings; starts = takes.starts; stops = takes.stops; within = takes.within; arrived = takes.arrived; apart = takes.apart })
+after-anyhow old new before after now (WaitUntil t) (ahead, leaves) = (ahead, record { output = leaves.output; position = leaves.position })
+after-anyhow old new before after now WaitForInput leaves = record { output = leaves.output; position = leaves.position }
+after-anyhow old new before after now (End last) leaves = record { output = leaves.output; position = leaves.position }
+
+pub answered-anyhow : (old new : CoreView) (before after now : ℕ) (act : Act) → Answered old new now act → Answered (record old { room = before }) (record new { room = after }) now act
+answered-anyhow old new before after now act answered = let kept = answered.kept in record {
+  slice = answered.slice;
+  idle = answered.idle;
+  ended = answered.ended;
+  dropped = answered.dropped;
+  overdue = answered.overdue;
+  unended = answered.unended;
+  output = after-anyhow old new before after now act answered.output;
+  over = answered.over;
+  kept = record {
+    drawing = kept.drawing;
+    ops = kept.ops;
+    ended = kept.ended;
+    bytes = kept.bytes;
+    waiting = kept.waiting;
+    count = kept.count;
+    cuts = kept.cuts;
+    ending = kept.ending;
+  };
+  given_up = λ unknown. gives-anyhow old new before after (answered.given_up unknown);
+  holds = answered.holds;
+  latest = answered.latest;
+}
 
 pub looked-none : (core : CoreView) → Looked core core
 looked-none core = record {

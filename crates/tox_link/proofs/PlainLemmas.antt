@@ -9,7 +9,7 @@ use Rattle.tox_time.specs.declared.streams.ending.Ending.TheVariants.{StillOpen,
 use Rattle.tox_time.specs.declared.streams.position.StreamPosition.{StreamPosition}
 use Rattle.tox_time.specs.declared.streams.slice.Slice.{Slice}
 use Rattle.tox_time.specs.streams.Stream.{span_len}
-use Rattle.tox_time.specs.streams.Table.{table, ending}
+use Rattle.tox_time.specs.streams.Table.{table, ending, final_of}
 use Rattle.tox_defs.proofs.OpCursors.{rest_of-read}
 use Rattle.tox_defs.specs.operations.OpCursor.{ending_or}
 use Rattle.tox_compile.specs.Meaning.{Ops, means}
@@ -92,6 +92,7 @@ module _ (given now : ℕ) (piece : WaitingPiece) (end : Option ℕ) (so_far : S
     overdue = λ d none. absurd (let both : Some piece.instant ≡ None = sym next ∙ none in cc);
     unended = λ none. absurd (let both : Some piece.instant ≡ None = sym next ∙ none in cc);
     output = (omega (arith, early, later), gives);
+    over = λ last is. absurd (cc);
     kept = record { drawing = refl; ops = refl; ended = refl; bytes = refl; waiting = (piece ∷ [], refl); count = omega arith; cuts = omega arith; ending = λ last is. absurd (cc) };
     given_up = λ unknown. record { first = piece.len ∷ []; lens = refl; start = omega arith; before = λ before. omega arith };
     holds = λ t is ahead. let same : Some t ≡ Some piece.instant = sym is ∙ next in absurd (let at : t ≡ piece.instant = cc in omega (arith, early, later, at, ahead));
@@ -121,6 +122,16 @@ module _ (given now : ℕ) (end : Option ℕ) (so_far : StreamPosition) (ended :
   }
   unended (Some t) unknown = absurd (cc)
 
+  ended-at : (t : ℕ) (last : Ending) (items : List Item) (reached : Bool) → End last ≡ (if reached then End (ClosedAt t) else WaitUntil t)
+      → end_or (Some t) items ≡ final_of last ∷ []
+  ended-at t last items true is = let same : last ≡ ClosedAt t = cc in ap (λ last. final_of last ∷ []) (sym same)
+  ended-at t last items false is = absurd (cc)
+
+  over : (end : Option ℕ) (last : Ending) (items : List Item) → End last ≡ idle_act so_far.ended now None (end_reached None end)
+      → remaining_output (plain_core given None end (record so_far { latest = now })) items ≡ final_of last ∷ []
+  over None last items is = absurd (cc)
+  over (Some t) last items is = plain-read given (Some t) (record so_far { latest = now }) items ∙ ended-at t last items (nat_le t now) is
+
   pub leaves-later : LeavesOutput idle_core later_core now
   leaves-later = record { output = λ position since items later stream. same-refl (remaining_output idle_core items); position = refl }
 
@@ -140,6 +151,7 @@ module _ (given now : ℕ) (end : Option ℕ) (so_far : StreamPosition) (ended :
     overdue = λ d none due. absurd (cc);
     unended = λ none. unended end;
     output = after;
+    over = λ last said items. over end last items (sym said ∙ is);
     kept = keeps-later;
     given_up = λ unknown. record { first = []; lens = refl; start = omega arith; before = λ before. before };
     holds = λ t some. absurd (let both : None ≡ Some t = sym (none-next end) ∙ some in cc);

@@ -9,7 +9,9 @@ ghost use Rattle.tox_plan.specs.OpCursors.{ops_of};
 ghost use Rattle.tox_plan.specs.RunnerView.{answer_of, known_ending, no_piece};
 ghost use Rattle.tox_link.specs.link_core.Core.{remaining_output, core_ending, core_position, core_deadline, kept_count, next_instant, KeepsCore, Looked, IsDrained, IsEmptied, Settled, HandsOnEnd};
 ghost use Rattle.tox_link.specs.link_core.NewCore.{core_of, IsNewCore};
-ghost use Rattle.tox_link.specs.link_core.Acts.{idle_act, Answered, HearsEnd, HearsPiece};
+ghost use Rattle.tox_link.specs.link_core.Acts.{idle_act, Answered, HearsEnd, HearsPiece, KeepsWritten};
+ghost use Rattle.tox_link.specs.declared.link_core.act.Act.TheVariants as ActOf;
+ghost use Rattle.tox_time.specs.declared.streams.ending.Ending.{Ending as EndingType};
 
 pub(crate) mod act;
 pub(crate) mod direction_core;
@@ -172,10 +174,11 @@ impl<'w> LinkCore<'w> {
         }
     }
 
-    /// What to do at `now`. Drops the pieces that bring no further slice.
+    /// What to do at `now`. Drops the pieces that bring no further slice. The piece of a written slice stays.
     pub fn on_clock(&mut self, now: Micros) -> Act
         requires { self.old.latest ≤ now }
-        ensures { Answered self.old self.new now result }
+        ensures answered { Answered self.old self.new now result }
+        ensures stays { KeepsWritten self.old self.new result }
     {
         self.so_far.latest = now;
         self.look();
@@ -187,6 +190,7 @@ impl<'w> LinkCore<'w> {
         requires emptied { self.old.found ≡ None → IsEmptied self.old }
         requires latest { self.old.latest ≡ now }
         ensures answered { Answered self.old self.new now result }
+        ensures stays { KeepsWritten self.old self.new result }
         ensures unknown { core_ending self.new ≡ None → known_ending self.old.runner ≡ None }
     {
         let Some(slice) = self.found else {
@@ -202,6 +206,7 @@ impl<'w> LinkCore<'w> {
     /// Finds the next slice, unless it is found already.
     fn look(&mut self)
         ensures looked { Looked self.old self.new }
+        ensures found { IsSome self.old.found → self.new ≡ self.old }
         ensures emptied { self.new.found ≡ None → IsEmptied self.new }
         ensures known { (last : _) → core_ending self.old ≡ Some last
             → core_ending self.new ≡ Some last }
@@ -256,6 +261,8 @@ impl<'w> LinkCore<'w> {
         requires latest { self.old.latest ≡ now }
         ensures act { result
             ≡ idle_act self.old.ended now (core_deadline self.old) (core_ending self.new) }
+        ensures over { (last : EndingType) → result ≡ ActOf.End last → (items : List OneItem)
+            → remaining_output self.new items ≡ final_of last ∷ [] }
         ensures settled { Settled self.old self.new now }
         ensures none { next_instant (remaining_output self.old (Quiet ∷ [])) ≡ None }
     {
@@ -282,6 +289,8 @@ impl<'w> LinkCore<'w> {
         requires emptied { IsEmptied self.old }
         requires end { self.old.end ≡ None }
         ensures value { result ≡ core_ending self.new }
+        ensures only { IfSome result (λ last. (items : List OneItem)
+            → remaining_output self.new items ≡ final_of last ∷ []) }
         ensures settled { Settled self.old self.new now }
     {
         if let Some(ending) = self.runner.ending() {

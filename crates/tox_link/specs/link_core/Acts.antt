@@ -6,6 +6,7 @@ use Rattle.tox_time.specs.declared.streams.item.Item.{Item}
 use Rattle.tox_time.specs.declared.streams.item.Item.TheVariants.{Chunk, Closed, Quiet}
 use Rattle.tox_time.specs.declared.streams.arrivals.ArrivalFault.{ArrivalFault}
 use Rattle.tox_time.specs.streams.Arrivals.{piece_fault}
+use Rattle.tox_time.specs.streams.Table.{final_of}
 use Rattle.tox_plan.specs.OpCursors.{ops_of}
 use Rattle.tox_plan.specs.RunnerView.{answer_of}
 use Rattle.tox_plan.specs.Unended.{IsUnended}
@@ -53,10 +54,18 @@ pub record Answered (old new : CoreView) (now : ℕ) (act : Act) : Type 0 where
   pub overdue : (d : ℕ) → next_instant (remaining_output old (Quiet ∷ [])) ≡ None → core_deadline old ≡ Some d → d ≤ now → IsSome (core_ending new)
   pub unended : next_instant (remaining_output old (Quiet ∷ [])) ≡ None → core_ending new ≡ None → IsUnended (ops_of new.runner.cursors) (remaining_output new) now
   pub output : After old now act new
+  pub over : (last : Ending) → act ≡ End last → (items : List Item) → remaining_output new items ≡ final_of last ∷ []
   pub kept : KeepsCore old new
   pub given_up : core_ending new ≡ None → GivesUp old new
   pub holds : (t : ℕ) → next_instant (remaining_output old (Quiet ∷ [])) ≡ Some t → now < t → core_position new < new.runner.piece.span.stop
   pub latest : new.latest ≡ now
+
+-- the piece of a written slice is kept, and where the slice was found before, each kept piece is
+abbrev pub KeepsWritten : CoreView → CoreView → Act → Type 0
+KeepsWritten old new (Write slice) = (new.runner.idle ≡ false) × (IsSome old.found → kept_count new ≡ kept_count old)
+KeepsWritten old new (WaitUntil instant) = Unit {0}
+KeepsWritten old new WaitForInput = Unit {0}
+KeepsWritten old new (End ending) = Unit {0}
 
 -- what a core at rest says at `now`, by what is next: a slice, the deadline or the ending
 pub record Says (core : CoreView) (now : ℕ) (act : Act) : Type 0 where

@@ -120,7 +120,7 @@ fn act<R: Wait, C: Clock, N: Notes, W: Sink>(
             }
             Ok(None)
         }
-        Act::End(_) => Ok(side.core.ending()),
+        Act::End(ending) => Ok(Some(ending)),
     }
 }
 

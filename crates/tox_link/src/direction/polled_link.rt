@@ -11,6 +11,7 @@ use crate::source_ending::SourceEnding;
 use std::alloc::{AllocError, Global};
 use tox_compile::Plan;
 use tox_lend::Window;
+use tox_time::Micros;
 use tox_words::Words;
 
 /// One direction of a live link between two events: its core, the pieces that are still needed, and the slice that is being
@@ -77,6 +78,13 @@ impl PolledLink {
         ensures { result ≡ moved_of self.now }
     {
         self.window.stop() + self.written
+    }
+
+    /// The last reading of the clock that its core was told, 0 at first. Once it has ended, that at which it ended.
+    pub fn latest(&self) -> Micros
+        ensures { result ≡ self.now.core.latest }
+    {
+        self.core.latest()
     }
 
     /// How many bytes are written.

@@ -138,12 +138,7 @@ fn act<C: Clock, N: Notes, S: PollSource>(
             read_or_wait(link, alloc, clock, notes, source, scratch, Some(*instant))
         }
         Act::WaitForInput => read_or_wait(link, alloc, clock, notes, source, scratch, None),
-        Act::End(_) => {
-            let Some(ending) = link.core.ending() else {
-                unreachable!()
-            };
-            Ok(Progress::Ended(ending))
-        }
+        Act::End(ending) => Ok(Progress::Ended(*ending)),
     }
 }
 

@@ -17,7 +17,7 @@ pub returns-clause-next : goal.returns-clause-next
 returns-clause-next c =
     let core = c.args.judge.now.core in
     let new = c.on_clock-act.new.self in
-    let after : After core c.args.reading.now c.on_clock-act.result new = c.on_clock-act.ensures.output in
+    let after : After core c.args.reading.now c.on_clock-act.result new = c.on_clock-act.ensures.answered.output in
     ap (λ rest. rest_table rest ++ table (remaining_output new (Quiet ∷ []))) c.slice_in-judge.ensures
     ∙ asked-table core new c.args.reading.now c.on_clock-act.result after
     ∙ sym (ap (λ rest. rest_table rest ++ table (remaining_output core (Quiet ∷ []))) c.requires.none)
@@ -26,15 +26,15 @@ pub returns-clause-finds : goal.returns-clause-finds
 returns-clause-finds c = λ due first before.
     let core = c.args.judge.now.core in
     let next = sym (ap (λ rest. slice_get (rest_table rest ++ table (remaining_output core (Quiet ∷ []))) 0) c.requires.none) ∙ first in
-    subst IsSome (sym c.slice_in-judge.ensures) (due-is-given due c.args.reading.now c.on_clock-act.result (c.on_clock-act.ensures.slice due next) before)
+    subst IsSome (sym c.slice_in-judge.ensures) (due-is-given due c.args.reading.now c.on_clock-act.result (c.on_clock-act.ensures.answered.slice due next) before)
 
 pub returns-clause-all : goal.returns-clause-all
 returns-clause-all c = λ none.
     let core = c.args.judge.now.core in
     let idle : next_instant (remaining_output core (Quiet ∷ [])) ≡ None =
     ap (λ ts. slice_get ts 0) (sym (ap (λ rest. rest_table rest ++ table (remaining_output core (Quiet ∷ []))) c.requires.none) ∙ none) in (
-      c.slice_in-judge.ensures ∙ ap slice_in (c.on_clock-act.ensures.idle idle) ∙ idle-gives_none core.ended c.args.reading.now (core_deadline core) (core_ending c.on_clock-act.new.self),
-      c.on_clock-act.ensures.unended idle,
+      c.slice_in-judge.ensures ∙ ap slice_in (c.on_clock-act.ensures.answered.idle idle) ∙ idle-gives_none core.ended c.args.reading.now (core_deadline core) (core_ending c.on_clock-act.new.self),
+      c.on_clock-act.ensures.answered.unended idle,
     )
 
 pub returns-clause-stays : goal.returns-clause-stays
@@ -42,7 +42,7 @@ returns-clause-stays c = λ means told front start log follows.
     let judge = c.args.judge.now in
     let new = c.on_clock-act.new.self in
     let act = c.on_clock-act.result in
-    let answered = c.on_clock-act.ensures in
+    let answered = c.on_clock-act.ensures.answered in
     let after : After judge.core judge.latest act new = subst (λ t. After judge.core t act new) (sym c.requires.now) answered.output in
     let bare : AddsUp means told judge.core front judge.heard judge.latest judge.ended start log
     = subst (λ given. AddsUp means told judge.core given judge.heard judge.latest judge.ended start log) (ap (λ rest. front ++ rest_table rest) c.requires.none ∙ append-nil front) follows in
@@ -54,4 +54,4 @@ pub returns-clause-deep : goal.returns-clause-deep
 returns-clause-deep c = λ going full.
     let judge = c.args.judge.now in
     let at : judge.said ≡ core_position judge.core = subst (λ rest. IsRest rest judge.said (core_position judge.core)) c.requires.none c.requires.held.rest in
-    asked-behind judge.core c.on_clock-act.new.self c.args.reading.now c.on_clock-act.result judge.said c.on_clock-act.ensures at (omega (arith, full))
+    asked-behind judge.core c.on_clock-act.new.self c.args.reading.now c.on_clock-act.result judge.said c.on_clock-act.ensures.answered at (omega (arith, full))

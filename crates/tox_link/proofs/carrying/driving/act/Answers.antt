@@ -10,7 +10,7 @@ use Rattle.tox_link.specs.link_core.Acts.{After}
 use Rattle.tox_link.specs.log.Carried.{ReadsOn}
 use Rattle.tox_link.specs.carrying.Side.{IsSound}
 use Rattle.tox_link.proofs.Logs.{events-none}
-use Rattle.tox_link.proofs.LoggedLemmas.{logged-act, cut-here, cut-within}
+use Rattle.tox_link.proofs.LoggedLemmas.{ended-so, logged-act, cut-here, cut-within}
 use Rattle.tox_link.proofs.SideLemmas.{sound-waited}
 use Rattle.tox_link.proofs.carrying.driving.act.Goals as goal
 use Rattle.tox_link.proofs.carrying.driving.act.Goals.{in-Some-idle, in_default-idle}
@@ -102,12 +102,15 @@ returns-after-idle-2-clause-log g c =
 pub returns-in-End-clause-ok : goal.returns-in-End-clause-ok
 returns-in-End-clause-ok g c =
     let answered = c.decide-act.ensures.answered in
-    let leaves = subst (λ (act : Act). After c.args.side.now.core c.decide-act.result.1 act c.decide-act.new.core) c.in-End.is answered.output in
-    (sound-waited c.args.side.now c.args.side.now.inbox c.decide-act.new.core _ c.requires.sound answered.kept leaves.position, c.requires.working, search rules)
+    let leaves = subst (λ (act : Act). After c.args.side.now.core c.decide-act.result.1 act c.decide-act.new.core) c.in-End.is answered.output in (
+      sound-waited c.args.side.now c.args.side.now.inbox c.decide-act.new.core _ c.requires.sound answered.kept leaves.position,
+      c.requires.working,
+      ended-so (g.C.Clock.told c.args.clock.now) c.args.side.now.core c.decide-act.new.core c.decide-act.result.1 c.decide-act.result.0 c.in-End.ending c.args.side.now.ended answered c.in-End.is c.decide-act.ensures.told.0 c.requires.sound.going,
+    )
 
 pub returns-in-End-clause-log : goal.returns-in-End-clause-log
 returns-in-End-clause-log g c = record {
   more = [];
   noted = events-none (g.N.Notes.events c.args.notes.now);
-  keeps = logged-act (g.C.Clock.told c.args.clock.now) c.args.side.now _ c.decide-act.new.core c.decide-act.result.0 (End c.in-End.field-0) c.decide-act.result.1 c.decide-act.ensures.carried c.in-End.is refl refl;
+  keeps = logged-act (g.C.Clock.told c.args.clock.now) c.args.side.now _ c.decide-act.new.core c.decide-act.result.0 (End c.in-End.ending) c.decide-act.result.1 c.decide-act.ensures.carried c.in-End.is refl refl;
 }

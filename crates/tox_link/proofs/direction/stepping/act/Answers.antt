@@ -1,7 +1,11 @@
 -- What the core says, and then a read.
-use Rattle.std.proofs.Common.{◌≡◌, Some, None, ap, arith}
-use Rattle.tox_link.specs.direction.Driven.{steps_of_act}
+use Rattle.std.proofs.Common.{◌≡◌, Some, None, ap, sym, subst, ◌∙◌, arith}
+use Rattle.tox_link.specs.declared.direction.polled_link.PolledLink.{PolledLink}
+use Rattle.tox_link.specs.declared.link_core.act.Act.{Act}
+use Rattle.tox_link.specs.direction.Driven.{begun_by, steps_of_act}
+use Rattle.tox_link.specs.log.Logged.{HasEnded}
 use Rattle.tox_link.proofs.DriveLemmas.{drove-less, drove-then, says-asked}
+use Rattle.tox_link.proofs.LoggedLemmas.{ended-so}
 use Rattle.tox_link.proofs.direction.stepping.act.Goals as goal
 
 pub read_or_wait-requires-clause-says : goal.read_or_wait-requires-clause-says
@@ -40,9 +44,19 @@ returns-in-WaitForInput-clause-drove g c =
     drove-less _ _ told c.args.link.now waited.new.link _ _ (omega arith)
     (drove-then told _ _ c.args.link.now asked.new.link waited.new.link _ _ _ (asked.ensures.drove (g.S.PollSource.remaining c.args.source.now) written (g.N.Notes.events c.args.notes.now)) (waited.ensures.drove written))
 
-pub returns-in-Some-clause-drove : goal.returns-in-Some-clause-drove
-returns-in-Some-clause-drove g c =
+pub returns-in-End-clause-drove : goal.returns-in-End-clause-drove
+returns-in-End-clause-drove g c =
     let asked = c.ask-act in
     λ written.
     drove-less _ 0 (g.C.Clock.told c.args.clock.now) c.args.link.now asked.new.link _ _ (omega arith)
     (asked.ensures.drove (g.S.PollSource.remaining c.args.source.now) written (g.N.Notes.events c.args.notes.now))
+
+pub returns-in-End-clause-progress : goal.returns-in-End-clause-progress
+returns-in-End-clause-progress g c =
+    let told = g.C.Clock.told c.args.clock.now in
+    let asked = c.ask-act in
+    λ waits due. record {
+      idle = ap (λ (link : PolledLink). link.unwritten) asked.ensures.same ∙ ap (λ (act : Act). begun_by act asked.new.link.core.latest) c.in-End.is;
+      ended = subst (λ ended. HasEnded told asked.new.link.core ended c.in-End.ending) (sym (ap (λ (link : PolledLink). link.ended) asked.ensures.same))
+          (ended-so told c.args.link.now.core asked.new.link.core asked.new.link.core.latest asked.result c.in-End.ending c.args.link.now.ended asked.ensures.answered c.in-End.is asked.ensures.told c.requires.ready.held.going);
+    }

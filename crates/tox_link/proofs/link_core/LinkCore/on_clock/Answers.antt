@@ -14,8 +14,8 @@ invariant_of-self c = record {
   deadline = c.self.invariant.deadline;
 }
 
-pub returns : goal.returns
-returns c =
+pub returns-clause-answered : goal.returns-clause-answered
+returns-clause-answered c =
     let core : CoreView = core_view c.self.inside in
     record {
       slice = search rules;
@@ -25,6 +25,7 @@ returns c =
       overdue = search rules;
       unended = search rules;
       output = search rules;
+      over = search rules;
       kept = subst (λ old. KeepsCore old c.answer.new.self) c.self.view_is
           (keeps-after core c.look.new.self c.answer.new.self c.args.now c.look.ensures.looked c.look.ensures.known c.answer.ensures.answered.kept);
       given_up = λ unknown.
