@@ -4,5 +4,6 @@ pub(crate) mod course;
 pub(crate) mod end;
 pub(crate) mod logs;
 pub(crate) mod look_up;
+pub(crate) mod opening;
 pub(crate) mod reached;
 pub(crate) mod source_notes;

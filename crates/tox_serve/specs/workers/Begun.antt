@@ -5,6 +5,7 @@ use Rattle.tox_link.specs.Meaning.{MeansPlan}
 use Rattle.tox_link.specs.direction.Follows.{IsNew}
 use Rattle.tox_sockets.specs.ResetDue.{after_op}
 use Rattle.tox_serve.specs.declared.link.course.Course.{Course}
+use Rattle.tox_serve.specs.declared.link.opening.Opened.{Opened}
 use Rattle.tox_serve.specs.declared.run.ServeRun.{ServeRun}
 use Rattle.tox_serve.specs.link.Courses.{IsCourse}
 use Rattle.tox_serve.specs.declared.workers.connecting.Client.{Client}
@@ -12,7 +13,7 @@ use Rattle.tox_serve.specs.declared.workers.flow.Flow.{Flow}
 use Rattle.tox_serve.specs.declared.workers.open_direction.DirectionState.TheVariants.{Going}
 use Rattle.tox_serve.specs.declared.workers.open_direction.OpenDirection.{OpenDirection}
 use Rattle.tox_serve.specs.declared.workers.open_link.OpenLink.{OpenLink}
-use Rattle.tox_serve.specs.declared.workers.open_link.Opening.{Opening}
+use Rattle.tox_serve.specs.declared.workers.taken_at.TakenAt.{TakenAt}
 
 -- nothing has come, it gives what the course's plan means under its words, and its ends are those of the course's stream, of which
 -- nothing is known but whether the source's peer sends no more
@@ -35,13 +36,13 @@ pub record IsNewDirection {R : Type 0} (course : Course) (closing : Bool) (direc
   pub no_turn : direction.has_turn ≡ false
   pub begins : BeginsCourse course closing flow
 
--- a link is made of these parts
-pub record IsMadeOf {R : Type 0} (opening : Opening) (link : OpenLink R) : Type 0 where
-  pub number : link.number ≡ opening.number
-  pub proxy : link.proxy ≡ opening.proxy
-  pub sockets : link.sockets ≡ opening.sockets
-  pub live : link.live ≡ opening.live
-  pub since : link.since ≡ opening.since
+-- a link of the proxy at this place is made of one that was opened, and was taken then
+pub record IsMadeOf {R : Type 0} (opened : Opened) (place : ℕ) (taken : TakenAt) (link : OpenLink R) : Type 0 where
+  pub number : link.number ≡ opened.number
+  pub proxy : link.proxy ≡ place
+  pub sockets : link.sockets ≡ opened.sockets
+  pub live : link.live ≡ opened.live
+  pub since : link.since ≡ taken
 
 -- a link goes on from the connection of a client: it has its number, its proxy and its start
 pub record IsLinkOf {R : Type 0} (client : Client) (link : OpenLink R) : Type 0 where

@@ -4,7 +4,7 @@ ghost use Rattle.tox_log.specs.files.FileName.{log_name};
 ghost use Rattle.tox_serve.specs.link.LinkEnds.{broken_link};
 
 use crate::link::break_reason::BreakReason;
-use crate::link::end::{Carried, LinkEnd};
+use crate::link::end::LinkEnd;
 use crate::proxy::links::ProxyLinks;
 use crate::run::ServeRun;
 use std::sync::Wait;
@@ -63,8 +63,7 @@ pub(crate) fn broken_link<'r, R: Wait>(
 ) -> LinkEnd
     ensures { result ≡ broken_link number }
 {
-    let reason = unless_stopped(rt, run, reason);
-    run.lines.note_break(rt, links.place, number, reason);
+    let reason = note_break(rt, run, links, number, reason);
     let last = LastLine::Broken(reason.cause(), 0);
     for stream in [Stream::Upstream, Stream::Downstream] {
         notes_of(rt, run, links, number, stream).end(&last);
@@ -72,26 +71,17 @@ pub(crate) fn broken_link<'r, R: Wait>(
     LinkEnd::broken(number)
 }
 
-/// Tells why a link broke whose directions carried this, if it did.
-pub(crate) fn note_carried<R: Wait>(
+/// Tells why a link broke: for this reason, unless the run was told to stop. Returns the one that holds.
+pub(crate) fn note_break<R: Wait>(
     rt: &R,
     run: &ServeRun<'_>,
     links: &ProxyLinks<'_>,
     number: u64,
-    up: &Carried,
-    down: &Carried,
-) {
-    if let Some(reason) = BreakReason::of(up, down) {
-        let reason = unless_stopped(rt, run, reason);
-        run.lines.note_break(rt, links.place, number, reason);
-    }
-}
-
-/// Why a link broke: for this reason, unless the run was told to stop.
-fn unless_stopped<R: Wait>(rt: &R, run: &ServeRun<'_>, reason: BreakReason) -> BreakReason {
+    reason: BreakReason,
+) -> BreakReason {
     if run.live.is_stopping(rt) {
-        BreakReason::Stopped
-    } else {
-        reason
+        return BreakReason::Stopped;
     }
+    run.lines.note_break(rt, links.place, number, reason);
+    reason
 }

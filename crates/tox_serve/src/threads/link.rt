@@ -3,12 +3,11 @@ ghost use Rattle.std.specs.Prelude.{◌≡◌, IfOk};
 ghost use Rattle.tox_time.specs.declared.streams.stream.Stream.TheVariants as StreamOf;
 ghost use Rattle.tox_serve.specs.link.LinkEnds.{carried_link_end};
 
-use crate::lines::print_open;
 use crate::link::break_reason::BreakReason;
-use crate::link::course::{Courses, courses_of};
+use crate::link::course::Courses;
 use crate::link::end::{Carried, LinkEnd};
-use crate::link::logs::{broken_link, note_carried};
-use crate::link::reached::Reached;
+use crate::link::logs::{broken_link, note_break};
+use crate::link::opening::{Opened, open_link};
 use crate::proxy::links::ProxyLinks;
 use crate::proxy::taking::Taken;
 use crate::run::ServeRun;
@@ -18,8 +17,7 @@ use crate::threads::direction::{Direction, carry_stream};
 use std::alloc::Global;
 use std::sync::Arc;
 use std::thread;
-use tox_sockets::{LinkSockets, LinkStart, LiveSocket};
-use tox_time::Stream;
+use tox_sockets::{LinkSockets, LinkStart};
 
 /// What the downstream direction carried.
 #[derive(Drop)]
@@ -72,43 +70,18 @@ fn carry_link<R: ServeRuntime>(
 {
     let proxy = links.proxy;
     let start = LinkStart::now(rt);
-    let Reached { server, was_reset } = connect(rt, run, &proxy.upstream)?;
-    let Some(courses) = courses_of(run, &proxy.name, taken.number) else {
+    let reached = connect(rt, run, &proxy.upstream)?;
+    let Some(opened) = open_link(rt, run, &*links, taken, reached) else {
         return Err(BreakReason::Memory);
     };
-    print_open(rt, run, &proxy.name, taken.number, &taken.client, &courses);
-    let Taken { client, number } = taken;
-    let Some(link) = LinkSockets::new(run.alloc, client, server) else {
-        return Err(BreakReason::Memory);
-    };
-    if was_reset {
-        link.note_reset(Stream::Downstream);
-    }
-    carry_live(rt, run, links, number, &link, start, courses)
-}
-
-/// Carries both directions, among the live sockets of the run.
-fn carry_live<R: ServeRuntime>(
-    rt: &R,
-    run: &ServeRun<'_>,
-    links: &ProxyLinks<'_>,
-    number: u64,
-    link: &Arc<LinkSockets, Global>,
-    start: LinkStart,
-    courses: Courses,
-) -> Result<LinkEnd, BreakReason>
-    requires up { courses.up.stream ≡ StreamOf.Upstream }
-    requires down { courses.down.stream ≡ StreamOf.Downstream }
-    ensures { IfOk result (λ end. end.number ≡ number) }
-{
-    let Ok(shared) = link.clone() else {
-        return Err(BreakReason::Memory);
-    };
-    let Ok(key) = run.live.add(rt, LiveSocket::Link(shared)) else {
-        return Err(BreakReason::Memory);
-    };
-    let end = carry_both(&*rt, &*run, &*links, number, &*link, start, courses);
-    run.live.remove(rt, key);
+    let Opened {
+        number,
+        courses,
+        sockets,
+        live,
+    } = opened;
+    let end = carry_both(&*rt, &*run, &*links, number, &sockets, start, courses);
+    run.live.remove(rt, live);
     end
 }
 
@@ -156,7 +129,9 @@ fn carry_both<'a, R: ServeRuntime>(
     );
     match carried {
         Some(both) => {
-            note_carried(rt, run, links, number, &both.up, &both.down.carried);
+            if let Some(reason) = BreakReason::of(&both.up, &both.down.carried) {
+                note_break(rt, run, links, number, reason);
+            }
             Ok(both.end(number))
         }
         None => Err(BreakReason::Thread),

@@ -5,6 +5,7 @@ ghost use Rattle.tox_time.specs.declared.streams.stream.Stream.TheVariants as St
 use crate::link::break_reason::BreakReason;
 use crate::link::course::Courses;
 use crate::link::end::LinkEnd;
+use crate::link::opening::Opened;
 use crate::workers::flow::Flow;
 use crate::workers::link_name::LinkName;
 use crate::workers::open_direction::{DirectionProgress, OpenDirection};
@@ -36,18 +37,6 @@ pub(crate) struct OpenLink<'r, R> {
     ghost downstream: { down.stream ≡ StreamOf.Downstream },
 }
 
-/// What an open link is made of besides its courses.
-#[derive(Drop)]
-pub(crate) struct Opening {
-    pub(crate) number: u64,
-    pub(crate) proxy: usize,
-    pub(crate) sockets: Arc<LinkSockets, Global>,
-    pub(crate) live: usize,
-    pub(crate) since: TakenAt,
-    /// Whether its client was reported to send no more.
-    pub(crate) closing: bool,
-}
-
 impl<'r, R: Clock + Wait> OpenLink<'r, R> {
     ghost use Rattle.tox_serve.specs.workers.Begun.{IsMadeOf, IsNewDirection};
     ghost use Rattle.tox_serve.specs.workers.Directions.{IsBrokenOffFrom, is_armed};
@@ -56,28 +45,30 @@ impl<'r, R: Clock + Wait> OpenLink<'r, R> {
     ghost use Rattle.tox_serve.specs.workers.Reports.{IsAfterSource, IsAfterTarget, IsNotedSo};
     ghost use Rattle.tox_serve.specs.workers.Steps.{DrivesFrom};
 
-    /// A link of these courses, at which nothing has come and which isn't logged. None if out of memory.
+    /// A link that was opened, at which nothing has come and which isn't logged. `closing` tells whether its client was reported to send
+    /// no more. None if out of memory.
     pub(crate) fn new(
         rt: &'r R,
         alloc: Global,
-        opening: Opening,
-        courses: Courses,
+        opened: Opened,
+        proxy: usize,
+        since: TakenAt,
+        closing: bool,
     ) -> Option<Box<OpenLink<'r, R>>>
-        requires up { courses.up.stream ≡ StreamOf.Upstream }
-        requires down { courses.down.stream ≡ StreamOf.Downstream }
-        ensures parts { IfSome result (λ link. IsMadeOf opening link.value) }
+        requires up { opened.courses.up.stream ≡ StreamOf.Upstream }
+        requires down { opened.courses.down.stream ≡ StreamOf.Downstream }
+        ensures parts { IfSome result (λ link. IsMadeOf opened proxy since link.value) }
         ensures up { IfSome result
-            (λ link. IsNewDirection courses.up opening.closing link.value.up) }
-        ensures down { IfSome result (λ link. IsNewDirection courses.down false link.value.down) }
+            (λ link. IsNewDirection opened.courses.up closing link.value.up) }
+        ensures down { IfSome result
+            (λ link. IsNewDirection opened.courses.down false link.value.down) }
     {
-        let Opening {
+        let Opened {
             number,
-            proxy,
+            courses,
             sockets,
             live,
-            since,
-            closing,
-        } = opening;
+        } = opened;
         let Courses { up, down } = courses;
         let up = Flow::new(rt, alloc, &sockets, since.start, up, closing)?;
         let down = Flow::new(rt, alloc, &sockets, since.start, down, false)?;

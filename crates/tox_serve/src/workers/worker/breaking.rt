@@ -3,7 +3,7 @@ ghost use Rattle.std.specs.Prelude.{◌≡◌};
 
 use crate::link::break_reason::BreakReason;
 use crate::link::end::LinkEnd;
-use crate::link::logs::broken_link;
+use crate::link::logs::{broken_link, note_break};
 use crate::runtime::ServeRuntime;
 use crate::workers::connecting::Client;
 use crate::workers::link_key::LinkKey;
@@ -37,12 +37,9 @@ impl<'s, R: ServeRuntime> Worker<'s, R> {
     /// Tells why an open link broke that has ended, if it did.
     pub(super) fn note_ended(&self, open: &OpenLink<'s, R>) {
         let name = open.name();
-        let Some(reason) = open.break_reason() else {
-            return;
-        };
-        if !self.run.live.is_stopping(self.rt) {
-            let lines = self.run.lines;
-            lines.note_break(self.rt, name.place, name.number, reason);
+        let proxy = self.workers.proxies.get(name.place);
+        if let (Some(proxy), Some(reason)) = (proxy, open.break_reason()) {
+            note_break(self.rt, self.run, &proxy.links, name.number, reason);
         }
     }
 
