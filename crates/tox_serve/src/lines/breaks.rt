@@ -1,23 +1,24 @@
-//! Which broken links are told of: of each proxy and reason the first at once, and then at most one a second with how many more.
+//! Which broken links are reported. For each proxy and reason the first is reported at once, then at most one a second with the number of
+//! the others.
 use crate::link::break_reason::BreakReason;
 use std::alloc::{AllocError, Global};
 use std::time::{Clock, Duration, Instant};
 
-/// How long after one the next is told, in milliseconds.
+/// How long after a report the next one comes, in milliseconds.
 const REST: u64 = 1_000;
 
 /// The links of one proxy that broke for one kind of reason.
 #[derive(Clone, Copy)]
 struct Broken {
-    /// The first that isn't told yet, and why it broke.
+    /// The first that isn't reported yet, and why it broke.
     first: Option<(u64, BreakReason)>,
-    /// How many more aren't told yet.
+    /// How many more aren't reported yet.
     more: u64,
-    /// When one was told last.
-    told: Option<Instant>,
+    /// When one was reported last.
+    reported: Option<Instant>,
 }
 
-/// Links of a proxy, by its place, of which is to be told.
+/// A report of broken links of the proxy at a place.
 #[derive(Clone, Copy)]
 pub(crate) struct BrokenLinks {
     pub(crate) place: usize,
@@ -27,7 +28,7 @@ pub(crate) struct BrokenLinks {
     pub(crate) more: u64,
 }
 
-/// The broken links of which is to be told.
+/// The broken links that wait to be reported.
 #[derive(Drop)]
 pub(crate) struct Breaks {
     proxies: Vec<[Broken; BreakReason::KINDS]>,
@@ -39,7 +40,7 @@ impl Breaks {
         let none = Broken {
             first: None,
             more: 0,
-            told: None,
+            reported: None,
         };
         let mut breaks = Vec::with_capacity(alloc, proxies)?;
         for _ in 0..proxies {
@@ -64,7 +65,7 @@ impl Breaks {
         self.proxies.get_mut(place)?.get_mut(kind)
     }
 
-    /// How long until links are to be told of. None if there are none.
+    /// How long until the next report. None if no link waits for one.
     pub(crate) fn rest<R: Clock>(&self, rt: &R) -> Option<Duration> {
         let now = Instant::now(rt).ok();
         let mut least = None;
@@ -77,7 +78,7 @@ impl Breaks {
         least
     }
 
-    /// The next links that are to be told of, whose time has come or that are the last. They count as told.
+    /// The next report whose time has come. Where no more links come (`are_last`), it needn't have. Its links count as reported.
     pub(crate) fn next<R: Clock>(&mut self, rt: &R, are_last: bool) -> Option<BrokenLinks> {
         let now = Instant::now(rt).ok();
         for (place, kinds) in self.proxies.iter_mut().enumerate() {
@@ -88,7 +89,7 @@ impl Breaks {
                 if let Some((number, reason)) = broken.first.take() {
                     let more = broken.more;
                     broken.more = 0;
-                    broken.told = now;
+                    broken.reported = now;
                     return Some(BrokenLinks {
                         place,
                         number,
@@ -102,11 +103,11 @@ impl Breaks {
     }
 }
 
-/// How long until links may be told of again. Without a clock they may at once.
+/// How long until the next report may come. Without a clock it may come at once.
 fn rest_of(broken: &Broken, now: Option<Instant>) -> Duration {
-    match (broken.told, now) {
-        (Some(told), Some(now)) => {
-            Duration::from_millis(REST).saturating_sub(now.duration_since(told))
+    match (broken.reported, now) {
+        (Some(reported), Some(now)) => {
+            Duration::from_millis(REST).saturating_sub(now.duration_since(reported))
         }
         _ => Duration::ZERO,
     }

@@ -1,9 +1,9 @@
-//! What is told of a broken link.
+//! The report of a broken link.
 use crate::link::break_reason::BreakReason;
 use std::fmt;
 use tox_text::VisibleName;
 
-/// What is told of a broken link, and of those that broke likewise since the last one was told: `broken shop 3: upstream
+/// The report of a broken link, with the number of those that broke likewise since the last report: `broken shop 3: upstream
 /// 127.0.0.1:1: connection refused, and 2 more`.
 #[derive(Clone, Copy, Debug)]
 pub struct BrokenText<'a> {

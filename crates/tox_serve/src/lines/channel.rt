@@ -22,9 +22,9 @@ struct Waiting {
 #[derive(Drop)]
 pub(crate) struct LineChannel {
     waiting: Mutex<Waiting>,
-    /// Told when a line was added, a link has broken, and when the channel is closed.
+    /// Notified when a line was added, when a link has broken, and when the channel is closed.
     added: Condvar,
-    /// Told when the lines were taken.
+    /// Notified when the lines were taken.
     taken: Condvar,
 }
 
@@ -65,7 +65,7 @@ impl LineChannel {
         unreachable!()
     }
 
-    /// Notes why a numbered link of the proxy at a place has broken, if that is told.
+    /// Notes why a numbered link of the proxy at a place has broken, if that is reported.
     pub(crate) fn note_break<R: Wait>(
         &self,
         rt: &R,
@@ -78,7 +78,7 @@ impl LineChannel {
         self.added.notify_one();
     }
 
-    /// The next broken links of which is to be told by now.
+    /// The next report of broken links that is due by now.
     pub(crate) fn next_break<R: Wait + Clock>(&self, rt: &R) -> Option<BrokenLinks> {
         let mut waiting = self.waiting.lock(rt);
         let are_last = waiting.closed;
@@ -91,7 +91,7 @@ impl LineChannel {
         self.added.notify_all();
     }
 
-    /// Moves the lines into an empty queue once there are some, or links of which is to be told. False once no more come.
+    /// Waits for lines, or for a report of broken links that is due, and moves the lines into an empty queue. False once no more come.
     pub(crate) fn receive<R: Wait + Clock>(&self, rt: &R, empty: &mut LineQueue) -> bool
         requires { empty.old ≡ no_lines }
     {
@@ -103,7 +103,7 @@ impl LineChannel {
         true
     }
 
-    /// The lock, once lines wait, or links of which is to be told. None once no more come.
+    /// The lock, once lines wait or a report of broken links is due. None once no more come.
     fn filled<R: Wait + Clock>(&self, rt: &R) -> Option<MutexGuard<'_, Waiting>> {
         let mut waiting = self.waiting.lock(rt);
         for _ in rt.forever() {

@@ -9,7 +9,7 @@ use tox_link::Book;
 use tox_text::JsonField;
 use tox_time::Stream;
 
-/// The object of a proxy that listens. None if it is too long, which none is.
+/// The object of a proxy that listens. None if it is too long; none is.
 pub(crate) fn listening_json(name: &str, address: &str) -> Option<LineText>
     ensures { IsLine result (listening_object name.now address.now) }
 {
@@ -20,7 +20,7 @@ pub(crate) fn listening_json(name: &str, address: &str) -> Option<LineText>
     LineText::of_object("listening", &fields)
 }
 
-/// The object of a link that ended. None if it is too long, which none is.
+/// The object of a link that ended. None if it is too long; none is.
 pub(crate) fn link_json(name: &str, end: &LinkEnd) -> Option<LineText>
     ensures { IsLine result (link_object name.now end.now) }
 {
@@ -35,7 +35,7 @@ pub(crate) fn link_json(name: &str, end: &LinkEnd) -> Option<LineText>
     LineText::of_object("link", &fields)
 }
 
-/// The object of a proxy's totals. None if it is too long, which none is.
+/// The object of a proxy's totals. None if it is too long; none is.
 pub(crate) fn total_json(name: &str, book: &Book) -> Option<LineText>
     ensures { IsLine result (proxy_total_object name.now book.now) }
 {

@@ -64,7 +64,7 @@ fn add_if<'a>(names: &mut Names<'a>, applied: bool, name: &'a str)
     }
 }
 
-/// The line of a stream. None if it is too long, which none is.
+/// The line of a stream. None if it is too long; none is.
 pub(crate) fn open_text(opened: &OpenStream<'_>) -> Option<LineText>
     ensures { IsLine result (open_line opened.now) }
 {
@@ -99,7 +99,7 @@ fn add_names(line: &mut LineText, names: &[&str]) -> Option<()>
     Some(())
 }
 
-/// The object of a stream. None if it is too long, which none is.
+/// The object of a stream. None if it is too long; none is.
 pub(crate) fn open_json(opened: &OpenStream<'_>) -> Option<LineText>
     requires { length opened.now.toxics.now ≤ 32 }
     ensures { IsLine result (open_object opened.now) }

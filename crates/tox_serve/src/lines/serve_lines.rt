@@ -9,7 +9,7 @@ use tox_link::Book;
 use tox_text::Part::{Name, Number, Word};
 use tox_time::{Ending, Stream};
 
-/// The line of a proxy that listens. None if it is too long, which none is.
+/// The line of a proxy that listens. None if it is too long; none is.
 pub(crate) fn listening_text<'x>(name: &'x str, address: &'x str) -> Option<LineText>
     ensures { IsLine result (listening_line name.now address.now) }
 {
@@ -23,7 +23,7 @@ pub(crate) fn listening_text<'x>(name: &'x str, address: &'x str) -> Option<Line
     LineText::of(&parts)
 }
 
-/// The line of a link that ended. None if it is too long, which none is.
+/// The line of a link that ended. None if it is too long; none is.
 pub(crate) fn link_text(name: &str, end: &LinkEnd) -> Option<LineText>
     ensures { IsLine result (link_end_line name.now end.now) }
 {
@@ -56,7 +56,7 @@ pub(crate) fn end_word(ending: &Option<Ending>) -> &'static str
     }
 }
 
-/// The line of a proxy's totals: how many links its book has, and their bytes on both streams. None if it is too long, which
+/// The line of a proxy's totals: how many links its book has, and their bytes on both streams. None if it is too long;
 /// none is.
 pub(crate) fn total_text(name: &str, book: &Book) -> Option<LineText>
     ensures { IsLine result (proxy_total_line name.now book.now) }

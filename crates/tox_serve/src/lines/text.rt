@@ -23,7 +23,7 @@ pub(crate) struct LineText {
 }
 
 impl LineText {
-    /// The text of these parts. None if it is too long, which no line is.
+    /// The text of these parts. None if it is too long; no line is.
     pub(crate) fn of(parts: &[Part<'_>]) -> Option<LineText>
         ensures line { MatchOption result (6144 < length (text_of parts.now))
             (λ line. line.bytes.items ≡ text_of parts.now) }
@@ -37,7 +37,7 @@ impl LineText {
         Some(line)
     }
 
-    /// The object about an event with these fields. None if it is too long, which no line is.
+    /// The object about an event with these fields. None if it is too long; no line is.
     pub(crate) fn of_object(event: &str, fields: &[JsonField<'_>]) -> Option<LineText>
         ensures { MatchOption result (6144 < length (object_line event.now fields.now))
             (λ line. line.bytes.items ≡ object_line event.now fields.now) }
@@ -53,7 +53,7 @@ impl LineText {
         Some(line)
     }
 
-    /// Adds parts behind the others. None if the text is then too long, which no line is.
+    /// Adds parts behind the others. None if the text is then too long; no line is.
     pub(crate) fn add(&mut self, parts: &[Part<'_>]) -> Option<()>
         requires { self.old.failed ≡ false }
         ensures text { IsSome result

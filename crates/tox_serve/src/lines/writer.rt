@@ -11,7 +11,7 @@ use std::sync::{Mutex, Wait};
 use std::time::Clock;
 use tox_config::ProxyDef;
 
-/// Who is told of dropped lines and of broken links.
+/// Takes the reports of dropped lines and of broken links.
 pub trait Notices {
     /// So many lines in a row were dropped, since the output wasn't read.
     fn dropped(&self, lines: u64);
@@ -30,8 +30,8 @@ impl Notices for NoNotices {
     fn broken(&self, _text: &BrokenText<'_>) {}
 }
 
-/// Writes the lines of a channel as they come, until no more come. Each gap is told once the lines before it are written. What
-/// the output doesn't take is dropped without a word. Broken links are told of in between.
+/// Writes the lines of a channel as they come, until no more come. Each gap is reported once the lines before it are written. What
+/// the output doesn't take is dropped silently. Broken links are reported in between.
 pub(crate) fn write_lines<R: Wait + Clock, W: Write, N: Notices>(
     rt: &R,
     lines: &LineChannel,
@@ -60,7 +60,7 @@ pub(crate) fn write_lines<R: Wait + Clock, W: Write, N: Notices>(
     unreachable!()
 }
 
-/// Tells of the broken links whose time has come.
+/// Reports the broken links whose time has come.
 fn tell_breaks<R: Wait + Clock, N: Notices>(
     rt: &R,
     lines: &LineChannel,
