@@ -1,4 +1,7 @@
 //! What `serve_with` may be told beyond what it serves.
+ghost use Rattle.std.specs.Prelude.{◌≡◌, None, false};
+ghost use Rattle.tox_serve.specs.declared.lines.form.LineForm.TheVariants.{Words};
+
 use crate::lines::LineForm;
 use tox_log::LogLimits;
 
@@ -19,4 +22,29 @@ pub struct ServeOptions<'a> {
     pub verbose: bool,
     /// How each line is written.
     pub form: LineForm,
+}
+
+impl<'a> ServeOptions<'a> {
+    /// This limit of links, and no other option.
+    pub(crate) fn with_links(links: Option<u64>) -> ServeOptions<'a>
+        ensures { result ≡ record {
+          links = links;
+          connect_timeout = None;
+          ready = None;
+          workers = None;
+          logs = None;
+          verbose = false;
+          form = Words;
+        } }
+    {
+        ServeOptions {
+            links,
+            connect_timeout: None,
+            ready: None,
+            workers: None,
+            logs: None,
+            verbose: false,
+            form: LineForm::Words,
+        }
+    }
 }

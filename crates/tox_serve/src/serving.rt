@@ -5,9 +5,7 @@ ghost use Rattle.tox_serve.specs.Serving.{HasServeCause};
 
 use crate::descriptors::Descriptors;
 use crate::fault::ServeFault;
-use crate::lines::{
-    LineChannel, LineForm, LineQueue, NoNotices, Notices, print_listening, write_lines,
-};
+use crate::lines::{LineChannel, LineQueue, NoNotices, Notices, print_listening, write_lines};
 use crate::options::ServeOptions;
 use crate::proxy::listening::{Listening, listen_all};
 use crate::ready::{listen_ready, start_ready};
@@ -54,15 +52,7 @@ pub fn serve<
     ensures nothing { All (λ proxy. proxy.enabled ≡ false) proxies.now → result ≡ Ok tt }
     ensures fault { IfErr result (HasServeCause proxies.now false) }
 {
-    let options = ServeOptions {
-        links,
-        connect_timeout: None,
-        ready: None,
-        workers: None,
-        logs: None,
-        verbose: false,
-        form: LineForm::Words,
-    };
+    let options = ServeOptions::with_links(links);
     serve_with(
         rt,
         alloc,
@@ -155,6 +145,9 @@ pub fn serve_with<
         descriptors: Descriptors::new(),
         proxies: AtomicU64::new(listening.len() as u64),
     };
+    // The links have both from the run alone.
+    prove!(run.seed == seed);
+    prove!(run.options == *options);
     if serve_and_write(
         rt, &run, listening, ready, empty, out, proxies, notices, files,
     ) {
