@@ -38,23 +38,16 @@ pub during-inside : (from until : ℕ) (reaction : Reaction) (state : State) (it
     → during from until reaction state item ≡ reaction state item
 during-inside from until reaction state item inside = ap (λ b. if b then uncounted_answer state item else reaction state item) inside
 
--- a final is never outside
-is_early-is_final : (millis : ℕ) (item : Item) → is_final item ≡ true → is_early millis item ≡ false
-is_early-is_final zero item final = refl
-is_early-is_final (suc millis) (Chunk span t) final = absurd (cc)
-is_early-is_final (suc millis) (Closed t) final = refl
-is_early-is_final (suc millis) (Reset t) final = refl
-is_early-is_final (suc millis) Quiet final = refl
-
-is_late-is_final : (millis : ℕ) (item : Item) → is_final item ≡ true → is_late millis item ≡ false
-is_late-is_final zero item final = refl
-is_late-is_final (suc millis) (Chunk span t) final = absurd (cc)
-is_late-is_final (suc millis) (Closed t) final = refl
-is_late-is_final (suc millis) (Reset t) final = refl
-is_late-is_final (suc millis) Quiet final = refl
+-- a final is neither early nor late, and so never outside
+is_final-inside : (millis : ℕ) (item : Item) → is_final item ≡ true → (is_early millis item ≡ false) × (is_late millis item ≡ false)
+is_final-inside zero item final = (refl, refl)
+is_final-inside (suc millis) (Chunk span t) final = absurd (cc)
+is_final-inside (suc millis) (Closed t) final = (refl, refl)
+is_final-inside (suc millis) (Reset t) final = (refl, refl)
+is_final-inside (suc millis) Quiet final = (refl, refl)
 
 is_outside-is_final : (from until : ℕ) (item : Item) → is_final item ≡ true → is_outside from until item ≡ false
-is_outside-is_final from until item final = rw (is_early-is_final from item final) (is_late-is_final until item final)
+is_outside-is_final from until item final = rw (is_final-inside from item final).0 (is_final-inside until item final).1
 
 pub is_outside-final : (from until : ℕ) (ending : Ending) → is_outside from until (final_of ending) ≡ false
 is_outside-final from until StillOpen = is_outside-is_final from until Quiet refl

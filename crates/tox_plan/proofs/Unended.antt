@@ -129,44 +129,19 @@ halted-ends at after end state last closes ends same =
     either-ends before last (raised end at) ends (raised-ends end at after closes)
     (sym (ap ending (halt-final at after end state last) ∙ final-ending (if before then last else raised end at)) ∙ same)
 
--- a close stays a close, or a cutoff makes it a reset
-close-ends : (op : Op) (draws : Draws) (state : State) (t : ℕ) → is_mute op ≡ false → leaves_open op ≡ false → ending (op_giving op draws state (Closed t)) ≢ StillOpen
-close-ends (Delay fixed latency jitter lane until from) draws state t loud closes same = cc
-close-ends (Pace rate until from) draws state t loud closes same = cc
-close-ends (Slow millis) draws state t loud closes same = cc
-close-ends (Mute last) draws state t loud closes same = cc
-close-ends (Cutoff instant) draws state t loud closes same = by (nat_lt t instant) same
-  where
-    by : (early : Bool) → ending ((if early then Closed t else Reset instant) ∷ []) ≢ StillOpen
-    by true same = cc
-    by false same = cc
-close-ends (Slicing average variation micros lane until from) draws state t loud closes same = cc
-close-ends (Limit bytes) draws state t loud closes same = cc
-close-ends (Halt None zero end) draws state t loud closes same = cc
-close-ends (Halt None (suc bytes) end) draws state t loud closes same = cc
-close-ends (Halt (Some at) after end) draws state t loud closes same = halted-ends at after end state (ClosedAt t) closes (λ is. cc) same
+cut-ends : (early : Bool) (instant : ℕ) (last : Ending) → last ≢ StillOpen → ending ((if early then final_of last else Reset instant) ∷ []) ≢ StillOpen
+cut-ends true instant last ends same = ends (sym (final-ending last) ∙ same)
+cut-ends false instant last ends same = cc
 
--- a reset stays one
-reset-ends : (op : Op) (draws : Draws) (state : State) (t : ℕ) → is_mute op ≡ false → leaves_open op ≡ false → ending (op_giving op draws state (Reset t)) ≢ StillOpen
-reset-ends (Delay fixed latency jitter lane until from) draws state t loud closes same = cc
-reset-ends (Pace rate until from) draws state t loud closes same = cc
-reset-ends (Slow millis) draws state t loud closes same = cc
-reset-ends (Mute last) draws state t loud closes same = cc
-reset-ends (Cutoff instant) draws state t loud closes same = by (nat_lt t instant) same
-  where
-    by : (early : Bool) → ending ((if early then Reset t else Reset instant) ∷ []) ≢ StillOpen
-    by true same = cc
-    by false same = cc
-reset-ends (Slicing average variation micros lane until from) draws state t loud closes same = cc
-reset-ends (Limit bytes) draws state t loud closes same = cc
-reset-ends (Halt None zero end) draws state t loud closes same = cc
-reset-ends (Halt None (suc bytes) end) draws state t loud closes same = cc
-reset-ends (Halt (Some at) after end) draws state t loud closes same = halted-ends at after end state (ResetAt t) closes (λ is. cc) same
-
+-- what ends still ends, or a cutoff resets it
 ends-giving : (op : Op) (draws : Draws) (state : State) (last : Ending) → is_mute op ≡ false → IsOp op → leaves_open op ≡ false → last ≢ StillOpen → ending (op_giving op draws state (final_of last)) ≢ StillOpen
-ends-giving op draws state StillOpen loud fits closes ends = absurd (ends refl)
-ends-giving op draws state (ClosedAt t) loud fits closes ends = close-ends op draws state t loud closes
-ends-giving op draws state (ResetAt t) loud fits closes ends = reset-ends op draws state t loud closes
+ends-giving op draws state StillOpen loud fits closes ends same = ends refl
+ends-giving (Mute end) draws state last loud fits closes ends same = absurd (cc)
+ends-giving (Cutoff instant) draws state last loud fits closes ends same = cut-ends (is_before instant (final_of last)) instant last ends same
+ends-giving (Halt None zero end) draws state last loud fits closes ends same = ends (sym (final-ending last) ∙ same)
+ends-giving (Halt (Some at) after end) draws state last loud fits closes ends same = halted-ends at after end state last closes ends same
+ends-giving op draws state (ClosedAt t) loud fits closes ends same = cc
+ends-giving op draws state (ResetAt t) loud fits closes ends same = cc
 
 -- where none leaves a link open, each doesn't
 each-closes : (ops : List Op) → list_any leaves_open ops ≡ false → EachOp (λ op. leaves_open op ≡ false) ops

@@ -46,14 +46,14 @@ pub(crate) fn from_values(values: &[u64]) -> Toxic
 pub(crate) fn op(timeout: u32, from: u32, after: u64) -> Op
     ensures { result ≡ timeout_op timeout from after }
 {
-    let ending = &ending(timeout);
+    let ending = ending(timeout);
     if from == 0 && after == 0 {
-        return Op::Mute { ending: *ending };
+        return Op::Mute { ending };
     }
     Op::Halt {
         at: start(from),
         after,
-        ending: *ending,
+        ending,
     }
 }
 
