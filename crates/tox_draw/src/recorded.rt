@@ -171,18 +171,18 @@ fn picture_of(
 
 /// The greatest instant of a record that is before the horizon. Programs before 0.3.0 gave the horizon for a reading where a
 /// signal had ended the link.
-fn latest(record: &Record) -> Micros {
-    let passed = record
+fn latest(kept: &Record) -> Micros {
+    let passed = kept
         .course
         .arrived
         .last_before_horizon
-        .later(record.course.planned.last_before_horizon)
-        .later(record.written.last_before_horizon);
-    let due = LinkEnd::of(&record.due_end).instant();
+        .later(kept.course.planned.last_before_horizon)
+        .later(kept.written.last_before_horizon);
+    let due = LinkEnd::of(&kept.due_end).instant();
     passed
-        .later(before_horizon(&record.course.source_end))
+        .later(before_horizon(&kept.course.source_end))
         .later(before_horizon(&due))
-        .later(before_horizon(&record.end.instant()))
+        .later(before_horizon(&kept.end.instant()))
 }
 
 /// An instant, if there is one before the horizon, or else 0.
