@@ -12,7 +12,6 @@ pub mod NeverTold
 pub mod NamedTrees
 pub mod RuleLines
 pub mod LinesThen
-pub mod EndedWrites
 pub mod NumberedRules
 pub mod ProxyRuns
 pub mod RuleTold

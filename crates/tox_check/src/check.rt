@@ -1,8 +1,8 @@
 //! The check of a setup.
-ghost use Rattle.std.specs.Prelude.{◌≡◌, ◌<◌, ◌++◌, false, length, IfOk, IfErr, IsOk};
+ghost use Rattle.std.specs.Prelude.{◌≡◌, ◌<◌, false, length, IfOk, IfErr, IsOk};
 ghost use Rattle.std.specs.Prelude.{◌^◌, ◌+◌, Some, flat_map, slice_get};
 ghost use Rattle.tox_script.specs.Rule.{Rule};
-ghost use Rattle.tox_text.specs.Writing.{Prints, Writes};
+ghost use Rattle.tox_text.specs.Printing.{IsWorking, Prints};
 ghost use Rattle.tox_check.specs.Checking.{PrintsCheck, StopsCheck, counts_line, end_text, toxic_count};
 ghost use Rattle.tox_check.specs.Lines.{check_lines, rule_lines, rules_lines};
 ghost use Rattle.tox_check.specs.Printing.{PrintsLines};
@@ -18,7 +18,7 @@ use std::alloc::Global;
 use tox_runs::Setup;
 use tox_script::Script;
 use tox_text::Part::{Number, Word};
-use tox_text::{Buffer, PrintPickFault};
+use tox_text::{PrintPickFault, Printer};
 use tox_time::{EndFault, Sink};
 
 /// Writes a line for each address of a proxy that can't be meant, in the populate file's order, then for each rule and each toxic of a
@@ -43,9 +43,12 @@ pub fn print_check<W: Sink>(
     let Ok(trees) = trees_of(alloc, setup) else {
         return Err(PrintPickFault::OutOfMemory);
     };
-    let mut buffer = Buffer::new();
-    let warned = print_lines(alloc, &mut buffer, writer, setup, &trees, rules)?;
-    match print_end(&mut buffer, writer, setup, verbose) {
+    let mut printer = Printer::new(writer);
+    let warned = print_lines(alloc, &mut printer, setup, &trees, rules)?;
+    if print_last(&mut printer, setup, verbose).is_err() {
+        return Err(PrintPickFault::WriteFault);
+    }
+    match printer.finish() {
         Ok(()) => Ok(warned),
         Err(_) => Err(PrintPickFault::WriteFault),
     }
@@ -54,45 +57,41 @@ pub fn print_check<W: Sink>(
 /// Prints the lines of all proxies and rules, and returns how many there are.
 fn print_lines<W: Sink>(
     alloc: Global,
-    buffer: &mut Buffer,
-    writer: &mut W,
+    printer: &mut Printer<'_, W>,
     setup: &Setup,
     trees: &[Option<RunTree>],
     rules: usize,
 ) -> Result<u64, PrintPickFault>
-    requires works { W.failed writer.old ≡ false }
+    requires works { IsWorking W.Sink printer.old }
     requires trees { AreTrees setup.now.script setup.now.proxies.items trees.now }
     requires rules { rules ≡ length setup.now.script.rules }
-    ensures { PrintsLines result (W.written writer.old) buffer.old (W.written writer.new)
-        buffer.new (W.failed writer.new)
+    ensures { PrintsLines W.Sink result printer.old printer.new
         (check_lines setup.now.proxies.items setup.now.script
         (runs_named setup.now.proxies.items trees.now)) }
 {
-    let first = print_proxies(buffer, writer, &setup.proxies)?;
-    let others = print_rules(alloc, buffer, writer, setup, trees, rules)?;
+    let first = print_proxies(printer, &setup.proxies)?;
+    let others = print_rules(alloc, printer, setup, trees, rules)?;
     Ok(first.saturating_add(others))
 }
 
 /// Prints the lines of all rules, and returns how many there are.
 fn print_rules<W: Sink>(
     alloc: Global,
-    buffer: &mut Buffer,
-    writer: &mut W,
+    printer: &mut Printer<'_, W>,
     setup: &Setup,
     trees: &[Option<RunTree>],
     rules: usize,
 ) -> Result<u64, PrintPickFault>
-    requires works { W.failed writer.old ≡ false }
+    requires works { IsWorking W.Sink printer.old }
     requires trees { AreTrees setup.now.script setup.now.proxies.items trees.now }
     requires rules { rules ≡ length setup.now.script.rules }
-    ensures { PrintsLines result (W.written writer.old) buffer.old (W.written writer.new)
-        buffer.new (W.failed writer.new)
+    ensures { PrintsLines W.Sink result printer.old printer.new
         (rules_lines setup.now.proxies.items setup.now.script
         (runs_named setup.now.proxies.items trees.now)) }
 {
     let mut warned: u64 = 0;
     for rule in 0..rules {
-        let count = print_rule(alloc, buffer, writer, setup, trees, rule)?;
+        let count = print_rule(alloc, printer, setup, trees, rule)?;
         warned = warned.saturating_add(count);
     }
     Ok(warned)
@@ -101,25 +100,23 @@ fn print_rules<W: Sink>(
 /// Prints the lines of a rule, by its number from 0, and returns how many there are.
 fn print_rule<W: Sink>(
     alloc: Global,
-    buffer: &mut Buffer,
-    writer: &mut W,
+    printer: &mut Printer<'_, W>,
     setup: &Setup,
     trees: &[Option<RunTree>],
     rule: usize,
 ) -> Result<u64, PrintPickFault>
-    requires works { W.failed writer.old ≡ false }
+    requires works { IsWorking W.Sink printer.old }
     requires numbered { rule + 1 < 2 ^ 64 }
     requires trees { AreTrees setup.now.script setup.now.proxies.items trees.now }
     ensures { (found : Rule) → slice_get setup.now.script.rules rule ≡ Some found
-        → PrintsLines result (W.written writer.old) buffer.old (W.written writer.new) buffer.new
-        (W.failed writer.new)
+        → PrintsLines W.Sink result printer.old printer.new
         (rule_lines setup.now.proxies.items
         (runs_named setup.now.proxies.items trees.now) (rule + 1) found) }
 {
     let Ok(warnings) = warnings_of(alloc, setup, trees, rule) else {
         return Err(PrintPickFault::OutOfMemory);
     };
-    match print_warnings(buffer, writer, rule, &warnings) {
+    match print_warnings(printer, rule, &warnings) {
         Ok(()) => Ok(warnings.len() as u64),
         Err(_) => Err(PrintPickFault::WriteFault),
     }
@@ -127,60 +124,40 @@ fn print_rule<W: Sink>(
 
 /// Prints the lines of a rule, by its number from 0.
 fn print_warnings<W: Sink>(
-    buffer: &mut Buffer,
-    writer: &mut W,
+    printer: &mut Printer<'_, W>,
     rule: usize,
     warnings: &[Warning<'_>],
 ) -> Result<(), EndFault>
-    requires works { W.failed writer.old ≡ false }
+    requires works { IsWorking W.Sink printer.old }
     requires numbered { rule + 1 < 2 ^ 64 }
-    ensures { Prints result (W.written writer.old) buffer.old (W.written writer.new) buffer.new
-        (W.failed writer.new) (flat_map (sentence (rule + 1)) warnings.now) }
+    ensures { Prints W.Sink result printer.old printer.new (flat_map (sentence (rule + 1)) warnings.now) }
 {
     for warning in warnings {
-        print_warning(buffer, writer, rule as u64 + 1, warning)?;
+        print_warning(printer, rule as u64 + 1, warning)?;
     }
     Ok(())
 }
 
-/// Prints the last line, if it is asked for, and writes what waits.
-fn print_end<W: Sink>(
-    buffer: &mut Buffer,
-    writer: &mut W,
-    setup: &Setup,
-    verbose: bool,
-) -> Result<(), EndFault>
-    requires { W.failed writer.old ≡ false }
-    ensures { Writes result (W.written writer.old) (W.written writer.new) (W.failed writer.new)
-        (buffer.old ++ end_text verbose setup.now.proxies.items setup.now.script) }
-{
-    print_last(buffer, writer, setup, verbose)?;
-    buffer.flush(writer)
-}
-
 /// Prints the last line, if it is asked for.
 fn print_last<W: Sink>(
-    buffer: &mut Buffer,
-    writer: &mut W,
+    printer: &mut Printer<'_, W>,
     setup: &Setup,
     verbose: bool,
 ) -> Result<(), EndFault>
-    requires { W.failed writer.old ≡ false }
-    ensures { Prints result (W.written writer.old) buffer.old (W.written writer.new) buffer.new
-        (W.failed writer.new) (end_text verbose setup.now.proxies.items setup.now.script) }
+    requires { IsWorking W.Sink printer.old }
+    ensures { Prints W.Sink result printer.old printer.new (end_text verbose setup.now.proxies.items setup.now.script) }
 {
     if verbose {
-        print_counts(buffer, writer, setup)
+        print_counts(printer, setup)
     } else {
         Ok(())
     }
 }
 
 /// Prints how many proxies, rules and toxics there are.
-fn print_counts<W: Sink>(buffer: &mut Buffer, writer: &mut W, setup: &Setup) -> Result<(), EndFault>
-    requires { W.failed writer.old ≡ false }
-    ensures { Prints result (W.written writer.old) buffer.old (W.written writer.new) buffer.new
-        (W.failed writer.new) (counts_line setup.now.proxies.items setup.now.script) }
+fn print_counts<W: Sink>(printer: &mut Printer<'_, W>, setup: &Setup) -> Result<(), EndFault>
+    requires { IsWorking W.Sink printer.old }
+    ensures { Prints W.Sink result printer.old printer.new (counts_line setup.now.proxies.items setup.now.script) }
 {
     let parts = [
         Number(setup.proxies.len() as u64),
@@ -190,7 +167,7 @@ fn print_counts<W: Sink>(buffer: &mut Buffer, writer: &mut W, setup: &Setup) -> 
         Number(toxic_count(&setup.script)),
         Word(" toxics\n"),
     ];
-    buffer.print(writer, &parts)
+    printer.print(&parts)
 }
 
 /// The number of toxics, or the greatest `u64` where there are more.

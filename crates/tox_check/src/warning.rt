@@ -1,6 +1,6 @@
 //! What is told of a rule, and its sentence.
-ghost use Rattle.std.specs.Prelude.{◌≡◌, false, option_map};
-ghost use Rattle.tox_text.specs.Writing.{Prints};
+ghost use Rattle.std.specs.Prelude.{◌≡◌, option_map};
+ghost use Rattle.tox_text.specs.Printing.{IsWorking, Prints};
 ghost use Rattle.tox_check.specs.Sentences.{changes_nothing_text, covered_text, covering_text, disabled_text, near_text, no_toxicity_text, one_covers, partly_text, reason_text, seldom_text, sentence, some_cover, told, unknown_text};
 
 mod ranges;
@@ -8,8 +8,8 @@ mod ranges;
 use crate::idleness::Idleness;
 use crate::listed::Listed;
 use crate::warning::ranges::{print_more, print_ranges, print_taken};
-use tox_text::Buffer;
 use tox_text::Part::{Name, Number, Word};
+use tox_text::Printer;
 use tox_time::{EndFault, Sink};
 
 /// What has no effect of a rule. Rules and toxics count from 1.
@@ -33,130 +33,105 @@ pub(crate) enum Warning<'a> {
 
 /// Prints the sentence of a warning of a rule, whose number from 1 is told, as a line.
 pub(crate) fn print_warning<W: Sink>(
-    buffer: &mut Buffer,
-    writer: &mut W,
+    printer: &mut Printer<'_, W>,
     rule: u64,
     warning: &Warning<'_>,
 ) -> Result<(), EndFault>
-    requires { W.failed writer.old ≡ false }
-    ensures { Prints result (W.written writer.old) buffer.old (W.written writer.new) buffer.new
-        (W.failed writer.new) (sentence rule warning.now) }
+    requires { IsWorking W.Sink printer.old }
+    ensures { Prints W.Sink result printer.old printer.new (sentence rule warning.now) }
 {
-    buffer.print(writer, &[Word("rule "), Number(rule)])?;
-    print_told(buffer, writer, warning)
+    printer.print(&[Word("rule "), Number(rule)])?;
+    print_told(printer, warning)
 }
 
 /// Prints what a warning tells, behind its rule.
-fn print_told<W: Sink>(
-    buffer: &mut Buffer,
-    writer: &mut W,
-    warning: &Warning<'_>,
-) -> Result<(), EndFault>
-    requires { W.failed writer.old ≡ false }
-    ensures { Prints result (W.written writer.old) buffer.old (W.written writer.new) buffer.new
-        (W.failed writer.new) (told warning.now) }
+fn print_told<W: Sink>(printer: &mut Printer<'_, W>, warning: &Warning<'_>) -> Result<(), EndFault>
+    requires { IsWorking W.Sink printer.old }
+    ensures { Prints W.Sink result printer.old printer.new (told warning.now) }
 {
     match warning {
-        Warning::UnknownProxy(name, near) => print_unknown(buffer, writer, name, *near),
-        Warning::Covered(low, high) => print_covered(buffer, writer, *low, *high),
-        Warning::Partly(own, taken) => print_partly(buffer, writer, own, taken),
-        Warning::NoToxicity(toxic) => print_no_toxicity(buffer, writer, *toxic),
-        Warning::ChangesNothing(toxic, why) => print_idle(buffer, writer, *toxic, *why),
-        Warning::Seldom(toxic) => print_seldom(buffer, writer, *toxic),
-        Warning::Disabled(name) => print_disabled(buffer, writer, name),
+        Warning::UnknownProxy(name, near) => print_unknown(printer, name, *near),
+        Warning::Covered(low, high) => print_covered(printer, *low, *high),
+        Warning::Partly(own, taken) => print_partly(printer, own, taken),
+        Warning::NoToxicity(toxic) => print_no_toxicity(printer, *toxic),
+        Warning::ChangesNothing(toxic, why) => print_idle(printer, *toxic, *why),
+        Warning::Seldom(toxic) => print_seldom(printer, *toxic),
+        Warning::Disabled(name) => print_disabled(printer, name),
     }
 }
 
 /// Prints that a rule's proxy isn't there.
 fn print_unknown<W: Sink>(
-    buffer: &mut Buffer,
-    writer: &mut W,
+    printer: &mut Printer<'_, W>,
     name: &str,
     near: Option<&str>,
 ) -> Result<(), EndFault>
-    requires { W.failed writer.old ≡ false }
-    ensures { Prints result (W.written writer.old) buffer.old (W.written writer.new) buffer.new
-        (W.failed writer.new) (unknown_text name.now (option_map (λ near. near.now) near.entry)) }
+    requires { IsWorking W.Sink printer.old }
+    ensures { Prints W.Sink result printer.old printer.new (unknown_text name.now (option_map (λ near. near.now) near.entry)) }
 {
-    buffer.print(writer, &[Word(" never applies: no proxy "), Name(name)])?;
-    print_near(buffer, writer, near)
+    printer.print(&[Word(" never applies: no proxy "), Name(name)])?;
+    print_near(printer, near)
 }
 
 /// Prints the name of a near proxy, if there is one, and the line's end.
-fn print_near<W: Sink>(
-    buffer: &mut Buffer,
-    writer: &mut W,
-    near: Option<&str>,
-) -> Result<(), EndFault>
-    requires { W.failed writer.old ≡ false }
-    ensures { Prints result (W.written writer.old) buffer.old (W.written writer.new) buffer.new
-        (W.failed writer.new) (near_text (option_map (λ near. near.now) near.entry)) }
+fn print_near<W: Sink>(printer: &mut Printer<'_, W>, near: Option<&str>) -> Result<(), EndFault>
+    requires { IsWorking W.Sink printer.old }
+    ensures { Prints W.Sink result printer.old printer.new (near_text (option_map (λ near. near.now) near.entry)) }
 {
     match near {
-        None => buffer.print(writer, &[Word("\n")]),
-        Some(near) => buffer.print(writer, &[Word(" ("), Name(near), Word("?)\n")]),
+        None => printer.print(&[Word("\n")]),
+        Some(near) => printer.print(&[Word(" ("), Name(near), Word("?)\n")]),
     }
 }
 
 /// Prints which rules cover a rule's connections.
 fn print_covered<W: Sink>(
-    buffer: &mut Buffer,
-    writer: &mut W,
+    printer: &mut Printer<'_, W>,
     low: usize,
     high: usize,
 ) -> Result<(), EndFault>
-    requires { W.failed writer.old ≡ false }
-    ensures { Prints result (W.written writer.old) buffer.old (W.written writer.new) buffer.new
-        (W.failed writer.new) (covered_text low high) }
+    requires { IsWorking W.Sink printer.old }
+    ensures { Prints W.Sink result printer.old printer.new (covered_text low high) }
 {
-    buffer.print(writer, &[Word(" never applies: ")])?;
-    print_covering(buffer, writer, low, high)
+    printer.print(&[Word(" never applies: ")])?;
+    print_covering(printer, low, high)
 }
 
 /// Prints that the rules from the one to the other cover connections.
 fn print_covering<W: Sink>(
-    buffer: &mut Buffer,
-    writer: &mut W,
+    printer: &mut Printer<'_, W>,
     low: usize,
     high: usize,
 ) -> Result<(), EndFault>
-    requires { W.failed writer.old ≡ false }
-    ensures { Prints result (W.written writer.old) buffer.old (W.written writer.new) buffer.new
-        (W.failed writer.new) (covering_text low high) }
+    requires { IsWorking W.Sink printer.old }
+    ensures { Prints W.Sink result printer.old printer.new (covering_text low high) }
 {
     if low == high {
-        print_one_covers(buffer, writer, low)
+        print_one_covers(printer, low)
     } else {
-        print_some_cover(buffer, writer, low, high)
+        print_some_cover(printer, low, high)
     }
 }
 
-fn print_one_covers<W: Sink>(
-    buffer: &mut Buffer,
-    writer: &mut W,
-    rule: usize,
-) -> Result<(), EndFault>
-    requires { W.failed writer.old ≡ false }
-    ensures { Prints result (W.written writer.old) buffer.old (W.written writer.new) buffer.new
-        (W.failed writer.new) (one_covers rule) }
+fn print_one_covers<W: Sink>(printer: &mut Printer<'_, W>, rule: usize) -> Result<(), EndFault>
+    requires { IsWorking W.Sink printer.old }
+    ensures { Prints W.Sink result printer.old printer.new (one_covers rule) }
 {
     let parts = [
         Word("rule "),
         Number(rule as u64),
         Word(" covers its connections\n"),
     ];
-    buffer.print(writer, &parts)
+    printer.print(&parts)
 }
 
 fn print_some_cover<W: Sink>(
-    buffer: &mut Buffer,
-    writer: &mut W,
+    printer: &mut Printer<'_, W>,
     low: usize,
     high: usize,
 ) -> Result<(), EndFault>
-    requires { W.failed writer.old ≡ false }
-    ensures { Prints result (W.written writer.old) buffer.old (W.written writer.new) buffer.new
-        (W.failed writer.new) (some_cover low high) }
+    requires { IsWorking W.Sink printer.old }
+    ensures { Prints W.Sink result printer.old printer.new (some_cover low high) }
 {
     let parts = [
         Word("rules "),
@@ -165,58 +140,49 @@ fn print_some_cover<W: Sink>(
         Number(high as u64),
         Word(" cover its connections\n"),
     ];
-    buffer.print(writer, &parts)
+    printer.print(&parts)
 }
 
 /// Prints which of its connections a rule gets, and which others get.
 fn print_partly<W: Sink>(
-    buffer: &mut Buffer,
-    writer: &mut W,
+    printer: &mut Printer<'_, W>,
     own: &Listed,
     taken: &Listed,
 ) -> Result<(), EndFault>
-    requires { W.failed writer.old ≡ false }
-    ensures { Prints result (W.written writer.old) buffer.old (W.written writer.new) buffer.new
-        (W.failed writer.new) (partly_text
+    requires { IsWorking W.Sink printer.old }
+    ensures { Prints W.Sink result printer.old printer.new (partly_text
         own.now.shown.items own.now.more taken.now.shown.items taken.now.more) }
 {
-    buffer.print(writer, &[Word(" applies to ")])?;
-    print_ranges(buffer, writer, own.shown.as_slice())?;
-    print_more(buffer, writer, own.more)?;
-    buffer.print(writer, &[Word(" only: connections ")])?;
-    print_taken(buffer, writer, taken.shown.as_slice())?;
-    print_more(buffer, writer, taken.more)?;
-    buffer.print(writer, &[Word("\n")])
+    printer.print(&[Word(" applies to ")])?;
+    print_ranges(printer, own.shown.as_slice())?;
+    print_more(printer, own.more)?;
+    printer.print(&[Word(" only: connections ")])?;
+    print_taken(printer, taken.shown.as_slice())?;
+    print_more(printer, taken.more)?;
+    printer.print(&[Word("\n")])
 }
 
 /// Prints that a toxic is never applied.
-fn print_no_toxicity<W: Sink>(
-    buffer: &mut Buffer,
-    writer: &mut W,
-    toxic: usize,
-) -> Result<(), EndFault>
-    requires { W.failed writer.old ≡ false }
-    ensures { Prints result (W.written writer.old) buffer.old (W.written writer.new) buffer.new
-        (W.failed writer.new) (no_toxicity_text toxic) }
+fn print_no_toxicity<W: Sink>(printer: &mut Printer<'_, W>, toxic: usize) -> Result<(), EndFault>
+    requires { IsWorking W.Sink printer.old }
+    ensures { Prints W.Sink result printer.old printer.new (no_toxicity_text toxic) }
 {
     let parts = [
         Word(" toxic "),
         Number(toxic as u64),
         Word(" never applies: toxicity 0\n"),
     ];
-    buffer.print(writer, &parts)
+    printer.print(&parts)
 }
 
 /// Prints that a toxic changes nothing, and why.
 fn print_idle<W: Sink>(
-    buffer: &mut Buffer,
-    writer: &mut W,
+    printer: &mut Printer<'_, W>,
     toxic: usize,
     why: Idleness,
 ) -> Result<(), EndFault>
-    requires { W.failed writer.old ≡ false }
-    ensures { Prints result (W.written writer.old) buffer.old (W.written writer.new) buffer.new
-        (W.failed writer.new) (changes_nothing_text toxic why) }
+    requires { IsWorking W.Sink printer.old }
+    ensures { Prints W.Sink result printer.old printer.new (changes_nothing_text toxic why) }
 {
     let parts = [
         Word(" toxic "),
@@ -225,7 +191,7 @@ fn print_idle<W: Sink>(
         Word(reason_text(why)),
         Word("\n"),
     ];
-    buffer.print(writer, &parts)
+    printer.print(&parts)
 }
 
 /// Why a toxic changes nothing.
@@ -241,29 +207,27 @@ fn reason_text(why: Idleness) -> &'static str
 }
 
 /// Prints that a toxic is applied seldom.
-fn print_seldom<W: Sink>(buffer: &mut Buffer, writer: &mut W, toxic: usize) -> Result<(), EndFault>
-    requires { W.failed writer.old ≡ false }
-    ensures { Prints result (W.written writer.old) buffer.old (W.written writer.new) buffer.new
-        (W.failed writer.new) (seldom_text toxic) }
+fn print_seldom<W: Sink>(printer: &mut Printer<'_, W>, toxic: usize) -> Result<(), EndFault>
+    requires { IsWorking W.Sink printer.old }
+    ensures { Prints W.Sink result printer.old printer.new (seldom_text toxic) }
 {
     let parts = [
         Word(" toxic "),
         Number(toxic as u64),
         Word(" seldom applies: toxicity 1 is a thousandth\n"),
     ];
-    buffer.print(writer, &parts)
+    printer.print(&parts)
 }
 
 /// Prints that a rule's proxy is disabled.
-fn print_disabled<W: Sink>(buffer: &mut Buffer, writer: &mut W, name: &str) -> Result<(), EndFault>
-    requires { W.failed writer.old ≡ false }
-    ensures { Prints result (W.written writer.old) buffer.old (W.written writer.new) buffer.new
-        (W.failed writer.new) (disabled_text name.now) }
+fn print_disabled<W: Sink>(printer: &mut Printer<'_, W>, name: &str) -> Result<(), EndFault>
+    requires { IsWorking W.Sink printer.old }
+    ensures { Prints W.Sink result printer.old printer.new (disabled_text name.now) }
 {
     let parts = [
         Word(" is for proxy "),
         Name(name),
         Word(", which is disabled\n"),
     ];
-    buffer.print(writer, &parts)
+    printer.print(&parts)
 }

@@ -2,11 +2,12 @@
 ghost use Rattle.std.specs.Prelude.{◌≡◌, ◌≤◌, false, flat_map, length, map};
 ghost use Rattle.std.specs.List.{zip};
 ghost use Rattle.tox_inline.specs.Texts.{attribute_line, says_begin, script_text, short_name, toxic_head, toxic_text};
-ghost use Rattle.tox_text.specs.Writing.{Prints, Writes};
+ghost use Rattle.tox_text.specs.Printing.{IsWorking, Prints};
+ghost use Rattle.tox_text.specs.Writing.{Writes};
 
 use crate::toxics::NumberedToxic;
-use tox_text::Buffer;
 use tox_text::Part::{Number, Word};
+use tox_text::Printer;
 use tox_time::{EndFault, Sink, Stream};
 
 /// What stands before the toxics.
@@ -21,68 +22,49 @@ pub(crate) fn write_script<W: Sink>(
     ensures { Writes result (W.written writer.old) (W.written writer.new) (W.failed writer.new)
         (script_text toxics.now) }
 {
-    let mut buffer = Buffer::new();
-    print_script(&mut buffer, writer, toxics)?;
-    buffer.flush(writer)
+    let mut printer = Printer::new(writer);
+    print_script(&mut printer, toxics)?;
+    printer.finish()
 }
 
 fn print_script<W: Sink>(
-    buffer: &mut Buffer,
-    writer: &mut W,
+    printer: &mut Printer<'_, W>,
     toxics: &[NumberedToxic],
 ) -> Result<(), EndFault>
-    requires { W.failed writer.old ≡ false }
-    ensures { Prints result (W.written writer.old) buffer.old (W.written writer.new) buffer.new
-        (W.failed writer.new) (script_text toxics.now) }
+    requires { IsWorking W.Sink printer.old }
+    ensures { Prints W.Sink result printer.old printer.new (script_text toxics.now) }
 {
-    buffer.print(writer, &[Word(HEAD)])?;
-    print_toxics(buffer, writer, toxics)
+    printer.print(&[Word(HEAD)])?;
+    print_toxics(printer, toxics)
 }
 
 fn print_toxics<W: Sink>(
-    buffer: &mut Buffer,
-    writer: &mut W,
+    printer: &mut Printer<'_, W>,
     toxics: &[NumberedToxic],
 ) -> Result<(), EndFault>
-    requires { W.failed writer.old ≡ false }
-    ensures { Prints result (W.written writer.old) buffer.old (W.written writer.new) buffer.new
-        (W.failed writer.new) (flat_map toxic_text toxics.now) }
+    requires { IsWorking W.Sink printer.old }
+    ensures { Prints W.Sink result printer.old printer.new (flat_map toxic_text toxics.now) }
 {
     for toxic in toxics {
-        print_toxic(buffer, writer, toxic)?;
+        print_toxic(printer, toxic)?;
     }
     Ok(())
 }
 
 /// Prints the table of a toxic.
-fn print_toxic<W: Sink>(
-    buffer: &mut Buffer,
-    writer: &mut W,
-    toxic: &NumberedToxic,
-) -> Result<(), EndFault>
-    requires { W.failed writer.old ≡ false }
-    ensures { Prints result (W.written writer.old) buffer.old (W.written writer.new) buffer.new
-        (W.failed writer.new) (toxic_text toxic.now) }
+fn print_toxic<W: Sink>(printer: &mut Printer<'_, W>, toxic: &NumberedToxic) -> Result<(), EndFault>
+    requires { IsWorking W.Sink printer.old }
+    ensures { Prints W.Sink result printer.old printer.new (toxic_text toxic.now) }
 {
-    print_head(buffer, writer, toxic)?;
+    print_head(printer, toxic)?;
     let entry = &toxic.entry;
-    print_attributes(
-        buffer,
-        writer,
-        entry.toxic.attributes(),
-        &entry.toxic.values(),
-    )
+    print_attributes(printer, entry.toxic.attributes(), &entry.toxic.values())
 }
 
 /// Prints the table of a toxic, up to its attributes.
-fn print_head<W: Sink>(
-    buffer: &mut Buffer,
-    writer: &mut W,
-    toxic: &NumberedToxic,
-) -> Result<(), EndFault>
-    requires { W.failed writer.old ≡ false }
-    ensures { Prints result (W.written writer.old) buffer.old (W.written writer.new) buffer.new
-        (W.failed writer.new) (toxic_head toxic.now) }
+fn print_head<W: Sink>(printer: &mut Printer<'_, W>, toxic: &NumberedToxic) -> Result<(), EndFault>
+    requires { IsWorking W.Sink printer.old }
+    ensures { Prints W.Sink result printer.old printer.new (toxic_head toxic.now) }
 {
     let entry = &toxic.entry;
     let parts = [
@@ -97,7 +79,7 @@ fn print_head<W: Sink>(
         Number(u64::from(entry.toxicity)),
         Word("\n\n[rule.toxic.attributes]\n"),
     ];
-    buffer.print(writer, &parts)
+    printer.print(&parts)
 }
 
 /// The beginning of the names of a stream's toxics.
@@ -112,38 +94,34 @@ fn short_name(stream: Stream) -> &'static str
 
 /// Prints the lines of the attributes.
 fn print_attributes<W: Sink>(
-    buffer: &mut Buffer,
-    writer: &mut W,
+    printer: &mut Printer<'_, W>,
     keys: &[&str],
     values: &[u64],
 ) -> Result<(), EndFault>
-    requires working { W.failed writer.old ≡ false }
+    requires working { IsWorking W.Sink printer.old }
     requires enough { length keys.now ≤ length values.now }
-    ensures { Prints result (W.written writer.old) buffer.old (W.written writer.new) buffer.new
-        (W.failed writer.new)
+    ensures { Prints W.Sink result printer.old printer.new
         (flat_map attribute_line (zip (map (λ key. key.now) keys.now) values.now)) }
 {
     for (place, key) in keys.iter().enumerate() {
-        print_attribute(buffer, writer, key, values[place])?;
+        print_attribute(printer, key, values[place])?;
     }
     Ok(())
 }
 
 /// Prints the line of an attribute, but for one of 0 that says when a toxic begins.
 fn print_attribute<W: Sink>(
-    buffer: &mut Buffer,
-    writer: &mut W,
+    printer: &mut Printer<'_, W>,
     key: &str,
     value: u64,
 ) -> Result<(), EndFault>
-    requires { W.failed writer.old ≡ false }
-    ensures { Prints result (W.written writer.old) buffer.old (W.written writer.new) buffer.new
-        (W.failed writer.new) (attribute_line (key.now, value)) }
+    requires { IsWorking W.Sink printer.old }
+    ensures { Prints W.Sink result printer.old printer.new (attribute_line (key.now, value)) }
 {
     if value == 0 && says_begin(key) {
         return Ok(());
     }
-    buffer.print(writer, &[Word(key), Word(" = "), Number(value), Word("\n")])
+    printer.print(&[Word(key), Word(" = "), Number(value), Word("\n")])
 }
 
 /// Whether an attribute says when a toxic begins.

@@ -1,22 +1,19 @@
 //! The line of an event.
-ghost use Rattle.std.specs.Prelude.{◌≡◌, false};
-ghost use Rattle.tox_text.specs.Writing.{Prints};
+ghost use Rattle.tox_text.specs.Printing.{IsWorking, Prints};
 ghost use Rattle.tox_log.specs.EventText.{event_line};
 
 use tox_link::LinkEvent;
 use tox_text::Part::{Number, Word};
-use tox_text::SizedBuffer;
+use tox_text::SizedPrinter;
 use tox_time::{EndFault, Micros, Sink, Slice};
 
 /// Prints the line of an event: `<reading> piece <bytes>`, `<reading> end` or `<reading> wrote <start>..<stop> <due>`.
 pub fn print_event<W: Sink, const ROOM: usize>(
-    buffer: &mut SizedBuffer<ROOM>,
-    writer: &mut W,
+    printer: &mut SizedPrinter<'_, W, ROOM>,
     event: &LinkEvent,
 ) -> Result<(), EndFault>
-    requires { W.failed writer.old ≡ false }
-    ensures { Prints result (W.written writer.old) buffer.old (W.written writer.new) buffer.new
-        (W.failed writer.new) (event_line event.now) }
+    requires { IsWorking W.Sink printer.old }
+    ensures { Prints W.Sink result printer.old printer.new (event_line event.now) }
 {
     match event {
         LinkEvent::Piece(len, instant) => {
@@ -26,25 +23,21 @@ pub fn print_event<W: Sink, const ROOM: usize>(
                 Number(*len),
                 Word("\n"),
             ];
-            buffer.print(writer, &parts)
+            printer.print(&parts)
         }
-        LinkEvent::SourceEnd(instant) => {
-            buffer.print(writer, &[Number(instant.get()), Word(" end\n")])
-        }
-        LinkEvent::Wrote(slice, reading) => print_wrote(buffer, writer, slice, reading),
+        LinkEvent::SourceEnd(instant) => { printer.print(&[Number(instant.get()), Word(" end\n")]) }
+        LinkEvent::Wrote(slice, reading) => print_wrote(printer, slice, reading),
     }
 }
 
 /// Prints the line of a slice that was written.
 fn print_wrote<W: Sink, const ROOM: usize>(
-    buffer: &mut SizedBuffer<ROOM>,
-    writer: &mut W,
+    printer: &mut SizedPrinter<'_, W, ROOM>,
     slice: &Slice,
     reading: &Micros,
 ) -> Result<(), EndFault>
-    requires { W.failed writer.old ≡ false }
-    ensures { Prints result (W.written writer.old) buffer.old (W.written writer.new) buffer.new
-        (W.failed writer.new) (event_line (LinkEvent.Wrote slice.now reading.now)) }
+    requires { IsWorking W.Sink printer.old }
+    ensures { Prints W.Sink result printer.old printer.new (event_line (LinkEvent.Wrote slice.now reading.now)) }
 {
     let parts = [
         Number(reading.get()),
@@ -56,5 +49,5 @@ fn print_wrote<W: Sink, const ROOM: usize>(
         Number(slice.instant.get()),
         Word("\n"),
     ];
-    buffer.print(writer, &parts)
+    printer.print(&parts)
 }

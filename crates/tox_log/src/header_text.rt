@@ -1,12 +1,12 @@
 //! The header of a log.
-ghost use Rattle.std.specs.Prelude.{◌≡◌, false, length, map, string_bytes};
+ghost use Rattle.std.specs.Prelude.{◌≡◌, length, map, string_bytes};
 ghost use Rattle.tox_text.specs.Names.{visible_name};
-ghost use Rattle.tox_text.specs.Writing.{Prints};
+ghost use Rattle.tox_text.specs.Printing.{IsWorking, Prints};
 ghost use Rattle.tox_log.specs.HeaderText.{header_text, heading_lines, toxic_line, toxic_lines};
 
 use tox_defs::{Chain, Entry};
 use tox_text::Part::{Name, Number, Word};
-use tox_text::{Buffer, print_short};
+use tox_text::{Printer, print_short};
 use tox_time::{EndFault, Sink, Stream};
 use tox_words::Lanes;
 
@@ -23,33 +23,29 @@ pub struct LoggedLink<'a> {
 
 /// Prints the header of the log of a link's stream: three lines, and a line for each toxic of the stream's chain, applied or not.
 pub fn print_header<W: Sink>(
-    buffer: &mut Buffer,
-    writer: &mut W,
+    printer: &mut Printer<'_, W>,
     link: &LoggedLink<'_>,
     chain: &Chain,
     names: &[String],
 ) -> Result<(), EndFault>
-    requires working { W.failed writer.old ≡ false }
+    requires working { IsWorking W.Sink printer.old }
     requires one_each { length names.now ≡ length chain.now.entries }
-    ensures { Prints result (W.written writer.old) buffer.old (W.written writer.new) buffer.new
-        (W.failed writer.new)
+    ensures { Prints W.Sink result printer.old printer.new
         (header_text (visible_name link.now.proxy.now) link.now.number link.now.stream
         link.now.seed chain.now (map string_bytes names.now)) }
 {
-    print_heading(buffer, writer, link, chain.lanes())?;
-    print_toxics(buffer, writer, chain.entries(), names)
+    print_heading(printer, link, chain.lanes())?;
+    print_toxics(printer, chain.entries(), names)
 }
 
 /// Prints the first three lines.
 fn print_heading<W: Sink>(
-    buffer: &mut Buffer,
-    writer: &mut W,
+    printer: &mut Printer<'_, W>,
     link: &LoggedLink<'_>,
     lanes: Lanes,
 ) -> Result<(), EndFault>
-    requires { W.failed writer.old ≡ false }
-    ensures { Prints result (W.written writer.old) buffer.old (W.written writer.new) buffer.new
-        (W.failed writer.new)
+    requires { IsWorking W.Sink printer.old }
+    ensures { Prints W.Sink result printer.old printer.new
         (heading_lines (visible_name link.now.proxy.now) link.now.number link.now.stream lanes
         link.now.seed) }
 {
@@ -68,39 +64,35 @@ fn print_heading<W: Sink>(
         Number(link.seed),
         Word("\n"),
     ];
-    buffer.print(writer, &parts)
+    printer.print(&parts)
 }
 
 /// Prints the lines of named toxics.
 fn print_toxics<W: Sink>(
-    buffer: &mut Buffer,
-    writer: &mut W,
+    printer: &mut Printer<'_, W>,
     entries: &[Entry],
     names: &[String],
 ) -> Result<(), EndFault>
-    requires working { W.failed writer.old ≡ false }
+    requires working { IsWorking W.Sink printer.old }
     requires one_each { length names.now ≡ length entries.now }
-    ensures { Prints result (W.written writer.old) buffer.old (W.written writer.new) buffer.new
-        (W.failed writer.new) (toxic_lines entries.now (map string_bytes names.now)) }
+    ensures { Prints W.Sink result printer.old printer.new (toxic_lines entries.now (map string_bytes names.now)) }
 {
     for (place, entry) in entries.iter().enumerate() {
-        print_toxic(buffer, writer, entry, &names[place])?;
+        print_toxic(printer, entry, &names[place])?;
     }
     Ok(())
 }
 
 /// Prints the line of a named toxic.
 fn print_toxic<W: Sink>(
-    buffer: &mut Buffer,
-    writer: &mut W,
+    printer: &mut Printer<'_, W>,
     entry: &Entry,
     name: &str,
 ) -> Result<(), EndFault>
-    requires { W.failed writer.old ≡ false }
-    ensures { Prints result (W.written writer.old) buffer.old (W.written writer.new) buffer.new
-        (W.failed writer.new) (toxic_line entry.now name.now) }
+    requires { IsWorking W.Sink printer.old }
+    ensures { Prints W.Sink result printer.old printer.new (toxic_line entry.now name.now) }
 {
-    buffer.print(writer, &[Word("toxic ")])?;
-    print_short(buffer, writer, entry)?;
-    buffer.print(writer, &[Word(" "), Word(name), Word("\n")])
+    printer.print(&[Word("toxic ")])?;
+    print_short(printer, entry)?;
+    printer.print(&[Word(" "), Word(name), Word("\n")])
 }

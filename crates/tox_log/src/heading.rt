@@ -16,7 +16,7 @@ use crate::numbers::{cut_at, cut_at_last, number_of};
 use std::alloc::{AllocError, Global};
 use std::str;
 use tox_defs::{Entry, read_short};
-use tox_text::{Buffer, print_short};
+use tox_text::{Printer, print_short};
 use tox_time::Stream;
 use tox_words::{Lanes, MAX_CONNECTIONS};
 
@@ -197,12 +197,12 @@ fn is_printed(alloc: Global, entry: &Entry, short: &[u8]) -> Result<bool, AllocE
     ensures { IfOk result (λ same. IsTrue same
         ↔ (short.now ≡ printed_short entry.now.toxic entry.now.toxicity)) }
 {
-    let mut buffer = Buffer::new();
     let mut printed = LogBytes::new(alloc);
-    if print_short(&mut buffer, &mut printed, entry).is_err() {
+    let mut printer = Printer::new(&mut printed);
+    if print_short(&mut printer, entry).is_err() {
         return Err(AllocError);
     }
-    if buffer.flush(&mut printed).is_err() {
+    if printer.finish().is_err() {
         return Err(AllocError);
     }
     Ok(printed.bytes() == short)

@@ -1,13 +1,14 @@
 //! What a log heard, as texts: its arrivals and its words.
 ghost use Rattle.std.specs.Prelude.{◌≡◌, false, OnOk};
+ghost use Rattle.tox_text.specs.Printing.{IsWorking, KeepsWorking};
 
 use crate::event_line::LogLine;
 use crate::fault::LogFault;
 use crate::open_log::OpenLog;
 use std::alloc::Global;
 use tox_link::LinkEvent;
-use tox_text::Buffer;
 use tox_text::Part::{Number, Word};
+use tox_text::Printer;
 use tox_time::{EndFault, Micros, Sink, Source};
 
 /// Why a text of a log was not printed whole.
@@ -50,32 +51,26 @@ pub fn print_heard<R: Source, W: Sink>(
     requires works { W.failed writer.old ≡ false }
     ensures { OnOk result (W.failed writer.new ≡ false) }
 {
-    let mut buffer = Buffer::new();
+    let mut printer = Printer::new(writer);
     for _ in 0..u64::MAX {
         let Some(line) = log.next_line(reader)? else {
             break;
         };
-        print_heard_line(&mut buffer, writer, &line)?;
+        print_heard_line(&mut printer, &line)?;
     }
-    buffer.flush(writer)?;
+    printer.finish()?;
     Ok(())
 }
 
 /// Prints what a line heard.
-fn print_heard_line<W: Sink>(
-    buffer: &mut Buffer,
-    writer: &mut W,
-    line: &LogLine,
-) -> Result<(), EndFault>
-    requires { W.failed writer.old ≡ false }
-    ensures { OnOk result (W.failed writer.new ≡ false) }
+fn print_heard_line<W: Sink>(printer: &mut Printer<'_, W>, line: &LogLine) -> Result<(), EndFault>
+    requires { IsWorking W.Sink printer.old }
+    ensures { OnOk result (KeepsWorking W.Sink printer.old printer.new) }
 {
     match line {
-        LogLine::Event(LinkEvent::Piece(len, instant)) => {
-            print_piece(buffer, writer, *len, instant)
-        }
+        LogLine::Event(LinkEvent::Piece(len, instant)) => { print_piece(printer, *len, instant) }
         LogLine::Event(LinkEvent::SourceEnd(instant)) | LogLine::SourceReset(instant) => {
-            buffer.print(writer, &[Number(instant.get()), Word(" eof\n")])
+            printer.print(&[Number(instant.get()), Word(" eof\n")])
         }
         _ => Ok(()),
     }
@@ -83,19 +78,18 @@ fn print_heard_line<W: Sink>(
 
 /// Prints the arrival of so many bytes of zero.
 fn print_piece<W: Sink>(
-    buffer: &mut Buffer,
-    writer: &mut W,
+    printer: &mut Printer<'_, W>,
     len: u64,
     instant: &Micros,
 ) -> Result<(), EndFault>
-    requires { W.failed writer.old ≡ false }
-    ensures { OnOk result (W.failed writer.new ≡ false) }
+    requires { IsWorking W.Sink printer.old }
+    ensures { OnOk result (KeepsWorking W.Sink printer.old printer.new) }
 {
-    buffer.print(writer, &[Number(instant.get()), Word(" data ")])?;
+    printer.print(&[Number(instant.get()), Word(" data ")])?;
     for _ in 0..len {
-        buffer.print(writer, &[Word("00")])?;
+        printer.print(&[Word("00")])?;
     }
-    buffer.print(writer, &[Word("\n")])
+    printer.print(&[Word("\n")])
 }
 
 /// Prints the words of a log, separated by commas.
@@ -104,13 +98,13 @@ pub fn print_words<W: Sink>(alloc: Global, log: &OpenLog, writer: &mut W) -> Res
     ensures { OnOk result (W.failed writer.new ≡ false) }
 {
     let words = log.words(alloc)?;
-    let mut buffer = Buffer::new();
+    let mut printer = Printer::new(writer);
     for index in 0..words.len() {
         let separator = if index == 0 { "" } else { "," };
         let word = words.draw(index % 16, (index / 16) as u64);
-        buffer.print(writer, &[Word(separator), Number(u64::from(word))])?;
+        printer.print(&[Word(separator), Number(u64::from(word))])?;
     }
-    buffer.print(writer, &[Word("\n")])?;
-    buffer.flush(writer)?;
+    printer.print(&[Word("\n")])?;
+    printer.finish()?;
     Ok(())
 }

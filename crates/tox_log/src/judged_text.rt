@@ -1,30 +1,27 @@
 //! The line that a judged log is printed as.
-ghost use Rattle.std.specs.Prelude.{◌≡◌, false, OnOk};
+ghost use Rattle.std.specs.Prelude.{◌≡◌, OnOk};
 ghost use Rattle.tox_log.specs.JudgedObject.{verdict_word};
+ghost use Rattle.tox_text.specs.Printing.{IsWorking, KeepsWorking};
 
 use crate::heading::Heading;
 use crate::lateness::Percentiles;
 use crate::replay::{JudgedLog, Verdict};
-use tox_text::Buffer;
 use tox_text::Part::{Number, Word};
+use tox_text::Printer;
 use tox_time::{EndFault, Ending, Sink};
 
 /// Prints the line of a judged log.
-pub fn print_judged<W: Sink>(
-    buffer: &mut Buffer,
-    writer: &mut W,
-    log: &JudgedLog,
-) -> Result<(), EndFault>
-    requires { W.failed writer.old ≡ false }
-    ensures { OnOk result (W.failed writer.new ≡ false) }
+pub fn print_judged<W: Sink>(printer: &mut Printer<'_, W>, log: &JudgedLog) -> Result<(), EndFault>
+    requires { IsWorking W.Sink printer.old }
+    ensures { OnOk result (KeepsWorking W.Sink printer.old printer.new) }
 {
-    buffer.print(writer, &[Word(verdict_word(&log.verdict)), Word(" ")])?;
-    print_link(buffer, writer, &log.heading)?;
+    printer.print(&[Word(verdict_word(&log.verdict)), Word(" ")])?;
+    print_link(printer, &log.heading)?;
     if let Verdict::Unfaithful(line) = log.verdict {
-        return buffer.print(writer, &[Word(" line "), Number(line), Word("\n")]);
+        return printer.print(&[Word(" line "), Number(line), Word("\n")]);
     }
-    print_counts(buffer, writer, log)?;
-    print_late(buffer, writer, &log.late)
+    print_counts(printer, log)?;
+    print_late(printer, &log.late)
 }
 
 /// The word of a verdict.
@@ -39,13 +36,9 @@ pub(crate) fn verdict_word(verdict: &Verdict) -> &'static str
 }
 
 /// Prints the proxy's name, the link's number and the stream.
-fn print_link<W: Sink>(
-    buffer: &mut Buffer,
-    writer: &mut W,
-    heading: &Heading,
-) -> Result<(), EndFault>
-    requires { W.failed writer.old ≡ false }
-    ensures { OnOk result (W.failed writer.new ≡ false) }
+fn print_link<W: Sink>(printer: &mut Printer<'_, W>, heading: &Heading) -> Result<(), EndFault>
+    requires { IsWorking W.Sink printer.old }
+    ensures { OnOk result (KeepsWorking W.Sink printer.old printer.new) }
 {
     let parts = [
         Word(&heading.proxy),
@@ -54,17 +47,13 @@ fn print_link<W: Sink>(
         Word(" "),
         Word(heading.stream.name()),
     ];
-    buffer.print(writer, &parts)
+    printer.print(&parts)
 }
 
 /// Prints what was heard and said, the ending, and the number of writes.
-fn print_counts<W: Sink>(
-    buffer: &mut Buffer,
-    writer: &mut W,
-    log: &JudgedLog,
-) -> Result<(), EndFault>
-    requires { W.failed writer.old ≡ false }
-    ensures { OnOk result (W.failed writer.new ≡ false) }
+fn print_counts<W: Sink>(printer: &mut Printer<'_, W>, log: &JudgedLog) -> Result<(), EndFault>
+    requires { IsWorking W.Sink printer.old }
+    ensures { OnOk result (KeepsWorking W.Sink printer.old printer.new) }
 {
     let counts = [
         Word(" in "),
@@ -72,41 +61,34 @@ fn print_counts<W: Sink>(
         Word(" out "),
         Number(log.said),
     ];
-    buffer.print(writer, &counts)?;
+    printer.print(&counts)?;
     if let Verdict::Faithful(ending) = &log.verdict {
-        print_ending(buffer, writer, ending)?;
+        print_ending(printer, ending)?;
     }
-    buffer.print(writer, &[Word(" writes "), Number(log.writes)])
+    printer.print(&[Word(" writes "), Number(log.writes)])
 }
 
-fn print_ending<W: Sink>(
-    buffer: &mut Buffer,
-    writer: &mut W,
-    ending: &Ending,
-) -> Result<(), EndFault>
-    requires { W.failed writer.old ≡ false }
-    ensures { OnOk result (W.failed writer.new ≡ false) }
+fn print_ending<W: Sink>(printer: &mut Printer<'_, W>, ending: &Ending) -> Result<(), EndFault>
+    requires { IsWorking W.Sink printer.old }
+    ensures { OnOk result (KeepsWorking W.Sink printer.old printer.new) }
 {
     match ending {
-        Ending::StillOpen => buffer.print(writer, &[Word(" open")]),
-        Ending::Closed(instant) => {
-            buffer.print(writer, &[Word(" closed "), Number(instant.get())])
-        }
-        Ending::Reset(instant) => buffer.print(writer, &[Word(" reset "), Number(instant.get())]),
+        Ending::StillOpen => printer.print(&[Word(" open")]),
+        Ending::Closed(instant) => { printer.print(&[Word(" closed "), Number(instant.get())]) }
+        Ending::Reset(instant) => printer.print(&[Word(" reset "), Number(instant.get())]),
     }
 }
 
 /// Prints how late the writes were, if there was one, and ends the line.
 fn print_late<W: Sink>(
-    buffer: &mut Buffer,
-    writer: &mut W,
+    printer: &mut Printer<'_, W>,
     late: &Option<Percentiles>,
 ) -> Result<(), EndFault>
-    requires { W.failed writer.old ≡ false }
-    ensures { OnOk result (W.failed writer.new ≡ false) }
+    requires { IsWorking W.Sink printer.old }
+    ensures { OnOk result (KeepsWorking W.Sink printer.old printer.new) }
 {
     let Some(late) = late else {
-        return buffer.print(writer, &[Word("\n")]);
+        return printer.print(&[Word("\n")]);
     };
     let mark = if late.exact { " " } else { " ~" };
     let parts = [
@@ -120,5 +102,5 @@ fn print_late<W: Sink>(
         Number(late.max),
         Word("\n"),
     ];
-    buffer.print(writer, &parts)
+    printer.print(&parts)
 }

@@ -1,11 +1,11 @@
 //! The last line of a log: how the stream ended, or why it broke off.
-ghost use Rattle.std.specs.Prelude.{◌≡◌, ◌≢◌, false, MatchOption};
+ghost use Rattle.std.specs.Prelude.{◌≡◌, ◌≢◌, MatchOption};
 ghost use Rattle.tox_log.specs.declared.last_line.BreakCause.{BreakCause as OneCause};
-ghost use Rattle.tox_text.specs.Writing.{Prints};
+ghost use Rattle.tox_text.specs.Printing.{IsWorking, Prints};
 ghost use Rattle.tox_log.specs.LastText.{cause_name, last_line};
 
 use tox_text::Part::{Number, Word};
-use tox_text::SizedBuffer;
+use tox_text::SizedPrinter;
 use tox_time::{EndFault, Ending, Micros, Sink};
 
 /// Why a stream broke off.
@@ -69,16 +69,14 @@ pub enum LastLine {
 /// Prints the last line: `<reading> open`, `<reading> closed <instant>`, `<reading> reset <instant>` or
 /// `broken <cause> <bytes>`.
 pub fn print_last<W: Sink, const ROOM: usize>(
-    buffer: &mut SizedBuffer<ROOM>,
-    writer: &mut W,
+    printer: &mut SizedPrinter<'_, W, ROOM>,
     last: &LastLine,
 ) -> Result<(), EndFault>
-    requires { W.failed writer.old ≡ false }
-    ensures { Prints result (W.written writer.old) buffer.old (W.written writer.new) buffer.new
-        (W.failed writer.new) (last_line last.now) }
+    requires { IsWorking W.Sink printer.old }
+    ensures { Prints W.Sink result printer.old printer.new (last_line last.now) }
 {
     match last {
-        LastLine::Ended(reading, ending) => print_ended(buffer, writer, reading, ending),
+        LastLine::Ended(reading, ending) => print_ended(printer, reading, ending),
         LastLine::Broken(cause, bytes) => {
             let parts = [
                 Word("broken "),
@@ -87,32 +85,30 @@ pub fn print_last<W: Sink, const ROOM: usize>(
                 Number(*bytes),
                 Word("\n"),
             ];
-            buffer.print(writer, &parts)
+            printer.print(&parts)
         }
     }
 }
 
 /// Prints a reading and an ending.
 fn print_ended<W: Sink, const ROOM: usize>(
-    buffer: &mut SizedBuffer<ROOM>,
-    writer: &mut W,
+    printer: &mut SizedPrinter<'_, W, ROOM>,
     reading: &Micros,
     ending: &Ending,
 ) -> Result<(), EndFault>
-    requires { W.failed writer.old ≡ false }
-    ensures { Prints result (W.written writer.old) buffer.old (W.written writer.new) buffer.new
-        (W.failed writer.new) (last_line (LastLine.Ended reading.now ending.now)) }
+    requires { IsWorking W.Sink printer.old }
+    ensures { Prints W.Sink result printer.old printer.new (last_line (LastLine.Ended reading.now ending.now)) }
 {
     let reading = Number(reading.get());
     match ending {
-        Ending::StillOpen => buffer.print(writer, &[reading, Word(" open\n")]),
+        Ending::StillOpen => printer.print(&[reading, Word(" open\n")]),
         Ending::Closed(instant) => {
             let parts = [reading, Word(" closed "), Number(instant.get()), Word("\n")];
-            buffer.print(writer, &parts)
+            printer.print(&parts)
         }
         Ending::Reset(instant) => {
             let parts = [reading, Word(" reset "), Number(instant.get()), Word("\n")];
-            buffer.print(writer, &parts)
+            printer.print(&parts)
         }
     }
 }

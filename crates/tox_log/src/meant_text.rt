@@ -1,5 +1,6 @@
 //! What a plan means for what a log heard, as a text.
 ghost use Rattle.std.specs.Prelude.{◌≡◌, false, true, OnOk};
+ghost use Rattle.tox_text.specs.Printing.{IsWorking, KeepsWorking};
 
 use crate::event_line::LogLine;
 use crate::heard_text::HeardFault;
@@ -10,7 +11,7 @@ use tox_defs::Chain;
 use tox_link::LinkEvent;
 use tox_plan::Runner;
 use tox_text::Part::{Number, Word};
-use tox_text::{Buffer, print_ending};
+use tox_text::{Printer, print_ending};
 use tox_time::{EndFault, Ending, Micros, Sink, Slice, Source};
 
 /// Prints what a chain, or without one the log's, means for what is left of a log, under the log's words: a line for each longest run of bytes that came
@@ -29,24 +30,23 @@ pub fn print_meant<R: Source, W: Sink>(
     let words = log.words(alloc)?;
     let chain = chain.unwrap_or(log.chain());
     let mut runner = Runner::new(compile(chain, &words), &words);
-    let mut buffer = Buffer::new();
-    print_lines(&mut buffer, writer, &mut runner, log, reader)?;
-    buffer.flush(writer)?;
+    let mut printer = Printer::new(writer);
+    print_lines(&mut printer, &mut runner, log, reader)?;
+    printer.finish()?;
     Ok(())
 }
 
 /// Prints what leaves of the pieces that are left of a log, and the ending.
 fn print_lines<R: Source, W: Sink>(
-    buffer: &mut Buffer,
-    writer: &mut W,
+    printer: &mut Printer<'_, W>,
     runner: &mut Runner<'_>,
     log: &mut OpenLog,
     reader: &mut R,
 ) -> Result<(), HeardFault>
     requires reads { R.failed reader.old ≡ false }
-    requires works { W.failed writer.old ≡ false }
+    requires works { IsWorking W.Sink printer.old }
     requires idle { runner.old.idle ≡ true }
-    ensures { OnOk result (W.failed writer.new ≡ false) }
+    ensures { OnOk result (KeepsWorking W.Sink printer.old printer.new) }
 {
     let mut ending = None;
     for _ in 0..u64::MAX {
@@ -55,7 +55,7 @@ fn print_lines<R: Source, W: Sink>(
         };
         match &line {
             LogLine::Event(LinkEvent::Piece(len, instant)) => {
-                print_cuts(buffer, writer, runner, *len, instant)?;
+                print_cuts(printer, runner, *len, instant)?;
             }
             LogLine::Event(LinkEvent::SourceEnd(instant)) | LogLine::SourceReset(instant) => {
                 ending = Some(finish(runner, instant));
@@ -64,7 +64,7 @@ fn print_lines<R: Source, W: Sink>(
         }
     }
     let ending = ending.unwrap_or(runner.quiet());
-    print_ending(buffer, writer, &ending)?;
+    print_ending(printer, &ending)?;
     Ok(())
 }
 
@@ -79,15 +79,14 @@ fn finish(runner: &mut Runner<'_>, end: &Micros) -> Ending
 
 /// Offers a piece, and prints what then leaves. A piece behind the ending is skipped.
 fn print_cuts<W: Sink>(
-    buffer: &mut Buffer,
-    writer: &mut W,
+    printer: &mut Printer<'_, W>,
     runner: &mut Runner<'_>,
     len: u64,
     instant: &Micros,
 ) -> Result<(), EndFault>
-    requires works { W.failed writer.old ≡ false }
+    requires works { IsWorking W.Sink printer.old }
     requires idle { runner.old.idle ≡ true }
-    ensures works { OnOk result (W.failed writer.new ≡ false) }
+    ensures works { OnOk result (KeepsWorking W.Sink printer.old printer.new) }
     ensures idle { OnOk result (runner.new.idle ≡ true) }
 {
     let Ok(()) = runner.offer(len, *instant) else {
@@ -97,15 +96,15 @@ fn print_cuts<W: Sink>(
         let Some(slice) = runner.next_cut() else {
             return Ok(());
         };
-        print_cut(buffer, writer, &slice)?;
+        print_cut(printer, &slice)?;
     }
     Err(EndFault)
 }
 
 /// Prints the range, the instant and the length of a slice.
-fn print_cut<W: Sink>(buffer: &mut Buffer, writer: &mut W, slice: &Slice) -> Result<(), EndFault>
-    requires { W.failed writer.old ≡ false }
-    ensures { OnOk result (W.failed writer.new ≡ false) }
+fn print_cut<W: Sink>(printer: &mut Printer<'_, W>, slice: &Slice) -> Result<(), EndFault>
+    requires { IsWorking W.Sink printer.old }
+    ensures { OnOk result (KeepsWorking W.Sink printer.old printer.new) }
 {
     let parts = [
         Number(slice.instant.get()),
@@ -117,5 +116,5 @@ fn print_cut<W: Sink>(buffer: &mut Buffer, writer: &mut W, slice: &Slice) -> Res
         Number(slice.span.stop.saturating_sub(slice.span.start)),
         Word("\n"),
     ];
-    buffer.print(writer, &parts)
+    printer.print(&parts)
 }

@@ -34,7 +34,7 @@ use std::alloc::Global;
 use tox_compile::compile;
 use tox_defs::Chain;
 use tox_link::LinkEvent;
-use tox_text::Buffer;
+use tox_text::Printer;
 use tox_time::{Ending, Micros, Sink, Slice, Source};
 
 /// What a log is.
@@ -132,11 +132,11 @@ pub fn write_judged<'a, R: Source, W: Sink>(
         Ok(log) => log,
         Err(fault) => return Err(ReplayFault::of(name, &fault)),
     };
-    let mut buffer = Buffer::new();
-    if print_judged(&mut buffer, writer, &log).is_err() {
+    let mut printer = Printer::new(writer);
+    if print_judged(&mut printer, &log).is_err() {
         return Err(ReplayFault::WriteFault);
     }
-    match buffer.flush(writer) {
+    match printer.finish() {
         Ok(()) => Ok(log.verdict),
         Err(_) => Err(ReplayFault::WriteFault),
     }

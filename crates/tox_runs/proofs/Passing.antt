@@ -1,40 +1,56 @@
 -- A text that is printed part by part.
-use Rattle.std.proofs.Common.{◌≡◌, ℕ, List, [], ◌++◌, Option, refl, ap, sym, ◌∙◌, subst, append_assoc}
-use Rattle.std.proofs.lemmas.List.{append-nil}
-use Rattle.tox_text.specs.Writing.{AppendsFront, Passes}
-use Rattle.tox_text.proofs.Writes.{AppendsFront-then, Passes-none, Passes-then}
-use Rattle.tox_runs.specs.runs.SecondPass.{PassesDownTo}
+use Rattle.std.proofs.Common.{◌≡◌, ℕ, List, [], ◌++◌, Result, Ok, Err, refl, ap, ◌∙◌, append_assoc, append-nil, subst, false, true}
+use Rattle.std.specs.Result.{IsErrAnd}
+use Rattle.std.proofs.lemmas.Result.{err_from_is_err_and}
+use Rattle.tox_time.specs.declared.ends.EndFault.{EndFault}
+use Rattle.tox_time.specs.declared.ends.Sink.{Ghosts}
+use Rattle.tox_text.specs.Printing.{PrintsUnless}
+use Rattle.tox_text.specs.declared.printer.SizedPrinter.{SizedPrinter}
+use Rattle.tox_text.proofs.Printings.{Prints-as, Prints-none, Prints-passed, Prints-then, Prints-told, Prints-within}
+use Rattle.tox_runs.specs.runs.SecondPass.{PrintsDownTo}
 
--- nothing was printed yet
-pub PassesDownTo-none : (old : Option (List ℕ)) (waited text : List ℕ) → PassesDownTo old waited old waited text text
-PassesDownTo-none old waited text = record { printed = []; passed = Passes-none old waited; whole = refl }
+module _ {W : Type 0} {sink : Ghosts W} {R : ℕ} where
+  -- nothing was printed yet
+  pub PrintsDownTo-none : {printer : SizedPrinter W R} {text : List ℕ} → sink.failed printer.writer.now ≡ false → PrintsDownTo sink (Ok (tt {0})) printer printer text text
+  PrintsDownTo-none working = record { printed = []; prints = Prints-none working; whole = refl }
 
--- a part more passed
-pub PassesDownTo-then : (first old new : Option (List ℕ)) (x y z text middle line left : List ℕ) → PassesDownTo first x old y text middle → line ++ left ≡ middle → Passes old y new z line → PassesDownTo first x new z text left
-PassesDownTo-then first old new x y z text middle line left before parts passed = record {
-  printed = before.printed ++ line;
-  passed = Passes-then first old new x y z before.printed line before.passed passed;
-  whole = append_assoc before.printed line left ∙ ap (λ rest. before.printed ++ rest) parts ∙ before.whole;
-}
+  -- a part more was printed
+  pub PrintsDownTo-then : {A₁ A₂ : Type 0} {value₁ : A₁} {value₂ : A₂} {first old new : SizedPrinter W R} {text middle line : List ℕ} (left : List ℕ)
+      → PrintsDownTo sink (Ok value₁) first old text middle → line ++ left ≡ middle → PrintsUnless sink (λ (fault : EndFault). true) (Ok value₂) old new line → PrintsDownTo sink (Ok value₂) first new text left
+  PrintsDownTo-then {line = line} left before parts printed = record {
+    printed = before.printed ++ line;
+    prints = Prints-then before.prints printed;
+    whole = append_assoc before.printed line left ∙ ap (λ rest. before.printed ++ rest) parts ∙ before.whole;
+  }
 
--- and where it broke off, a prefix of the text is written
-pub AppendsFront-broken : (first old new : Option (List ℕ)) (x y text middle line left : List ℕ) → PassesDownTo first x old y text middle → line ++ left ≡ middle → AppendsFront old new (y ++ line) → AppendsFront first new (x ++ text)
-AppendsFront-broken first old new x y text middle line left before parts front =
-    let longer : AppendsFront old new (y ++ middle) = record {
-      sent = front.sent;
-      unsent = front.unsent ++ left;
-      whole = sym (append_assoc front.sent front.unsent left) ∙ ap (λ xs. xs ++ left) front.whole ∙ append_assoc y line left ∙ ap (λ rest. y ++ rest) parts;
-      written = front.written;
-    } in
-    subst (λ whole. AppendsFront first new (x ++ whole)) before.whole (AppendsFront-then first old new x y before.printed middle before.passed longer)
+  -- a `?` passes the fault on
+  pub PrintsDownTo-failed : {A₁ A₂ : Type 0} {result : Result A₂ EndFault} {fault : EndFault} {old new : SizedPrinter W R} {text left other : List ℕ}
+      → IsErrAnd result (λ same. same ≡ fault) → PrintsDownTo sink {A = A₁} (Err fault) old new text left → PrintsDownTo sink result old new text other
+  PrintsDownTo-failed {result = result} exit broken =
+      rw (err_from_is_err_and result exit).1 (record { printed = broken.printed; prints = Prints-told refl refl broken.prints; whole = broken.whole })
 
-pub PassesDownTo-from : (old new : Option (List ℕ)) (waited waiting text other left : List ℕ) → text ≡ other → PassesDownTo old waited new waiting text left → PassesDownTo old waited new waiting other left
-PassesDownTo-from old new waited waiting text other left same passed = subst (λ whole. PassesDownTo old waited new waiting whole left) same passed
+  -- the same text, otherwise put together
+  pub PrintsDownTo-as : {A : Type 0} {result : Result A EndFault} {old new : SizedPrinter W R} {text other left : List ℕ} → text ≡ other → PrintsDownTo sink result old new text left → PrintsDownTo sink result old new other left
+  PrintsDownTo-as {result = result} {old = old} {new = new} {left = left} same = subst (λ whole. PrintsDownTo sink result old new whole left) same
 
--- two parts passed
-pub PassesDownTo-both : (first old new : Option (List ℕ)) (x y z text middle left : List ℕ) → PassesDownTo first x old y text middle → PassesDownTo old y new z middle left → PassesDownTo first x new z text left
-PassesDownTo-both first old new x y z text middle left before after = PassesDownTo-then first old new x y z text middle after.printed left before after.whole after.passed
+  -- what was printed, for who goes on
+  pub PrintsDownTo-passed : {A₁ A₂ : Type 0} {value₁ : A₁} {value₂ : A₂} {old new : SizedPrinter W R} {text left : List ℕ} → PrintsDownTo sink (Ok value₁) old new text left → PrintsDownTo sink (Ok value₂) old new text left
+  PrintsDownTo-passed passed = record { printed = passed.printed; prints = Prints-passed passed.prints; whole = passed.whole }
 
--- and where the second broke off, a prefix of the text is written
-pub AppendsFront-both : (first old new : Option (List ℕ)) (x y text middle : List ℕ) → PassesDownTo first x old y text middle → AppendsFront old new (y ++ middle) → AppendsFront first new (x ++ text)
-AppendsFront-both first old new x y text middle before front = AppendsFront-broken first old new x y text middle middle [] before (append-nil middle) front
+  -- a part broke off
+  pub PrintsDownTo-broken : {A₁ A₂ A₃ : Type 0} {value : A₁} {result : Result A₃ EndFault} {fault : EndFault} {first old new : SizedPrinter W R} {text middle line other : List ℕ} (left : List ℕ)
+      → IsErrAnd result (λ same. same ≡ fault) → PrintsDownTo sink (Ok value) first old text middle → line ++ left ≡ middle → PrintsUnless sink (λ (f : EndFault). true) {A = A₂} (Err fault) old new line
+      → PrintsDownTo sink result first new text other
+  PrintsDownTo-broken {result = result} {text = text} left exit before parts front =
+      rw (err_from_is_err_and result exit).1
+      (record { printed = text; prints = Prints-as before.whole (Prints-then before.prints (Prints-as parts (Prints-within left (Prints-told refl refl front)))); whole = refl })
+
+  -- two parts were printed
+  pub PrintsDownTo-both : {A₁ A₂ : Type 0} {value₁ : A₁} {value₂ : A₂} {first old new : SizedPrinter W R} {text middle left : List ℕ}
+      → PrintsDownTo sink (Ok value₁) first old text middle → PrintsDownTo sink (Ok value₂) old new middle left → PrintsDownTo sink (Ok value₂) first new text left
+  PrintsDownTo-both {left = left} before after = PrintsDownTo-then left before after.whole after.prints
+
+  -- the second part broke off
+  pub PrintsDownTo-stopped : {A₁ A₂ A₃ : Type 0} {value : A₁} {result : Result A₃ EndFault} {fault : EndFault} {first old new : SizedPrinter W R} {text middle left other : List ℕ}
+      → IsErrAnd result (λ same. same ≡ fault) → PrintsDownTo sink (Ok value) first old text middle → PrintsDownTo sink {A = A₂} (Err fault) old new middle left → PrintsDownTo sink result first new text other
+  PrintsDownTo-stopped {middle = middle} exit before broken = PrintsDownTo-broken [] exit before (append-nil broken.printed ∙ broken.whole) broken.prints

@@ -4,6 +4,7 @@ pub mod HexPairs
 pub mod LineTurns
 pub mod Listed
 pub mod PickParts
+pub mod Printings
 pub mod Runs
 pub mod ShortParts
 pub mod Writes

@@ -1,14 +1,11 @@
--- The elements of a list, printed one after the other.
-use Rattle.std.proofs.Common.{◌≡◌, ℕ, ◌+◌, ◌<◌, ◌≤◌, Bool, true, List, [], ◌∷◌, ◌++◌, length, take, drop, get_or, flat_map, map, Option, Result, Err, refl, ap, sym, ◌∙◌, append_assoc, append-nil, zero-add, subst, arith}
+-- The elements of a list, and their texts one after the other.
+use Rattle.std.proofs.Common.{◌≡◌, ℕ, ◌+◌, ◌<◌, List, [], ◌∷◌, ◌++◌, length, take, drop, get_or, flat_map, map, refl, ap, sym, ◌∙◌, append-nil, zero-add, subst, arith}
 use denote.Bor.{Bor}
 use Rattle.std.specs.List.{enumerate_from, zip}
 use Rattle.std.proofs.lemmas.Grind.{flat_map-append}
-use Rattle.std.proofs.lemmas.List.{get_or-map, length-map, take_all, take_more, take-append-drop, drop_more}
+use Rattle.std.proofs.lemmas.List.{get_or-map, length-map, take_more, take-append-drop, drop_more}
 use Rattle.std.proofs.lemmas.List.FromFn.{get_or-enumerate_from, length-enumerate_from}
 use Rattle.std.proofs.lemmas.Slice.Zip.{get_or-zip, length-zip}
-use Rattle.tox_time.specs.declared.ends.EndFault.{EndFault}
-use Rattle.tox_text.specs.Writing.{AppendsFront, Passes, Prints}
-use Rattle.tox_text.proofs.Writes.{AppendsFront-more, AppendsFront-then, Passes-then}
 
 -- an element stands at an index
 pub record IsAt {X : Type 0} (xs : List X) (i : ℕ) (x : X) : Type 0 where
@@ -31,44 +28,13 @@ flat_map-more f xs i x here =
     ∙ ap (λ y. flat_map f (take i xs) ++ f y) (sym here.is))
 
 -- and the others
-flat_map-parts : {X : Type 0} (f : X → List ℕ) (xs : List X) (i : ℕ) (x : X) → IsAt xs i x
+pub flat_map-parts : {X : Type 0} (f : X → List ℕ) (xs : List X) (i : ℕ) (x : X) → IsAt xs i x
     → flat_map f (take i xs) ++ (f x ++ flat_map f (drop (i + 1) xs)) ≡ flat_map f xs
 flat_map-parts f xs i x here =
     ap (λ y. flat_map f (take i xs) ++ (f y ++ flat_map f (drop (i + 1) xs))) here.is
     ∙ ap (λ ys. flat_map f (take i xs) ++ flat_map f ys) (sym (drop_more xs i here.default here.below))
     ∙ sym (flat_map-append f (take i xs) (drop i xs))
     ∙ ap (flat_map f) (take-append-drop i xs)
-
--- the first elements passed, and one more
-pub Passes-more : {X : Type 0} (f : X → List ℕ) (xs : List X) (i : ℕ) (x : X) (first old new : Option (List ℕ)) (waited y z : List ℕ) → IsAt xs i x
-    → Passes first waited old y (flat_map f (take i xs)) → Passes old y new z (f x) → Passes first waited new z (flat_map f (take (i + 1) xs))
-Passes-more f xs i x first old new waited y z here before passed =
-    subst (Passes first waited new z) (flat_map-more f xs i x here) (Passes-then first old new waited y z (flat_map f (take i xs)) (f x) before passed)
-
--- the first part passed, and the next broke off
-pub Prints-broken : (done text rest whole : List ℕ) (first old new : Option (List ℕ)) (waited y z : List ℕ) (failed : Bool)
-    (result : Result (Unit {0}) EndFault) (fault : EndFault) → done ++ (text ++ rest) ≡ whole → result ≡ Err fault
-    → Passes first waited old y done → AppendsFront old new (y ++ text) × (failed ≡ true) → Prints result first waited new z failed whole
-Prints-broken done text rest whole first old new waited y z failed result fault parts is before front =
-    let longer : AppendsFront old new (y ++ (text ++ rest)) =
-    subst (AppendsFront old new) (append_assoc y text rest) (AppendsFront-more old new (y ++ text) rest front.0) in
-    let all : AppendsFront first new (waited ++ whole) =
-    subst (λ printed. AppendsFront first new (waited ++ printed)) parts
-    (AppendsFront-then first old new waited y done (text ++ rest) before longer) in
-    subst (λ r. Prints r first waited new z failed whole) (sym is) (all, front.1)
-
--- the first elements passed, and the next broke off
-pub Prints-stopped : {X : Type 0} (f : X → List ℕ) (xs : List X) (i : ℕ) (x : X) (first old new : Option (List ℕ)) (waited y z : List ℕ) (failed : Bool)
-    (result : Result (Unit {0}) EndFault) (fault : EndFault) → IsAt xs i x → result ≡ Err fault
-    → Passes first waited old y (flat_map f (take i xs)) → AppendsFront old new (y ++ f x) × (failed ≡ true) → Prints result first waited new z failed (flat_map f xs)
-Prints-stopped f xs i x first old new waited y z failed result fault here is before front =
-    Prints-broken (flat_map f (take i xs)) (f x) (flat_map f (drop (i + 1) xs)) (flat_map f xs) first old new waited y z failed result fault
-    (flat_map-parts f xs i x here) is before front
-
--- all elements passed
-pub Passes-all : {X : Type 0} (f : X → List ℕ) (xs : List X) (i : ℕ) (first new : Option (List ℕ)) (waited z : List ℕ) → length xs ≤ i
-    → Passes first waited new z (flat_map f (take i xs)) → Passes first waited new z (flat_map f xs)
-Passes-all f xs i first new waited z past passed = subst (λ ys. Passes first waited new z (flat_map f ys)) (take_all i xs past) passed
 
 -- elements of two lists stand beside one another at their index
 IsAt-zip : {X Y : Type 0} (xs : List X) (ys : List Y) (i : ℕ) (x : X) (y : Y) → i < length xs → i < length ys → IsAt (zip xs ys) i (get_or xs i x, get_or ys i y)

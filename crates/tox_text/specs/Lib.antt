@@ -1,5 +1,6 @@
 pub mod arrivals
 pub mod Writing
+pub mod Printing
 pub mod ResultText
 pub mod PlanText
 pub mod ShortForm

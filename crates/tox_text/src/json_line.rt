@@ -1,11 +1,12 @@
 //! Lines that are objects of JSON: what a line is about, and then its fields.
 ghost use Rattle.std.specs.Prelude.{◌≡◌, false, flat_map};
 ghost use Rattle.tox_text.specs.JsonLine.{event_text, field_text, key_text, object_line};
-ghost use Rattle.tox_text.specs.Writing.{Prints, Writes};
+ghost use Rattle.tox_text.specs.Printing.{IsWorking, Prints};
+ghost use Rattle.tox_text.specs.Writing.{Writes};
 
-use crate::buffer::Buffer;
 use crate::json::{JsonItem, JsonValue, print_value};
 use crate::parts::Part::Word;
+use crate::printer::Printer;
 use tox_time::{EndFault, Sink};
 
 /// A field of a line: its key, which needs no escape, and its value.
@@ -53,73 +54,58 @@ pub fn write_object<W: Sink>(
     ensures { Writes result (W.written writer.old) (W.written writer.new) (W.failed writer.new)
         (object_line event.now fields.now) }
 {
-    let mut buffer = Buffer::new();
-    print_object(&mut buffer, writer, event, fields)?;
-    buffer.flush(writer)
+    let mut printer = Printer::new(writer);
+    print_object(&mut printer, event, fields)?;
+    printer.finish()
 }
 
 /// Prints a line about this event with these fields.
 pub fn print_object<W: Sink>(
-    buffer: &mut Buffer,
-    writer: &mut W,
+    printer: &mut Printer<'_, W>,
     event: &str,
     fields: &[JsonField<'_>],
 ) -> Result<(), EndFault>
-    requires { W.failed writer.old ≡ false }
-    ensures { Prints result (W.written writer.old) buffer.old (W.written writer.new) buffer.new
-        (W.failed writer.new) (object_line event.now fields.now) }
+    requires { IsWorking W.Sink printer.old }
+    ensures { Prints W.Sink result printer.old printer.new (object_line event.now fields.now) }
 {
-    print_event(buffer, writer, event)?;
-    print_fields(buffer, writer, fields)?;
-    buffer.put(writer, b"}\n")
+    print_event(printer, event)?;
+    print_fields(printer, fields)?;
+    printer.put(b"}\n")
 }
 
 /// Prints the beginning of a line about this event.
-pub fn print_event<W: Sink>(
-    buffer: &mut Buffer,
-    writer: &mut W,
-    event: &str,
-) -> Result<(), EndFault>
-    requires { W.failed writer.old ≡ false }
-    ensures { Prints result (W.written writer.old) buffer.old (W.written writer.new) buffer.new
-        (W.failed writer.new) (event_text event.now) }
+pub fn print_event<W: Sink>(printer: &mut Printer<'_, W>, event: &str) -> Result<(), EndFault>
+    requires { IsWorking W.Sink printer.old }
+    ensures { Prints W.Sink result printer.old printer.new (event_text event.now) }
 {
-    buffer.print(writer, &[Word("{\"event\":\""), Word(event), Word("\"")])
+    printer.print(&[Word("{\"event\":\""), Word(event), Word("\"")])
 }
 
 /// Prints fields, each with a comma before it.
 pub fn print_fields<W: Sink>(
-    buffer: &mut Buffer,
-    writer: &mut W,
+    printer: &mut Printer<'_, W>,
     fields: &[JsonField<'_>],
 ) -> Result<(), EndFault>
-    requires { W.failed writer.old ≡ false }
-    ensures { Prints result (W.written writer.old) buffer.old (W.written writer.new) buffer.new
-        (W.failed writer.new) (flat_map field_text fields.now) }
+    requires { IsWorking W.Sink printer.old }
+    ensures { Prints W.Sink result printer.old printer.new (flat_map field_text fields.now) }
 {
     for field in fields {
-        print_field(buffer, writer, field)?;
+        print_field(printer, field)?;
     }
     Ok(())
 }
 
-fn print_field<W: Sink>(
-    buffer: &mut Buffer,
-    writer: &mut W,
-    field: &JsonField<'_>,
-) -> Result<(), EndFault>
-    requires { W.failed writer.old ≡ false }
-    ensures { Prints result (W.written writer.old) buffer.old (W.written writer.new) buffer.new
-        (W.failed writer.new) (field_text field.now) }
+fn print_field<W: Sink>(printer: &mut Printer<'_, W>, field: &JsonField<'_>) -> Result<(), EndFault>
+    requires { IsWorking W.Sink printer.old }
+    ensures { Prints W.Sink result printer.old printer.new (field_text field.now) }
 {
-    print_key(buffer, writer, field.key)?;
-    print_value(buffer, writer, &field.value)
+    print_key(printer, field.key)?;
+    print_value(printer, &field.value)
 }
 
-fn print_key<W: Sink>(buffer: &mut Buffer, writer: &mut W, key: &str) -> Result<(), EndFault>
-    requires { W.failed writer.old ≡ false }
-    ensures { Prints result (W.written writer.old) buffer.old (W.written writer.new) buffer.new
-        (W.failed writer.new) (key_text key.now) }
+fn print_key<W: Sink>(printer: &mut Printer<'_, W>, key: &str) -> Result<(), EndFault>
+    requires { IsWorking W.Sink printer.old }
+    ensures { Prints W.Sink result printer.old printer.new (key_text key.now) }
 {
-    buffer.print(writer, &[Word(",\""), Word(key), Word("\":")])
+    printer.print(&[Word(",\""), Word(key), Word("\":")])
 }

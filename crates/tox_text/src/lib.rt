@@ -2,7 +2,6 @@
 #![tactic(auto)]
 
 mod arrivals;
-mod buffer;
 mod fault;
 mod json;
 mod json_line;
@@ -12,6 +11,7 @@ mod nearest_name;
 mod parts;
 mod pick_text;
 mod plan_text;
+mod printer;
 mod result_line;
 mod short_form;
 
@@ -20,7 +20,6 @@ pub use arrivals::hex_pairs::decode_into;
 pub use arrivals::line::{Event, Line, line_of};
 pub use arrivals::list::list_arrivals;
 pub use arrivals::text_lines::first_line;
-pub use buffer::{Buffer, LineBuffer, SizedBuffer, write_parts};
 pub use fault::{DryFault, WriteFault};
 pub use json::{JsonItem, JsonValue, print_quoted};
 pub use json_line::{JsonField, print_event, print_fields, print_object, write_object};
@@ -30,5 +29,6 @@ pub use nearest_name::nearest;
 pub use parts::Part;
 pub use pick_text::{PrintPickFault, print_pick};
 pub use plan_text::print_plan;
+pub use printer::{LinePrinter, Printer, SizedPrinter, write_parts};
 pub use result_line::{print_ending, print_lent};
 pub use short_form::print_short;

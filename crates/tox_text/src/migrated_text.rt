@@ -4,7 +4,7 @@ ghost use Rattle.std.specs.Str.{is_utf8};
 ghost use Rattle.tox_script.specs.declared.fault.ScriptFault.TheVariants.{OutOfMemory};
 ghost use Rattle.tox_text.specs.PrintingMigrated.{LeavesMigrated, WritesMigrated};
 
-use crate::buffer::write_all;
+use crate::printer::write_all;
 use std::alloc::Global;
 use thiserror::Error;
 use tox_script::{ScriptFault, migrate};

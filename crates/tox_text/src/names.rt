@@ -1,11 +1,11 @@
 //! Names on one line.
-ghost use Rattle.std.specs.Prelude.{◌≡◌, ◌∷◌, [], false, Some, IfNone, IfSome};
+ghost use Rattle.std.specs.Prelude.{◌≡◌, ◌∷◌, [], Some, IfNone, IfSome};
 ghost use Rattle.std.specs.Char.{encode_utf8};
 ghost use Rattle.std.specs.Fmt.{WritesOnOk};
 ghost use Rattle.tox_text.specs.Names.{escaped, is_bidi_control, visible, visible_name};
-ghost use Rattle.tox_text.specs.Writing.{Prints};
+ghost use Rattle.tox_text.specs.Printing.{IsWorking, Prints};
 
-use crate::buffer::SizedBuffer;
+use crate::printer::SizedPrinter;
 use std::fmt;
 use tox_time::{EndFault, Sink};
 
@@ -86,47 +86,41 @@ fn display_escape<W: fmt::Write>(escape: Escape, f: &mut fmt::Formatter<W>) -> f
 
 /// Prints a name that keeps to its line.
 pub(crate) fn print_name<W: Sink, const ROOM: usize>(
-    buffer: &mut SizedBuffer<ROOM>,
-    writer: &mut W,
+    printer: &mut SizedPrinter<'_, W, ROOM>,
     name: &str,
 ) -> Result<(), EndFault>
-    requires { W.failed writer.old ≡ false }
-    ensures { Prints result (W.written writer.old) buffer.old (W.written writer.new) buffer.new
-        (W.failed writer.new) (visible_name name.now) }
+    requires { IsWorking W.Sink printer.old }
+    ensures { Prints W.Sink result printer.old printer.new (visible_name name.now) }
 {
     for letter in name.chars() {
-        print_letter(buffer, writer, letter)?;
+        print_letter(printer, letter)?;
     }
     Ok(())
 }
 
 fn print_letter<W: Sink, const ROOM: usize>(
-    buffer: &mut SizedBuffer<ROOM>,
-    writer: &mut W,
+    printer: &mut SizedPrinter<'_, W, ROOM>,
     letter: char,
 ) -> Result<(), EndFault>
-    requires { W.failed writer.old ≡ false }
-    ensures { Prints result (W.written writer.old) buffer.old (W.written writer.new) buffer.new
-        (W.failed writer.new) (visible letter) }
+    requires { IsWorking W.Sink printer.old }
+    ensures { Prints W.Sink result printer.old printer.new (visible letter) }
 {
     match escape_of(letter) {
-        Some(escape) => print_escape(buffer, writer, escape),
+        Some(escape) => print_escape(printer, escape),
         None => {
             let mut room = [0; MAX_LEN_UTF8];
-            buffer.put(writer, letter.encode_utf8(&mut room).as_bytes())
+            printer.put(letter.encode_utf8(&mut room).as_bytes())
         }
     }
 }
 
 fn print_escape<W: Sink, const ROOM: usize>(
-    buffer: &mut SizedBuffer<ROOM>,
-    writer: &mut W,
+    printer: &mut SizedPrinter<'_, W, ROOM>,
     escape: Escape,
 ) -> Result<(), EndFault>
-    requires { W.failed writer.old ≡ false }
-    ensures { Prints result (W.written writer.old) buffer.old (W.written writer.new) buffer.new
-        (W.failed writer.new) (escaped escape.sign.now escape.byte) }
+    requires { IsWorking W.Sink printer.old }
+    ensures { Prints W.Sink result printer.old printer.new (escaped escape.sign.now escape.byte) }
 {
-    buffer.put(writer, escape.sign.as_bytes())?;
-    buffer.put_hex(writer, &[escape.byte])
+    printer.put(escape.sign.as_bytes())?;
+    printer.put_hex(&[escape.byte])
 }

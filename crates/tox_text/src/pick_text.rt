@@ -4,10 +4,11 @@ ghost use Rattle.std.specs.Io.KnownBytes.{append_known};
 ghost use Rattle.tox_words.specs.Draw.{draws_of};
 ghost use Rattle.tox_text.specs.PickText.{applied_word, enabled_word, pick_lines, pick_text, picked_toxic_line, proxy_line, toxics_text};
 ghost use Rattle.tox_text.specs.PrintingPick.{PickLeaves};
-ghost use Rattle.tox_text.specs.Writing.{Prints, Writes};
+ghost use Rattle.tox_text.specs.Printing.{IsWorking, Prints};
+ghost use Rattle.tox_text.specs.Writing.{Writes};
 
-use crate::buffer::Buffer;
 use crate::parts::Part::{Name, Number, Word};
+use crate::printer::Printer;
 use crate::short_form::print_short;
 use std::alloc::Global;
 use thiserror::Error;
@@ -78,38 +79,31 @@ fn write_pick<W: Sink>(
     ensures { Writes result (W.written writer.old) (W.written writer.new) (W.failed writer.new)
         (pick_lines proxy.now (draws_of drawing.now) entries.now (map string_bytes names.now)) }
 {
-    let mut buffer = Buffer::new();
-    print_lines(&mut buffer, writer, proxy, drawing, entries, names)?;
-    buffer.flush(writer)
+    let mut printer = Printer::new(writer);
+    print_lines(&mut printer, proxy, drawing, entries, names)?;
+    printer.finish()
 }
 
 fn print_lines<W: Sink>(
-    buffer: &mut Buffer,
-    writer: &mut W,
+    printer: &mut Printer<'_, W>,
     proxy: &ProxyDef,
     drawing: &Drawing<'_>,
     entries: &[Entry],
     names: &[String],
 ) -> Result<(), EndFault>
-    requires working { W.failed writer.old ≡ false }
+    requires working { IsWorking W.Sink printer.old }
     requires one_each { length names.now ≡ length entries.now }
-    ensures { Prints result (W.written writer.old) buffer.old (W.written writer.new) buffer.new
-        (W.failed writer.new)
+    ensures { Prints W.Sink result printer.old printer.new
         (pick_lines proxy.now (draws_of drawing.now) entries.now (map string_bytes names.now)) }
 {
-    print_proxy(buffer, writer, proxy)?;
-    print_toxics(buffer, writer, drawing, entries, names)
+    print_proxy(printer, proxy)?;
+    print_toxics(printer, drawing, entries, names)
 }
 
 /// Prints the line of a proxy.
-fn print_proxy<W: Sink>(
-    buffer: &mut Buffer,
-    writer: &mut W,
-    proxy: &ProxyDef,
-) -> Result<(), EndFault>
-    requires { W.failed writer.old ≡ false }
-    ensures { Prints result (W.written writer.old) buffer.old (W.written writer.new) buffer.new
-        (W.failed writer.new) (proxy_line proxy.now) }
+fn print_proxy<W: Sink>(printer: &mut Printer<'_, W>, proxy: &ProxyDef) -> Result<(), EndFault>
+    requires { IsWorking W.Sink printer.old }
+    ensures { Prints W.Sink result printer.old printer.new (proxy_line proxy.now) }
 {
     let parts = [
         Word("proxy "),
@@ -122,7 +116,7 @@ fn print_proxy<W: Sink>(
         Word(enabled_word(proxy.enabled)),
         Word("\n"),
     ];
-    buffer.print(writer, &parts)
+    printer.print(&parts)
 }
 
 fn enabled_word(enabled: bool) -> &'static str
@@ -133,52 +127,46 @@ fn enabled_word(enabled: bool) -> &'static str
 
 /// Prints the lines of named toxics.
 fn print_toxics<W: Sink>(
-    buffer: &mut Buffer,
-    writer: &mut W,
+    printer: &mut Printer<'_, W>,
     drawing: &Drawing<'_>,
     entries: &[Entry],
     names: &[String],
 ) -> Result<(), EndFault>
-    requires working { W.failed writer.old ≡ false }
+    requires working { IsWorking W.Sink printer.old }
     requires one_each { length names.now ≡ length entries.now }
-    ensures { Prints result (W.written writer.old) buffer.old (W.written writer.new) buffer.new
-        (W.failed writer.new)
+    ensures { Prints W.Sink result printer.old printer.new
         (toxics_text (draws_of drawing.now) entries.now (map string_bytes names.now)) }
 {
     for (place, entry) in entries.iter().enumerate() {
-        print_toxic(buffer, writer, drawing, place, entry, &names[place])?;
+        print_toxic(printer, drawing, place, entry, &names[place])?;
     }
     Ok(())
 }
 
 /// Prints the line of a named toxic at a place of its chain.
 fn print_toxic<W: Sink>(
-    buffer: &mut Buffer,
-    writer: &mut W,
+    printer: &mut Printer<'_, W>,
     drawing: &Drawing<'_>,
     place: usize,
     entry: &Entry,
     name: &str,
 ) -> Result<(), EndFault>
-    requires { W.failed writer.old ≡ false }
-    ensures { Prints result (W.written writer.old) buffer.old (W.written writer.new) buffer.new
-        (W.failed writer.new) (picked_toxic_line (draws_of drawing.now) place entry.now name.now) }
+    requires { IsWorking W.Sink printer.old }
+    ensures { Prints W.Sink result printer.old printer.new (picked_toxic_line (draws_of drawing.now) place entry.now name.now) }
 {
-    print_place(buffer, writer, place, entry.is_applied(place, drawing))?;
-    print_short(buffer, writer, entry)?;
-    buffer.print(writer, &[Word(" "), Word(name), Word("\n")])
+    print_place(printer, place, entry.is_applied(place, drawing))?;
+    print_short(printer, entry)?;
+    printer.print(&[Word(" "), Word(name), Word("\n")])
 }
 
 /// Prints a place of a chain, and whether its toxic is applied.
 fn print_place<W: Sink>(
-    buffer: &mut Buffer,
-    writer: &mut W,
+    printer: &mut Printer<'_, W>,
     place: usize,
     applied: bool,
 ) -> Result<(), EndFault>
-    requires { W.failed writer.old ≡ false }
-    ensures { Prints result (W.written writer.old) buffer.old (W.written writer.new) buffer.new
-        (W.failed writer.new) (decimal place ++ codes " " ++ applied_word applied ++ codes " ") }
+    requires { IsWorking W.Sink printer.old }
+    ensures { Prints W.Sink result printer.old printer.new (decimal place ++ codes " " ++ applied_word applied ++ codes " ") }
 {
     let parts = [
         Number(place as u64),
@@ -186,7 +174,7 @@ fn print_place<W: Sink>(
         Word(applied_word(applied)),
         Word(" "),
     ];
-    buffer.print(writer, &parts)
+    printer.print(&parts)
 }
 
 fn applied_word(applied: bool) -> &'static str

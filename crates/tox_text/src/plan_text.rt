@@ -3,11 +3,12 @@ ghost use Rattle.std.specs.Prelude.{◌≡◌, ◌++◌, false, codes, flat_map}
 ghost use Rattle.tox_defs.specs.operations.Op.{op_from, op_until};
 ghost use Rattle.tox_text.specs.PlanText.{at_words, delay_words, nonzero_words, op_line, plan_text, slicing_words, work_words};
 ghost use Rattle.tox_text.specs.ResultText.{ending_words};
-ghost use Rattle.tox_text.specs.Writing.{Prints, Writes};
+ghost use Rattle.tox_text.specs.Printing.{IsWorking, Prints};
+ghost use Rattle.tox_text.specs.Writing.{Writes};
 
-use crate::buffer::Buffer;
 use crate::fault::WriteFault;
 use crate::parts::Part::{Number, Word};
+use crate::printer::Printer;
 use crate::result_line::print_ending_words;
 use tox_compile::Plan;
 use tox_defs::Op;
@@ -30,50 +31,46 @@ fn write_ops<W: Sink>(writer: &mut W, ops: &[Op]) -> Result<(), EndFault>
     ensures { Writes result (W.written writer.old) (W.written writer.new) (W.failed writer.new)
         (plan_text ops.now) }
 {
-    let mut buffer = Buffer::new();
-    print_text(&mut buffer, writer, ops)?;
-    buffer.flush(writer)
+    let mut printer = Printer::new(writer);
+    print_text(&mut printer, ops)?;
+    printer.finish()
 }
 
-fn print_text<W: Sink>(buffer: &mut Buffer, writer: &mut W, ops: &[Op]) -> Result<(), EndFault>
-    requires { W.failed writer.old ≡ false }
-    ensures { Prints result (W.written writer.old) buffer.old (W.written writer.new) buffer.new
-        (W.failed writer.new) (plan_text ops.now) }
+fn print_text<W: Sink>(printer: &mut Printer<'_, W>, ops: &[Op]) -> Result<(), EndFault>
+    requires { IsWorking W.Sink printer.old }
+    ensures { Prints W.Sink result printer.old printer.new (plan_text ops.now) }
 {
     if ops.is_empty() {
-        return buffer.print(writer, &[Word("pass\n")]);
+        return printer.print(&[Word("pass\n")]);
     }
-    print_ops(buffer, writer, ops)
+    print_ops(printer, ops)
 }
 
-fn print_ops<W: Sink>(buffer: &mut Buffer, writer: &mut W, ops: &[Op]) -> Result<(), EndFault>
-    requires { W.failed writer.old ≡ false }
-    ensures { Prints result (W.written writer.old) buffer.old (W.written writer.new) buffer.new
-        (W.failed writer.new) (flat_map op_line ops.now) }
+fn print_ops<W: Sink>(printer: &mut Printer<'_, W>, ops: &[Op]) -> Result<(), EndFault>
+    requires { IsWorking W.Sink printer.old }
+    ensures { Prints W.Sink result printer.old printer.new (flat_map op_line ops.now) }
 {
     for op in ops {
-        print_op(buffer, writer, op)?;
+        print_op(printer, op)?;
     }
     Ok(())
 }
 
 /// Prints the line of an operation.
-fn print_op<W: Sink>(buffer: &mut Buffer, writer: &mut W, op: &Op) -> Result<(), EndFault>
-    requires { W.failed writer.old ≡ false }
-    ensures { Prints result (W.written writer.old) buffer.old (W.written writer.new) buffer.new
-        (W.failed writer.new) (op_line op.now) }
+fn print_op<W: Sink>(printer: &mut Printer<'_, W>, op: &Op) -> Result<(), EndFault>
+    requires { IsWorking W.Sink printer.old }
+    ensures { Prints W.Sink result printer.old printer.new (op_line op.now) }
 {
-    print_work(buffer, writer, op)?;
-    print_nonzero(buffer, writer, " until ", u64::from(until_of(op)))?;
-    print_nonzero(buffer, writer, " from ", u64::from(from_of(op)))?;
-    buffer.print(writer, &[Word("\n")])
+    print_work(printer, op)?;
+    print_nonzero(printer, " until ", u64::from(until_of(op)))?;
+    print_nonzero(printer, " from ", u64::from(from_of(op)))?;
+    printer.print(&[Word("\n")])
 }
 
 /// Prints what an operation does in its time.
-fn print_work<W: Sink>(buffer: &mut Buffer, writer: &mut W, op: &Op) -> Result<(), EndFault>
-    requires { W.failed writer.old ≡ false }
-    ensures { Prints result (W.written writer.old) buffer.old (W.written writer.new) buffer.new
-        (W.failed writer.new) (work_words op.now) }
+fn print_work<W: Sink>(printer: &mut Printer<'_, W>, op: &Op) -> Result<(), EndFault>
+    requires { IsWorking W.Sink printer.old }
+    ensures { Prints W.Sink result printer.old printer.new (work_words op.now) }
 {
     match op {
         Op::Delay {
@@ -82,40 +79,36 @@ fn print_work<W: Sink>(buffer: &mut Buffer, writer: &mut W, op: &Op) -> Result<(
             jitter,
             lane,
             ..
-        } => print_delay(buffer, writer, *fixed, *latency, *jitter, *lane),
-        Op::Pace { rate, .. } => {
-            buffer.print(writer, &[Word("pace "), Number(u64::from(*rate))])
-        }
-        Op::Slow { millis } => buffer.print(writer, &[Word("slow "), Number(u64::from(*millis))]),
-        Op::Limit { bytes } => buffer.print(writer, &[Word("limit "), Number(*bytes)]),
-        Op::Cutoff { instant } => buffer.print(writer, &[Word("cutoff "), Number(instant.get())]),
+        } => print_delay(printer, *fixed, *latency, *jitter, *lane),
+        Op::Pace { rate, .. } => { printer.print(&[Word("pace "), Number(u64::from(*rate))]) }
+        Op::Slow { millis } => printer.print(&[Word("slow "), Number(u64::from(*millis))]),
+        Op::Limit { bytes } => printer.print(&[Word("limit "), Number(*bytes)]),
+        Op::Cutoff { instant } => printer.print(&[Word("cutoff "), Number(instant.get())]),
         Op::Slicing {
             average,
             variation,
             micros,
             lane,
             ..
-        } => print_slicing(buffer, writer, *average, *variation, *micros, *lane),
-        Op::Mute { ending } => print_mute(buffer, writer, ending),
-        Op::Halt { at, after, ending } => print_halt(buffer, writer, at, *after, ending),
+        } => print_slicing(printer, *average, *variation, *micros, *lane),
+        Op::Mute { ending } => print_mute(printer, ending),
+        Op::Halt { at, after, ending } => print_halt(printer, at, *after, ending),
     }
 }
 
 /// Prints a delay, with what it draws if it has jitter.
 fn print_delay<W: Sink>(
-    buffer: &mut Buffer,
-    writer: &mut W,
+    printer: &mut Printer<'_, W>,
     fixed: u32,
     latency: u32,
     jitter: u32,
     lane: usize,
 ) -> Result<(), EndFault>
-    requires { W.failed writer.old ≡ false }
-    ensures { Prints result (W.written writer.old) buffer.old (W.written writer.new) buffer.new
-        (W.failed writer.new) (delay_words fixed latency jitter lane) }
+    requires { IsWorking W.Sink printer.old }
+    ensures { Prints W.Sink result printer.old printer.new (delay_words fixed latency jitter lane) }
 {
     if jitter == 0 {
-        return buffer.print(writer, &[Word("delay "), Number(u64::from(fixed))]);
+        return printer.print(&[Word("delay "), Number(u64::from(fixed))]);
     }
     let parts = [
         Word("delay "),
@@ -127,21 +120,19 @@ fn print_delay<W: Sink>(
         Word(" lane "),
         Number(lane as u64),
     ];
-    buffer.print(writer, &parts)
+    printer.print(&parts)
 }
 
 /// Prints a slicing, with the lane of its draws.
 fn print_slicing<W: Sink>(
-    buffer: &mut Buffer,
-    writer: &mut W,
+    printer: &mut Printer<'_, W>,
     average: u32,
     variation: u32,
     micros: u64,
     lane: usize,
 ) -> Result<(), EndFault>
-    requires { W.failed writer.old ≡ false }
-    ensures { Prints result (W.written writer.old) buffer.old (W.written writer.new) buffer.new
-        (W.failed writer.new) (slicing_words average variation micros lane) }
+    requires { IsWorking W.Sink printer.old }
+    ensures { Prints W.Sink result printer.old printer.new (slicing_words average variation micros lane) }
 {
     let parts = [
         Word("slicing "),
@@ -153,50 +144,42 @@ fn print_slicing<W: Sink>(
         Word(" lane "),
         Number(lane as u64),
     ];
-    buffer.print(writer, &parts)
+    printer.print(&parts)
 }
 
 /// Prints how a link ends that lets no data through.
-fn print_mute<W: Sink>(buffer: &mut Buffer, writer: &mut W, ending: &Ending) -> Result<(), EndFault>
-    requires { W.failed writer.old ≡ false }
-    ensures { Prints result (W.written writer.old) buffer.old (W.written writer.new) buffer.new
-        (W.failed writer.new) (codes "mute " ++ ending_words ending.now) }
+fn print_mute<W: Sink>(printer: &mut Printer<'_, W>, ending: &Ending) -> Result<(), EndFault>
+    requires { IsWorking W.Sink printer.old }
+    ensures { Prints W.Sink result printer.old printer.new (codes "mute " ++ ending_words ending.now) }
 {
-    buffer.print(writer, &[Word("mute ")])?;
-    print_ending_words(buffer, writer, ending)
+    printer.print(&[Word("mute ")])?;
+    print_ending_words(printer, ending)
 }
 
 /// Prints when and how a halt ends the link.
 fn print_halt<W: Sink>(
-    buffer: &mut Buffer,
-    writer: &mut W,
+    printer: &mut Printer<'_, W>,
     at: &Option<Micros>,
     after: u64,
     ending: &Ending,
 ) -> Result<(), EndFault>
-    requires { W.failed writer.old ≡ false }
-    ensures { Prints result (W.written writer.old) buffer.old (W.written writer.new) buffer.new
-        (W.failed writer.new) (work_words (Op.Halt at.now after ending.now)) }
+    requires { IsWorking W.Sink printer.old }
+    ensures { Prints W.Sink result printer.old printer.new (work_words (Op.Halt at.now after ending.now)) }
 {
-    buffer.print(writer, &[Word("halt")])?;
-    print_at(buffer, writer, at)?;
-    print_nonzero(buffer, writer, " after ", after)?;
-    buffer.print(writer, &[Word(" ")])?;
-    print_ending_words(buffer, writer, ending)
+    printer.print(&[Word("halt")])?;
+    print_at(printer, at)?;
+    print_nonzero(printer, " after ", after)?;
+    printer.print(&[Word(" ")])?;
+    print_ending_words(printer, ending)
 }
 
 /// Prints the instant from which on an operation ends the link, if there is one.
-fn print_at<W: Sink>(
-    buffer: &mut Buffer,
-    writer: &mut W,
-    at: &Option<Micros>,
-) -> Result<(), EndFault>
-    requires { W.failed writer.old ≡ false }
-    ensures { Prints result (W.written writer.old) buffer.old (W.written writer.new) buffer.new
-        (W.failed writer.new) (at_words at.now) }
+fn print_at<W: Sink>(printer: &mut Printer<'_, W>, at: &Option<Micros>) -> Result<(), EndFault>
+    requires { IsWorking W.Sink printer.old }
+    ensures { Prints W.Sink result printer.old printer.new (at_words at.now) }
 {
     match at {
-        Some(instant) => buffer.print(writer, &[Word(" at "), Number(instant.get())]),
+        Some(instant) => printer.print(&[Word(" at "), Number(instant.get())]),
         None => Ok(()),
     }
 }
@@ -227,17 +210,15 @@ fn from_of(op: &Op) -> u32
 
 /// Prints a number behind its word, and nothing for 0.
 fn print_nonzero<W: Sink>(
-    buffer: &mut Buffer,
-    writer: &mut W,
+    printer: &mut Printer<'_, W>,
     word: &str,
     number: u64,
 ) -> Result<(), EndFault>
-    requires { W.failed writer.old ≡ false }
-    ensures { Prints result (W.written writer.old) buffer.old (W.written writer.new) buffer.new
-        (W.failed writer.new) (nonzero_words word.now number) }
+    requires { IsWorking W.Sink printer.old }
+    ensures { Prints W.Sink result printer.old printer.new (nonzero_words word.now number) }
 {
     if number == 0 {
         return Ok(());
     }
-    buffer.print(writer, &[Word(word), Number(number)])
+    printer.print(&[Word(word), Number(number)])
 }

@@ -1,8 +1,8 @@
 //! The lines of a link.
-ghost use Rattle.std.specs.Prelude.{◌≡◌, ◌+◌, ◌<◌, ◌^◌, ◌≤◌, ◌++◌, false, length, map, string_bytes};
+ghost use Rattle.std.specs.Prelude.{◌≡◌, ◌+◌, ◌<◌, ◌^◌, ◌≤◌, ◌++◌, length, map, string_bytes};
 ghost use Rattle.std.specs.Option.{ForSome};
 ghost use Rattle.tox_time.specs.declared.streams.stream.Stream.TheVariants.{Upstream as Up, Downstream as Down};
-ghost use Rattle.tox_text.specs.Writing.{Prints};
+ghost use Rattle.tox_text.specs.Printing.{IsWorking, Prints};
 ghost use Rattle.tox_check.specs.forecast.ForecastText.{has_wanted, is_asked, line_head, line_in, place_text, places_text, stream_line, wanted_line};
 ghost use Rattle.tox_check.specs.forecast.Objects.{rule_number};
 
@@ -10,8 +10,8 @@ use crate::forecast::flags::{LinkFlags, meets_name};
 use crate::forecast::object::print_stream_object;
 use crate::forecast::question::Question;
 use tox_script::{Chains, NamedChain};
-use tox_text::Buffer;
 use tox_text::Part::{Number, Word};
+use tox_text::Printer;
 use tox_time::{EndFault, Sink, Stream};
 
 /// A connection of a proxy, and the rule that it meets, by its number from 0.
@@ -25,37 +25,26 @@ pub(crate) struct Met<'a> {
 
 /// Prints the wanted lines of a connection that meets these toxics.
 pub(crate) fn print_link<W: Sink>(
-    buffer: &mut Buffer,
-    writer: &mut W,
+    printer: &mut Printer<'_, W>,
     question: &Question<'_>,
     met: &Met<'_>,
     chains: &Chains,
     flags: &LinkFlags,
 ) -> Result<(), EndFault>
-    requires working { W.failed writer.old ≡ false }
+    requires working { IsWorking W.Sink printer.old }
     requires upstream { length flags.now.upstream.items ≤ 32 }
     requires downstream { length flags.now.downstream.items ≤ 32 }
-    ensures { Prints result (W.written writer.old) buffer.old (W.written writer.new) buffer.new
-        (W.failed writer.new)
+    ensures { Prints W.Sink result printer.old printer.new
         (wanted_line question.now met.now.proxy.now met.now.conn Up met.now.rule
         chains.now.upstream.names flags.now.upstream.items
         ++ wanted_line question.now met.now.proxy.now met.now.conn Down met.now.rule
         chains.now.downstream.names flags.now.downstream.items) }
 {
     let up = Stream::Upstream;
-    print_wanted(
-        buffer,
-        writer,
-        question,
-        met,
-        up,
-        chains.on(up),
-        flags.on(up),
-    )?;
+    print_wanted(printer, question, met, up, chains.on(up), flags.on(up))?;
     let down = Stream::Downstream;
     print_wanted(
-        buffer,
-        writer,
+        printer,
         question,
         met,
         down,
@@ -66,23 +55,21 @@ pub(crate) fn print_link<W: Sink>(
 
 /// Prints the line of a connection's stream, if it is wanted.
 fn print_wanted<W: Sink>(
-    buffer: &mut Buffer,
-    writer: &mut W,
+    printer: &mut Printer<'_, W>,
     question: &Question<'_>,
     met: &Met<'_>,
     stream: Stream,
     toxics: &NamedChain,
     flags: &[bool],
 ) -> Result<(), EndFault>
-    requires working { W.failed writer.old ≡ false }
+    requires working { IsWorking W.Sink printer.old }
     requires few { length flags.now ≤ 32 }
-    ensures { Prints result (W.written writer.old) buffer.old (W.written writer.new) buffer.new
-        (W.failed writer.new)
+    ensures { Prints W.Sink result printer.old printer.new
         (wanted_line question.now met.now.proxy.now met.now.conn stream met.now.rule
         toxics.now.names flags.now) }
 {
     if is_asked(question.stream, stream) && has_wanted(question.named, toxics.names(), flags) {
-        print_line(buffer, writer, question.json, met, stream, flags)
+        print_line(printer, question.json, met, stream, flags)
     } else {
         Ok(())
     }
@@ -110,53 +97,47 @@ fn has_wanted(named: Option<&str>, names: &[String], flags: &[bool]) -> bool
 
 /// Prints the line of a connection's stream, in words or as an object of JSON.
 fn print_line<W: Sink>(
-    buffer: &mut Buffer,
-    writer: &mut W,
+    printer: &mut Printer<'_, W>,
     json: bool,
     met: &Met<'_>,
     stream: Stream,
     flags: &[bool],
 ) -> Result<(), EndFault>
-    requires working { W.failed writer.old ≡ false }
+    requires working { IsWorking W.Sink printer.old }
     requires few { length flags.now ≤ 32 }
-    ensures { Prints result (W.written writer.old) buffer.old (W.written writer.new) buffer.new
-        (W.failed writer.new)
+    ensures { Prints W.Sink result printer.old printer.new
         (line_in json met.now.proxy.now met.now.conn stream met.now.rule flags.now) }
 {
     if json {
-        print_stream_object(buffer, writer, met, stream, flags)
+        print_stream_object(printer, met, stream, flags)
     } else {
-        print_words(buffer, writer, met, stream, flags)
+        print_words(printer, met, stream, flags)
     }
 }
 
 /// Prints the line of a connection's stream in words.
 fn print_words<W: Sink>(
-    buffer: &mut Buffer,
-    writer: &mut W,
+    printer: &mut Printer<'_, W>,
     met: &Met<'_>,
     stream: Stream,
     flags: &[bool],
 ) -> Result<(), EndFault>
-    requires { W.failed writer.old ≡ false }
-    ensures { Prints result (W.written writer.old) buffer.old (W.written writer.new) buffer.new
-        (W.failed writer.new) (stream_line met.now.conn stream met.now.rule flags.now) }
+    requires { IsWorking W.Sink printer.old }
+    ensures { Prints W.Sink result printer.old printer.new (stream_line met.now.conn stream met.now.rule flags.now) }
 {
-    print_head(buffer, writer, met, stream)?;
-    print_places(buffer, writer, flags)?;
-    buffer.print(writer, &[Word("\n")])
+    print_head(printer, met, stream)?;
+    print_places(printer, flags)?;
+    printer.print(&[Word("\n")])
 }
 
 /// Prints the line of a connection's stream up to the places.
 fn print_head<W: Sink>(
-    buffer: &mut Buffer,
-    writer: &mut W,
+    printer: &mut Printer<'_, W>,
     met: &Met<'_>,
     stream: Stream,
 ) -> Result<(), EndFault>
-    requires { W.failed writer.old ≡ false }
-    ensures { Prints result (W.written writer.old) buffer.old (W.written writer.new) buffer.new
-        (W.failed writer.new) (line_head met.now.conn stream met.now.rule) }
+    requires { IsWorking W.Sink printer.old }
+    ensures { Prints W.Sink result printer.old printer.new (line_head met.now.conn stream met.now.rule) }
 {
     let parts = [
         Number(met.conn),
@@ -166,7 +147,7 @@ fn print_head<W: Sink>(
         Number(number_of(met.rule)),
         Word(" applied"),
     ];
-    buffer.print(writer, &parts)
+    printer.print(&parts)
 }
 
 /// The number of a rule from 1, or 0 for none.
@@ -181,34 +162,27 @@ pub(crate) fn number_of(rule: Option<usize>) -> u64
 }
 
 /// Prints the places of the applied toxics.
-fn print_places<W: Sink>(
-    buffer: &mut Buffer,
-    writer: &mut W,
-    flags: &[bool],
-) -> Result<(), EndFault>
-    requires { W.failed writer.old ≡ false }
-    ensures { Prints result (W.written writer.old) buffer.old (W.written writer.new) buffer.new
-        (W.failed writer.new) (places_text flags.now) }
+fn print_places<W: Sink>(printer: &mut Printer<'_, W>, flags: &[bool]) -> Result<(), EndFault>
+    requires { IsWorking W.Sink printer.old }
+    ensures { Prints W.Sink result printer.old printer.new (places_text flags.now) }
 {
     for (place, applied) in flags.iter().enumerate() {
-        print_place(buffer, writer, place, *applied)?;
+        print_place(printer, place, *applied)?;
     }
     Ok(())
 }
 
 /// Prints the place of a toxic, where it is applied.
 fn print_place<W: Sink>(
-    buffer: &mut Buffer,
-    writer: &mut W,
+    printer: &mut Printer<'_, W>,
     place: usize,
     applied: bool,
 ) -> Result<(), EndFault>
-    requires { W.failed writer.old ≡ false }
-    ensures { Prints result (W.written writer.old) buffer.old (W.written writer.new) buffer.new
-        (W.failed writer.new) (place_text place applied) }
+    requires { IsWorking W.Sink printer.old }
+    ensures { Prints W.Sink result printer.old printer.new (place_text place applied) }
 {
     if applied {
-        buffer.print(writer, &[Word(" "), Number(place as u64)])
+        printer.print(&[Word(" "), Number(place as u64)])
     } else {
         Ok(())
     }

@@ -1,15 +1,15 @@
 //! Lines as objects of JSON.
-ghost use Rattle.std.specs.Prelude.{◌≡◌, ◌+◌, ◌≤◌, ◌++◌, codes, false, length};
+ghost use Rattle.std.specs.Prelude.{◌≡◌, ◌+◌, ◌≤◌, ◌++◌, codes, length};
 ghost use Rattle.tox_text.specs.Json.{array_text};
 ghost use Rattle.tox_text.specs.JsonLine.{field_text, key_text};
-ghost use Rattle.tox_text.specs.Writing.{Prints};
+ghost use Rattle.tox_text.specs.Printing.{IsWorking, Prints};
 ghost use Rattle.tox_check.specs.forecast.Objects.{place_item, place_items, stream_object, total_object};
 
 use crate::forecast::line::{Met, number_of};
 use crate::forecast::totals::Total;
 use arrayvec::ArrayVec;
 use tox_defs::MAX_TOXICS;
-use tox_text::{Buffer, JsonField, JsonItem, JsonValue, print_object};
+use tox_text::{JsonField, JsonItem, JsonValue, Printer, print_object};
 use tox_time::{EndFault, Sink, Stream};
 
 /// Places of toxics.
@@ -17,16 +17,14 @@ type Items<'a> = ArrayVec<JsonItem<'a>, MAX_TOXICS>;
 
 /// Prints the object of a connection's stream.
 pub(crate) fn print_stream_object<W: Sink>(
-    buffer: &mut Buffer,
-    writer: &mut W,
+    printer: &mut Printer<'_, W>,
     met: &Met<'_>,
     stream: Stream,
     flags: &[bool],
 ) -> Result<(), EndFault>
-    requires working { W.failed writer.old ≡ false }
+    requires working { IsWorking W.Sink printer.old }
     requires few { length flags.now ≤ 32 }
-    ensures { Prints result (W.written writer.old) buffer.old (W.written writer.new) buffer.new
-        (W.failed writer.new)
+    ensures { Prints W.Sink result printer.old printer.new
         (stream_object met.now.proxy.now met.now.conn stream met.now.rule flags.now) }
 {
     let places = place_items(flags);
@@ -37,7 +35,7 @@ pub(crate) fn print_stream_object<W: Sink>(
         JsonField::number("rule", number_of(met.rule)),
         applied_field(&places),
     ];
-    print_object(buffer, writer, "forecast", &fields)
+    print_object(printer, "forecast", &fields)
 }
 
 /// The field of the places of the applied toxics.
@@ -75,13 +73,11 @@ fn add_place<'a>(items: &mut Items<'a>, place: usize, applied: bool)
 
 /// Prints the object of a toxic's total.
 pub(crate) fn print_total_object<W: Sink>(
-    buffer: &mut Buffer,
-    writer: &mut W,
+    printer: &mut Printer<'_, W>,
     total: &Total<'_>,
 ) -> Result<(), EndFault>
-    requires { W.failed writer.old ≡ false }
-    ensures { Prints result (W.written writer.old) buffer.old (W.written writer.new) buffer.new
-        (W.failed writer.new)
+    requires { IsWorking W.Sink printer.old }
+    ensures { Prints W.Sink result printer.old printer.new
         (total_object total.now.proxy.now total.now.rule total.now.number
         total.now.applied total.now.met total.now.name.now) }
 {
@@ -93,5 +89,5 @@ pub(crate) fn print_total_object<W: Sink>(
         JsonField::number("of", total.met),
         JsonField::text("name", total.name),
     ];
-    print_object(buffer, writer, "toxic", &fields)
+    print_object(printer, "toxic", &fields)
 }

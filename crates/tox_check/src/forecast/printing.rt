@@ -3,7 +3,8 @@ ghost use Rattle.std.specs.Prelude.{◌≡◌, ◌≢◌, ◌<◌, ◌≤◌, �
 ghost use Rattle.std.specs.Io.KnownBytes.{append_known};
 ghost use Rattle.tox_script.specs.index.Numbered.{IsIndex};
 ghost use Rattle.tox_text.specs.PrintingPick.{PickLeaves};
-ghost use Rattle.tox_text.specs.Writing.{Prints, Writes};
+ghost use Rattle.tox_text.specs.Printing.{IsWorking, Prints};
+ghost use Rattle.tox_text.specs.Writing.{Writes};
 ghost use Rattle.tox_check.specs.forecast.ForecastText.{forecast_text, links_text, totals_text};
 ghost use Rattle.tox_check.specs.forecast.Tallied.{IsTallied};
 
@@ -14,7 +15,7 @@ use crate::forecast::tally::{Tally, count_link, tallies_of};
 use crate::forecast::totals::{CountedRule, print_rule};
 use std::alloc::Global;
 use tox_script::{RuleIndex, Script};
-use tox_text::{Buffer, PrintPickFault};
+use tox_text::{PrintPickFault, Printer};
 use tox_time::{EndFault, Sink};
 
 /// Writes what the connections of a proxy meet, as a forecast text: a line for each stream of each connection, from the first on, and
@@ -78,42 +79,38 @@ impl<'a> Forecast<'a> {
         ensures { Writes result (W.written writer.old) (W.written writer.new) (W.failed writer.new)
             (forecast_text self.now.question.now self.now.proxy.now self.now.script.now) }
     {
-        let mut buffer = Buffer::new();
-        self.print(&mut buffer, writer, tallies)?;
-        buffer.flush(writer)
+        let mut printer = Printer::new(writer);
+        self.print(&mut printer, tallies)?;
+        printer.finish()
     }
 
     fn print<W: Sink>(
         &self,
-        buffer: &mut Buffer,
-        writer: &mut W,
+        printer: &mut Printer<'_, W>,
         tallies: &mut [Tally],
     ) -> Result<(), EndFault>
-        requires working { W.failed writer.old ≡ false }
+        requires working { IsWorking W.Sink printer.old }
         requires one_each { length tallies.old ≡ length self.now.script.now.rules }
         requires tallied { IsTallied self.now.proxy.now self.now.script.now
             self.now.question.now.seed 0 tallies.old }
-        ensures { Prints result (W.written writer.old) buffer.old (W.written writer.new) buffer.new
-            (W.failed writer.new)
+        ensures { Prints W.Sink result printer.old printer.new
             (forecast_text self.now.question.now self.now.proxy.now self.now.script.now) }
     {
-        self.print_links(buffer, writer, tallies)?;
-        self.print_totals(buffer, writer, tallies)
+        self.print_links(printer, tallies)?;
+        self.print_totals(printer, tallies)
     }
 
     /// Prints the lines of all connections, and counts what they meet.
     fn print_links<W: Sink>(
         &self,
-        buffer: &mut Buffer,
-        writer: &mut W,
+        printer: &mut Printer<'_, W>,
         tallies: &mut [Tally],
     ) -> Result<(), EndFault>
-        requires working { W.failed writer.old ≡ false }
+        requires working { IsWorking W.Sink printer.old }
         requires one_each { length tallies.old ≡ length self.now.script.now.rules }
         requires tallied { IsTallied self.now.proxy.now self.now.script.now
             self.now.question.now.seed 0 tallies.old }
-        ensures printed { Prints result (W.written writer.old) buffer.old (W.written writer.new)
-            buffer.new (W.failed writer.new)
+        ensures printed { Prints W.Sink result printer.old printer.new
             (links_text self.now.question.now self.now.proxy.now self.now.script.now) }
         ensures tallied { OnOk result
             (IsTallied self.now.proxy.now self.now.script.now self.now.question.now.seed
@@ -129,7 +126,7 @@ impl<'a> Forecast<'a> {
             let chains = script.rule_chains(rule);
             let flags = link_flags(chains, question.seed, conn);
             let met = Met { proxy, conn, rule };
-            print_link(buffer, writer, question, &met, chains, &flags)?;
+            print_link(printer, question, &met, chains, &flags)?;
             count_link(tallies, rule, &flags);
         }
         Ok(())
@@ -138,16 +135,14 @@ impl<'a> Forecast<'a> {
     /// Prints the totals of all rules.
     fn print_totals<W: Sink>(
         &self,
-        buffer: &mut Buffer,
-        writer: &mut W,
+        printer: &mut Printer<'_, W>,
         tallies: &[Tally],
     ) -> Result<(), EndFault>
-        requires working { W.failed writer.old ≡ false }
+        requires working { IsWorking W.Sink printer.old }
         requires one_each { length tallies.now ≡ length self.now.script.now.rules }
         requires tallied { IsTallied self.now.proxy.now self.now.script.now
             self.now.question.now.seed self.now.question.now.links tallies.now }
-        ensures { Prints result (W.written writer.old) buffer.old (W.written writer.new) buffer.new
-            (W.failed writer.new)
+        ensures { Prints W.Sink result printer.old printer.new
             (totals_text self.now.question.now self.now.proxy.now self.now.script.now) }
     {
         let json = self.question.json;
@@ -162,7 +157,7 @@ impl<'a> Forecast<'a> {
                 tally,
                 chains,
             };
-            print_rule(buffer, writer, &counted, script.order(rule))?;
+            print_rule(printer, &counted, script.order(rule))?;
         }
         Ok(())
     }

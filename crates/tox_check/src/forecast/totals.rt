@@ -1,6 +1,6 @@
 //! The totals of rules.
-ghost use Rattle.std.specs.Prelude.{◌≡◌, ◌+◌, ◌<◌, ◌≤◌, ◌^◌, [], false, length, slice_index_or};
-ghost use Rattle.tox_text.specs.Writing.{Prints};
+ghost use Rattle.std.specs.Prelude.{◌≡◌, ◌+◌, ◌<◌, ◌≤◌, ◌^◌, [], length, slice_index_or};
+ghost use Rattle.tox_text.specs.Printing.{IsWorking, Prints};
 ghost use Rattle.tox_check.specs.forecast.Tally.{totals_in};
 ghost use Rattle.tox_check.specs.forecast.Totals.{place_on, rule_totals, total_in, total_line, toxic_total, toxic_totals};
 
@@ -10,8 +10,8 @@ use crate::forecast::object::print_total_object;
 use crate::forecast::tally::Tally;
 use crate::forecast::totals::places::Places;
 use tox_script::{Chains, NamedChain};
-use tox_text::Buffer;
 use tox_text::Part::{Number, Word};
+use tox_text::Printer;
 use tox_time::{EndFault, Sink, Stream};
 
 /// A rule of a proxy, by its number from 0, with its toxics and what was counted of it.
@@ -28,15 +28,13 @@ pub(crate) struct CountedRule<'a> {
 
 /// Prints the lines of a rule's toxics, if the rule was met. The streams are those of its toxics in the file's order.
 pub(crate) fn print_rule<W: Sink>(
-    buffer: &mut Buffer,
-    writer: &mut W,
+    printer: &mut Printer<'_, W>,
     counted: &CountedRule<'_>,
     order: &[Stream],
 ) -> Result<(), EndFault>
-    requires working { W.failed writer.old ≡ false }
+    requires working { IsWorking W.Sink printer.old }
     requires short { length order.now + 1 < 2 ^ 64 }
-    ensures { Prints result (W.written writer.old) buffer.old (W.written writer.new) buffer.new
-        (W.failed writer.new)
+    ensures { Prints W.Sink result printer.old printer.new
         (rule_totals counted.now.json counted.now.proxy.now counted.now.rule
         (totals_in counted.now.tally.now) counted.now.chains.now order.now) }
 {
@@ -48,44 +46,40 @@ pub(crate) fn print_rule<W: Sink>(
         upstream: 0,
         downstream: 0,
     };
-    print_toxics(buffer, writer, counted, first, order)
+    print_toxics(printer, counted, first, order)
 }
 
 /// Prints the lines of some toxics of a rule, the first of which has these places.
 fn print_toxics<W: Sink>(
-    buffer: &mut Buffer,
-    writer: &mut W,
+    printer: &mut Printer<'_, W>,
     counted: &CountedRule<'_>,
     at: Places,
     order: &[Stream],
 ) -> Result<(), EndFault>
-    requires working { W.failed writer.old ≡ false }
+    requires working { IsWorking W.Sink printer.old }
     requires numbered { at.number + length order.now < 2 ^ 64 }
     requires upstream { at.upstream ≤ at.number }
     requires downstream { at.downstream ≤ at.number }
-    ensures { Prints result (W.written writer.old) buffer.old (W.written writer.new) buffer.new
-        (W.failed writer.new)
+    ensures { Prints W.Sink result printer.old printer.new
         (toxic_totals counted.now.json counted.now.proxy.now counted.now.rule
         (totals_in counted.now.tally.now) counted.now.chains.now at order.now) }
 {
     let [stream, order @ ..] = order else {
         return Ok(());
     };
-    print_toxic(buffer, writer, counted, at, *stream)?;
-    print_toxics(buffer, writer, counted, at.after(*stream), order)
+    print_toxic(printer, counted, at, *stream)?;
+    print_toxics(printer, counted, at.after(*stream), order)
 }
 
 /// Prints the line of a toxic on a stream, which has these places.
 fn print_toxic<W: Sink>(
-    buffer: &mut Buffer,
-    writer: &mut W,
+    printer: &mut Printer<'_, W>,
     counted: &CountedRule<'_>,
     at: Places,
     stream: Stream,
 ) -> Result<(), EndFault>
-    requires { W.failed writer.old ≡ false }
-    ensures { Prints result (W.written writer.old) buffer.old (W.written writer.new) buffer.new
-        (W.failed writer.new)
+    requires { IsWorking W.Sink printer.old }
+    ensures { Prints W.Sink result printer.old printer.new
         (toxic_total counted.now.json counted.now.proxy.now counted.now.rule
         (totals_in counted.now.tally.now) counted.now.chains.now
         (record { number = at.number; stream = stream; place = place_on stream at })) }
@@ -99,7 +93,7 @@ fn print_toxic<W: Sink>(
         met: counted.tally.met as u64,
         name: name_at(counted.chains.on(stream), place),
     };
-    print_total(buffer, writer, counted.json, &total)
+    print_total(printer, counted.json, &total)
 }
 
 /// What a line tells of a toxic.
@@ -119,33 +113,26 @@ pub(crate) struct Total<'a> {
 
 /// Prints the line of a toxic, in words or as an object of JSON.
 fn print_total<W: Sink>(
-    buffer: &mut Buffer,
-    writer: &mut W,
+    printer: &mut Printer<'_, W>,
     json: bool,
     total: &Total<'_>,
 ) -> Result<(), EndFault>
-    requires { W.failed writer.old ≡ false }
-    ensures { Prints result (W.written writer.old) buffer.old (W.written writer.new) buffer.new
-        (W.failed writer.new)
+    requires { IsWorking W.Sink printer.old }
+    ensures { Prints W.Sink result printer.old printer.new
         (total_in json total.now.proxy.now total.now.rule total.now.number
         total.now.applied total.now.met total.now.name.now) }
 {
     if json {
-        print_total_object(buffer, writer, total)
+        print_total_object(printer, total)
     } else {
-        print_words(buffer, writer, total)
+        print_words(printer, total)
     }
 }
 
 /// Prints the line of a toxic in words.
-fn print_words<W: Sink>(
-    buffer: &mut Buffer,
-    writer: &mut W,
-    total: &Total<'_>,
-) -> Result<(), EndFault>
-    requires { W.failed writer.old ≡ false }
-    ensures { Prints result (W.written writer.old) buffer.old (W.written writer.new) buffer.new
-        (W.failed writer.new)
+fn print_words<W: Sink>(printer: &mut Printer<'_, W>, total: &Total<'_>) -> Result<(), EndFault>
+    requires { IsWorking W.Sink printer.old }
+    ensures { Prints W.Sink result printer.old printer.new
         (total_line total.now.rule total.now.number total.now.applied total.now.met
         total.now.name.now) }
 {
@@ -162,7 +149,7 @@ fn print_words<W: Sink>(
         Word(total.name),
         Word("\n"),
     ];
-    buffer.print(writer, &parts)
+    printer.print(&parts)
 }
 
 /// The name at a place, or the empty one past the last.

@@ -2,7 +2,10 @@
 use Rattle.std.specs.Prelude.{◌≡◌, ℕ, ◌+◌, Bool, true, false, List, ◌++◌, codes, flat_map, length, take, ltb, Option, Result, Ok, Err}
 use Rattle.std.specs.List.{enumerate_from}
 use Rattle.std.specs.Io.KnownBytes.{append_known}
-use Rattle.tox_text.specs.Writing.{AppendsFront, Passes}
+use Rattle.tox_time.specs.declared.ends.Sink.{Ghosts}
+use Rattle.tox_text.specs.Printing.{PrintsUnless}
+use Rattle.tox_text.specs.Writing.{AppendsFront}
+use Rattle.tox_text.specs.declared.printer.SizedPrinter.{SizedPrinter}
 use Rattle.tox_draw.specs.declared.pages.fault.PageFault.{PageFault}
 use Rattle.tox_draw.specs.declared.pages.fault.PageFault.TheVariants.{OutOfMemory, WriteFault}
 use Rattle.tox_draw.specs.declared.pages.link_logs.LinkLogs.{LinkLogs}
@@ -59,21 +62,18 @@ abbrev pub is_writers : PageFault → Bool
 is_writers OutOfMemory = false
 is_writers WriteFault = true
 
--- a part was printed: it passed, or a prefix of it is written
-abbrev pub Shows : Result (Unit {0}) PageFault → Option (List ℕ) → List ℕ → Option (List ℕ)
-    → List ℕ → Bool → List ℕ → Type 0
-Shows (Ok done) old waited new waiting failed text =
-    Passes old waited new waiting text × (failed ≡ false)
-Shows (Err fault) old waited new waiting failed text =
-    AppendsFront old new (waited ++ text) × (failed ≡ is_writers fault)
+module _ {W : Type 0} (sink : Ghosts W) where
+  -- a part was printed, or the writer has failed where the fault is the writer's
+  abbrev pub Shows : {R : ℕ} → Result (Unit {0}) PageFault → SizedPrinter W R → SizedPrinter W R
+      → List ℕ → Type 0
+  Shows result old new text = PrintsUnless sink is_writers result old new text
 
--- a part of this kind was printed
-pub record ShowsSome (IsPart : List ℕ → Type 0) (result : Result (Unit {0}) PageFault)
-    (old : Option (List ℕ)) (waited : List ℕ) (new : Option (List ℕ)) (waiting : List ℕ)
-    (failed : Bool) : Type 0 where
-  pub text : List ℕ
-  pub is : IsPart text
-  pub shows : Shows result old waited new waiting failed text
+  -- a part of this kind was printed
+  pub record ShowsSome {R : ℕ} (IsPart : List ℕ → Type 0) (result : Result (Unit {0}) PageFault)
+      (old new : SizedPrinter W R) : Type 0 where
+    pub text : List ℕ
+    pub is : IsPart text
+    pub shows : Shows result old new text
 
 -- all bytes of a page were written, or a prefix of them, and only a writer that failed is to blame for its fault
 abbrev pub LeavesPage : Result (Unit {0}) PageFault → Option (List ℕ) → Option (List ℕ) → Bool

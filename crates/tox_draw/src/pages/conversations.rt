@@ -1,8 +1,9 @@
 //! The conversations of a page: the streams of each of the first links, with their pictures.
-ghost use Rattle.std.specs.Prelude.{◌≡◌, ◌≤◌, false, length, string_bytes, take, IfOk};
+ghost use Rattle.std.specs.Prelude.{◌≤◌, length, string_bytes, take, IfOk};
 ghost use Rattle.tox_draw.specs.Axes.{axis_of};
 ghost use Rattle.tox_draw.specs.pages.Conversations.{AreSections, IsBothSection, IsOneSection, IsSection, MayShow};
 ghost use Rattle.tox_draw.specs.pages.Pages.{ShowsSome};
+ghost use Rattle.tox_text.specs.Printing.{IsWorking};
 
 use crate::pages::fault::PageFault;
 use crate::pages::link_logs::LinkLogs;
@@ -14,52 +15,41 @@ use crate::recorded::{Extent, drawn_to, extent_of};
 use crate::setting::Setting;
 use std::alloc::{AllocError, Global};
 use tox_log::LogFault;
-use tox_text::Buffer;
+use tox_text::Printer;
 use tox_time::{Micros, Sink};
 
 /// Prints the conversations of so many of the first links.
 pub(crate) fn print_sections<S: LogStore, W: Sink>(
     alloc: Global,
-    buffer: &mut Buffer,
-    writer: &mut W,
+    printer: &mut Printer<'_, W>,
     store: &S,
     links: &[LinkLogs],
     count: usize,
 ) -> Result<(), PageFault>
-    requires works { W.failed writer.old ≡ false }
+    requires works { IsWorking W.Sink printer.old }
     requires there { count ≤ length links.now }
-    ensures { ShowsSome (AreSections (S.known store.now) 1 (take count links.now))
-        result (W.written writer.old) buffer.old (W.written writer.new) buffer.new
-        (W.failed writer.new) }
+    ensures { ShowsSome W.Sink (AreSections (S.known store.now) 1 (take count links.now))
+        result printer.old printer.new }
 {
     for place in 0..count {
-        print_section(
-            alloc,
-            buffer,
-            writer,
-            store,
-            &links[place],
-            place as u64 + 1,
-        )?;
+        print_section(alloc, printer, store, &links[place], place as u64 + 1)?;
     }
     Ok(())
 }
 
 fn print_section<S: LogStore, W: Sink>(
     alloc: Global,
-    buffer: &mut Buffer,
-    writer: &mut W,
+    printer: &mut Printer<'_, W>,
     store: &S,
     link: &LinkLogs,
     number: u64,
 ) -> Result<(), PageFault>
-    requires { W.failed writer.old ≡ false }
-    ensures { ShowsSome (IsSection (S.known store.now) number link.now)
-        result (W.written writer.old) buffer.old (W.written writer.new) buffer.new
-        (W.failed writer.new) }
+    requires { IsWorking W.Sink printer.old }
+    ensures { ShowsSome W.Sink (IsSection (S.known store.now) number link.now)
+        result printer.old printer.new }
 {
     let text = section_text(alloc, store, link, number)?;
-    print_text(buffer, writer, text.as_str())
+    print_text(printer, text.as_str())
 }
 
 /// The conversation of a link, with this number.

@@ -4,9 +4,10 @@ ghost use Rattle.tox_draw.specs.declared.pages.row.Refusal.{Refusal as OneRefusa
 ghost use Rattle.tox_draw.specs.declared.pages.row.Row.{Row as OneRow};
 ghost use Rattle.tox_draw.specs.pages.Fronts.{page_front};
 ghost use Rattle.tox_draw.specs.pages.Links.{link_count};
-ghost use Rattle.tox_draw.specs.pages.Pages.{IsPage, IsPageBody, LeavesPage, Shows, ShowsSome, WritesPage, link_rows, page_end, page_list, refusal_rows, table_end};
+ghost use Rattle.tox_draw.specs.pages.Pages.{IsPage, IsPageBody, Shows, ShowsSome, WritesPage, link_rows, page_end, page_list, refusal_rows, table_end};
 ghost use Rattle.tox_draw.specs.pages.Reports.{KeepsLogs};
 ghost use Rattle.tox_draw.specs.pages.Rows.{link_row, refusal_row};
+ghost use Rattle.tox_text.specs.Printing.{IsWorking};
 
 use crate::pages::conversations::print_sections;
 use crate::pages::fault::PageFault;
@@ -19,8 +20,8 @@ use crate::pages::report::Report;
 use crate::pages::row::{Refusal, Row};
 use crate::pages::table::{push_link_row, push_refusal_row};
 use std::alloc::{AllocError, Global};
-use tox_text::Buffer;
 use tox_text::Part::Word;
+use tox_text::Printer;
 use tox_time::Sink;
 
 /// Behind the rows.
@@ -45,81 +46,67 @@ impl Report {
             → WritesPage (S.known store.now) title.now result refusals rows shown
             (W.written writer.old) (W.written writer.new) (W.failed writer.new) }
     {
-        let mut buffer = Buffer::new();
-        print_page(alloc, &mut buffer, writer, store, title, self, shown)?;
-        flush(&mut buffer, writer)
-    }
-}
-
-fn flush<W: Sink>(buffer: &mut Buffer, writer: &mut W) -> Result<(), PageFault>
-    requires { W.failed writer.old ≡ false }
-    ensures { LeavesPage result (W.written writer.old) (W.written writer.new) (W.failed writer.new)
-        buffer.old }
-{
-    match buffer.flush(writer) {
-        Ok(()) => Ok(()),
-        Err(_) => Err(PageFault::WriteFault),
+        let mut printer = Printer::new(writer);
+        print_page(alloc, &mut printer, store, title, self, shown)?;
+        match printer.finish() {
+            Ok(()) => Ok(()),
+            Err(_) => Err(PageFault::WriteFault),
+        }
     }
 }
 
 fn print_page<S: LogStore, W: Sink>(
     alloc: Global,
-    buffer: &mut Buffer,
-    writer: &mut W,
+    printer: &mut Printer<'_, W>,
     store: &S,
     title: &str,
     report: Report,
     shown: usize,
 ) -> Result<(), PageFault>
-    requires { W.failed writer.old ≡ false }
-    ensures { ShowsSome
+    requires { IsWorking W.Sink printer.old }
+    ensures { ShowsSome W.Sink
         (IsPage (S.known store.now) title.now report.refusals.items report.rows.items shown)
-        result (W.written writer.old) buffer.old (W.written writer.new) buffer.new
-        (W.failed writer.new) }
+        result printer.old printer.new }
 {
     let Report { refusals, rows } = report;
-    print_front(alloc, buffer, writer, title, &refusals, &rows)?;
+    print_front(alloc, printer, title, &refusals, &rows)?;
     let links = page_links(alloc, rows)?;
-    print_body(alloc, buffer, writer, store, &refusals, &links, shown)
+    print_body(alloc, printer, store, &refusals, &links, shown)
 }
 
 /// Prints the list, and the conversations of so many of the first links.
 fn print_body<S: LogStore, W: Sink>(
     alloc: Global,
-    buffer: &mut Buffer,
-    writer: &mut W,
+    printer: &mut Printer<'_, W>,
     store: &S,
     refusals: &[Refusal],
     links: &[LinkLogs],
     shown: usize,
 ) -> Result<(), PageFault>
-    requires { W.failed writer.old ≡ false }
-    ensures { ShowsSome (IsPageBody (S.known store.now) refusals.now links.now shown)
-        result (W.written writer.old) buffer.old (W.written writer.new) buffer.new
-        (W.failed writer.new) }
+    requires { IsWorking W.Sink printer.old }
+    ensures { ShowsSome W.Sink (IsPageBody (S.known store.now) refusals.now links.now shown)
+        result printer.old printer.new }
 {
-    print_list(alloc, buffer, writer, refusals, links, shown)?;
+    print_list(alloc, printer, refusals, links, shown)?;
     let count = links.len().min(shown);
-    print_sections(alloc, buffer, writer, store, links, count)?;
-    print_page_end(buffer, writer)
+    print_sections(alloc, printer, store, links, count)?;
+    print_page_end(printer)
 }
 
 /// Prints all that stands before the rows.
 fn print_front<W: Sink>(
     alloc: Global,
-    buffer: &mut Buffer,
-    writer: &mut W,
+    printer: &mut Printer<'_, W>,
     title: &str,
     refusals: &[Refusal],
     rows: &[Row],
 ) -> Result<(), PageFault>
-    requires { W.failed writer.old ≡ false }
-    ensures { Shows result (W.written writer.old) buffer.old (W.written writer.new) buffer.new
-        (W.failed writer.new)
+    requires { IsWorking W.Sink printer.old }
+    ensures { Shows W.Sink result printer.old printer.new
         (page_front title.now (length refusals.now) rows.now (link_count rows.now)) }
 {
     let text = front_text(alloc, title, refusals, rows)?;
-    print_text(buffer, writer, text.as_str())
+    print_text(printer, text.as_str())
 }
 
 fn front_text(
@@ -137,16 +124,11 @@ fn front_text(
     Ok(text)
 }
 
-pub(crate) fn print_text<W: Sink>(
-    buffer: &mut Buffer,
-    writer: &mut W,
-    text: &str,
-) -> Result<(), PageFault>
-    requires { W.failed writer.old ≡ false }
-    ensures { Shows result (W.written writer.old) buffer.old (W.written writer.new) buffer.new
-        (W.failed writer.new) text.now }
+pub(crate) fn print_text<W: Sink>(printer: &mut Printer<'_, W>, text: &str) -> Result<(), PageFault>
+    requires { IsWorking W.Sink printer.old }
+    ensures { Shows W.Sink result printer.old printer.new text.now }
 {
-    match buffer.print(writer, &[Word(text)]) {
+    match printer.print(&[Word(text)]) {
         Ok(()) => Ok(()),
         Err(_) => Err(PageFault::WriteFault),
     }
@@ -155,54 +137,48 @@ pub(crate) fn print_text<W: Sink>(
 /// Prints the rows of the logs that can't be judged, and those of the links. So many of the first lead to conversations.
 fn print_list<W: Sink>(
     alloc: Global,
-    buffer: &mut Buffer,
-    writer: &mut W,
+    printer: &mut Printer<'_, W>,
     refusals: &[Refusal],
     links: &[LinkLogs],
     shown: usize,
 ) -> Result<(), PageFault>
-    requires { W.failed writer.old ≡ false }
-    ensures { Shows result (W.written writer.old) buffer.old (W.written writer.new) buffer.new
-        (W.failed writer.new) (page_list refusals.now links.now shown) }
+    requires { IsWorking W.Sink printer.old }
+    ensures { Shows W.Sink result printer.old printer.new (page_list refusals.now links.now shown) }
 {
-    print_refusals(alloc, buffer, writer, refusals)?;
-    print_links(alloc, buffer, writer, links, shown)?;
-    print_table_end(buffer, writer)
+    print_refusals(alloc, printer, refusals)?;
+    print_links(alloc, printer, links, shown)?;
+    print_table_end(printer)
 }
 
 #[tactic(auto, unfolding(crate::specs::pages::Pages::table_end))]
-fn print_table_end<W: Sink>(buffer: &mut Buffer, writer: &mut W) -> Result<(), PageFault>
-    requires { W.failed writer.old ≡ false }
-    ensures { Shows result (W.written writer.old) buffer.old (W.written writer.new) buffer.new
-        (W.failed writer.new) table_end }
+fn print_table_end<W: Sink>(printer: &mut Printer<'_, W>) -> Result<(), PageFault>
+    requires { IsWorking W.Sink printer.old }
+    ensures { Shows W.Sink result printer.old printer.new table_end }
 {
-    print_text(buffer, writer, TABLE_END)
+    print_text(printer, TABLE_END)
 }
 
 #[tactic(auto, unfolding(crate::specs::pages::Pages::page_end))]
-fn print_page_end<W: Sink>(buffer: &mut Buffer, writer: &mut W) -> Result<(), PageFault>
-    requires { W.failed writer.old ≡ false }
-    ensures { Shows result (W.written writer.old) buffer.old (W.written writer.new) buffer.new
-        (W.failed writer.new) page_end }
+fn print_page_end<W: Sink>(printer: &mut Printer<'_, W>) -> Result<(), PageFault>
+    requires { IsWorking W.Sink printer.old }
+    ensures { Shows W.Sink result printer.old printer.new page_end }
 {
-    print_text(buffer, writer, PAGE_END)
+    print_text(printer, PAGE_END)
 }
 
 /// Prints the rows of the logs that can't be judged.
 fn print_refusals<W: Sink>(
     alloc: Global,
-    buffer: &mut Buffer,
-    writer: &mut W,
+    printer: &mut Printer<'_, W>,
     refusals: &[Refusal],
 ) -> Result<(), PageFault>
-    requires { W.failed writer.old ≡ false }
-    ensures { Shows result (W.written writer.old) buffer.old (W.written writer.new) buffer.new
-        (W.failed writer.new) (refusal_rows refusals.now) }
+    requires { IsWorking W.Sink printer.old }
+    ensures { Shows W.Sink result printer.old printer.new (refusal_rows refusals.now) }
 {
     let mut text = String::new(alloc);
     for refusal in refusals {
         set_refusal(&mut text, refusal)?;
-        print_text(buffer, writer, text.as_str())?;
+        print_text(printer, text.as_str())?;
     }
     Ok(())
 }
@@ -218,19 +194,17 @@ fn set_refusal(text: &mut String, refusal: &Refusal) -> Result<(), AllocError>
 /// Prints the rows of the links. So many of the first lead to conversations.
 fn print_links<W: Sink>(
     alloc: Global,
-    buffer: &mut Buffer,
-    writer: &mut W,
+    printer: &mut Printer<'_, W>,
     links: &[LinkLogs],
     shown: usize,
 ) -> Result<(), PageFault>
-    requires { W.failed writer.old ≡ false }
-    ensures { Shows result (W.written writer.old) buffer.old (W.written writer.new) buffer.new
-        (W.failed writer.new) (link_rows links.now shown) }
+    requires { IsWorking W.Sink printer.old }
+    ensures { Shows W.Sink result printer.old printer.new (link_rows links.now shown) }
 {
     let mut text = String::new(alloc);
     for (place, link) in links.iter().enumerate() {
         set_row(&mut text, link, place as u64 + 1, place < shown)?;
-        print_text(buffer, writer, text.as_str())?;
+        print_text(printer, text.as_str())?;
     }
     Ok(())
 }

@@ -9,7 +9,7 @@ use crate::files::entry::{Entry, Header};
 use crate::files::log_state::LogState;
 use crate::line_text::print_line;
 use crate::{LogBytes, LogLine, print_header};
-use tox_text::{Buffer, LineBuffer};
+use tox_text::{LinePrinter, Printer};
 use tox_time::EndFault;
 
 /// Prints an entry behind what waits.
@@ -25,7 +25,7 @@ pub(crate) fn print_entry(waiting: &mut LogBytes, entry: &Entry<'_>) -> Result<(
     }
 }
 
-/// Prints a header. It isn't inlined, so that a line needs no room for the large buffer.
+/// Prints a header. It isn't inlined, so that a line needs no room for the large printer.
 #[inline(never)]
 #[tactic(auto, unfolding(crate::specs::files::EntryText::entry_text))]
 fn write_header(waiting: &mut LogBytes, header: &Header<'_>) -> Result<(), EndFault>
@@ -34,9 +34,9 @@ fn write_header(waiting: &mut LogBytes, header: &Header<'_>) -> Result<(), EndFa
         (entry_text (Entry.Header header.now)) }
 {
     let Header { link, chain, names } = header;
-    let mut buffer = Buffer::new();
-    print_header(&mut buffer, waiting, link, chain, names)?;
-    buffer.flush(waiting)
+    let mut printer = Printer::new(waiting);
+    print_header(&mut printer, link, chain, names)?;
+    printer.finish()
 }
 
 /// Prints a line behind the header.
@@ -45,9 +45,9 @@ fn write_line(waiting: &mut LogBytes, line: &LogLine) -> Result<(), EndFault>
     ensures { Writes result (Some waiting.old.0) (Some waiting.new.0) waiting.new.1
         (line_words line.now ++ codes "\n") }
 {
-    let mut buffer = LineBuffer::new();
-    print_line(&mut buffer, waiting, line)?;
-    buffer.flush(waiting)
+    let mut printer = LinePrinter::new(waiting);
+    print_line(&mut printer, line)?;
+    printer.finish()
 }
 
 /// How a log is that has all of an entry.

@@ -1,7 +1,8 @@
 -- What the second pass over an arrivals text still prints.
-use Rattle.std.specs.Prelude.{◌≡◌, ◌≢◌, ℕ, ◌+◌, ◌<◌, ◌≤◌, Bool, true, false, List, [], ◌∷◌, ◌++◌, length, slice_index, Any, Option, Result, Ok, Err}
+use Rattle.std.specs.Prelude.{◌≡◌, ◌≢◌, ℕ, ◌+◌, ◌<◌, ◌≤◌, true, List, [], ◌∷◌, ◌++◌, length, slice_index, Any, Result, Ok, Err}
 use Rattle.std.specs.Result.{ForOk}
 use Rattle.tox_time.specs.declared.ends.EndFault.{EndFault}
+use Rattle.tox_time.specs.declared.ends.Sink.{Ghosts}
 use Rattle.tox_time.specs.declared.streams.item.Item.{Item}
 use Rattle.tox_time.specs.declared.streams.item.Item.TheVariants.{Chunk, Closed}
 use Rattle.tox_time.specs.declared.streams.span.Span.{Span}
@@ -10,7 +11,8 @@ use Rattle.tox_time.specs.streams.Neighbours.{LiesInChunk}
 use Rattle.tox_lend.specs.Run.{Run, stop_of}
 use Rattle.tox_text.specs.arrivals.ArrivalsText.{Arrived, arrivals_of}
 use Rattle.tox_text.specs.ResultText.{arrival_of}
-use Rattle.tox_text.specs.Writing.{AppendsFront, Passes}
+use Rattle.tox_text.specs.Printing.{PrintsUnless}
+use Rattle.tox_text.specs.declared.printer.SizedPrinter.{SizedPrinter}
 
 -- no span within an item goes over this position
 abbrev pub IsEdge : List Item → ℕ → Type 0
@@ -59,17 +61,15 @@ pub record IsBehindAll (stands : Arrived → ℕ → List Item → Type 0) : Typ
   pub position : ℕ
   pub behind : stands arrived position []
 
--- a first part of a text passed, and this is left of it
-pub record PassesDownTo (old : Option (List ℕ)) (waited : List ℕ) (new : Option (List ℕ))
-    (waiting text left : List ℕ) : Type 0 where
-  pub printed : List ℕ
-  pub passed : Passes old waited new waiting printed
-  pub whole : printed ++ left ≡ text
+-- what was printed of a text, down to what is left of it, or to its end where the writer has failed
+abbrev pub Reaches : {A : Type 0} → Result A EndFault → List ℕ → List ℕ → List ℕ → Type 0
+Reaches (Ok value) printed left text = printed ++ left ≡ text
+Reaches (Err fault) printed left text = printed ≡ text
 
--- a text was printed but for what is left, or the writer has failed and a prefix of the text is written
-abbrev pub PrintsDownTo : {A : Type 0} → Result A EndFault → Option (List ℕ) → List ℕ
-    → Option (List ℕ) → List ℕ → Bool → List ℕ → List ℕ → Type 0
-PrintsDownTo (Ok done) old waited new waiting failed text left =
-    PassesDownTo old waited new waiting text left × (failed ≡ false)
-PrintsDownTo (Err fault) old waited new waiting failed text left =
-    AppendsFront old new (waited ++ text) × (failed ≡ true)
+module _ {W : Type 0} (sink : Ghosts W) where
+  -- a text was printed but for what is left, or the writer has failed and a prefix of the text is written
+  pub record PrintsDownTo {A : Type 0} {R : ℕ} (result : Result A EndFault)
+      (old new : SizedPrinter W R) (text left : List ℕ) : Type 0 where
+    pub printed : List ℕ
+    pub prints : PrintsUnless sink (λ fault. true) result old new printed
+    pub whole : Reaches result printed left text

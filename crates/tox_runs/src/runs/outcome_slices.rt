@@ -4,7 +4,7 @@ ghost use Rattle.tox_runs.specs.runs.OutcomeSlices.{IsJoined, StartsBehind};
 
 use crate::runs::slice_source::SliceSource;
 use tox_lend::Piece;
-use tox_text::{Buffer, print_lent};
+use tox_text::{Printer, print_lent};
 use tox_time::{EndFault, Ending, Micros, Outcome, Sink, Slice};
 
 /// The slices of an outcome that are left to print.
@@ -70,13 +70,12 @@ impl<'a> SliceSource for OutcomeSlices<'a> {
 
     fn print_piece<W: Sink>(
         &mut self,
-        buffer: &mut Buffer,
-        writer: &mut W,
+        printer: &mut Printer<'_, W>,
         piece: &Piece,
     ) -> Result<(), EndFault> {
         let stop = piece.start + piece.bytes.len() as u64;
         while let Some(slice) = self.next_before(stop) {
-            print_lent(buffer, writer, &piece.lend(slice.span, slice.instant))?;
+            print_lent(printer, &piece.lend(slice.span, slice.instant))?;
         }
         Ok(())
     }

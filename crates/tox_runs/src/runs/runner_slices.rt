@@ -1,5 +1,5 @@
 //! The slices of a plan's runner, piece by piece.
-ghost use Rattle.std.specs.Prelude.{◌≡◌, ◌<◌, ◌^◌, List, false, OnOk};
+ghost use Rattle.std.specs.Prelude.{◌<◌, ◌^◌, List, OnOk};
 ghost use Rattle.tox_time.specs.declared.streams.item.Item.{Item as OneItem};
 ghost use Rattle.tox_lend.specs.Run.{stop_of};
 ghost use Rattle.tox_plan.specs.Cuts.{GivesAll};
@@ -7,11 +7,12 @@ ghost use Rattle.tox_plan.specs.Slices.{IsOffered};
 ghost use Rattle.tox_text.specs.arrivals.ArrivalsText.{Arrived};
 ghost use Rattle.tox_runs.specs.runs.RunnerSlices.{text_to_come};
 ghost use Rattle.tox_runs.specs.runs.SecondPass.{IsPieceOf, PrintsDownTo};
+ghost use Rattle.tox_text.specs.Printing.{IsWorking};
 
 use crate::runs::slice_source::SliceSource;
 use tox_lend::Piece;
 use tox_plan::Runner;
-use tox_text::{Buffer, print_lent};
+use tox_text::{Printer, print_lent};
 use tox_time::{EndFault, Ending, Micros, Sink};
 
 impl<'w> SliceSource for Runner<'w> {
@@ -23,12 +24,11 @@ impl<'w> SliceSource for Runner<'w> {
 
     fn print_piece<W: Sink>(
         &mut self,
-        buffer: &mut Buffer,
-        writer: &mut W,
+        printer: &mut Printer<'_, W>,
         piece: &Piece,
     ) -> Result<(), EndFault> {
         if self.offer(piece.bytes.len() as u64, piece.instant).is_ok() {
-            print_cuts(self, buffer, writer, piece)?;
+            print_cuts(self, printer, piece)?;
         }
         Ok(())
     }
@@ -48,21 +48,19 @@ impl<'w> SliceSource for Runner<'w> {
 /// Prints a line for each slice of the offered piece.
 fn print_cuts<W: Sink>(
     runner: &mut Runner<'_>,
-    buffer: &mut Buffer,
-    writer: &mut W,
+    printer: &mut Printer<'_, W>,
     piece: &Piece,
 ) -> Result<(), EndFault>
-    requires working { W.failed writer.old ≡ false }
+    requires working { IsWorking W.Sink printer.old }
     requires offered { IsOffered runner.old piece.now }
     requires fits { stop_of piece.now < 2 ^ 64 }
     ensures prints { (arrived : Arrived) (items : List OneItem) → IsPieceOf arrived piece.now
-        → PrintsDownTo result (W.written writer.old) buffer.old (W.written writer.new) buffer.new
-        (W.failed writer.new) (text_to_come arrived runner.old items)
+        → PrintsDownTo W.Sink result printer.old printer.new (text_to_come arrived runner.old items)
         (text_to_come arrived runner.new items) }
     ensures all { OnOk result (GivesAll runner.old runner.new) }
 {
     while let Some(slice) = runner.next_cut() {
-        print_lent(buffer, writer, &piece.lend(slice.span, slice.instant))?;
+        print_lent(printer, &piece.lend(slice.span, slice.instant))?;
     }
     Ok(())
 }

@@ -6,13 +6,14 @@ ghost use Rattle.tox_time.specs.declared.streams.item.Item.TheVariants.{Quiet};
 ghost use Rattle.tox_lend.specs.Run.{stop_of};
 ghost use Rattle.tox_text.specs.arrivals.ArrivalsText.{arrivals_of};
 ghost use Rattle.tox_text.specs.arrivals.Checked.{IsChecked};
-ghost use Rattle.tox_text.specs.Writing.{Prints, Writes};
+ghost use Rattle.tox_text.specs.Printing.{IsWorking, Prints};
+ghost use Rattle.tox_text.specs.Writing.{Writes};
 ghost use Rattle.tox_runs.specs.runs.SecondPass.{IsAtPiece, IsAtStart, PrintsDownTo, chunk_of};
 
 use crate::runs::slice_source::SliceSource;
 use std::alloc::{AllocError, Global};
 use tox_lend::{Piece, Window};
-use tox_text::{Buffer, Event, decode_into, first_line, line_of, print_ending};
+use tox_text::{Event, Printer, decode_into, first_line, line_of, print_ending};
 use tox_time::{EndFault, Micros, Sink};
 
 /// Room for one piece at a time: a vector for its bytes, and a window that holds it.
@@ -40,19 +41,17 @@ impl PieceRoom {
 fn print_data<S: SliceSource, W: Sink>(
     source: &mut S,
     window: &mut Window,
-    buffer: &mut Buffer,
-    writer: &mut W,
+    printer: &mut Printer<'_, W>,
     piece: Piece,
 ) -> Result<Vec<u8>, EndFault>
-    requires working { W.failed writer.old ≡ false }
+    requires working { IsWorking W.Sink printer.old }
     requires empty { (window.old.held ≡ []) × (window.old.room ≡ 1) }
     requires starts { piece.start ≡ window.old.stop }
     requires some { 0 < length piece.bytes }
     requires few { stop_of piece ≤ 2 ^ 40 }
     requires next { IsAtPiece (S.stands source.old) piece }
     ensures prints { (at : IsAtPiece (S.stands source.old) piece)
-        → PrintsDownTo result (W.written writer.old) buffer.old (W.written writer.new) buffer.new
-        (W.failed writer.new)
+        → PrintsDownTo W.Sink result printer.old printer.new
         (S.text_left source.old at.arrived (arrival_list (chunk_of piece ∷ at.later)))
         (S.text_left source.new at.arrived (arrival_list at.later)) }
     ensures stands { OnOk result ((at : IsAtPiece (S.stands source.old) piece)
@@ -64,7 +63,7 @@ fn print_data<S: SliceSource, W: Sink>(
     let start = piece.start;
     window.add(piece);
     let held = window.piece(start).unwrap();
-    source.print_piece(buffer, writer, held)?;
+    source.print_piece(printer, held)?;
     let printed = window.take_first().unwrap();
     Ok(printed.bytes)
 }
@@ -73,18 +72,16 @@ fn print_data<S: SliceSource, W: Sink>(
 fn print_lines<S: SliceSource, W: Sink>(
     source: &mut S,
     window: &mut Window,
-    buffer: &mut Buffer,
-    writer: &mut W,
+    printer: &mut Printer<'_, W>,
     text: &[u8],
     spare: Vec<u8>,
 ) -> Result<(), EndFault>
-    requires working { W.failed writer.old ≡ false }
+    requires working { IsWorking W.Sink printer.old }
     requires empty { window.old ≡ record { held = []; room = 1; stop = 0 } }
     requires checked { IsChecked text.now (vec_capacity spare) }
     requires first { IsAtStart (S.stands source.old) text.now }
     ensures prints { ForOk (arrivals_of text.now) (λ arrived.
-        PrintsDownTo result (W.written writer.old) buffer.old (W.written writer.new) buffer.new
-        (W.failed writer.new) (S.text_left source.old arrived (arrival_list arrived.items))
+        PrintsDownTo W.Sink result printer.old printer.new (S.text_left source.old arrived (arrival_list arrived.items))
         (S.text_left source.new arrived (Quiet ∷ []))) }
     ensures behind { OnOk result (ForOk (arrivals_of text.now)
         (λ arrived. (position : ℕ) × S.stands source.new arrived position [])) }
@@ -105,7 +102,7 @@ fn print_lines<S: SliceSource, W: Sink>(
                     bytes,
                     instant: said.instant,
                 };
-                bytes = print_data(source, window, buffer, writer, piece)?;
+                bytes = print_data(source, window, printer, piece)?;
             }
             Event::Eof => source.end(said.instant),
         }
@@ -117,22 +114,20 @@ fn print_lines<S: SliceSource, W: Sink>(
 fn print_text<S: SliceSource, W: Sink>(
     source: &mut S,
     window: &mut Window,
-    buffer: &mut Buffer,
-    writer: &mut W,
+    printer: &mut Printer<'_, W>,
     text: &[u8],
     spare: Vec<u8>,
 ) -> Result<(), EndFault>
-    requires working { W.failed writer.old ≡ false }
+    requires working { IsWorking W.Sink printer.old }
     requires empty { window.old ≡ record { held = []; room = 1; stop = 0 } }
     requires checked { IsChecked text.now (vec_capacity spare) }
     requires first { IsAtStart (S.stands source.old) text.now }
     ensures { ForOk (arrivals_of text.now) (λ arrived.
-        Prints result (W.written writer.old) buffer.old (W.written writer.new) buffer.new
-        (W.failed writer.new) (S.text_left source.old arrived (arrival_list arrived.items))) }
+        Prints W.Sink result printer.old printer.new (S.text_left source.old arrived (arrival_list arrived.items))) }
 {
-    print_lines(source, window, buffer, writer, text, spare)?;
+    print_lines(source, window, printer, text, spare)?;
     let ending = source.last();
-    print_ending(buffer, writer, &ending)
+    print_ending(printer, &ending)
 }
 
 /// Writes the result text of a text without faults, by the slices of a source.
@@ -151,7 +146,7 @@ pub(crate) fn write_text<S: SliceSource, W: Sink>(
         (S.text_left source.old arrived (arrival_list arrived.items))) }
 {
     let PieceRoom { spare, mut window } = room;
-    let mut buffer = Buffer::new();
-    print_text(source, &mut window, &mut buffer, writer, text, spare)?;
-    buffer.flush(writer)
+    let mut printer = Printer::new(writer);
+    print_text(source, &mut window, &mut printer, text, spare)?;
+    printer.finish()
 }

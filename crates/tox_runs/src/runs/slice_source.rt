@@ -1,5 +1,5 @@
 //! What gives the slices of the arrived pieces: a plan's runner, or an outcome.
-ghost use Rattle.std.specs.Prelude.{◌≡◌, ℕ, ◌≤◌, ◌^◌, List, [], ◌∷◌, false, OnOk};
+ghost use Rattle.std.specs.Prelude.{◌≡◌, ℕ, ◌≤◌, ◌^◌, List, [], ◌∷◌, OnOk};
 ghost use Rattle.tox_time.specs.declared.streams.item.Item.{Item as OneItem};
 ghost use Rattle.tox_time.specs.declared.streams.item.Item.TheVariants.{Closed, Quiet};
 ghost use Rattle.tox_time.specs.streams.Arrivals.{arrival_list};
@@ -7,9 +7,10 @@ ghost use Rattle.tox_lend.specs.Run.{stop_of};
 ghost use Rattle.tox_text.specs.arrivals.ArrivalsText.{Arrived};
 ghost use Rattle.tox_text.specs.ResultText.{ending_line};
 ghost use Rattle.tox_runs.specs.runs.SecondPass.{IsAtSourceEnd, IsAtPiece, IsBehindAll, PrintsDownTo, chunk_of};
+ghost use Rattle.tox_text.specs.Printing.{IsWorking};
 
 use tox_lend::Piece;
-use tox_text::Buffer;
+use tox_text::Printer;
 use tox_time::{EndFault, Ending, Micros, Sink};
 
 /// Prints the slices of each arrived piece in turn, and knows the link's ending behind the last one.
@@ -23,16 +24,14 @@ pub(crate) trait SliceSource {
     /// Prints a line for each slice of the next piece.
     fn print_piece<W: Sink>(
         &mut self,
-        buffer: &mut Buffer,
-        writer: &mut W,
+        printer: &mut Printer<'_, W>,
         piece: &Piece,
     ) -> Result<(), EndFault>
-        requires working { W.failed writer.old ≡ false }
+        requires working { IsWorking W.Sink printer.old }
         requires few { stop_of piece.now ≤ 2 ^ 40 }
         requires next { IsAtPiece (stands self.old) piece.now }
         ensures prints { (at : IsAtPiece (stands self.old) piece.now)
-            → PrintsDownTo result (W.written writer.old) buffer.old
-            (W.written writer.new) buffer.new (W.failed writer.new)
+            → PrintsDownTo W.Sink result printer.old printer.new
             (text_left self.old at.arrived (arrival_list (chunk_of piece.now ∷ at.later)))
             (text_left self.new at.arrived (arrival_list at.later)) }
         ensures stands { OnOk result ((at : IsAtPiece (stands self.old) piece.now)

@@ -1,5 +1,4 @@
 -- The lines of the proxies, and then those of the rules.
-use Rattle.std.proofs.lemmas.Result.{err_from_is_err_and}
 use Rattle.tox_check.specs.Lines.{rules_lines}
 use Rattle.tox_check.specs.ProxyLines.{proxies_lines}
 use Rattle.tox_check.specs.Trees.{runs_named}
@@ -10,24 +9,20 @@ pub returns-in_err-first : goal.returns-in_err-first
 returns-in_err-first g c =
     let setup = c.args.setup.now in
     let proxies = setup.proxies.items in
-    let result = c.from_residual.result in
-    let exit = err_from_is_err_and result c.from_residual.ensures.1 in
     let first = rw c.deref.ensures.value at c.in_err-first.ensures in
-    PrintsLines-front (proxies_lines proxies) (rules_lines proxies setup.script (runs_named proxies c.args.trees.now)) result exit.0 _ _ _ _ _ _ exit.1 exit.2 first
+    PrintsLines-front (proxies_lines proxies) (rules_lines proxies setup.script (runs_named proxies c.args.trees.now)) c.from_residual.ensures.1 first
 
 pub returns-in_err-others : goal.returns-in_err-others
 returns-in_err-others g c =
     let setup = c.args.setup.now in
     let proxies = setup.proxies.items in
-    let result = c.from_residual-in_err-others.result in
-    let exit = err_from_is_err_and result c.from_residual-in_err-others.ensures.1 in
     let first = rw c.deref.ensures.value at c.in_ok-first.ensures in
-    PrintsLines-stops (proxies_lines proxies) (rules_lines proxies setup.script (runs_named proxies c.args.trees.now)) result exit.0 _ _ _ _ _ _ _ _ _ _ exit.1 exit.2 first c.in_err-others.ensures
+    PrintsLines-stops (proxies_lines proxies) (rules_lines proxies setup.script (runs_named proxies c.args.trees.now)) c.from_residual-in_err-others.ensures.1 first c.in_err-others.ensures
 
 pub returns : goal.returns
 returns g c =
     let setup = c.args.setup.now in
     let proxies = setup.proxies.items in
     let first = rw c.deref.ensures.value at c.in_ok-first.ensures in
-    PrintsLines-then (proxies_lines proxies) (rules_lines proxies setup.script (runs_named proxies c.args.trees.now)) c.in_ok-first.first c.in_ok-others.others c.saturating_add.result _ _ _ _ _ _ _ _ first
+    PrintsLines-then (proxies_lines proxies) (rules_lines proxies setup.script (runs_named proxies c.args.trees.now)) first
     c.in_ok-others.ensures c.saturating_add.ensures

@@ -1,7 +1,7 @@
 -- The lines of the first rules have passed, and they are counted.
-use Rattle.std.proofs.Common.{◌≡◌, false, flat_map, length, take}
+use Rattle.std.proofs.Common.{Ok, ◌≡◌, flat_map, length, take}
 use Rattle.std.specs.List.{enumerate_from}
-use Rattle.tox_text.specs.Writing.{Passes}
+use Rattle.tox_text.specs.Printing.{Prints}
 use Rattle.tox_check.specs.Checking.{held}
 use Rattle.tox_check.specs.Lines.{rule_lines}
 use Rattle.tox_check.specs.Printing.{joined_lines}
@@ -10,8 +10,7 @@ use Rattle.tox_check.proofs.check.print_rules.Given as goal
 
 abbrev pub invariant-loop-rule : goal.invariant-loop-rule
 invariant-loop-rule g l = record {
-  working : g.W.Sink.failed l.writer ≡ false;
-  passed : Passes (g.W.Sink.written l.fn.writer) l.fn.buffer (g.W.Sink.written l.writer) l.buffer
+  passed : Prints g.W.Sink (Ok tt) l.fn.printer l.printer
       (flat_map (λ numbered. joined_lines (rule_lines l.setup.proxies.items (runs_named l.setup.proxies.items l.trees) numbered.0 numbered.1)) (take l.rule (enumerate_from 1 l.setup.script.rules)));
   counted : l.warned
       ≡ held (length (flat_map (λ numbered. rule_lines l.setup.proxies.items (runs_named l.setup.proxies.items l.trees) numbered.0 numbered.1) (take l.rule (enumerate_from 1 l.setup.script.rules))));

@@ -1,19 +1,15 @@
 -- The name, and then one that is near.
 use Rattle.std.specs.Prelude.{option_map}
-use Rattle.std.proofs.lemmas.Result.{err_from_is_err_and}
-use Rattle.tox_text.proofs.Writes.{Prints-as, Prints-failed, Prints-then}
 use Rattle.tox_check.proofs.SentenceParts.{unknown_text-parts}
+use Rattle.tox_text.proofs.Printings.{Prints-as, Prints-failed, Prints-then}
 use Rattle.tox_check.proofs.warning.print_unknown.Goals as goal
 
 pub returns-in_err-print : goal.returns-in_err-print
 returns-in_err-print g c =
-    let result = c.from_residual.result in
-    let exit = err_from_is_err_and result c.from_residual.ensures.1 in
-    Prints-as result _ _ _ _ _ _ _ (unknown_text-parts c.args.name.now (option_map (λ near. near.now) c.args.near))
-    (Prints-failed result exit.0 _ _ _ _ _ _ _ exit.1 c.in_err-print.ensures)
+    Prints-as (unknown_text-parts c.args.name.now (option_map (λ near. near.now) c.args.near))
+    (Prints-failed _ c.from_residual.ensures.1 c.in_err-print.ensures)
 
 pub returns : goal.returns
 returns g c =
-    let result = c.print_near.result in
-    Prints-as result _ _ _ _ _ _ _ (unknown_text-parts c.args.name.now (option_map (λ near. near.now) c.args.near))
-    (Prints-then result _ _ _ _ _ _ _ _ _ c.in_ok-print.ensures.0 c.print_near.ensures)
+    Prints-as (unknown_text-parts c.args.name.now (option_map (λ near. near.now) c.args.near))
+    (Prints-then c.in_ok-print.ensures c.print_near.ensures)

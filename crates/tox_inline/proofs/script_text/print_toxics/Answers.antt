@@ -1,10 +1,10 @@
 -- One toxic behind the other.
-use Rattle.std.proofs.lemmas.Result.{err_from_is_err_and}
 use Rattle.tox_time.specs.declared.streams.stream.Stream.TheVariants.{Upstream}
 use Rattle.tox_defs.specs.declared.toxic.Toxic.TheVariants.{Latency}
-use Rattle.tox_text.proofs.Listed.{IsAt-read, Passes-more, Prints-stopped}
+use Rattle.tox_text.proofs.Listed.{IsAt-read}
 use Rattle.tox_inline.specs.Texts.{toxic_text}
 use Rattle.tox_inline.specs.declared.toxics.NumberedToxic.{NumberedToxic}
+use Rattle.tox_text.proofs.Printings.{Prints-more, Prints-stopped}
 use Rattle.tox_inline.proofs.script_text.print_toxics.Goals as goal
 
 -- what is read past the end
@@ -13,13 +13,10 @@ no_toxic = record { stream = Upstream; number = 0; entry = record { toxic = Late
 
 pub loop-toxic-preserved : goal.loop-toxic-preserved
 loop-toxic-preserved g c =
-    let here = IsAt-read c.args.toxics.now c.loop-toxic.toxic-index no_toxic c.loop-toxic-test.true in record {
-      working = c.in_ok-print_toxic.ensures.1;
-      printed = Passes-more toxic_text c.args.toxics.now c.loop-toxic.toxic-index _ _ _ _ _ _ _ here c.loop-toxic.invariant.printed c.in_ok-print_toxic.ensures.0;
-    }
+    let here = IsAt-read c.args.toxics.now c.loop-toxic.toxic-index no_toxic c.loop-toxic-test.true in
+    Prints-more toxic_text here c.loop-toxic.invariant c.in_ok-print_toxic.ensures
 
 pub returns-in_err-print_toxic : goal.returns-in_err-print_toxic
 returns-in_err-print_toxic g c =
     let here = IsAt-read c.args.toxics.now c.loop-toxic.toxic-index no_toxic c.loop-toxic-test.true in
-    let exit = err_from_is_err_and c.from_residual.result c.from_residual.ensures.1 in
-    Prints-stopped toxic_text c.args.toxics.now c.loop-toxic.toxic-index _ _ _ _ _ _ _ _ c.from_residual.result exit.0 here exit.1 c.loop-toxic.invariant.printed c.in_err-print_toxic.ensures
+    Prints-stopped toxic_text here c.from_residual.ensures.1 c.loop-toxic.invariant c.in_err-print_toxic.ensures

@@ -1,35 +1,29 @@
 -- One line behind the other.
 use Rattle.std.proofs.Common.{◌≤◌, arith, length, map, string_bytes}
 use Rattle.std.specs.List.{zip}
-use Rattle.std.proofs.lemmas.Result.{err_from_is_err_and}
 use Rattle.std.proofs.lemmas.List.{length-map}
 use Rattle.std.proofs.lemmas.Slice.Zip.{length-zip}
 use Rattle.tox_defs.specs.declared.toxic.Toxic.TheVariants.{Latency}
 use Rattle.tox_log.specs.HeaderText.{toxic_line}
-use Rattle.tox_text.proofs.Listed.{IsAt-named, Passes-all, Passes-more, Prints-stopped}
-use Rattle.tox_text.proofs.Writes.{Passes-none}
+use Rattle.tox_text.proofs.Listed.{IsAt-named}
+use Rattle.tox_text.proofs.Printings.{Prints-all, Prints-more, Prints-none, Prints-stopped}
 use Rattle.tox_log.proofs.header_text.print_toxics.Goals as goal
 
 pub loop-place-init : goal.loop-place-init
-loop-place-init g c = record { working = c.requires.working; passed = Passes-none _ _ }
+loop-place-init g c = Prints-none c.requires.working
 
 pub loop-place-preserved : goal.loop-place-preserved
 loop-place-preserved g c =
-    let here = IsAt-named string_bytes c.args.entries.now c.args.names.now c.loop-place.place (record { toxic = Latency 0 0 0 0; toxicity = 0 }) c.index-names-place.result c.requires.one_each c.loop-place-test.true c.index-names-place.is in record {
-      working = c.in_ok-print_toxic.ensures.1;
-      passed = Passes-more (λ named. toxic_line named.0 named.1) (zip c.args.entries.now (map string_bytes c.args.names.now)) c.loop-place.place _ _ _ _ _ _ _ here
-          c.loop-place.invariant.passed (rw c.deref.ensures at c.in_ok-print_toxic.ensures.0);
-    }
+    let here = IsAt-named string_bytes c.args.entries.now c.args.names.now c.loop-place.place (record { toxic = Latency 0 0 0 0; toxicity = 0 }) c.index-names-place.result c.requires.one_each c.loop-place-test.true c.index-names-place.is in
+    Prints-more (λ named. toxic_line named.0 named.1) here c.loop-place.invariant (rw c.deref.ensures at c.in_ok-print_toxic.ensures)
 
 pub returns-in_err-print_toxic : goal.returns-in_err-print_toxic
 returns-in_err-print_toxic g c =
     let here = IsAt-named string_bytes c.args.entries.now c.args.names.now c.loop-place.place (record { toxic = Latency 0 0 0 0; toxicity = 0 }) c.index-names-place.result c.requires.one_each c.loop-place-test.true c.index-names-place.is in
-    let exit = err_from_is_err_and c.from_residual.result c.from_residual.ensures.1 in
-    Prints-stopped (λ named. toxic_line named.0 named.1) (zip c.args.entries.now (map string_bytes c.args.names.now)) c.loop-place.place _ _ _ _ _ _ _ _ c.from_residual.result exit.0 here
-    exit.1 c.loop-place.invariant.passed (rw c.deref.ensures at c.in_err-print_toxic.ensures)
+    Prints-stopped (λ named. toxic_line named.0 named.1) here c.from_residual.ensures.1 c.loop-place.invariant (rw c.deref.ensures at c.in_err-print_toxic.ensures)
 
 pub returns : goal.returns
 returns g c =
     let past : length (zip c.args.entries.now (map string_bytes c.args.names.now)) ≤ c.loop-place.place =
     omega (arith, length-zip c.args.entries.now (map string_bytes c.args.names.now), length-map c.args.names.now string_bytes, c.loop-place-test.false) in
-    (Passes-all (λ named. toxic_line named.0 named.1) (zip c.args.entries.now (map string_bytes c.args.names.now)) c.loop-place.place _ _ _ _ past c.loop-place.invariant.passed, c.loop-place.invariant.working)
+    Prints-all (λ named. toxic_line named.0 named.1) _ _ past c.loop-place.invariant

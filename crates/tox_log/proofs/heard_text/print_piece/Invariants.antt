@@ -1,6 +1,6 @@
--- The ends work.
-use Rattle.std.proofs.Common.{◌≡◌, false}
+-- The writer works.
+use Rattle.tox_text.specs.Printing.{KeepsWorking}
 use Rattle.tox_log.proofs.heard_text.print_piece.Given as goal
 
 abbrev pub invariant-loop : goal.invariant-loop
-invariant-loop g l = g.W.Sink.failed l.writer ≡ false
+invariant-loop g l = KeepsWorking g.W.Sink l.fn.printer l.printer

@@ -1,6 +1,6 @@
--- The ends work.
-use Rattle.std.proofs.Common.{◌≡◌, false}
+-- The writer works.
+use Rattle.tox_text.specs.Printing.{KeepsWorking}
 use Rattle.tox_log.proofs.heard_text.print_words.Given as goal
 
 abbrev pub invariant-loop-index : goal.invariant-loop-index
-invariant-loop-index g l = g.W.Sink.failed l.writer ≡ false
+invariant-loop-index g l = KeepsWorking g.W.Sink l.initial.printer l.printer

@@ -1,20 +1,16 @@
 -- A quote, the text, and a quote.
-use Rattle.std.proofs.lemmas.Result.{err_from_is_err_and}
-use Rattle.tox_text.proofs.Writes.{Prints-failed, Prints-then}
+use Rattle.tox_text.proofs.Printings.{Prints-failed, Prints-then}
 use Rattle.tox_text.proofs.json.print_between_quotes.Goals as goal
 
 pub returns-in_err-put : goal.returns-in_err-put
 returns-in_err-put g c =
-    let exit = err_from_is_err_and c.from_residual.result c.from_residual.ensures.1 in
-    Prints-failed c.from_residual.result exit.0 _ _ _ _ _ _ _ exit.1 c.in_err-put.ensures
+    Prints-failed _ c.from_residual.ensures.1 c.in_err-put.ensures
 
 pub returns-in_err-print_inside : goal.returns-in_err-print_inside
 returns-in_err-print_inside g c =
-    let result = c.from_residual-in_err-print_inside.result in
-    let exit = err_from_is_err_and result c.from_residual-in_err-print_inside.ensures.1 in
-    Prints-then result _ _ _ _ _ _ _ _ _ c.in_ok-put.ensures.0 (Prints-failed result exit.0 _ _ _ _ _ _ _ exit.1 c.in_err-print_inside.ensures)
+    Prints-then c.in_ok-put.ensures (Prints-failed _ c.from_residual-in_err-print_inside.ensures.1 c.in_err-print_inside.ensures)
 
 pub returns : goal.returns
 returns g c =
-    Prints-then c.put-2.result _ _ _ _ _ _ _ _ _ c.in_ok-put.ensures.0
-    (Prints-then c.put-2.result _ _ _ _ _ _ _ _ _ c.in_ok-print_inside.ensures.0 c.put-2.ensures)
+    Prints-then c.in_ok-put.ensures
+    (Prints-then c.in_ok-print_inside.ensures c.put-2.ensures)

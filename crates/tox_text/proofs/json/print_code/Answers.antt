@@ -1,12 +1,10 @@
 -- The sign, and then the digits.
-use Rattle.std.proofs.lemmas.Result.{err_from_is_err_and}
-use Rattle.tox_text.proofs.Writes.{Prints-failed, Prints-then}
+use Rattle.tox_text.proofs.Printings.{Prints-failed, Prints-then}
 use Rattle.tox_text.proofs.json.print_code.Goals as goal
 
 pub returns-in_err-put : goal.returns-in_err-put
 returns-in_err-put g c =
-    let exit = err_from_is_err_and c.from_residual.result c.from_residual.ensures.1 in
-    Prints-failed c.from_residual.result exit.0 _ _ _ _ _ _ _ exit.1 c.in_err-put.ensures
+    Prints-failed _ c.from_residual.ensures.1 c.in_err-put.ensures
 
 pub returns : goal.returns
-returns g c = Prints-then c.put_hex.result _ _ _ _ _ _ _ _ _ c.in_ok-put.ensures.0 c.put_hex.ensures
+returns g c = Prints-then c.in_ok-put.ensures c.put_hex.ensures

@@ -1,10 +1,9 @@
 -- What the operation does, until when and from when on, and the end of its line.
 use Rattle.std.proofs.Common.{◌≡◌, ℕ, ◌++◌, codes, append_assoc, refl, sym, ◌∙◌}
-use Rattle.std.proofs.lemmas.Result.{err_from_is_err_and}
 use Rattle.tox_defs.specs.operations.Op.{op_from, op_until}
 use Rattle.tox_defs.specs.declared.operations.op.Op.{Op}
 use Rattle.tox_text.specs.PlanText.{nonzero_words, op_line, work_words}
-use Rattle.tox_text.proofs.Writes.{Prints-as, Prints-failed, Prints-then}
+use Rattle.tox_text.proofs.Printings.{Prints-as, Prints-failed, Prints-then}
 use Rattle.tox_text.proofs.plan_text.print_op.Goals as goal
 
 op_line-parts : (op : Op) (until from : ℕ) → until ≡ op_until op → from ≡ op_from op
@@ -16,32 +15,25 @@ op_line-parts op until from is_until is_from =
 
 pub returns-in_err-print_work : goal.returns-in_err-print_work
 returns-in_err-print_work g c =
-    let result = c.from_residual.result in
-    let exit = err_from_is_err_and result c.from_residual.ensures.1 in
-    Prints-as result _ _ _ _ _ _ _ (op_line-parts c.args.op.now _ _ refl refl)
-    (Prints-failed result exit.0 _ _ _ _ _ _ _ exit.1 c.in_err-print_work.ensures)
+    Prints-as (op_line-parts c.args.op.now _ _ refl refl)
+    (Prints-failed _ c.from_residual.ensures.1 c.in_err-print_work.ensures)
 
 pub returns-in_err-print_nonzero : goal.returns-in_err-print_nonzero
 returns-in_err-print_nonzero g c =
-    let result = c.from_residual-in_err-print_nonzero.result in
-    let exit = err_from_is_err_and result c.from_residual-in_err-print_nonzero.ensures.1 in
-    Prints-as result _ _ _ _ _ _ _ (op_line-parts c.args.op.now _ _ (c.from.ensures ∙ c.until_of.ensures) refl)
-    (Prints-then result _ _ _ _ _ _ _ _ _ c.in_ok-print_work.ensures.0
-    (Prints-failed result exit.0 _ _ _ _ _ _ _ exit.1 c.in_err-print_nonzero.ensures))
+    Prints-as (op_line-parts c.args.op.now _ _ (c.from.ensures ∙ c.until_of.ensures) refl)
+    (Prints-then c.in_ok-print_work.ensures
+    (Prints-failed _ c.from_residual-in_err-print_nonzero.ensures.1 c.in_err-print_nonzero.ensures))
 
 pub returns-in_err-print_nonzero-2 : goal.returns-in_err-print_nonzero-2
 returns-in_err-print_nonzero-2 g c =
-    let result = c.from_residual-in_err-print_nonzero-2.result in
-    let exit = err_from_is_err_and result c.from_residual-in_err-print_nonzero-2.ensures.1 in
-    Prints-as result _ _ _ _ _ _ _ (op_line-parts c.args.op.now _ _ (c.from.ensures ∙ c.until_of.ensures) (c.from-2.ensures ∙ c.from_of.ensures))
-    (Prints-then result _ _ _ _ _ _ _ _ _ c.in_ok-print_work.ensures.0
-    (Prints-then result _ _ _ _ _ _ _ _ _ c.in_ok-print_nonzero.ensures.0
-    (Prints-failed result exit.0 _ _ _ _ _ _ _ exit.1 c.in_err-print_nonzero-2.ensures)))
+    Prints-as (op_line-parts c.args.op.now _ _ (c.from.ensures ∙ c.until_of.ensures) (c.from-2.ensures ∙ c.from_of.ensures))
+    (Prints-then c.in_ok-print_work.ensures
+    (Prints-then c.in_ok-print_nonzero.ensures
+    (Prints-failed _ c.from_residual-in_err-print_nonzero-2.ensures.1 c.in_err-print_nonzero-2.ensures)))
 
 pub returns : goal.returns
 returns g c =
-    let result = c.print.result in
-    Prints-as result _ _ _ _ _ _ _ (op_line-parts c.args.op.now _ _ (c.from.ensures ∙ c.until_of.ensures) (c.from-2.ensures ∙ c.from_of.ensures))
-    (Prints-then result _ _ _ _ _ _ _ _ _ c.in_ok-print_work.ensures.0
-    (Prints-then result _ _ _ _ _ _ _ _ _ c.in_ok-print_nonzero.ensures.0
-    (Prints-then result _ _ _ _ _ _ _ _ _ c.in_ok-print_nonzero-2.ensures.0 c.print.ensures)))
+    Prints-as (op_line-parts c.args.op.now _ _ (c.from.ensures ∙ c.until_of.ensures) (c.from-2.ensures ∙ c.from_of.ensures))
+    (Prints-then c.in_ok-print_work.ensures
+    (Prints-then c.in_ok-print_nonzero.ensures
+    (Prints-then c.in_ok-print_nonzero-2.ensures c.print.ensures)))

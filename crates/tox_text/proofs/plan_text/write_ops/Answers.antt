@@ -1,5 +1,8 @@
-use Rattle.tox_text.proofs.Writes.{Writes-flushed}
+use Rattle.std.proofs.Common.{rules}
+use Rattle.tox_text.proofs.Printings.{Writes-finished}
 use Rattle.tox_text.proofs.plan_text.write_ops.Goals as goal
 
 pub returns : goal.returns
-returns g c = Writes-flushed c.flush.result _ _ _ _ _ _ (rw c.new-buffer.ensures at c.in_ok-print_text.ensures.0) c.flush.ensures.writes
+returns g c =
+    let written = rw c.new-printer.ensures.writer at (Writes-finished c.finish.result _ c.new-printer.ensures.empty c.in_ok-print_text.ensures c.finish.ensures) in
+    search (rules, written)

@@ -1,30 +1,27 @@
 -- The list, the conversations, and the page's end.
 use Rattle.std.proofs.Common.{◌++◌, refl, take}
-use Rattle.std.proofs.lemmas.Result.{err_from_is_err_and}
 use Rattle.tox_draw.proofs.pages.Drawn.{AreSections-any, AreSections-min}
-use Rattle.tox_draw.proofs.pages.Shown.{Shows-failed, Shows-then}
 use Rattle.tox_draw.specs.pages.Pages.{page_end, page_list}
+use Rattle.tox_text.proofs.Printings.{Prints-failed, Prints-then}
 use Rattle.tox_draw.proofs.pages.page.print_body.Goals as goal
 
 pub returns-in_err-print_list : goal.returns-in_err-print_list
 returns-in_err-print_list g c =
-    let exit = err_from_is_err_and c.from_residual.result c.from_residual.ensures.1 in
     let sections = AreSections-any (g.S.LogStore.known c.args.store.now) 1 (take c.args.shown c.args.links.now) in
     record {
       text = page_list c.args.refusals.now c.args.links.now c.args.shown ++ (sections.0 ++ page_end);
       is = record { sections = sections.0; drawn = sections.1; whole = refl };
-      shows = Shows-failed c.from_residual.result exit.0 _ _ _ _ _ _ _ _ exit.1 exit.2 c.in_err-print_list.ensures;
+      shows = Prints-failed _ c.from_residual.ensures.1 c.in_err-print_list.ensures;
     }
 
 pub returns-in_err-print_sections : goal.returns-in_err-print_sections
 returns-in_err-print_sections g c =
-    let exit = err_from_is_err_and c.from_residual-in_err-print_sections.result c.from_residual-in_err-print_sections.ensures.1 in
     let sections = c.in_err-print_sections.ensures in
     record {
       text = page_list c.args.refusals.now c.args.links.now c.args.shown ++ (sections.text ++ page_end);
       is = record { sections = sections.text; drawn = AreSections-min (g.S.LogStore.known c.args.store.now) c.args.links.now c.args.shown c.min-count.result sections.text c.min-count.ensures sections.is; whole = refl };
-      shows = Shows-then c.from_residual-in_err-print_sections.result _ _ _ _ _ _ _ _ _ c.in_ok-print_list.ensures.0
-          (Shows-failed c.from_residual-in_err-print_sections.result exit.0 _ _ _ _ _ _ _ _ exit.1 exit.2 sections.shows);
+      shows = Prints-then c.in_ok-print_list.ensures
+          (Prints-failed _ c.from_residual-in_err-print_sections.ensures.1 sections.shows);
     }
 
 pub returns : goal.returns
@@ -33,6 +30,6 @@ returns g c =
     record {
       text = page_list c.args.refusals.now c.args.links.now c.args.shown ++ (sections.text ++ page_end);
       is = record { sections = sections.text; drawn = AreSections-min (g.S.LogStore.known c.args.store.now) c.args.links.now c.args.shown c.min-count.result sections.text c.min-count.ensures sections.is; whole = refl };
-      shows = Shows-then c.print_page_end.result _ _ _ _ _ _ _ _ _ c.in_ok-print_list.ensures.0
-          (Shows-then c.print_page_end.result _ _ _ _ _ _ _ _ _ sections.shows.0 c.print_page_end.ensures);
+      shows = Prints-then c.in_ok-print_list.ensures
+          (Prints-then sections.shows c.print_page_end.ensures);
     }

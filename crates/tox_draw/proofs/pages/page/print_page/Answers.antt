@@ -1,33 +1,31 @@
 -- The front, and then what stands below it.
-use Rattle.std.proofs.Common.{[], ◌++◌, ◌∙◌, length, refl}
-use Rattle.std.proofs.lemmas.Result.{err_from_is_err_and}
+use Rattle.std.proofs.Common.{◌++◌, ◌∙◌, length, refl}
 use Rattle.tox_draw.proofs.pages.Drawn.{IsPageBody-any}
-use Rattle.tox_draw.proofs.pages.Shown.{AppendsFront-none, Shows-failed, Shows-then}
+use Rattle.tox_draw.proofs.pages.Shown.{Shows-none}
 use Rattle.tox_draw.specs.pages.Fronts.{page_front}
 use Rattle.tox_draw.specs.pages.LinkLogs.{page_links}
 use Rattle.tox_draw.specs.pages.Links.{link_count}
+use Rattle.tox_text.proofs.Printings.{Prints-exited, Prints-failed, Prints-then}
 use Rattle.tox_draw.proofs.pages.page.print_page.Goals as goal
 
 pub returns-in_err-print_front : goal.returns-in_err-print_front
 returns-in_err-print_front g c =
-    let exit = err_from_is_err_and c.from_residual.result c.from_residual.ensures.1 in
     let body = IsPageBody-any (g.S.LogStore.known c.args.store.now) c.args.report.refusals.items (page_links c.args.report.rows.items) c.args.shown in
     record {
       text = page_front c.args.title.now (length c.args.report.refusals.items) c.args.report.rows.items (link_count c.args.report.rows.items) ++ body.0;
       is = record { body = body.0; below = body.1; whole = refl };
-      shows = Shows-failed c.from_residual.result exit.0 _ _ _ _ _ _ _ _ exit.1 exit.2 (rw (c.deref.ensures.value, c.deref-2.ensures.value) at c.in_err-print_front.ensures);
+      shows = Prints-failed _ c.from_residual.ensures.1 (rw (c.deref.ensures.value, c.deref-2.ensures.value) at c.in_err-print_front.ensures);
     }
 
 pub returns-in_err-links : goal.returns-in_err-links
 returns-in_err-links g c =
     let printed = rw (c.deref.ensures.value, c.deref-2.ensures.value) at c.in_ok-print_front.ensures in
-    let exit = err_from_is_err_and c.from_residual-in_err-links.result c.from_residual-in_err-links.ensures.1 in
     let body = IsPageBody-any (g.S.LogStore.known c.args.store.now) c.args.report.refusals.items (page_links c.args.report.rows.items) c.args.shown in
     record {
       text = page_front c.args.title.now (length c.args.report.refusals.items) c.args.report.rows.items (link_count c.args.report.rows.items) ++ body.0;
       is = record { body = body.0; below = body.1; whole = refl };
-      shows = Shows-then c.from_residual-in_err-links.result _ _ _ _ _ _ _ _ _ printed.0
-          (Shows-failed c.from_residual-in_err-links.result exit.0 _ _ _ _ _ _ [] body.0 exit.1 exit.2 (AppendsFront-none _ _, printed.1));
+      shows = Prints-then printed
+          (Prints-exited c.from_residual-in_err-links.ensures.1 (Shows-none printed.leaves.1));
     }
 
 pub returns : goal.returns
@@ -37,5 +35,5 @@ returns g c =
     record {
       text = page_front c.args.title.now (length c.args.report.refusals.items) c.args.report.rows.items (link_count c.args.report.rows.items) ++ below.text;
       is = record { body = below.text; below = below.is; whole = refl };
-      shows = Shows-then c.print_body.result _ _ _ _ _ _ _ _ _ printed.0 below.shows;
+      shows = Prints-then printed below.shows;
     }

@@ -1,24 +1,21 @@
 -- One line more: its piece is printed, or the source's end is told.
-use Rattle.std.proofs.Common.{◌≡◌, ◌+◌, ◌<◌, ◌∷◌, ◌++◌, ℕ, [], Some, length, option_map, arith, rules, sym, ◌∙◌, ap, subst, vec_capacity}
+use Rattle.std.proofs.Common.{◌≡◌, ◌+◌, ◌<◌, ◌∷◌, ℕ, [], Ok, Some, length, option_map, arith, rules, sym, ◌∙◌, ap, subst, vec_capacity}
 use Rattle.std.specs.Result.{result_ok}
-use Rattle.std.proofs.lemmas.Result.{err_from_is_err_and}
 use Rattle.tox_time.specs.declared.streams.item.Item.TheVariants.{Quiet}
 use Rattle.tox_time.specs.streams.Arrivals.{arrival_list}
 use Rattle.tox_lend.specs.Run.{Run}
 use Rattle.tox_text.specs.arrivals.Checked.{AreShort}
 use Rattle.tox_text.specs.arrivals.Line.{arrival, digit_count, end, event_seen, line_of}
 use Rattle.tox_text.specs.arrivals.Lines.{lines_left}
-use Rattle.tox_text.specs.Writing.{AppendsFront}
 use Rattle.tox_text.proofs.CountLemmas.{AreShort-longer}
-use Rattle.tox_runs.specs.runs.SecondPass.{IsAtSourceEnd, IsAtPiece, PassesDownTo}
+use Rattle.tox_runs.specs.runs.SecondPass.{IsAtSourceEnd, IsAtPiece, PrintsDownTo}
 use Rattle.tox_runs.proofs.LineSteps.{IsUnderWay-first, at_data, at_last, behind_all, line_next, none_left, pairs_there}
-use Rattle.tox_runs.proofs.Passing.{AppendsFront-both, PassesDownTo-both, PassesDownTo-none}
+use Rattle.tox_runs.proofs.Passing.{PrintsDownTo-both, PrintsDownTo-none, PrintsDownTo-passed, PrintsDownTo-stopped}
 use Rattle.tox_runs.proofs.runs.second_pass.print_lines.Goals as goal
 
 pub loop-left-init : goal.loop-left-init
 loop-left-init g c =
     let checked = c.requires.checked in record {
-      working = c.requires.working;
       arrived = checked.arrived;
       spelled = checked.spelled;
       arrivals = checked.arrivals;
@@ -26,7 +23,7 @@ loop-left-init g c =
       later = checked.arrived.items;
       under_way = IsUnderWay-first checked.arrived _ (g.S.SliceSource.stands c.args.source.now checked.arrived) c.args.window.now checked.spelled (c.requires.first checked.arrived checked.spelled) c.requires.empty;
       short = checked.short;
-      printed = PassesDownTo-none _ _ _;
+      printed = PrintsDownTo-none c.requires.working;
     }
 
 pub decode_into-requires-clause-pairs : goal.decode_into-requires-clause-pairs
@@ -58,17 +55,13 @@ returns-in_err-bytes-in-Data-clause-prints g c =
     let t = c.in-Some-line_of.said.instant in
     let is = sym c.in-Some-line_of.ensures.says ∙ ap (event_seen t) c.in-Data.is ∙ ap (λ r. option_map (arrival t) (result_ok r)) c.decode_into.ensures.decoded in
     let found = at_data on.arrived on.number _ _ _ _ _ on.later c.stop.result t c.decode_into.new.bytes.items on.arrivals c.stop.ensures.value split is on.under_way in
-    let before = subst (λ later. PassesDownTo (g.W.Sink.written c.args.writer.now) c.args.buffer.now (g.W.Sink.written c.loop-left.writer) c.loop-left.buffer
+    let before = subst (λ later. PrintsDownTo g.W.Sink (Ok (tt {0})) c.args.printer.now c.loop-left.printer
     (g.S.SliceSource.text_left c.args.source.now on.arrived (arrival_list on.arrived.items)) (g.S.SliceSource.text_left c.loop-left.source on.arrived (arrival_list later))) found.is on.printed in
-    let exit = err_from_is_err_and c.from_residual.result c.from_residual.ensures.1 in
     let front = c.in_err-bytes-in-Data.ensures.prints (record { arrived = on.arrived; later = found.others; of = found.of _; before = found.ready }) in
     λ arrived spelled.
     let same : on.arrived ≡ arrived = (let both = sym on.spelled ∙ spelled in cc) in
-    rw exit.1 (
-      subst (λ a. AppendsFront (g.W.Sink.written c.args.writer.now) (g.W.Sink.written c.print_data.new.writer) (c.args.buffer.now ++ g.S.SliceSource.text_left c.args.source.now a (arrival_list a.items))) same
-          (AppendsFront-both _ _ _ _ _ _ _ before front.0),
-      front.1,
-    )
+    subst (λ a. PrintsDownTo g.W.Sink c.from_residual.result c.args.printer.now c.print_data.new.printer (g.S.SliceSource.text_left c.args.source.now a (arrival_list a.items)) (g.S.SliceSource.text_left c.print_data.new.source a (Quiet ∷ []))) same
+    (PrintsDownTo-stopped c.from_residual.ensures.1 before front)
 
 pub loop-left-preserved-in-Data : goal.loop-left-preserved-in-Data
 loop-left-preserved-in-Data g c =
@@ -78,14 +71,13 @@ loop-left-preserved-in-Data g c =
     let t = c.in-Some-line_of.said.instant in
     let is = sym c.in-Some-line_of.ensures.says ∙ ap (event_seen t) c.in-Data.is ∙ ap (λ r. option_map (arrival t) (result_ok r)) c.decode_into.ensures.decoded in
     let found = at_data on.arrived on.number _ _ _ _ _ on.later c.stop.result t c.decode_into.new.bytes.items on.arrivals c.stop.ensures.value split is on.under_way in
-    let before = subst (λ later. PassesDownTo (g.W.Sink.written c.args.writer.now) c.args.buffer.now (g.W.Sink.written c.loop-left.writer) c.loop-left.buffer
+    let before = subst (λ later. PrintsDownTo g.W.Sink (Ok (tt {0})) c.args.printer.now c.loop-left.printer
     (g.S.SliceSource.text_left c.args.source.now on.arrived (arrival_list on.arrived.items)) (g.S.SliceSource.text_left c.loop-left.source on.arrived (arrival_list later))) found.is on.printed in
     let piece : Run = record { start = c.stop.result; bytes = c.decode_into.new.bytes.items; instant = t; room = vec_capacity c.decode_into.new.bytes } in
     let at : IsAtPiece (g.S.SliceSource.stands c.loop-left.source) piece = record { arrived = on.arrived; later = found.others; of = found.of piece.room; before = found.ready } in
     let done = c.in_ok-bytes-in-Data.ensures in
     let printed = done.prints at in
     record {
-      working = printed.1;
       arrived = on.arrived;
       spelled = on.spelled;
       arrivals = on.arrivals;
@@ -93,7 +85,7 @@ loop-left-preserved-in-Data g c =
       later = found.others;
       under_way = found.then (g.S.SliceSource.stands c.print_data.new.source on.arrived) c.print_data.new.window (done.stands at) done.window;
       short = AreShort-longer (vec_capacity c.loop-left.bytes) _ _ (omega (arith, c.decode_into.ensures.kept, done.room)) short.1;
-      printed = PassesDownTo-both _ _ _ _ _ _ _ _ _ before printed.0;
+      printed = PrintsDownTo-passed (PrintsDownTo-both before printed);
     }
 
 pub end-requires : goal.end-requires
@@ -113,10 +105,9 @@ loop-left-preserved g c =
     let is : line_of c.first_line.result.0.now ≡ Some (end t) = sym c.in-Some-line_of.ensures.says ∙ ap (event_seen t) c.in-Eof.is in
     let last = at_last on.arrived on.number _ _ _ _ _ on.later t split is on.under_way in
     let at : IsAtSourceEnd (g.S.SliceSource.stands c.loop-left.source) t = record { arrived = on.arrived; position = last.position; later = last.others; before = last.ready } in
-    let before = subst (λ later. PassesDownTo (g.W.Sink.written c.args.writer.now) c.args.buffer.now (g.W.Sink.written c.loop-left.writer) c.loop-left.buffer
+    let before = subst (λ later. PrintsDownTo g.W.Sink (Ok (tt {0})) c.args.printer.now c.loop-left.printer
     (g.S.SliceSource.text_left c.args.source.now on.arrived (arrival_list on.arrived.items)) (g.S.SliceSource.text_left c.loop-left.source on.arrived (arrival_list later))) last.is on.printed in
     record {
-      working = on.working;
       arrived = on.arrived;
       spelled = on.spelled;
       arrivals = on.arrivals;
@@ -124,7 +115,7 @@ loop-left-preserved g c =
       later = last.others;
       under_way = last.then (g.S.SliceSource.stands c.end.new.self on.arrived) (c.end.ensures.stands at);
       short = short.1;
-      printed = subst (PassesDownTo (g.W.Sink.written c.args.writer.now) c.args.buffer.now (g.W.Sink.written c.loop-left.writer) c.loop-left.buffer
+      printed = subst (PrintsDownTo g.W.Sink (Ok (tt {0})) c.args.printer.now c.loop-left.printer
           (g.S.SliceSource.text_left c.args.source.now on.arrived (arrival_list on.arrived.items))) (sym (c.end.ensures.same at)) before;
     }
 
@@ -134,13 +125,11 @@ returns-clause-prints g c =
     let empty : lines_left (option_map (λ rest. rest.now) c.loop-left.left) ≡ [] = search rules in
     let none = none_left on.arrived on.number _ _ _ on.later empty on.under_way in
     λ arrived spelled.
-    let same : on.arrived ≡ arrived = (let both = sym on.spelled ∙ spelled in cc) in (
-      subst (λ a. PassesDownTo (g.W.Sink.written c.args.writer.now) c.args.buffer.now (g.W.Sink.written c.loop-left.writer) c.loop-left.buffer
-          (g.S.SliceSource.text_left c.args.source.now a (arrival_list a.items)) (g.S.SliceSource.text_left c.loop-left.source a (Quiet ∷ []))) same
-          (subst (λ later. PassesDownTo (g.W.Sink.written c.args.writer.now) c.args.buffer.now (g.W.Sink.written c.loop-left.writer) c.loop-left.buffer
-          (g.S.SliceSource.text_left c.args.source.now on.arrived (arrival_list on.arrived.items)) (g.S.SliceSource.text_left c.loop-left.source on.arrived (arrival_list later))) none on.printed),
-      on.working,
-    )
+    let same : on.arrived ≡ arrived = (let both = sym on.spelled ∙ spelled in cc) in
+    subst (λ a. PrintsDownTo g.W.Sink (Ok (tt {0})) c.args.printer.now c.loop-left.printer
+    (g.S.SliceSource.text_left c.args.source.now a (arrival_list a.items)) (g.S.SliceSource.text_left c.loop-left.source a (Quiet ∷ []))) same
+    (subst (λ later. PrintsDownTo g.W.Sink (Ok (tt {0})) c.args.printer.now c.loop-left.printer
+    (g.S.SliceSource.text_left c.args.source.now on.arrived (arrival_list on.arrived.items)) (g.S.SliceSource.text_left c.loop-left.source on.arrived (arrival_list later))) none on.printed)
 
 pub returns-clause-behind : goal.returns-clause-behind
 returns-clause-behind g c =

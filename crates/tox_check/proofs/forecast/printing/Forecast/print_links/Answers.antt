@@ -1,8 +1,6 @@
 -- One connection behind the other.
 use Rattle.std.proofs.Common.{◌≡◌, ◌≤◌, ◌+◌, arith, length, ◌∙◌, add-one}
-use Rattle.std.proofs.lemmas.Result.{err_from_is_err_and}
 use Rattle.tox_script.specs.index.Numbered.{covering_number}
-use Rattle.tox_text.proofs.Listed.{Passes-all, Passes-more, Prints-stopped}
 use Rattle.tox_time.specs.declared.streams.stream.Stream.TheVariants.{Upstream, Downstream}
 use Rattle.tox_check.specs.forecast.Applied.{flags_for}
 use Rattle.tox_check.specs.forecast.Counted.{numbers_from}
@@ -10,6 +8,7 @@ use Rattle.tox_check.specs.forecast.ForecastText.{link_text}
 use Rattle.tox_check.proofs.forecast.LinkTexts.{chains_found, flags_found, link_text-found, met_fits}
 use Rattle.tox_check.proofs.forecast.NumbersFrom.{IsAt-numbers_from, length-numbers_from}
 use Rattle.tox_check.proofs.forecast.TallySteps.{HasRoom-tallied, IsTallied-next}
+use Rattle.tox_text.proofs.Printings.{Prints-all, Prints-more, Prints-stopped}
 use Rattle.tox_check.proofs.forecast.printing.Forecast.print_links.Goals as goal
 
 pub invariant_of-met : goal.invariant_of-met
@@ -38,9 +37,8 @@ loop-before-preserved g c =
     let text = link_text-found me.question.now me.proxy.now me.script.now conn c.rule-rule.result c.rule_chains-chains.result.now flags.upstream.items flags.downstream.items met found ups downs in
     let tallied = IsTallied-next me.proxy.now me.script.now me.question.now.seed turn.before c.rule-rule.result flags turn.tallies c.count_link.new.tallies met ups downs c.count_link.ensures turn.invariant.tallied in
     record {
-      working = c.in_ok-print_link.ensures.1;
-      passed = Passes-more (link_text me.question.now me.proxy.now me.script.now) (numbers_from 1 me.question.now.links) turn.before conn _ _ _ _ _ _ (IsAt-numbers_from 1 me.question.now.links turn.before c.loop-before-test.true) turn.invariant.passed
-          (rw text at c.in_ok-print_link.ensures.0);
+      passed = Prints-more (link_text me.question.now me.proxy.now me.script.now) (IsAt-numbers_from 1 me.question.now.links turn.before c.loop-before-test.true) turn.invariant.passed
+          (rw text at c.in_ok-print_link.ensures);
       long = omega (arith, c.count_link.auto.tallies, turn.invariant.long);
       tallied = rw add-one tallied;
     }
@@ -57,13 +55,12 @@ returns-in_err-print_link-clause-printed g c =
     let ups : flags.upstream.items ≡ flags_for me.proxy.now me.script.now me.question.now.seed conn Upstream = c.link_flags-flags.ensures.upstream ∙ whole.0 in
     let downs : flags.downstream.items ≡ flags_for me.proxy.now me.script.now me.question.now.seed conn Downstream = c.link_flags-flags.ensures.downstream ∙ whole.1 in
     let text = link_text-found me.question.now me.proxy.now me.script.now conn c.rule-rule.result c.rule_chains-chains.result.now flags.upstream.items flags.downstream.items met found ups downs in
-    let exit = err_from_is_err_and c.from_residual.result c.from_residual.ensures.1 in
-    Prints-stopped (link_text me.question.now me.proxy.now me.script.now) (numbers_from 1 me.question.now.links) turn.before conn _ _ _ _ _ _ _ c.from_residual.result exit.0
-    (IsAt-numbers_from 1 me.question.now.links turn.before c.loop-before-test.true) exit.1 turn.invariant.passed (rw text at c.in_err-print_link.ensures)
+    Prints-stopped (link_text me.question.now me.proxy.now me.script.now)
+    (IsAt-numbers_from 1 me.question.now.links turn.before c.loop-before-test.true) c.from_residual.ensures.1 turn.invariant.passed (rw text at c.in_err-print_link.ensures)
 
 pub returns-clause-printed : goal.returns-clause-printed
 returns-clause-printed g c =
     let me = c.args.self.now in
     let all = numbers_from 1 me.question.now.links in
     let past : length all ≤ c.loop-before.before = omega (arith, length-numbers_from 1 me.question.now.links, c.loop-before-test.false) in
-    (Passes-all (link_text me.question.now me.proxy.now me.script.now) all c.loop-before.before _ _ _ _ past c.loop-before.invariant.passed, c.loop-before.invariant.working)
+    Prints-all (link_text me.question.now me.proxy.now me.script.now) _ _ past c.loop-before.invariant.passed

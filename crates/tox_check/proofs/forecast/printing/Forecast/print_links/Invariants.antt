@@ -1,6 +1,6 @@
 -- The lines of the first connections have passed, and they are counted.
-use Rattle.std.proofs.Common.{◌≡◌, false, flat_map, length, take}
-use Rattle.tox_text.specs.Writing.{Passes}
+use Rattle.std.proofs.Common.{Ok, ◌≡◌, flat_map, length, take}
+use Rattle.tox_text.specs.Printing.{Prints}
 use Rattle.tox_check.specs.forecast.Counted.{numbers_from}
 use Rattle.tox_check.specs.forecast.ForecastText.{link_text}
 use Rattle.tox_check.specs.forecast.Tallied.{IsTallied}
@@ -8,8 +8,7 @@ use Rattle.tox_check.proofs.forecast.printing.Forecast.print_links.Given as goal
 
 abbrev pub invariant-loop-before : goal.invariant-loop-before
 invariant-loop-before g l = record {
-  working : g.W.Sink.failed l.writer ≡ false;
-  passed : Passes (g.W.Sink.written l.fn.writer) l.fn.buffer (g.W.Sink.written l.writer) l.buffer
+  passed : Prints g.W.Sink (Ok tt) l.fn.printer l.printer
       (flat_map (link_text l.question l.self.proxy.now l.script) (take l.before (numbers_from 1 l.question.links)));
   long : length l.tallies ≡ length l.script.rules;
   tallied : IsTallied l.self.proxy.now l.script l.question.seed l.before l.tallies;

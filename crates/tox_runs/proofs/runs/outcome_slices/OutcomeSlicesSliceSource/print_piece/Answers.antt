@@ -1,13 +1,12 @@
 -- One line more, or a prefix of it.
 use Rattle.std.proofs.Common.{◌≡◌, ◌+◌, ◌∙◌, ℕ, ap, subst, arith, vec_len}
-use Rattle.std.proofs.lemmas.Result.{err_from_is_err_and}
 use Rattle.tox_time.specs.streams.Arrivals.{arrival_list}
 use Rattle.tox_lend.specs.Run.{Run, stop_of}
 use Rattle.tox_lend.specs.contracts.piece.Piece.{the_view as piece_seen}
 use Rattle.tox_lend.specs.declared.piece.Piece.TheInside.{Inside}
 use Rattle.tox_runs.specs.runs.OutcomeSlices.{IsJoined, StartsBehind}
 use Rattle.tox_runs.proofs.OutcomeLemmas.{IsPending-next, IsPrinting-next, joined_lies, pending_text-joined, starts_in}
-use Rattle.tox_runs.proofs.Passing.{AppendsFront-broken, PassesDownTo-then}
+use Rattle.tox_runs.proofs.Passing.{PrintsDownTo-broken, PrintsDownTo-then}
 use Rattle.tox_runs.proofs.PieceLines.{line_of_lent}
 use Rattle.tox_runs.proofs.runs.outcome_slices.OutcomeSlicesSliceSource.print_piece.Goals as goal
 
@@ -32,7 +31,7 @@ loop-slice-preserved g c =
     let joined = subst (λ stop. IsJoined stop old.left.now slice new.left.now) (stop_read c.piece.inside c.args.piece.now c.len.result c.piece.view_is c.len.ensures) c.in-Some.ensures.some.0 in
     let line = line_of_lent c.args.piece.now slice c.lend.result c.lend.ensures in
     record {
-      working = c.in_ok-print_lent.ensures.1;
+      working = c.in_ok-print_lent.ensures.leaves.1;
       ending = c.in-Some.ensures.ending ∙ on.ending;
       printing = λ at.
           let printing = on.printing at in
@@ -43,9 +42,9 @@ loop-slice-preserved g c =
           let joins = joined.joins (arrival_list at.arrived.items) old.position printing.neighbours at.of.edge in
           let after = starts_in at.arrived c.args.piece.now old.position old.left.now slice new.left.now printing joins in
           rw c.in-Some.ensures.some.1 (
-          PassesDownTo-then _ _ _ _ _ _ _ _ _ _ (on.printed at)
+          PrintsDownTo-then _ (on.printed at)
           (pending_text-joined at.arrived c.args.piece.now old.position old.left.now slice new.left.now c.args.self.now.ending.now at.of after joins joined.apart)
-          (rw line at c.in_ok-print_lent.ensures.0));
+          (rw line at c.in_ok-print_lent.ensures));
     }
 
 pub returns-in_err-print_lent-clause-prints : goal.returns-in_err-print_lent-clause-prints
@@ -56,17 +55,13 @@ returns-in_err-print_lent-clause-prints g c =
     let slice = c.in-Some.slice in
     let joined = subst (λ stop. IsJoined stop old.left.now slice new.left.now) (stop_read c.piece.inside c.args.piece.now c.len.result c.piece.view_is c.len.ensures) c.in-Some.ensures.some.0 in
     let line = line_of_lent c.args.piece.now slice c.lend.result c.lend.ensures in
-    let exit = err_from_is_err_and c.from_residual.result c.from_residual.ensures.1 in
     λ at.
     let printing = on.printing at in
     let joins = joined.joins (arrival_list at.arrived.items) old.position printing.neighbours at.of.edge in
     let after = starts_in at.arrived c.args.piece.now old.position old.left.now slice new.left.now printing joins in
-    rw exit.1 (
-      AppendsFront-broken _ _ _ _ _ _ _ _ _ (on.printed at)
-          (pending_text-joined at.arrived c.args.piece.now old.position old.left.now slice new.left.now c.args.self.now.ending.now at.of after joins joined.apart)
-          (rw line at c.in_err-print_lent.ensures.0),
-      c.in_err-print_lent.ensures.1,
-    )
+    PrintsDownTo-broken _ c.from_residual.ensures.1 (on.printed at)
+    (pending_text-joined at.arrived c.args.piece.now old.position old.left.now slice new.left.now c.args.self.now.ending.now at.of after joins joined.apart)
+    (rw line at c.in_err-print_lent.ensures)
 
 pub returns-clause-stands : goal.returns-clause-stands
 returns-clause-stands g c =

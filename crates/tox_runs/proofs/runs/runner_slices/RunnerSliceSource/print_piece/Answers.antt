@@ -4,7 +4,7 @@ use Rattle.tox_time.specs.streams.Arrivals.{arrival_list}
 use Rattle.tox_plan.specs.RunnerView.{to_come}
 use Rattle.tox_runs.specs.runs.SecondPass.{chunk_of}
 use Rattle.tox_runs.proofs.CutLemmas.{HasTaken, MayComeNext-next, next_for, text_to_come-same}
-use Rattle.tox_runs.proofs.Passing.{PassesDownTo-from}
+use Rattle.tox_runs.proofs.Passing.{PrintsDownTo-as}
 use Rattle.tox_runs.proofs.runs.runner_slices.RunnerSliceSource.print_piece.Goals as goal
 
 pub returns-in_ok-print_cuts-clause-prints : goal.returns-in_ok-print_cuts-clause-prints
@@ -15,7 +15,7 @@ returns-in_ok-print_cuts-clause-prints g c =
     let position : c.offer.new.self.position ≡ c.args.self.now.position = search rules in
     let comes : to_come c.offer.new.self items ≡ to_come c.args.self.now (chunk_of c.args.piece.now ∷ items) = search rules in
     let printed = c.in_ok-print_cuts.ensures.prints at.arrived items at.of in
-    (PassesDownTo-from _ _ _ _ _ _ _ (text_to_come-same at.arrived c.args.self.now c.offer.new.self (chunk_of c.args.piece.now ∷ items) items position comes) printed.0, printed.1)
+    PrintsDownTo-as (text_to_come-same at.arrived c.args.self.now c.offer.new.self (chunk_of c.args.piece.now ∷ items) items position comes) printed
 
 pub returns-else-is_ok-clause-stands : goal.returns-else-is_ok-clause-stands
 returns-else-is_ok-clause-stands g c =

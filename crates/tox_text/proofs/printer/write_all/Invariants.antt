@@ -1,7 +1,7 @@
 -- The first bytes are written.
 use Rattle.std.proofs.Common.{◌≡◌, ◌≤◌, ◌-◌, false, length, take}
 use Rattle.std.specs.Io.KnownBytes.{append_known}
-use Rattle.tox_text.proofs.buffer.write_all.Given as goal
+use Rattle.tox_text.proofs.printer.write_all.Given as goal
 
 abbrev pub invariant-loop-sent : goal.invariant-loop-sent
 invariant-loop-sent g l = record {

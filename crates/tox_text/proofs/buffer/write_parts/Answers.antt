@@ -1,6 +1,0 @@
--- The parts were printed into the empty buffer, which was written.
-use Rattle.tox_text.proofs.Writes.{Writes-flushed}
-use Rattle.tox_text.proofs.buffer.write_parts.Goals as goal
-
-pub returns : goal.returns
-returns g c = Writes-flushed c.flush.result _ _ _ _ _ _ (rw c.new-buffer.ensures at c.in_ok-print.ensures.0) c.flush.ensures.writes
