@@ -18,11 +18,11 @@ pub told_of : {S : Type 0} (course : Course) (was_stopped : Bool) (done : Result
     → IsToldOf course (carried_after course.stream was_stopped done)
 told_of course true (Ok timed) reads given left before after carried broken = record {
   its = refl;
-  end = (timed.report.ending, record { log = carried.log; taken = _; source = _; reading = _; reports = carried.reports });
+  end = (timed.reading, timed.report.ending, record { log = carried.log; taken = _; source = _; reports = carried.reports });
 }
 told_of course false (Ok timed) reads given left before after carried broken = record {
   its = refl;
-  end = record { log = carried.log; taken = _; source = _; reading = _; reports = carried.reports };
+  end = record { log = carried.log; taken = _; source = _; reports = carried.reports };
 }
 told_of course was_stopped (Err (OutOfMemory written)) reads given left before after carried broken =
     record { its = refl; end = record { log = broken.log; cut_off = broken.cut_off } }

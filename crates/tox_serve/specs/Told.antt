@@ -24,16 +24,15 @@ abbrev pub carried_after : {S : Type 0} → Stream → Bool → Result (TimedRep
 carried_after its was_stopped (Ok timed) = record {
   stream = its;
   bytes = timed.report.written;
-  end = end_before_stop was_stopped timed.report.ending;
+  end = end_before_stop was_stopped timed.reading timed.report.ending;
 }
 carried_after its was_stopped (Err fault) = carried_before its fault
 
--- a link ended so after so many written bytes, and said what its plan means for what it heard
-pub record EndsSo (meaning : List Item → List Item) (bytes : ℕ) (ending : Ending) : Type 0 where
+-- a link ended so at a reading of its clock, after so many written bytes, and said what its plan means for what it heard
+pub record EndsSo (meaning : List Item → List Item) (bytes reading : ℕ) (ending : Ending) : Type 0 where
   pub log : List LinkEvent
   pub taken : ℕ
   pub source : Option ReadEnd
-  pub reading : ℕ
   pub reports : ReportsAt meaning (λ t. IsInstant t) log taken bytes ending source reading
 
 -- a link broke off after so many written bytes, no more than its plan means for what it heard
@@ -47,11 +46,11 @@ BreaksBy meaning bytes CauseOf.Write = BreaksSo meaning bytes
 BreaksBy meaning bytes CauseOf.Memory = BreaksSo meaning bytes
 BreaksBy meaning bytes CauseOf.Thread = BreaksSo meaning bytes
 BreaksBy meaning bytes CauseOf.Upstream = ⊥
-BreaksBy meaning bytes CauseOf.Stopped = (ending : Ending) × EndsSo meaning bytes ending
+BreaksBy meaning bytes CauseOf.Stopped = (reading : ℕ) × (ending : Ending) × EndsSo meaning bytes reading ending
 
 -- a stream ended so after so many bytes
 abbrev pub StreamEndsSo : (List Item → List Item) → ℕ → StreamEnd → Type 0
-StreamEndsSo meaning bytes (EndOf.Ended ending) = EndsSo meaning bytes ending
+StreamEndsSo meaning bytes (EndOf.Ended reading ending) = EndsSo meaning bytes reading ending
 StreamEndsSo meaning bytes (EndOf.Broken cause) = BreaksBy meaning bytes cause
 
 -- a stream is told as it was carried under its course

@@ -1,11 +1,13 @@
 -- Directions that begin, and that a report changes.
-use Rattle.std.proofs.Common.{◌≡◌, ℕ, Bool, false, List, Option, None, refl, not, ◌&&◌, ◌||◌}
+use Rattle.std.proofs.Common.{◌≡◌, ℕ, Bool, false, List, Option, None, Result, refl, not, ◌&&◌, ◌||◌}
 use Rattle.tox_serve.specs.declared.link.course.Course.{Course}
+use Rattle.tox_link.specs.declared.direction.progress.Progress.{Progress}
+use Rattle.tox_link.specs.declared.link_fault.LinkFault.{LinkFault}
 use Rattle.tox_serve.specs.workers.Begun.{BeginsCourse, IsNewDirection}
-use Rattle.tox_serve.specs.workers.Steps.{DrivesFrom, WasDriven}
+use Rattle.tox_serve.specs.workers.Driven.{IsAdvanceOf}
+use Rattle.tox_serve.specs.workers.Steps.{IsRunOf}
 use Rattle.tox_serve.specs.workers.Reports.{GoesOnWithEnds, HasSourceAfter, HasTargetAfter, IsNotedSo, drives_source, drives_target, reported_sink, reported_source}
 use Rattle.tox_serve.specs.declared.workers.flow.Flow.{Flow}
-use Rattle.tox_serve.specs.declared.workers.open_direction.DirectionProgress.{DirectionProgress}
 use Rattle.tox_serve.specs.declared.workers.open_direction.DirectionState.{DirectionState}
 use Rattle.tox_serve.specs.declared.workers.open_direction.DirectionState.TheVariants.{Going}
 use Rattle.tox_serve.specs.declared.workers.open_direction.OpenDirection.{OpenDirection}
@@ -32,6 +34,6 @@ module _ {R : Type 0} where
       → HasTargetAfter event state (Going after) × (answer ≡ drives_target event state)
   target_after event old after state answer is goes drives = rw is (goes, drives)
 
-  pub drives_from : (since : ℕ) (state : DirectionState R) (old new : OpenDirection R) (flow : Flow R) (answer : DirectionProgress) → state ≡ Going flow
-      → WasDriven since flow old new answer → DrivesFrom since state old new answer
-  drives_from since state old new flow answer is was = rw is was
+  pub runs_going : (state : DirectionState R) (flow : Flow R) (new : DirectionState R) (answer : Result Progress LinkFault) → state ≡ Going flow
+      → IsAdvanceOf flow new answer → IsRunOf state new answer
+  runs_going state flow new answer is advanced = rw is advanced

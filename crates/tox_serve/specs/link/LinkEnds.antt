@@ -38,7 +38,7 @@ is_lack CauseOf.Stopped = false
 
 -- memory or a thread was refused
 abbrev pub is_refused : StreamEnd → Bool
-is_refused (Ended ending) = false
+is_refused (Ended reading ending) = false
 is_refused (Broken cause) = is_lack cause
 
 abbrev pub is_write : BreakCause → Bool
@@ -50,23 +50,23 @@ is_write CauseOf.Stopped = false
 
 -- whether a failed write broke a stream
 abbrev pub is_write_break : StreamEnd → Bool
-is_write_break (Ended ending) = false
+is_write_break (Ended reading ending) = false
 is_write_break (Broken cause) = is_write cause
 
 -- how a direction ended, unless a fault broke it
 abbrev pub ending_of : StreamEnd → Option Ending
-ending_of (Ended ending) = Some ending
+ending_of (Ended reading ending) = Some ending
 ending_of (Broken cause) = None
 
--- how a stream ended that ended so by its plan: a stop of its link before that breaks it
-abbrev pub end_before_stop : Bool → Ending → StreamEnd
-end_before_stop true ending = Broken CauseOf.Stopped
-end_before_stop false ending = Ended ending
+-- how a stream ended that ended so by its plan, at a reading of its clock: a stop of its link before that breaks it
+abbrev pub end_before_stop : Bool → ℕ → Ending → StreamEnd
+end_before_stop true reading ending = Broken CauseOf.Stopped
+end_before_stop false reading ending = Ended reading ending
 
--- the last line of a log whose stream ended so after so many bytes, at a reading of its clock
-abbrev pub last_at : ℕ → ℕ → StreamEnd → LastLine
-last_at reading bytes (Ended ending) = LastOf.Ended reading ending
-last_at reading bytes (Broken cause) = LastOf.Broken cause bytes
+-- the last line of a log whose stream ended so after so many bytes
+abbrev pub last_line_of : ℕ → StreamEnd → LastLine
+last_line_of bytes (Ended reading ending) = LastOf.Ended reading ending
+last_line_of bytes (Broken cause) = LastOf.Broken cause bytes
 
 abbrev pub broken_side : Carried → SideEnd
 broken_side carried = record { bytes = carried.bytes; ending = None }

@@ -9,6 +9,7 @@ use Rattle.tox_serve.specs.declared.workers.open_direction.OpenDirection.{OpenDi
 use Rattle.tox_serve.specs.declared.workers.open_link.OpenLink.{OpenLink}
 use Rattle.tox_serve.specs.workers.Directions.{carried_of, disarmed}
 use Rattle.tox_serve.specs.workers.Peers.{other_stream}
+use Rattle.tox_serve.specs.workers.Waits.{earlier_of}
 
 -- the direction of a stream
 abbrev pub direction_of : {R : Type 0} → Stream → OpenLink R → OpenDirection R
@@ -39,6 +40,14 @@ pub record SetsTurn {R : Type 0} (stream : Stream) (waits : Bool) (old new : Ope
 -- a timer of a direction is over, and nothing else of its link changes
 pub record Disarms {R : Type 0} (stream : Stream) (due : ℕ) (old new : OpenLink R) : Type 0 where
   pub armed : (direction_of stream new).armed ≡ disarmed due (direction_of stream old).armed
+  pub state : (direction_of stream new).state ≡ (direction_of stream old).state
+  pub turn : (direction_of stream new).has_turn ≡ (direction_of stream old).has_turn
+  pub other : direction_of (other_stream stream) new ≡ direction_of (other_stream stream) old
+  pub same : IsSameLink old new
+
+-- a direction has a timer that is due by an instant, and nothing else of its link changes
+pub record Arms {R : Type 0} (stream : Stream) (due : ℕ) (old new : OpenLink R) : Type 0 where
+  pub armed : (direction_of stream new).armed ≡ earlier_of (direction_of stream old).armed (Some due)
   pub state : (direction_of stream new).state ≡ (direction_of stream old).state
   pub turn : (direction_of stream new).has_turn ≡ (direction_of stream old).has_turn
   pub other : direction_of (other_stream stream) new ≡ direction_of (other_stream stream) old

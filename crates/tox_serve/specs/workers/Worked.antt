@@ -7,14 +7,14 @@ use Rattle.tox_serve.specs.declared.workers.worker.Worker.{Worker}
 use Rattle.tox_serve.specs.workers.OpenLinks.{Disarms, SetsTurn}
 use Rattle.tox_serve.specs.workers.Settled.{IsSettled}
 use Rattle.tox_serve.specs.workers.Timers.{timers_of}
-use Rattle.tox_serve.specs.workers.Turns.{DrivesTurn, HasTurn, IsBrokenOff}
+use Rattle.tox_serve.specs.workers.Turns.{HasTurn, IsBrokenOff, RunsTurn}
 
--- the turn of a direction has come: it was driven, and its link is settled
+-- the turn of a direction has come: it ran, and its link is settled
 pub record TakesTurn {R : Type 0} (turn : Turn) (link : Box (OpenLink R) Global) (old new : Worker R) : Type 0 where
   pub taken : OpenLink R
   pub takes : SetsTurn turn.stream false link.value taken
   pub driven : Box (OpenLink R) Global
-  pub drives : DrivesTurn turn taken driven.value (timers_of old.timers) (timers_of new.timers) old.turns.items new.turns.items
+  pub runs : RunsTurn turn taken driven.value (timers_of old.timers) (timers_of new.timers) old.turns.items new.turns.items
   pub settled : IsSettled turn.key driven old.links.places new.links.places
 
 -- a timer of a direction is over: the direction has a turn, or else memory is refused and its link is broken off; and its link is

@@ -93,6 +93,6 @@ fn reason_of(end: &StreamEnd) -> Option<BreakReason> {
         StreamEnd::Broken(BreakCause::Write) => Some(BreakReason::Write),
         StreamEnd::Broken(BreakCause::Memory) => Some(BreakReason::Memory),
         StreamEnd::Broken(BreakCause::Thread) => Some(BreakReason::Thread),
-        StreamEnd::Broken(_) | StreamEnd::Ended(_) => None,
+        StreamEnd::Broken(_) | StreamEnd::Ended(..) => None,
     }
 }

@@ -1,16 +1,17 @@
 //! How a served link ended, and what the book keeps of it.
 ghost use Rattle.std.specs.Prelude.{◌≡◌};
 ghost use Rattle.tox_time.specs.declared.streams.stream.Stream.TheVariants as StreamOf;
-ghost use Rattle.tox_serve.specs.link.LinkEnds.{broken_link, broken_side, carried_before, carried_link_end, end_before_stop, ending_of, is_refused, last_at, nothing_carried, settled, side_end};
+ghost use Rattle.tox_serve.specs.link.LinkEnds.{broken_link, broken_side, carried_before, carried_link_end, end_before_stop, ending_of, is_refused, last_line_of, nothing_carried, settled, side_end};
 
-use tox_link::{Book, LinkFault, LinkReport};
+use tox_link::{Book, LinkFault, TimedReport};
 use tox_log::{BreakCause, LastLine};
 use tox_time::{Ending, Micros, Stream};
 
 /// How one direction ended.
 #[derive(Clone, Copy)]
 pub(crate) enum StreamEnd {
-    Ended(Ending),
+    /// At this reading of its clock it ended so.
+    Ended(Micros, Ending),
     Broken(BreakCause),
 }
 
@@ -38,31 +39,31 @@ pub(crate) struct LinkEnd {
 }
 
 impl StreamEnd {
-    /// How a stream ended that ended so by its plan: a stop of its link before that breaks it.
-    pub(crate) fn before_stop(was_stopped: bool, ending: Ending) -> StreamEnd
-        ensures { result ≡ end_before_stop was_stopped ending }
+    /// How a stream ended that ended so by its plan, at a reading of its clock: a stop of its link before that breaks it.
+    pub(crate) fn before_stop(was_stopped: bool, reading: Micros, ending: Ending) -> StreamEnd
+        ensures { result ≡ end_before_stop was_stopped reading ending }
     {
         if was_stopped {
             StreamEnd::Broken(BreakCause::Stopped)
         } else {
-            StreamEnd::Ended(ending)
+            StreamEnd::Ended(reading, ending)
         }
     }
 }
 
 impl Carried {
     /// What a stream carried that ended, by its plan or once its link was stopped.
-    pub(crate) fn until_end<S>(stream: Stream, report: &LinkReport<S>, was_stopped: bool) -> Carried
+    pub(crate) fn until_end<S>(stream: Stream, timed: &TimedReport<S>, was_stopped: bool) -> Carried
         ensures { result ≡ record {
           stream = stream;
-          bytes = report.now.written;
-          end = end_before_stop was_stopped report.now.ending;
+          bytes = timed.now.report.written;
+          end = end_before_stop was_stopped timed.now.reading timed.now.report.ending;
         } }
     {
         Carried {
             stream,
-            bytes: report.written,
-            end: StreamEnd::before_stop(was_stopped, report.ending),
+            bytes: timed.report.written,
+            end: StreamEnd::before_stop(was_stopped, timed.reading, timed.report.ending),
         }
     }
 
@@ -87,7 +88,7 @@ impl Carried {
     {
         match self.end {
             StreamEnd::Broken(BreakCause::Memory | BreakCause::Thread) => true,
-            StreamEnd::Ended(_) | StreamEnd::Broken(_) => false,
+            StreamEnd::Ended(..) | StreamEnd::Broken(_) => false,
         }
     }
 
@@ -95,17 +96,17 @@ impl Carried {
         ensures { result ≡ ending_of self.now.end }
     {
         match self.end {
-            StreamEnd::Ended(ending) => Some(ending),
+            StreamEnd::Ended(_, ending) => Some(ending),
             StreamEnd::Broken(_) => None,
         }
     }
 
-    /// The last line of the stream's log: at this reading of its clock it ended, or else it broke off.
-    pub(crate) fn last_line(&self, reading: Micros) -> LastLine
-        ensures { result ≡ last_at reading self.now.bytes self.now.end }
+    /// The last line of the stream's log.
+    pub(crate) fn last_line(&self) -> LastLine
+        ensures { result ≡ last_line_of self.now.bytes self.now.end }
     {
         match self.end {
-            StreamEnd::Ended(ending) => LastLine::Ended(reading, ending),
+            StreamEnd::Ended(reading, ending) => LastLine::Ended(reading, ending),
             StreamEnd::Broken(cause) => LastLine::Broken(cause, self.bytes),
         }
     }

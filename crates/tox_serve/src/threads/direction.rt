@@ -17,7 +17,7 @@ use std::alloc::Global;
 use std::sync::Arc;
 use tox_link::{Ends, LinkFault, TimedReport, carry_timed};
 use tox_sockets::{LinkSockets, LinkStart, SinceStart, UntilCut, UntilDue};
-use tox_time::{MAX_BYTES, Micros, Real, Stream};
+use tox_time::{MAX_BYTES, Real, Stream};
 
 /// One direction of a link, before it is carried.
 #[derive(Drop)]
@@ -109,16 +109,12 @@ pub(crate) fn carry_stream<'a, 'r, R: ServeRuntime>(
         &mut notes,
         &run.gate,
     );
-    let reading = match &done {
-        Ok(timed) => timed.reading,
-        Err(_) => {
-            sockets.reset();
-            Micros::ZERO
-        }
-    };
+    if done.is_err() {
+        sockets.reset();
+    }
     let Ends { writer, hangup } = ends;
     let carried = carried_of(stream, &done, hangup.was_stopped);
-    notes.end(&carried.last_line(reading));
+    notes.end(&carried.last_line());
     CarriedStream { carried, writer }
 }
 
@@ -131,7 +127,7 @@ fn carried_of<S>(
     ensures { result ≡ carried_after stream was_stopped done.now }
 {
     match done {
-        Ok(timed) => Carried::until_end(stream, &timed.report, was_stopped),
+        Ok(timed) => Carried::until_end(stream, timed, was_stopped),
         Err(fault) => Carried::until_fault(stream, fault),
     }
 }

@@ -1,7 +1,6 @@
 //! One direction of a link while it goes on: the step machine and its two ends.
 ghost use Rattle.std.specs.Prelude.{◌≡◌, Bool, true, false, List, IfSome};
 ghost use Rattle.tox_time.specs.Time.{IsInstant};
-ghost use Rattle.tox_link.specs.direction.Driven.{IsAtEnd};
 ghost use Rattle.tox_link.specs.direction.Follows.{IsHeld, IsNew};
 ghost use Rattle.tox_link.specs.declared.link_fault.LinkFault.TheVariants.{OutOfMemory};
 ghost use Rattle.tox_link.specs.declared.source_ending.SourceEnding.TheVariants.{ReadFault as AtFault, ReadsUsedUp as AtLastRead};
@@ -14,18 +13,17 @@ ghost use Rattle.tox_serve.specs.link.LinkEnds.{carried_before, end_before_stop,
 use crate::link::course::Course;
 use crate::link::end::{Carried, StreamEnd};
 use crate::link::source_notes::SourceNotes;
+use crate::workers::open_direction::DirectionState;
 use crate::workers::socket_event::SocketEvent;
 use std::alloc::Global;
 use std::boxed::Box;
 use std::sync::{Arc, Wait};
 use std::time::Clock;
 use tox_compile::Plan;
-use tox_link::{
-    Hangup, LinkFault, PollSink, PollSource, PolledLink, Progress, READ_SIZE, drive, finish,
-};
+use tox_link::{Hangup, LinkFault, PollSink, PollSource, PolledLink, Progress, READ_SIZE, drive};
 use tox_log::StreamNotes;
 use tox_sockets::{LinkSockets, LinkStart, ReadySink, ReadySource, SinceStart};
-use tox_time::{Ending, Micros, Stream};
+use tox_time::{Ending, Stream};
 use tox_words::Words;
 
 /// One direction of a link that goes on.
@@ -52,19 +50,10 @@ pub(crate) struct EndedFlow<'r, R> {
     pub(crate) ghost broken: { sink.failed ≡ is_write_break carried.end },
 }
 
-/// What a direction does next, once it was driven.
-#[derive(Drop)]
-pub(crate) enum Driven<'r, R> {
-    /// It waits for an event of its sockets, at most until this instant of its link's clock if there is one.
-    Waits(Flow<'r, R>, Option<Micros>),
-    /// It may go on at once.
-    Again(Flow<'r, R>),
-    Ended(EndedFlow<'r, R>),
-}
-
 impl<'r, R: Clock + Wait> Flow<'r, R> {
     ghost use Rattle.tox_serve.specs.workers.Begun.{BeginsCourse};
-    ghost use Rattle.tox_serve.specs.workers.Driven.{IsDrivenOf};
+    ghost use Rattle.tox_serve.specs.workers.Directions.{IsOf};
+    ghost use Rattle.tox_serve.specs.workers.Driven.{IsAdvanceOf};
 
     /// A direction of a course, at which nothing has come and which isn't logged. `closing` tells whether the source's peer was reported to send no
     /// more. None if out of memory.
@@ -117,16 +106,17 @@ impl<'r, R: Clock + Wait> Flow<'r, R> {
         }
     }
 
-    /// Takes as many steps as the sockets allow, and no more than 32. Where the direction ends it is hung up, and after a fault
-    /// both sockets are reset. Nothing waits once its link is stopped, since its next write would fail: it is broken by a write then.
-    pub(crate) fn drive(
+    /// Drives its step machine. Returns how far the direction is then, and what was answered. Where it ends it is hung up, and after a
+    /// fault both sockets are reset. Nothing waits once its link is stopped, since its next write would fail: it is broken by a write.
+    pub(crate) fn advance(
         self,
         alloc: Global,
         clock: &SinceStart<'_, R>,
         sockets: &LinkSockets,
         scratch: &mut [u8; READ_SIZE],
-    ) -> Driven<'r, R>
-        ensures { IsDrivenOf self.entry result }
+    ) -> (DirectionState<'r, R>, Result<Progress, LinkFault>)
+        ensures stream { IsOf self.entry.stream result.0 }
+        ensures advanced { IsAdvanceOf self.entry result.0 result.1 }
     {
         let Flow {
             stream,
@@ -147,8 +137,19 @@ impl<'r, R: Clock + Wait> Flow<'r, R> {
             Ok(Progress::Waits(until)) => {
                 if sink.fail_if_stopped() {
                     let fault = LinkFault::WriteFault(link.written());
-                    return Driven::Ended(fail(sockets, stream, &fault, &notes, sink));
+                    let ended = fail(sockets, stream, &fault, &notes, sink);
+                    return (DirectionState::Ended(ended), Err(fault));
                 }
+                let waiting = Flow {
+                    stream,
+                    link,
+                    source,
+                    sink,
+                    notes,
+                };
+                (DirectionState::Going(waiting), Ok(Progress::Waits(until)))
+            }
+            Ok(Progress::Again) => {
                 let flow = Flow {
                     stream,
                     link,
@@ -156,20 +157,17 @@ impl<'r, R: Clock + Wait> Flow<'r, R> {
                     sink,
                     notes,
                 };
-                Driven::Waits(flow, until)
+                (DirectionState::Going(flow), Ok(Progress::Again))
             }
-            Ok(Progress::Again) => Driven::Again(Flow {
-                stream,
-                link,
-                source,
-                sink,
-                notes,
-            }),
             Ok(Progress::Ended(ending)) => {
-                let carried = end(link, clock, sockets, stream, &ending, &notes);
-                Driven::Ended(EndedFlow { carried, sink })
+                let carried = end(&link, sockets, stream, &ending, &notes);
+                let ended = EndedFlow { carried, sink };
+                (DirectionState::Ended(ended), Ok(Progress::Ended(ending)))
             }
-            Err(fault) => Driven::Ended(fail(sockets, stream, &fault, &notes, sink)),
+            Err(fault) => {
+                let ended = fail(sockets, stream, &fault, &notes, sink);
+                (DirectionState::Ended(ended), Err(fault))
+            }
         }
     }
 
@@ -220,25 +218,22 @@ fn break_off<R: Wait>(stream: Stream, fault: &LinkFault, notes: &SourceNotes<'_,
     ensures { result ≡ carried_before stream fault.now }
 {
     let carried = Carried::until_fault(stream, fault);
-    notes.end(&carried.last_line(Micros::ZERO));
+    notes.end(&carried.last_line());
     carried
 }
 
 /// Hangs a direction up that has ended, and tells what it carried, in its log too.
-fn end<R: Clock + Wait>(
-    link: Box<PolledLink>,
-    clock: &SinceStart<'_, R>,
+fn end<R: Wait>(
+    link: &PolledLink,
     sockets: &LinkSockets,
     stream: Stream,
     ending: &Ending,
     notes: &SourceNotes<'_, R>,
 ) -> Carried
-    requires held { IsHeld link.value }
-    requires ended { IsAtEnd (λ t. IsInstant t) link.value ending.now }
     ensures { (was_stopped : Bool) × (result ≡ record {
       stream = stream;
-      bytes = link.value.written;
-      end = end_before_stop was_stopped ending.now;
+      bytes = link.now.written;
+      end = end_before_stop was_stopped link.now.core.latest ending.now;
     }) }
 {
     let mut ends = sockets.ends_of(stream);
@@ -246,25 +241,8 @@ fn end<R: Clock + Wait>(
     let carried = Carried {
         stream,
         bytes: link.written(),
-        end: StreamEnd::before_stop(ends.was_stopped, *ending),
+        end: StreamEnd::before_stop(ends.was_stopped, link.latest(), *ending),
     };
-    notes.end(&carried.last_line(last_reading(link, clock, *ending)));
+    notes.end(&carried.last_line());
     carried
-}
-
-/// The reading of its clock at which a direction ended.
-fn last_reading<R: Clock + Wait>(
-    link: Box<PolledLink>,
-    clock: &SinceStart<'_, R>,
-    ending: Ending,
-) -> Micros
-    requires held { IsHeld link.value }
-    requires ended { IsAtEnd (λ t. IsInstant t) link.value ending }
-{
-    let link = Box::into_inner(link);
-    let driven = Ok(ending);
-    match finish(link, clock, driven, ()) {
-        Ok(timed) => timed.reading,
-        Err(_) => Micros::ZERO,
-    }
 }

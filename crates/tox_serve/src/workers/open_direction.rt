@@ -3,16 +3,15 @@ ghost use Rattle.std.specs.Prelude.{◌≡◌, None, Some, IfSome, option_copied
 ghost use Rattle.tox_serve.specs.workers.Directions.{IsOf, IsOf-prop};
 
 use crate::link::end::Carried;
-use crate::workers::flow::{Driven, EndedFlow, Flow};
+use crate::workers::flow::{EndedFlow, Flow};
 use crate::workers::socket_event::SocketEvent;
-use crate::workers::taken_at::TakenAt;
 use std::alloc::Global;
 use std::mem;
 use std::sync::Wait;
 use std::time::Clock;
-use tox_link::READ_SIZE;
+use tox_link::{LinkFault, Progress, READ_SIZE};
 use tox_log::StreamNotes;
-use tox_sockets::{LinkSockets, SinceStart};
+use tox_sockets::{LinkSockets, LinkStart, SinceStart};
 use tox_time::Stream;
 
 /// How far a direction is.
@@ -22,19 +21,6 @@ pub(crate) enum DirectionState<'r, R> {
     Ended(EndedFlow<'r, R>),
     /// It is being driven.
     Driven,
-}
-
-/// What a direction that was driven does next.
-#[derive(Clone, Copy)]
-pub(crate) enum DirectionProgress {
-    /// It waits for an event, or for a timer that is set.
-    Waits,
-    /// It waits for an event, at most until this instant of the worker's clock, for which no timer is set.
-    WaitsUntil(u64),
-    /// It may go on at once.
-    Again,
-    /// It has just ended.
-    Ended,
 }
 
 /// One direction of a link.
@@ -53,7 +39,8 @@ impl<'r, R: Clock + Wait> OpenDirection<'r, R> {
     ghost use Rattle.tox_serve.specs.declared.workers.open_direction.DirectionState.TheVariants.{Going as GoesOn};
     ghost use Rattle.tox_serve.specs.workers.Directions.{IsBrokenOffFrom, carried_of, disarmed, is_armed};
     ghost use Rattle.tox_serve.specs.workers.Reports.{IsAfterSource, IsAfterTarget, IsNotedSo};
-    ghost use Rattle.tox_serve.specs.workers.Steps.{DrivesFrom, wait_until};
+    ghost use Rattle.tox_serve.specs.workers.OpenLinks.{IsSameDirection};
+    ghost use Rattle.tox_serve.specs.workers.Steps.{Runs, needs_timer};
     ghost use Rattle.tox_serve.specs.workers.Waits.{earlier_of};
 
     /// A direction that goes on.
@@ -75,8 +62,7 @@ impl<'r, R: Clock + Wait> OpenDirection<'r, R> {
     pub(crate) fn claim_turn(&mut self) -> bool
         ensures claims { result ≡ not self.old.has_turn }
         ensures claimed { self.new.has_turn ≡ true }
-        ensures same { (self.new.stream ≡ self.old.stream) × (self.new.state ≡ self.old.state)
-            × (self.new.armed ≡ self.old.armed) }
+        ensures same { IsSameDirection self.old self.new }
     {
         let claims = !self.has_turn;
         self.has_turn = true;
@@ -86,8 +72,7 @@ impl<'r, R: Clock + Wait> OpenDirection<'r, R> {
     /// Its turn has come.
     pub(crate) fn take_turn(&mut self)
         ensures taken { self.new.has_turn ≡ false }
-        ensures same { (self.new.stream ≡ self.old.stream) × (self.new.state ≡ self.old.state)
-            × (self.new.armed ≡ self.old.armed) }
+        ensures same { IsSameDirection self.old self.new }
     {
         self.has_turn = false;
     }
@@ -146,57 +131,44 @@ impl<'r, R: Clock + Wait> OpenDirection<'r, R> {
         }
     }
 
-    /// Drives it, unless it has ended before.
-    pub(crate) fn drive(
+    /// Drives it for its turn, and returns the answer. One that has ended before waits.
+    pub(crate) fn run(
         &mut self,
         rt: &'r R,
         alloc: Global,
         sockets: &LinkSockets,
-        since: TakenAt,
+        start: LinkStart,
         scratch: &mut [u8; READ_SIZE],
-    ) -> DirectionProgress
+    ) -> Result<Progress, LinkFault>
         ensures stream { self.new.stream ≡ self.old.stream }
-        ensures drives { DrivesFrom since.worker self.old.state self.old self.new result }
+        ensures runs { Runs self.old self.new result }
     {
         let flow = match mem::replace(&mut self.state, DirectionState::Driven) {
             DirectionState::Going(flow) => flow,
             other => {
                 self.state = other;
-                return DirectionProgress::Waits;
+                return Ok(Progress::Waits(None));
             }
         };
-        let clock = SinceStart::new(rt, since.start);
-        match flow.drive(alloc, &clock, sockets, scratch) {
-            Driven::Waits(flow, until) => {
-                self.state = DirectionState::Going(flow);
-                match until {
-                    Some(until) => self.arm(since.worker.saturating_add(until.get())),
-                    None => DirectionProgress::Waits,
-                }
-            }
-            Driven::Again(flow) => {
-                self.state = DirectionState::Going(flow);
-                DirectionProgress::Again
-            }
-            Driven::Ended(ended) => {
-                self.state = DirectionState::Ended(ended);
-                DirectionProgress::Ended
-            }
-        }
+        let clock = SinceStart::new(rt, start);
+        let (state, answer) = flow.advance(alloc, &clock, sockets, scratch);
+        self.state = state;
+        answer
     }
 
-    /// It waits until an instant. A timer that is due before serves too: it drives it once more.
-    fn arm(&mut self, due: u64) -> DirectionProgress
+    /// It waits until an instant of the worker's clock. Whether it needs a timer for that: one that is due before serves too, and drives
+    /// it once more.
+    pub(crate) fn arm(&mut self, due: u64) -> bool
         ensures armed { self.new.armed ≡ earlier_of self.old.armed (Some due) }
         ensures same { (self.new.stream ≡ self.old.stream) × (self.new.state ≡ self.old.state)
             × (self.new.has_turn ≡ self.old.has_turn) }
-        ensures waits { result ≡ wait_until self.old.armed due }
+        ensures needs { result ≡ needs_timer self.old.armed due }
     {
         if self.armed.is_some_and(|armed| armed <= due) {
-            return DirectionProgress::Waits;
+            return false;
         }
         self.armed = Some(due);
-        DirectionProgress::WaitsUntil(due)
+        true
     }
 
     /// Breaks it off, out of memory.

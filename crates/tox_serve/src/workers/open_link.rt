@@ -8,7 +8,7 @@ use crate::link::end::LinkEnd;
 use crate::link::opening::Opened;
 use crate::workers::flow::Flow;
 use crate::workers::link_name::LinkName;
-use crate::workers::open_direction::{DirectionProgress, OpenDirection};
+use crate::workers::open_direction::OpenDirection;
 use crate::workers::peer::Peer;
 use crate::workers::socket_event::SocketEvent;
 use crate::workers::taken_at::TakenAt;
@@ -16,10 +16,10 @@ use std::alloc::Global;
 use std::boxed::Box;
 use std::sync::{Arc, Wait};
 use std::time::Clock;
-use tox_link::READ_SIZE;
+use tox_link::{LinkFault, Progress, READ_SIZE};
 use tox_log::StreamNotes;
 use tox_sockets::LinkSockets;
-use tox_time::Stream;
+use tox_time::{Micros, Stream};
 
 /// A link whose upstream is connected.
 #[derive(Drop)]
@@ -40,10 +40,10 @@ pub(crate) struct OpenLink<'r, R> {
 impl<'r, R: Clock + Wait> OpenLink<'r, R> {
     ghost use Rattle.tox_serve.specs.workers.Begun.{IsMadeOf, IsNewDirection};
     ghost use Rattle.tox_serve.specs.workers.Directions.{IsBrokenOffFrom, is_armed};
-    ghost use Rattle.tox_serve.specs.workers.OpenLinks.{Disarms, IsSameLink, SetsTurn, direction_of, end_of};
+    ghost use Rattle.tox_serve.specs.workers.OpenLinks.{Arms, Disarms, IsSameLink, SetsTurn, direction_of, end_of};
     ghost use Rattle.tox_serve.specs.workers.Peers.{other_stream, stream_from};
     ghost use Rattle.tox_serve.specs.workers.Reports.{IsAfterSource, IsAfterTarget, IsNotedSo};
-    ghost use Rattle.tox_serve.specs.workers.Steps.{DrivesFrom};
+    ghost use Rattle.tox_serve.specs.workers.Steps.{Runs, needs_timer, worker_instant};
 
     /// A link that was opened, at which nothing has come and which isn't logged. `closing` tells whether its client was reported to send
     /// no more. None if out of memory.
@@ -168,24 +168,41 @@ impl<'r, R: Clock + Wait> OpenLink<'r, R> {
         }
     }
 
-    /// Drives a direction, unless it has ended before.
-    pub(crate) fn drive(
+    /// An instant of the link's clock, by the worker's.
+    pub(crate) fn worker_instant(&self, until: Micros) -> u64
+        ensures { result ≡ worker_instant self.now.since.worker until }
+    {
+        self.since.worker.saturating_add(until.get())
+    }
+
+    /// A direction waits until an instant of the worker's clock. Whether it needs a timer for that.
+    pub(crate) fn arm(&mut self, stream: Stream, due: u64) -> bool
+        ensures needs { result ≡ needs_timer (direction_of stream self.old).armed due }
+        ensures arms { Arms stream due self.old self.new }
+    {
+        match stream {
+            Stream::Upstream => self.up.arm(due),
+            Stream::Downstream => self.down.arm(due),
+        }
+    }
+
+    /// Drives a direction for its turn, and returns the answer. One that has ended before waits.
+    pub(crate) fn run_direction(
         &mut self,
         rt: &'r R,
         alloc: Global,
         stream: Stream,
         scratch: &mut [u8; READ_SIZE],
-    ) -> DirectionProgress
-        ensures drives { DrivesFrom self.old.since.worker (direction_of stream self.old).state
-            (direction_of stream self.old) (direction_of stream self.new) result }
+    ) -> Result<Progress, LinkFault>
+        ensures runs { Runs (direction_of stream self.old) (direction_of stream self.new) result }
         ensures other { direction_of (other_stream stream) self.new
             ≡ direction_of (other_stream stream) self.old }
         ensures same { IsSameLink self.old self.new }
     {
-        let since = self.since;
+        let start = self.since.start;
         match stream {
-            Stream::Upstream => self.up.drive(rt, alloc, &self.sockets, since, scratch),
-            Stream::Downstream => self.down.drive(rt, alloc, &self.sockets, since, scratch),
+            Stream::Upstream => self.up.run(rt, alloc, &self.sockets, start, scratch),
+            Stream::Downstream => self.down.run(rt, alloc, &self.sockets, start, scratch),
         }
     }
 

@@ -4,14 +4,14 @@ ghost use Rattle.std.specs.Bool.{OnTrue};
 ghost use Rattle.tox_serve.specs.workers.OpenLinks.{IsSameLink};
 ghost use Rattle.tox_serve.specs.workers.Peers.{other_stream};
 ghost use Rattle.tox_serve.specs.workers.Settled.{IsSettled, open_at};
+ghost use Rattle.tox_serve.specs.workers.Steps.{worker_instant};
 ghost use Rattle.tox_serve.specs.workers.Timers.{timers_of};
-ghost use Rattle.tox_serve.specs.workers.Turns.{DrivesTurn, HasTurn, IsBrokenOff, IsDrivenAgain};
+ghost use Rattle.tox_serve.specs.workers.Turns.{HasTimer, HasTurn, IsBrokenOff, IsScheduled, RunsTurn};
 ghost use Rattle.tox_serve.specs.workers.Worked.{TakesTimer, TakesTurn};
 
 use crate::runtime::ServeRuntime;
 use crate::workers::link_key::LinkKey;
 use crate::workers::link_state::LinkState;
-use crate::workers::open_direction::DirectionProgress;
 use crate::workers::open_link::OpenLink;
 use crate::workers::peer::Peer;
 use crate::workers::socket_event::SocketEvent;
@@ -21,8 +21,8 @@ use std::boxed::Box;
 use std::mem;
 use std::sync::Wait;
 use std::time::Clock;
-use tox_link::READ_SIZE;
-use tox_time::Stream;
+use tox_link::{LinkFault, Progress, READ_SIZE};
+use tox_time::{Micros, Stream};
 
 /// The other stream of a link.
 fn other(stream: Stream) -> Stream
@@ -49,25 +49,45 @@ fn give_turn<R: Clock + Wait>(turns: &mut Vec<Turn>, link: &mut OpenLink<'_, R>,
     }
 }
 
-/// Sees to it that a direction is driven again. Once it has ended the other one has a turn: its sockets may have been cut. False if
-/// out of memory.
-fn keep<R: Clock + Wait>(
+/// Gives a direction of a link a timer at an instant of the link's clock, unless one is set that is due by then. False if out of memory.
+fn give_timer<R: Clock + Wait>(
+    timers: &mut Timers,
+    link: &mut OpenLink<'_, R>,
+    turn: Turn,
+    until: Micros,
+) -> bool
+    ensures given { OnTrue result (HasTimer turn (worker_instant link.old.since.worker until)
+        link.old link.new (timers_of timers.old) (timers_of timers.new)) }
+    ensures states { (link.new.up.state ≡ link.old.up.state)
+        × (link.new.down.state ≡ link.old.down.state) }
+{
+    let due = link.worker_instant(until);
+    if link.arm(turn.stream, due) {
+        timers.set(due, turn)
+    } else {
+        true
+    }
+}
+
+/// Schedules a direction's next drive, by what its last one answered. Once it has ended the other one has a turn: its sockets may have
+/// been cut. False if out of memory.
+fn schedule<R: Clock + Wait>(
     timers: &mut Timers,
     turns: &mut Vec<Turn>,
     link: &mut OpenLink<'_, R>,
     turn: Turn,
-    progress: DirectionProgress,
+    answer: Result<Progress, LinkFault>,
 ) -> bool
-    ensures again { OnTrue result (IsDrivenAgain turn progress link.old link.new
+    ensures again { OnTrue result (IsScheduled turn answer link.old link.new
         (timers_of timers.old) (timers_of timers.new) turns.old.items turns.new.items) }
     ensures states { (link.new.up.state ≡ link.old.up.state)
         × (link.new.down.state ≡ link.old.down.state) }
 {
-    match progress {
-        DirectionProgress::Waits => true,
-        DirectionProgress::WaitsUntil(due) => timers.set(due, turn),
-        DirectionProgress::Again => give_turn(turns, link, turn),
-        DirectionProgress::Ended => {
+    match answer {
+        Ok(Progress::Waits(None)) => true,
+        Ok(Progress::Waits(Some(until))) => give_timer(timers, link, turn, until),
+        Ok(Progress::Again) => give_turn(turns, link, turn),
+        Ok(Progress::Ended(_)) | Err(_) => {
             let after = Turn {
                 key: turn.key,
                 stream: other(turn.stream),
@@ -81,7 +101,7 @@ impl<'s, R: ServeRuntime> Worker<'s, R> {
     /// The system reported something of a link's socket.
     pub(super) fn on_socket(&mut self, key: LinkKey, peer: Peer, event: &SocketEvent) {
         match self.links.take(key) {
-            Some(LinkState::Open(open)) => self.on_open(key, open, peer, event),
+            Some(LinkState::Open(link)) => self.on_open(key, link, peer, event),
             Some(state) => self.on_unopened(key, state, peer, event),
             None => {}
         }
@@ -92,20 +112,20 @@ impl<'s, R: ServeRuntime> Worker<'s, R> {
     fn on_open(
         &mut self,
         key: LinkKey,
-        open: Box<OpenLink<'s, R>>,
+        link: Box<OpenLink<'s, R>>,
         peer: Peer,
         event: &SocketEvent,
     ) {
-        let mut open = open;
-        let (source, target) = open.note(peer, event);
+        let mut link = link;
+        let (source, target) = link.note(peer, event);
         let stream = peer.stream();
         if source {
-            self.give(key, &mut open, stream);
+            self.give(key, &mut link, stream);
         }
         if target {
-            self.give(key, &mut open, other(stream));
+            self.give(key, &mut link, other(stream));
         }
-        self.settle(key, open);
+        self.settle(key, link);
     }
 
     /// Gives a direction a turn. Out of memory the link is broken off.
@@ -120,47 +140,47 @@ impl<'s, R: ServeRuntime> Worker<'s, R> {
     }
 
     /// Gives both directions of an open link a turn, and puts it into its place.
-    pub(super) fn give_both(&mut self, key: LinkKey, open: Box<OpenLink<'s, R>>) {
-        let mut open = open;
-        self.give(key, &mut open, Stream::Upstream);
-        self.give(key, &mut open, Stream::Downstream);
-        self.settle(key, open);
+    pub(super) fn give_both(&mut self, key: LinkKey, link: Box<OpenLink<'s, R>>) {
+        let mut link = link;
+        self.give(key, &mut link, Stream::Upstream);
+        self.give(key, &mut link, Stream::Downstream);
+        self.settle(key, link);
     }
 
-    /// Drives a direction, and sees to it that it is driven again.
-    fn drive(
+    /// Drives a direction for its turn, and schedules its next drive. Out of memory the link is broken off.
+    fn run_turn(
         &mut self,
         key: LinkKey,
         link: &mut OpenLink<'s, R>,
         stream: Stream,
         scratch: &mut [u8; READ_SIZE],
     )
-        ensures drives { DrivesTurn (record { key = key; stream = stream }) link.old link.new
+        ensures runs { RunsTurn (record { key = key; stream = stream }) link.old link.new
             (timers_of self.old.timers) (timers_of self.new.timers)
             self.old.turns.items self.new.turns.items }
         ensures same { self.new.links ≡ self.old.links }
     {
-        let progress = link.drive(self.rt, self.run.alloc, stream, scratch);
+        let answer = link.run_direction(self.rt, self.run.alloc, stream, scratch);
         let turn = Turn { key, stream };
-        if !keep(&mut self.timers, &mut self.turns, link, turn, progress) {
+        if !schedule(&mut self.timers, &mut self.turns, link, turn, answer) {
             link.break_off();
         }
     }
 
     /// Puts a link back that was driven. One that has ended is closed, and its line is printed.
-    pub(super) fn settle(&mut self, key: LinkKey, open: Box<OpenLink<'s, R>>)
-        ensures settled { IsSettled key open.entry self.old.links.places self.new.links.places }
+    pub(super) fn settle(&mut self, key: LinkKey, link: Box<OpenLink<'s, R>>)
+        ensures settled { IsSettled key link.entry self.old.links.places self.new.links.places }
         ensures same { (self.new.timers ≡ self.old.timers) × (self.new.turns ≡ self.old.turns) }
     {
-        let Some(end) = open.end() else {
-            self.links.put(key, LinkState::Open(open));
+        let Some(end) = link.end() else {
+            self.links.put(key, LinkState::Open(link));
             return;
         };
         self.links.close(key);
-        self.run.live.remove(self.rt, open.live);
-        let name = open.name();
-        self.note_ended(&open);
-        drop(open);
+        self.run.live.remove(self.rt, link.live);
+        let name = link.name();
+        self.note_ended(&link);
+        drop(link);
         self.end_link(name, &end);
     }
 
@@ -182,11 +202,11 @@ impl<'s, R: ServeRuntime> Worker<'s, R> {
     {
         let Turn { key, stream } = turn;
         match self.links.take(key) {
-            Some(LinkState::Open(open)) => {
-                let mut open = open;
-                open.take_turn(stream);
-                self.drive(key, &mut open, stream, scratch);
-                self.settle(key, open);
+            Some(LinkState::Open(link)) => {
+                let mut link = link;
+                link.take_turn(stream);
+                self.run_turn(key, &mut link, stream, scratch);
+                self.settle(key, link);
             }
             Some(state) => self.links.put(key, state),
             None => {}
@@ -215,11 +235,11 @@ impl<'s, R: ServeRuntime> Worker<'s, R> {
     {
         let Turn { key, stream } = turn;
         match self.links.take(key) {
-            Some(LinkState::Open(open)) => {
-                let mut open = open;
-                open.disarm(stream, due);
-                self.give(key, &mut open, stream);
-                self.settle(key, open);
+            Some(LinkState::Open(link)) => {
+                let mut link = link;
+                link.disarm(stream, due);
+                self.give(key, &mut link, stream);
+                self.settle(key, link);
             }
             Some(LinkState::Connecting(connecting)) => self.on_deadline(key, connecting, due),
             Some(LinkState::Lacking(lacking)) => self.try_again(key, lacking, due),

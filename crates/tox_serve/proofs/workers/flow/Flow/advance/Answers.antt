@@ -1,9 +1,9 @@
 -- A direction that goes on is ready again.
 use Rattle.tox_serve.proofs.workers.ReadyLemmas.{fault-of, instant-of, unlimited-of}
-use Rattle.tox_serve.proofs.workers.flow.Flow.drive.Goals as goal
+use Rattle.tox_serve.proofs.workers.flow.Flow.advance.Goals as goal
 
-pub invariant_of-flow : goal.invariant_of-flow
-invariant_of-flow g c = let ready = c.drive.ensures.ready in record {
+pub invariant_of-waiting : goal.invariant_of-waiting
+invariant_of-waiting g c = let ready = c.drive.ensures.ready in record {
   held = ready.held;
   read = instant-of _ ready.read;
   readable = ready.working;
@@ -12,8 +12,8 @@ invariant_of-flow g c = let ready = c.drive.ensures.ready in record {
   writable = rw c.if-fail_if_stopped.ensures c.in-Ok-Waits.ensures.working;
 }
 
-pub invariant_of-result : goal.invariant_of-result
-invariant_of-result g c = let ready = c.drive.ensures.ready in record {
+pub invariant_of-flow : goal.invariant_of-flow
+invariant_of-flow g c = let ready = c.drive.ensures.ready in record {
   held = ready.held;
   read = instant-of _ ready.read;
   readable = ready.working;
