@@ -1,4 +1,4 @@
-//! An argument of a command: a row of the command's table, and how `clap` is told of it.
+//! An argument of a command: a row of the command's table, and how it is given to `clap`.
 use crate::value_kind::ValueKind;
 use clap::builder::ValueParser;
 use clap::{Arg, ArgAction};

@@ -1,4 +1,4 @@
-//! The program's command line, as `clap` is told of it.
+//! The program's command line, as it is given to `clap`.
 use crate::argument::{Argument, FLAG};
 use crate::check::CHECK;
 use crate::command::CommandForm;

@@ -93,8 +93,8 @@ pub fn fault_of(code: &str) -> Option<&'static str> {
 /// The line of a group that begins with a code.
 fn line_of<'a>(group: &'a str, code: &str) -> Option<&'a str> {
     for line in group.lines() {
-        if let Some((told, _)) = line.split_once(' ') {
-            if told.eq_ignore_ascii_case(code) {
+        if let Some((reported, _)) = line.split_once(' ') {
+            if reported.eq_ignore_ascii_case(code) {
                 return Some(line);
             }
         }

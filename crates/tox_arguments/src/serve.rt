@@ -31,7 +31,7 @@ pub struct ServeArguments<'a> {
     pub seed: Option<u64>,
     /// The folder of logs, where links are logged.
     pub folder: Option<&'a str>,
-    /// Whether what `check` finds isn't told on standard error.
+    /// Whether what `check` finds isn't reported on standard error.
     pub quiet: bool,
     pub options: ServeOptions<'a>,
 }

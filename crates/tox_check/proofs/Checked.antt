@@ -14,7 +14,7 @@ use Rattle.tox_check.specs.Lines.{check_lines}
 use Rattle.tox_check.specs.Printing.{joined_lines}
 use Rattle.tox_check.specs.declared.run.Run.{Run}
 use Rattle.tox_check.proofs.AllRuns.{all_runs}
-use Rattle.tox_check.proofs.NeverTold.{TellsNever-runs}
+use Rattle.tox_check.proofs.NeverWarned.{TellsNever-runs}
 use Rattle.tox_text.proofs.Printings.{AppendsFront-broken, Prints-then, Prints-within, Writes-finished}
 use Rattle.tox_text.proofs.Writes.{append_known-nil}
 
@@ -37,7 +37,7 @@ module _ (proxies : List Proxy) (script : Rules) (verbose : Bool) where
     warned = _;
     checks = checks (λ name. (all_runs (met name script)).runs) (λ name there. (all_runs (met name script)).are) _ refl;
     left = record { sent = []; unsent = _; whole = refl; written = append_known-nil old };
-    told = works;
+    warning_text = works;
   }
 
   abbrev lines : (List ℕ → List Run) → List ℕ
@@ -52,7 +52,7 @@ module _ (proxies : List Proxy) (script : Rules) (verbose : Bool) where
       warned = _;
       checks = checks runs are _ refl;
       left = AppendsFront-broken empty (Prints-within (end_text verbose proxies script) front);
-      told = front.leaves;
+      warning_text = front.leaves;
     }
 
     -- the last line broke off
@@ -61,7 +61,7 @@ module _ (proxies : List Proxy) (script : Rules) (verbose : Bool) where
         → StopsCheck proxies script verbose (sink.written first.writer.now) (sink.written new.writer.now) (sink.failed new.writer.now) WriteFault
     StopsCheck-last (Ok done) failed empty printed front = cc
     StopsCheck-last (Err fault) failed empty printed front =
-        record { text = _; warned = _; checks = checks runs are _ refl; left = AppendsFront-broken empty (Prints-then printed front); told = front.leaves }
+        record { text = _; warned = _; checks = checks runs are _ refl; left = AppendsFront-broken empty (Prints-then printed front); warning_text = front.leaves }
 
     -- the lines and the last one
     printed-ended : {warned : ℕ} (ended : Result (Unit {0}) EndFault) {first old new : SizedPrinter W R} → is_err ended ≡ false
@@ -76,7 +76,7 @@ module _ (proxies : List Proxy) (script : Rules) (verbose : Bool) where
         → StopsCheck proxies script verbose (sink.written first.writer.now) (sink.written last) (sink.failed last) WriteFault
     StopsCheck-end ended fault last worked empty printed last_line wrote =
         let front = Writes-finished (Err fault) last empty (printed-ended ended worked printed last_line) wrote in
-        record { text = _; warned = _; checks = checks runs are _ refl; left = front.0; told = front.1 }
+        record { text = _; warned = _; checks = checks runs are _ refl; left = front.0; warning_text = front.1 }
 
     -- all was written
     pub PrintsCheck-end : {warned : ℕ} (ended : Result (Unit {0}) EndFault) {first old new : SizedPrinter W R} (last : W) → is_err ended ≡ false → first.bytes.items ≡ [] → warned ≡ held (length (check_lines proxies script runs))

@@ -10,7 +10,7 @@ use Rattle.tox_config.specs.Proxy.{Proxy}
 use Rattle.tox_script.specs.Rule.{Rules}
 use Rattle.tox_check.specs.Checking.{AreRuns, met}
 use Rattle.tox_check.specs.Runs.{IsRuns}
-use Rattle.tox_check.specs.Told.{runs_by}
+use Rattle.tox_check.specs.RuleWarnings.{runs_by}
 use Rattle.tox_check.specs.Trees.{AreTrees, HoldsRuns, runs_named}
 use Rattle.tox_check.specs.declared.tree.RunTree.{RunTree}
 

@@ -8,7 +8,7 @@ use Rattle.tox_script.specs.index.Steps.{rule_at}
 use Rattle.tox_check.proofs.forecast.LinkTexts.{met_fits}
 use Rattle.tox_check.specs.Checking.{met}
 use Rattle.tox_check.specs.Runs.{AreNumbered, IsRuns, number_at}
-use Rattle.tox_check.specs.Told.{runs_by}
+use Rattle.tox_check.specs.RuleWarnings.{runs_by}
 use Rattle.tox_check.specs.Tree.{IsTree, runs_in}
 use Rattle.tox_check.specs.Trees.{HoldsRuns}
 use Rattle.tox_check.specs.declared.run.Run.{Run}

@@ -5,19 +5,19 @@ use Rattle.std.proofs.lemmas.List.{length-map, take_more}
 use Rattle.tox_text.proofs.Listed.{IsAt}
 use Rattle.tox_check.specs.Checking.{held}
 use Rattle.tox_check.specs.Printing.{joined_lines}
-use Rattle.tox_check.specs.Sentences.{sentence, told}
+use Rattle.tox_check.specs.Sentences.{sentence, warning_text}
 use Rattle.tox_check.specs.declared.warning.Warning.{Warning}
 
 -- the lines of warnings
 abbrev pub lines_of : ℕ → List Warning → List (List ℕ)
-lines_of number warnings = map (λ text. (codes "rule " ++ decimal number) ++ text) (map told warnings)
+lines_of number warnings = map (λ text. (codes "rule " ++ decimal number) ++ text) (map warning_text warnings)
 
 pub joined_lines-lines_of : (number : ℕ) (warnings : List Warning) → flat_map (sentence number) warnings ≡ joined_lines (lines_of number warnings)
 joined_lines-lines_of number [] = refl
 joined_lines-lines_of number (warning ∷ warnings) = ap (λ lines. sentence number warning ++ lines) (joined_lines-lines_of number warnings)
 
 pub length-lines_of : (number : ℕ) (warnings : List Warning) → length (lines_of number warnings) ≡ length warnings
-length-lines_of number warnings = length-map (map told warnings) (λ text. (codes "rule " ++ decimal number) ++ text) ∙ length-map warnings told
+length-lines_of number warnings = length-map (map warning_text warnings) (λ text. (codes "rule " ++ decimal number) ++ text) ∙ length-map warnings warning_text
 
 -- lines by elements of a list, joined element by element
 pub joined_lines-flat_map : {X : Type 0} (f : X → List (List ℕ)) (xs : List X) → flat_map (λ x. joined_lines (f x)) xs ≡ joined_lines (flat_map f xs)

@@ -231,10 +231,10 @@ normal-same chain words k entry found idle = by (toxic_effect entry.toxic).does_
 
     lost : (e : Bool) → ((toxic_effect entry.toxic).needs_data && list_any drops_all (take k chain.entries)) ≡ e → (e || list_any drops_all (drop (suc k) chain.entries)) ≡ true
         → normal_form chain words ≡ normal_form (without k chain) words
-    lost true is told =
+    lost true is warning_text =
         let both = and_parts (toxic_effect entry.toxic).needs_data (list_any drops_all (take k chain.entries)) is in
         lost-behind draws [] 0 k chain.entries entry both.0 both.1 found
-    lost false is told = lost-before draws [] 0 k chain.entries told
+    lost false is warning_text = lost-before draws [] 0 k chain.entries warning_text
 
     by : (e : Bool) → (toxic_effect entry.toxic).does_nothing ≡ e → normal_form chain words ≡ normal_form (without k chain) words
     by true is = skipped (λ ops. ops ≡ ops) draws [] 0 k chain.entries entry (λ ops place toxic fits. refl) (λ ops place fits. nothing-same ops place entry.toxic is) refl found

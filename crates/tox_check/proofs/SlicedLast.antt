@@ -157,6 +157,6 @@ last-same draws place (suc k) (first ∷ entries) entry items fit cuts found las
     }
 
 pub cuts_last-same : (chain : Toxics) (k : ℕ) (entry : Entry) → IsChain chain → slice_get chain.entries k ≡ Some entry → cuts_last k entry.toxic chain.entries ≡ true → ChangesNothing k chain
-cuts_last-same chain k entry fits found told words items stream =
-    let both = and_parts (toxic_effect entry.toxic).only_cuts (nat_le (length chain.entries) (suc k)) told in
+cuts_last-same chain k entry fits found warning_text words items stream =
+    let both = and_parts (toxic_effect entry.toxic).only_cuts (nat_le (length chain.entries) (suc k)) warning_text in
     last-same (chain_draws chain words) 0 k chain.entries entry items fits.entries_fit both.0 found (leb-true (length chain.entries) (suc k) both.1) stream

@@ -11,7 +11,7 @@ use Rattle.tox_text.specs.declared.pick_text.PrintPickFault.{PrintPickFault}
 use Rattle.tox_text.specs.declared.pick_text.PrintPickFault.TheVariants.{OutOfMemory, WriteFault}
 use Rattle.tox_runs.specs.files.Files.{KnownFile}
 use Rattle.tox_runs.specs.files.Setup.{HasSetupCause, IsSetUp}
-use Rattle.tox_check.specs.Lines.{check_lines, rule_told}
+use Rattle.tox_check.specs.Lines.{check_lines, rule_warnings}
 use Rattle.tox_check.specs.Runs.{IsRuns}
 use Rattle.tox_check.specs.Sentences.{tells_never}
 use Rattle.tox_check.specs.declared.fault.CheckFault.{CheckFault}
@@ -34,11 +34,11 @@ NeverApplies proxies script rule =
     (name : List ℕ) (conn : ℕ) → find (is_named name) proxies ≢ None → 1 ≤ conn → conn ≤ 1_000_000
     → covering_number name conn script ≢ Some rule
 
--- a rule is told never to apply exactly where no connection meets it
+-- a rule is said never to apply exactly where no connection meets it
 abbrev pub TellsNever : List Proxy → Rules → (List ℕ → List Run) → Type 0
 TellsNever proxies script runs =
     (number : ℕ) (rule : Rule) → slice_get script.rules number ≡ Some rule
-    → IsTrue (list_any tells_never (rule_told proxies runs (number + 1) rule))
+    → IsTrue (list_any tells_never (rule_warnings proxies runs (number + 1) rule))
     ↔ NeverApplies proxies script number
 
 -- a number, or the greatest of 64 bits
@@ -89,7 +89,7 @@ pub record StopsCheck (proxies : List Proxy) (script : Rules) (verbose : Bool)
   pub warned : ℕ
   pub checks : Checks proxies script verbose text warned
   pub left : AppendsFront old new text
-  pub told : failed ≡ has_failed fault
+  pub warning_text : failed ≡ has_failed fault
 
 -- both files were read, and so many warnings were printed
 pub record AnswersCheck (known : List ℕ → KnownFile) (request : CheckRequest)

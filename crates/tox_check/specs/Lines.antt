@@ -1,4 +1,4 @@
--- What is told of the rules of a script.
+-- What is reported of the rules of a script.
 use Rattle.std.specs.Prelude.{ℕ, ◌==◌, ◌&&◌, not, Bool, false, List, [], ◌∷◌, ◌++◌, codes, decimal, flat_map, length, map, slice_get, take, ◌-◌, Option, None, Some, if◌then◌else◌}
 use Rattle.std.specs.List.{enumerate_from, find}
 use Rattle.tox_time.specs.declared.streams.stream.Stream.{Stream}
@@ -20,19 +20,19 @@ use Rattle.tox_check.specs.declared.idleness.Idleness.{Idleness}
 use Rattle.tox_check.specs.declared.run.Run.{Run}
 
 -- some runs are a rule's own, and these are taken by others
-abbrev pub partly_told : List Run → List Run → List (List ℕ)
-partly_told own [] = []
-partly_told own (run ∷ runs) =
+abbrev pub partly_warnings : List Run → List Run → List (List ℕ)
+partly_warnings own [] = []
+partly_warnings own (run ∷ runs) =
     partly_text (take 8 own) (length own - 8) (take 8 (run ∷ runs)) (length (run ∷ runs) - 8) ∷ []
 
 -- these runs are a rule's own, and these are taken by others
-abbrev pub coverage_told : ℕ → List Run → List Run → List (List ℕ)
-coverage_told number [] taken = covered_text (least number taken) (greatest 0 taken) ∷ []
-coverage_told number (run ∷ own) taken = partly_told (run ∷ own) taken
+abbrev pub coverage_warnings : ℕ → List Run → List Run → List (List ℕ)
+coverage_warnings number [] taken = covered_text (least number taken) (greatest 0 taken) ∷ []
+coverage_warnings number (run ∷ own) taken = partly_warnings (run ∷ own) taken
 
--- what is told of the connections of a rule, which meet these runs
-abbrev pub met_told : ℕ → List Run → List (List ℕ)
-met_told number runs = coverage_told number (own_of number runs) (taken_of number runs)
+-- what is reported of the connections of a rule, which meet these runs
+abbrev pub met_warnings : ℕ → List Run → List (List ℕ)
+met_warnings number runs = coverage_warnings number (own_of number runs) (taken_of number runs)
 
 -- whether a toxic is never applied
 abbrev pub is_silent : Option Entry → Bool
@@ -45,54 +45,54 @@ is_seldom None entry = false
 is_seldom (Some decimal) None = false
 is_seldom (Some decimal) (Some entry) = not decimal && entry.toxicity == 1
 
--- what is told of the toxic of a number, which may be known to change nothing, and may be applied seldom
-abbrev pub idle_told : ℕ → Option Idleness → Bool → List (List ℕ)
-idle_told number None seldom = line_if seldom (seldom_text number)
-idle_told number (Some why) seldom = changes_nothing_text number why ∷ []
+-- what is reported of the toxic of a number, which may be known to change nothing, and may be applied seldom
+abbrev pub idle_warnings : ℕ → Option Idleness → Bool → List (List ℕ)
+idle_warnings number None seldom = line_if seldom (seldom_text number)
+idle_warnings number (Some why) seldom = changes_nothing_text number why ∷ []
 
--- what is told of a placed toxic, where each toxicity is a decimal text or not
-abbrev pub toxic_told : List Bool → Chains → PlacedToxic → List (List ℕ)
-toxic_told decimals chains placed =
+-- what is reported of a placed toxic, where each toxicity is a decimal text or not
+abbrev pub toxic_warnings : List Bool → Chains → PlacedToxic → List (List ℕ)
+toxic_warnings decimals chains placed =
     if is_silent (slice_get (on placed.stream chains).chain.entries placed.place)
     then no_toxicity_text placed.number ∷ []
-    else idle_told placed.number
+    else idle_warnings placed.number
     (idleness_at placed.place (on placed.stream chains).chain.entries)
     (is_seldom (slice_get decimals (placed.number - 1))
     (slice_get (on placed.stream chains).chain.entries placed.place))
 
--- what is told of toxics on these streams, of which the first has these places
-abbrev pub silent_told : List Bool → Chains → Places → List Stream → List (List ℕ)
-silent_told decimals chains at order = flat_map (toxic_told decimals chains) (placed_from at order)
+-- what is reported of toxics on these streams, of which the first has these places
+abbrev pub silent_warnings : List Bool → Chains → Places → List Stream → List (List ℕ)
+silent_warnings decimals chains at order = flat_map (toxic_warnings decimals chains) (placed_from at order)
 
--- what is told of the toxics of a rule
-abbrev pub toxics_told : List Bool → Chains → List Stream → List (List ℕ)
-toxics_told decimals chains order =
-    silent_told decimals chains (record { number = 1; upstream = 0; downstream = 0 }) order
+-- what is reported of the toxics of a rule
+abbrev pub toxics_warnings : List Bool → Chains → List Stream → List (List ℕ)
+toxics_warnings decimals chains order =
+    silent_warnings decimals chains (record { number = 1; upstream = 0; downstream = 0 }) order
 
--- what is told of a rule's proxy
-abbrev pub proxy_told : Proxy → List (List ℕ)
-proxy_told proxy = if proxy.enabled then [] else disabled_text proxy.name ∷ []
+-- what is reported of a rule's proxy
+abbrev pub proxy_warnings : Proxy → List (List ℕ)
+proxy_warnings proxy = if proxy.enabled then [] else disabled_text proxy.name ∷ []
 
 -- the names of proxies
 abbrev pub proxy_names : List Proxy → List (List ℕ)
 proxy_names proxies = map (λ proxy. proxy.name) proxies
 
--- what is told of the rule of a number from 1, by its proxy, if there is one, and by the runs of this
-abbrev pub known_told : List Proxy → ℕ → Rule → List Run → Option Proxy → List (List ℕ)
-known_told proxies number rule runs None = unknown_text rule.proxy (nearest rule.proxy (proxy_names proxies)) ∷ []
-known_told proxies number rule runs (Some proxy) =
-    met_told number (within rule.first (last_of rule.last) runs)
-    ++ (toxics_told rule.decimals rule.chains rule.order ++ proxy_told proxy)
+-- what is reported of the rule of a number from 1, by its proxy, if there is one, and by the runs of this
+abbrev pub known_warnings : List Proxy → ℕ → Rule → List Run → Option Proxy → List (List ℕ)
+known_warnings proxies number rule runs None = unknown_text rule.proxy (nearest rule.proxy (proxy_names proxies)) ∷ []
+known_warnings proxies number rule runs (Some proxy) =
+    met_warnings number (within rule.first (last_of rule.last) runs)
+    ++ (toxics_warnings rule.decimals rule.chains rule.order ++ proxy_warnings proxy)
 
--- what is told of the rule of a number from 1, by the runs of each proxy
-abbrev pub rule_told : List Proxy → (List ℕ → List Run) → ℕ → Rule → List (List ℕ)
-rule_told proxies runs number rule =
-    known_told proxies number rule (runs rule.proxy) (find (is_named rule.proxy) proxies)
+-- what is reported of the rule of a number from 1, by the runs of each proxy
+abbrev pub rule_warnings : List Proxy → (List ℕ → List Run) → ℕ → Rule → List (List ℕ)
+rule_warnings proxies runs number rule =
+    known_warnings proxies number rule (runs rule.proxy) (find (is_named rule.proxy) proxies)
 
 -- the lines of the rule of a number from 1
 abbrev pub rule_lines : List Proxy → (List ℕ → List Run) → ℕ → Rule → List (List ℕ)
 rule_lines proxies runs number rule =
-    map (λ told. (codes "rule " ++ decimal number) ++ told) (rule_told proxies runs number rule)
+    map (λ warning_text. (codes "rule " ++ decimal number) ++ warning_text) (rule_warnings proxies runs number rule)
 
 -- the lines of each rule in the script's order
 abbrev pub rules_lines : List Proxy → Rules → (List ℕ → List Run) → List (List ℕ)

@@ -1,4 +1,4 @@
--- What is told of the addresses of proxies.
+-- What is reported of the addresses of proxies.
 use Rattle.std.specs.Prelude.{ℕ, ◌&&◌, ◌||◌, Bool, List, [], ◌∷◌, ◌++◌, bytes_eq, codes, flat_map, nat_eq, if◌then◌else◌}
 use Rattle.std.specs.List.{after_first, before_first, starts_with}
 use Rattle.tox_time.specs.Text.{is_colon}
@@ -41,11 +41,11 @@ own_address_line name upstream =
 abbrev pub line_if : Bool → List ℕ → List (List ℕ)
 line_if so line = if so then line ∷ [] else []
 
--- what is told of an address of the proxy of this name
+-- what is reported of an address of the proxy of this name
 abbrev pub address_lines : List ℕ → List ℕ → List ℕ → List (List ℕ)
 address_lines name which address = line_if (has_scheme address) (scheme_line name which address)
 
--- what is told of the upstream of a proxy
+-- what is reported of the upstream of a proxy
 abbrev pub upstream_lines : Proxy → List (List ℕ)
 upstream_lines proxy =
     address_lines proxy.name (codes " upstream") proxy.upstream

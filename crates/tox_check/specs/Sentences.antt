@@ -100,20 +100,20 @@ seldom_text toxic = codes " toxic " ++ decimal toxic ++ codes " seldom applies: 
 abbrev pub disabled_text : List ℕ → List ℕ
 disabled_text name = codes " is for proxy " ++ visible_name name ++ codes ", which is disabled\n"
 
--- what is told of a rule
-abbrev pub told : Warning → List ℕ
-told (UnknownProxy name near) = unknown_text name.now (option_map (λ near. near.now) near)
-told (Covered low high) = covered_text low high
-told (Partly own taken) =
+-- what is reported of a rule
+abbrev pub warning_text : Warning → List ℕ
+warning_text (UnknownProxy name near) = unknown_text name.now (option_map (λ near. near.now) near)
+warning_text (Covered low high) = covered_text low high
+warning_text (Partly own taken) =
     partly_text own.shown.items own.more taken.shown.items taken.more
-told (NoToxicity toxic) = no_toxicity_text toxic
-told (ChangesNothing toxic why) = changes_nothing_text toxic why
-told (Seldom toxic) = seldom_text toxic
-told (Disabled name) = disabled_text name.now
+warning_text (NoToxicity toxic) = no_toxicity_text toxic
+warning_text (ChangesNothing toxic why) = changes_nothing_text toxic why
+warning_text (Seldom toxic) = seldom_text toxic
+warning_text (Disabled name) = disabled_text name.now
 
 -- the sentence of a warning of a rule, by its number from 1
 abbrev pub sentence : ℕ → Warning → List ℕ
-sentence rule warning = (codes "rule " ++ decimal rule) ++ told warning
+sentence rule warning = (codes "rule " ++ decimal rule) ++ warning_text warning
 
 -- whether it tells of a rule that it never applies
 abbrev pub tells_never : List ℕ → Bool

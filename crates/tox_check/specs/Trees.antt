@@ -5,7 +5,7 @@ use Rattle.tox_config.specs.Proxy.{Proxy}
 use Rattle.tox_script.specs.Rule.{Rules}
 use Rattle.tox_check.specs.Checking.{met}
 use Rattle.tox_check.specs.Runs.{IsRuns}
-use Rattle.tox_check.specs.Told.{IsTreeOf, runs_by}
+use Rattle.tox_check.specs.RuleWarnings.{IsTreeOf, runs_by}
 use Rattle.tox_check.specs.declared.run.Run.{Run}
 use Rattle.tox_check.specs.declared.tree.RunTree.{RunTree}
 

@@ -10,7 +10,7 @@ ghost use Rattle.tox_check.specs.Sentences.{sentence};
 ghost use Rattle.tox_check.specs.Trees.{AreTrees, runs_named};
 
 use crate::proxies::print_proxies;
-use crate::told::warnings_of;
+use crate::rule_warnings::warnings_of;
 use crate::tree::RunTree;
 use crate::trees::trees_of;
 use crate::warning::{Warning, print_warning};

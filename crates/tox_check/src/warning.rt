@@ -1,7 +1,7 @@
-//! What is told of a rule, and its sentence.
+//! What is reported of a rule, and its sentence.
 ghost use Rattle.std.specs.Prelude.{◌≡◌, option_map};
 ghost use Rattle.tox_text.specs.Printing.{IsWorking, Prints};
-ghost use Rattle.tox_check.specs.Sentences.{changes_nothing_text, covered_text, covering_text, disabled_text, near_text, no_toxicity_text, one_covers, partly_text, reason_text, seldom_text, sentence, some_cover, told, unknown_text};
+ghost use Rattle.tox_check.specs.Sentences.{changes_nothing_text, covered_text, covering_text, disabled_text, near_text, no_toxicity_text, one_covers, partly_text, reason_text, seldom_text, sentence, some_cover, warning_text, unknown_text};
 
 mod ranges;
 
@@ -31,7 +31,7 @@ pub(crate) enum Warning<'a> {
     Disabled(&'a str),
 }
 
-/// Prints the sentence of a warning of a rule, whose number from 1 is told, as a line.
+/// Prints the sentence of a warning of a rule, whose number from 1 is reported, as a line.
 pub(crate) fn print_warning<W: Sink>(
     printer: &mut Printer<'_, W>,
     rule: u64,
@@ -41,13 +41,16 @@ pub(crate) fn print_warning<W: Sink>(
     ensures { Prints W.Sink result printer.old printer.new (sentence rule warning.now) }
 {
     printer.print(&[Word("rule "), Number(rule)])?;
-    print_told(printer, warning)
+    print_sentence(printer, warning)
 }
 
 /// Prints what a warning tells, behind its rule.
-fn print_told<W: Sink>(printer: &mut Printer<'_, W>, warning: &Warning<'_>) -> Result<(), EndFault>
+fn print_sentence<W: Sink>(
+    printer: &mut Printer<'_, W>,
+    warning: &Warning<'_>,
+) -> Result<(), EndFault>
     requires { IsWorking W.Sink printer.old }
-    ensures { Prints W.Sink result printer.old printer.new (told warning.now) }
+    ensures { Prints W.Sink result printer.old printer.new (warning_text warning.now) }
 {
     match warning {
         Warning::UnknownProxy(name, near) => print_unknown(printer, name, *near),

@@ -284,9 +284,9 @@ with_pairs_good : (zeros toxic : Toxic) (pairs : List (List ℕ)) (toxicity : �
     → value_at (codes "toxicity") pairs ≡ Some toxicity → with_values zeros (pair_values zeros pairs) ≡ toxic
     → toxicity ≤ 1000 → IsInRange toxic → with_pairs zeros pairs ≡ Ok (toxic, toxicity)
 with_pairs_good zeros toxic pairs toxicity apart known read made most inside =
-    let told : pair_toxicity pairs ≡ toxicity = ap (λ value. unwrap_or value 1000) read in
+    let reported : pair_toxicity pairs ≡ toxicity = ap (λ value. unwrap_or value 1000) read in
     let few : nat_lt 1000 toxicity ≡ false = search (rules, tests) in
-    rw (apart, told, few, known, made, inside) refl
+    rw (apart, reported, few, known, made, inside) refl
 
 some_shown : (entries : List Named) (last : Named) → 0 < length (map printed_pair (shown_before entries last))
 some_shown entries last = simp (length-map, length-append) (omega arith)

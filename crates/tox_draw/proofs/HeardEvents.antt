@@ -137,8 +137,8 @@ written-stays frame events event written unsaid none before stop gapless =
 
 -- a piece is heard
 pub hears-piece : (frame : Frame) (old new : Hearing) (before after : RunnerView) (len t : ℕ)
-    → PassesBytes frame len t old.course.arrived new.course.arrived
-    → DrawsPiece frame old.course.planned before len t new.course.planned after → new.course.source_end ≡ old.course.source_end → new.written ≡ old.written
+    → PassesBytes frame len t old.strands.arrived new.strands.arrived
+    → DrawsPiece frame old.strands.planned before len t new.strands.planned after → new.strands.source_end ≡ old.strands.source_end → new.written ≡ old.written
     → new.latest ≡ t → new.end ≡ Missing t → HearsEvent frame old before (Piece len t) new after
 hears-piece frame old new before after len t adds draws source written latest end means events position next writable heard =
     let drawn = draws means (heard_from 0 events) position next heard.waits heard.due in
@@ -155,8 +155,8 @@ hears-piece frame old new before after len t adds draws source written latest en
       heard = record {
         order = leads-piece events position len t next heard.order;
         waits = drawn.0;
-        due = plan-behind frame means (λ items. heard_from 0 events (piece_behind position len t ∷ items)) (heard_from 0 (events ++ Piece len t ∷ [])) new.course.planned after behind drawn.1;
-        arrived = subst (λ ts. IsStrand frame ts new.course.arrived) (sym grown) (adds (table (heard_from 0 events (Quiet ∷ []))) heard.arrived next.2 few);
+        due = plan-behind frame means (λ items. heard_from 0 events (piece_behind position len t ∷ items)) (heard_from 0 (events ++ Piece len t ∷ [])) new.strands.planned after behind drawn.1;
+        arrived = subst (λ ts. IsStrand frame ts new.strands.arrived) (sym grown) (adds (table (heard_from 0 events (Quiet ∷ []))) heard.arrived next.2 few);
         source_end = source ∙ heard.source_end ∙ sym (source-same events (Piece len t) refl);
         written = subst (λ strand. (stop : ℕ) → IsGapless 0 (said (events ++ Piece len t ∷ [])) stop → IsStrand frame (written_table (events ++ Piece len t ∷ [])) strand) (sym written)
             (written-stays frame events (Piece len t) old.written refl refl heard.written);
@@ -166,8 +166,8 @@ hears-piece frame old new before after len t adds draws source written latest en
     }
 
 -- the source's end is heard
-pub hears-source_end : (frame : Frame) (old new : Hearing) (before after : RunnerView) (t : ℕ) → new.course.arrived ≡ old.course.arrived → new.course.planned ≡ old.course.planned
-    → DrawsSourceEnd frame old.course.planned before t after → new.course.source_end ≡ Some t → new.written ≡ old.written
+pub hears-source_end : (frame : Frame) (old new : Hearing) (before after : RunnerView) (t : ℕ) → new.strands.arrived ≡ old.strands.arrived → new.strands.planned ≡ old.strands.planned
+    → DrawsSourceEnd frame old.strands.planned before t after → new.strands.source_end ≡ Some t → new.written ≡ old.written
     → new.latest ≡ t → new.end ≡ Missing t → HearsEvent frame old before (SourceEnd t) new after
 hears-source_end frame old new before after t arrived planned draws source written latest end means events position next writable heard =
     let drawn = draws means (heard_from 0 events) position next heard.waits heard.due in
@@ -177,9 +177,9 @@ hears-source_end frame old new before after t arrived planned draws source writt
       heard = record {
         order = leads-end events position t next heard.order;
         waits = drawn.0;
-        due = plan-behind frame means (λ items. heard_from 0 events (Closed t ∷ [])) (heard_from 0 (events ++ SourceEnd t ∷ [])) new.course.planned after (heard-end 0 events t)
+        due = plan-behind frame means (λ items. heard_from 0 events (Closed t ∷ [])) (heard_from 0 (events ++ SourceEnd t ∷ [])) new.strands.planned after (heard-end 0 events t)
             (subst (λ strand. DrawsPlan frame means (λ items. heard_from 0 events (Closed t ∷ [])) strand after) (sym planned) drawn.1);
-        arrived = subst (λ ts. IsStrand frame ts new.course.arrived) (sym same) (subst (IsStrand frame (table (heard_from 0 events (Quiet ∷ [])))) (sym arrived) heard.arrived);
+        arrived = subst (λ ts. IsStrand frame ts new.strands.arrived) (sym same) (subst (IsStrand frame (table (heard_from 0 events (Quiet ∷ [])))) (sym arrived) heard.arrived);
         source_end = source ∙ sym (source-ends events t going);
         written = subst (λ strand. (stop : ℕ) → IsGapless 0 (said (events ++ SourceEnd t ∷ [])) stop → IsStrand frame (written_table (events ++ SourceEnd t ∷ [])) strand) (sym written)
             (written-stays frame events (SourceEnd t) old.written refl refl heard.written);
@@ -189,19 +189,19 @@ hears-source_end frame old new before after t arrived planned draws source writt
     }
 
 -- a write is heard
-pub hears-wrote : (frame : Frame) (old new : Hearing) (runner : RunnerView) (slice : Slice) (now len : ℕ) → new.course ≡ old.course → len ≡ slice.span.stop - slice.span.start
+pub hears-wrote : (frame : Frame) (old new : Hearing) (runner : RunnerView) (slice : Slice) (now len : ℕ) → new.strands ≡ old.strands → len ≡ slice.span.stop - slice.span.start
     → PassesBytes frame len now old.written new.written
     → new.latest ≡ now → new.end ≡ Missing now → HearsEvent frame old runner (Wrote slice now) new runner
-hears-wrote frame old new runner slice now len course is adds latest end means events position next writable heard =
+hears-wrote frame old new runner slice now len strands is adds latest end means events position next writable heard =
     let unchanged : table (heard_from 0 (events ++ Wrote slice now ∷ []) (Quiet ∷ [])) ≡ table (heard_from 0 events (Quiet ∷ [])) = ap table (heard-wrote 0 events slice now (Quiet ∷ [])) in
     let waits = heard.waits in record {
       heard = record {
         order = leads-wrote events position slice now next heard.order;
         waits = record { idle = waits.idle; few = waits.few; stop = waits.stop; latest = omega (arith, waits.latest, next) };
-        due = plan-behind frame means (heard_from 0 events) (heard_from 0 (events ++ Wrote slice now ∷ [])) new.course.planned runner (heard-wrote 0 events slice now)
-            (subst (λ course. DrawsPlan frame means (heard_from 0 events) course.planned runner) (sym course) heard.due);
-        arrived = subst (λ ts. IsStrand frame ts new.course.arrived) (sym unchanged) (subst (λ course. IsStrand frame (table (heard_from 0 events (Quiet ∷ []))) course.arrived) (sym course) heard.arrived);
-        source_end = ap (λ course. course.source_end) course ∙ heard.source_end ∙ sym (source-same events (Wrote slice now) refl);
+        due = plan-behind frame means (heard_from 0 events) (heard_from 0 (events ++ Wrote slice now ∷ [])) new.strands.planned runner (heard-wrote 0 events slice now)
+            (subst (λ strands. DrawsPlan frame means (heard_from 0 events) strands.planned runner) (sym strands) heard.due);
+        arrived = subst (λ ts. IsStrand frame ts new.strands.arrived) (sym unchanged) (subst (λ strands. IsStrand frame (table (heard_from 0 events (Quiet ∷ []))) strands.arrived) (sym strands) heard.arrived);
+        source_end = ap (λ strands. strands.source_end) strands ∙ heard.source_end ∙ sym (source-same events (Wrote slice now) refl);
         written = λ stop gapless.
             let front = gapless-front 0 (said events) slice stop (subst (λ slices. IsGapless 0 slices stop) (said-append events (Wrote slice now ∷ [])) gapless) in
             let long = gapless-bytes 0 (said events) slice.span.start front.0 in

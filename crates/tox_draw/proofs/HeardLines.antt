@@ -68,12 +68,12 @@ module _ (frame : Frame) (means : List Item → List Item) where
 
   -- the line of an event more
   so-far-event : (given before after : Option (List ℕ)) (old new : OpenLog) (hearing next : Hearing) (runner later : RunnerView) (event : LinkEvent) (line : LogLine)
-      → logged_line next.course.source_reset event ≡ line → (next.course.source_reset ≡ hearing.course.source_reset) ⊎ (old.heard.ended ≡ false)
+      → logged_line next.strands.source_reset event ≡ line → (next.strands.source_reset ≡ hearing.strands.source_reset) ⊎ (old.heard.ended ≡ false)
       → Hands old new before after line → is_last line ≡ false → ComesNext old.heard (Event event) → new.heard ≡ heard_with old.heard (Event event) → IsWritable (Event event) → HearsEvent frame hearing runner event next later
       → HearsSoFar frame means given (to_hand old before) old hearing runner → HearsSoFar frame means given (to_hand new after) new next later
   so-far-event given before after old new hearing next runner later event line is kept hands going comes heard writable hears so_far =
-      let was = hearing.course.source_reset in
-      let now = next.course.source_reset in
+      let was = hearing.strands.source_reset in
+      let now = next.strands.source_reset in
       let none : so_far.last ≡ None = none_yet so_far.last (sym so_far.over ∙ hands.going) in
       let at : so_far.position ≡ old.heard = so_far.at hands.going in
       let lines : event_lines was so_far.events ++ last_lines so_far.last ≡ event_lines was so_far.events = ap (λ last. event_lines was so_far.events ++ last_lines last) none ∙ append-nil (event_lines was so_far.events) in
@@ -90,7 +90,7 @@ module _ (frame : Frame) (means : List Item → List Item) where
         heard = hears means so_far.events so_far.position (subst (λ position. ComesNext position (Event event)) (sym at) comes) writable so_far.heard.heard;
       }
     where
-      stays-so : so_far.position ≡ old.heard → (next.course.source_reset ≡ hearing.course.source_reset) ⊎ (old.heard.ended ≡ false) → (next.course.source_reset ≡ hearing.course.source_reset) ⊎ (has_source_end so_far.events ≡ false)
+      stays-so : so_far.position ≡ old.heard → (next.strands.source_reset ≡ hearing.strands.source_reset) ⊎ (old.heard.ended ≡ false) → (next.strands.source_reset ≡ hearing.strands.source_reset) ⊎ (has_source_end so_far.events ≡ false)
       stays-so at (inl same) = inl same
       stays-so at (inr going) = inr (so_far.heard.heard.order.ended ∙ ap (λ position. position.ended) at ∙ going)
 
@@ -99,20 +99,20 @@ module _ (frame : Frame) (means : List Item → List Item) where
       → Hands old new before after line → GoesOnWith old.heard line new.heard → HearsLogLine frame hearing runner line next later
       → HearsSoFar frame means given (to_hand old before) old hearing runner → HearsSoFar frame means given (to_hand new after) new next later
   so-far-line given before after old new hearing next runner later (Event (Piece len t)) hands goes hears so_far =
-      so-far-event given before after old new hearing next runner later (Piece len t) (Event (Piece len t)) (piece-line next.course.source_reset len t) (inl hears.1)
+      so-far-event given before after old new hearing next runner later (Piece len t) (Event (Piece len t)) (piece-line next.strands.source_reset len t) (inl hears.1)
       hands refl goes.next goes.heard hands.writable hears.0 so_far
   so-far-line given before after old new hearing next runner later (Event (SourceEnd t)) hands goes hears so_far =
       so-far-event given before after old new hearing next runner later (SourceEnd t) (Event (SourceEnd t)) (ap (λ reset. logged_line reset (SourceEnd t)) hears.1) (inr goes.next.2)
       hands refl goes.next goes.heard hands.writable hears.0 so_far
   so-far-line given before after old new hearing next runner later (Event (Wrote slice reading)) hands goes hears so_far =
-      so-far-event given before after old new hearing next runner later (Wrote slice reading) (Event (Wrote slice reading)) (wrote-line next.course.source_reset slice reading) (inl hears.1)
+      so-far-event given before after old new hearing next runner later (Wrote slice reading) (Event (Wrote slice reading)) (wrote-line next.strands.source_reset slice reading) (inl hears.1)
       hands refl goes.next goes.heard hands.writable hears.0 so_far
   so-far-line given before after old new hearing next runner later (SourceReset t) hands goes hears so_far =
       so-far-event given before after old new hearing next runner later (SourceEnd t) (SourceReset t) (ap (λ reset. logged_line reset (SourceEnd t)) hears.1) (inr goes.next.2)
       hands refl goes.next goes.heard hands.writable hears.0 so_far
   so-far-line given before after old new hearing next runner later (Last last) hands goes hears so_far =
       let none : so_far.last ≡ None = none_yet so_far.last (sym so_far.over ∙ hands.going) in
-      let was = hearing.course.source_reset in
+      let was = hearing.strands.source_reset in
       let lines : event_lines was so_far.events ++ last_lines so_far.last ≡ event_lines was so_far.events = ap (λ last. event_lines was so_far.events ++ last_lines last) none ∙ append-nil (event_lines was so_far.events) in
       let heard = so_far.heard.heard in
       let same_next = hears.0 in
@@ -132,7 +132,7 @@ module _ (frame : Frame) (means : List Item → List Item) where
         position = so_far.position;
         text = prepend_more (event_lines was so_far.events ++ last_lines so_far.last) (line_words (Last last) ++ 10 ∷ []) given (to_hand old before) (to_hand new after) so_far.text hands.given
             ∙ ap (λ lines. prepend_known (lines ++ last_lines (Some last)) (to_hand new after)) lines
-            ∙ ap (λ next. prepend_known (event_lines next.course.source_reset so_far.events ++ last_lines (Some last)) (to_hand new after)) (sym same_next);
+            ∙ ap (λ next. prepend_known (event_lines next.strands.source_reset so_far.events ++ last_lines (Some last)) (to_hand new after)) (sym same_next);
         over = hands.over;
         at = λ going. let no : true ≡ false = sym hands.over ∙ going in cc;
         heard = record {
@@ -151,7 +151,7 @@ module _ (frame : Frame) (means : List Item → List Item) where
     position = so_far.position;
     torn = lacks.torn;
     left = lacks.left;
-    text = prepend_more (event_lines hearing.course.source_reset so_far.events ++ last_lines so_far.last) lacks.torn given before lacks.left so_far.text lacks.given;
+    text = prepend_more (event_lines hearing.strands.source_reset so_far.events ++ last_lines so_far.last) lacks.torn given before lacks.left so_far.text lacks.given;
     unended = lacks.unended;
     ended = lacks.ended;
     heard = so_far.heard;
@@ -193,10 +193,10 @@ lines-behind before (Some bytes) header torn lines rest (Some left) given (inr o
 -- the log that was read
 pub says-log : (frame : Frame) (means : List Item → List Item) (before after : Option (List ℕ)) (log : OpenLog) (hearing : Hearing) (runner : RunnerView)
     → Opens before after log → (all : HearsAll frame means (to_hand log after) hearing runner)
-    → SaysLog before (record { heading = log.heading; chain = log.chain; events = all.events; source_reset = hearing.course.source_reset; last = all.last })
+    → SaysLog before (record { heading = log.heading; chain = log.chain; events = all.events; source_reset = hearing.strands.source_reset; last = all.last })
 says-log frame means before after log hearing runner opens all =
     let (last, end, text, unended, ended) = lines-behind before (to_hand log after) (header_text (string_bytes log.heading.proxy) log.heading.number log.heading.stream log.heading.seed log.chain opens.names) opens.torn
-    (event_lines hearing.course.source_reset all.events ++ last_lines all.last) all.torn all.left opens.given opens.rest opens.unended all.text all.unended all.ended in record {
+    (event_lines hearing.strands.source_reset all.events ++ last_lines all.last) all.torn all.left opens.given opens.rest opens.unended all.text all.unended all.ended in record {
       names = opens.names;
       torn = last;
       left = end;
@@ -209,14 +209,14 @@ says-log frame means before after log hearing runner opens all =
 -- what is kept of it
 pub records-log : (frame : Frame) (means : List Item → List Item) (log : LogText) (position : StreamPosition) (hearing : Hearing) (runner : RunnerView) (last : Ending) (kept : Record)
     → HearsLines frame means log.events log.last position hearing runner → means (heard log.events) ≡ due_items log → to_come runner (Quiet ∷ []) ≡ final_of last ∷ []
-    → log.source_reset ≡ hearing.course.source_reset → kept.course ≡ hearing.course → kept.due_end ≡ last → kept.written ≡ hearing.written → kept.end ≡ hearing.end → RecordsLog frame log kept
-records-log frame means log position hearing runner last kept lines meaning only reset course due_end written end =
+    → log.source_reset ≡ hearing.strands.source_reset → kept.strands ≡ hearing.strands → kept.due_end ≡ last → kept.written ≡ hearing.written → kept.end ≡ hearing.end → RecordsLog frame log kept
+records-log frame means log position hearing runner last kept lines meaning only reset strands due_end written end =
     let heard = lines.heard in
-    let whole = plan-whole frame means (heard_from 0 log.events) hearing.course.planned runner (Quiet ∷ []) last (leads-stream log.events position heard.order) only heard.due in record {
-      arrived = subst (λ course. IsStrand frame (table (heard_from 0 log.events (Quiet ∷ []))) course.arrived) (sym course) heard.arrived;
-      source_end = ap (λ course. course.source_end) course ∙ heard.source_end;
-      source_reset = ap (λ course. course.source_reset) course ∙ sym reset;
-      due = subst (λ course. IsStrand frame (table (due_items log)) course.planned) (sym course) (subst (λ items. IsStrand frame (table items) hearing.course.planned) meaning whole.0);
+    let whole = plan-whole frame means (heard_from 0 log.events) hearing.strands.planned runner (Quiet ∷ []) last (leads-stream log.events position heard.order) only heard.due in record {
+      arrived = subst (λ strands. IsStrand frame (table (heard_from 0 log.events (Quiet ∷ []))) strands.arrived) (sym strands) heard.arrived;
+      source_end = ap (λ strands. strands.source_end) strands ∙ heard.source_end;
+      source_reset = ap (λ strands. strands.source_reset) strands ∙ sym reset;
+      due = subst (λ strands. IsStrand frame (table (due_items log)) strands.planned) (sym strands) (subst (λ items. IsStrand frame (table items) hearing.strands.planned) meaning whole.0);
       due_end = due_end ∙ whole.1 ∙ ap ending meaning;
       written = subst (λ strand. (stop : ℕ) → IsGapless 0 (said log.events) stop → IsStrand frame (written_table log.events) strand) (sym written) heard.written;
       end = end ∙ lines.end;
@@ -226,8 +226,8 @@ records-log frame means log position hearing runner last kept lines meaning only
 pub begins-hearing : (frame : Frame) (means : List Item → List Item) (log : OpenLog) (hearing : Hearing) (runner : RunnerView) → log.over ≡ false → log.heard ≡ first_position
     → ((items : List Item) → IsStream items → to_come runner items ≡ means items)
     → runner.idle ≡ true → runner.position ≡ 0 → runner.piece ≡ no_piece → runner.latest ≡ 0
-    → IsStrand frame [] hearing.course.arrived → IsStrand frame [] hearing.course.planned → IsStrand frame [] hearing.written
-    → hearing.course.source_end ≡ None → hearing.latest ≡ 0 → hearing.end ≡ Missing 0 → BeginsHearing frame means log hearing runner
+    → IsStrand frame [] hearing.strands.arrived → IsStrand frame [] hearing.strands.planned → IsStrand frame [] hearing.written
+    → hearing.strands.source_end ≡ None → hearing.latest ≡ 0 → hearing.end ≡ Missing 0 → BeginsHearing frame means log hearing runner
 begins-hearing frame means log hearing runner going start output idle at piece first arrived planned written source_end latest end = (
   going,
   record {
@@ -258,10 +258,10 @@ begins-hearing frame means log hearing runner going start output idle at piece f
 -- the picture of what is kept of a log
 pub picture-shown : (result : Result (String Global) AllocError) (setting : Setting) (frame : Frame) (kept : Record) (picture : Picture) (curve : Curve)
     → picture.setting ≡ setting → picture.frame ≡ frame → IsFrame frame
-    → ((table : List ℕ) → IsStrand frame table kept.course.arrived → IsCurve frame table picture.arrived)
-    → ((table : List ℕ) → IsStrand frame table kept.course.planned → IsCurve frame table picture.planned)
+    → ((table : List ℕ) → IsStrand frame table kept.strands.arrived → IsCurve frame table picture.arrived)
+    → ((table : List ℕ) → IsStrand frame table kept.strands.planned → IsCurve frame table picture.planned)
     → ((table : List ℕ) → IsStrand frame table kept.written → IsCurve frame table curve) → picture.written ≡ Some curve
-    → picture.source_end ≡ kept.course.source_end → picture.source_reset ≡ kept.course.source_reset → picture.planned_end ≡ end_of kept.due_end → picture.end ≡ kept.end
+    → picture.source_end ≡ kept.strands.source_end → picture.source_reset ≡ kept.strands.source_reset → picture.planned_end ≡ end_of kept.due_end → picture.end ≡ kept.end
     → IfOk result (λ text. string_bytes text ≡ picture_text picture)
     → IfOk result (λ text. (given : Option (List ℕ)) → KeepsRecord frame given kept → IsPictureOn frame.time given setting (string_bytes text))
 picture-shown (Ok text) setting frame kept picture curve stands same is_frame arrived planned written has source_end source_reset planned_end end is = λ (given : Option (List ℕ)) (keeps : KeepsRecord frame given kept).

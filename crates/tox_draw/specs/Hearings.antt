@@ -38,9 +38,9 @@ pub record HearsEvents (frame : Frame) (means : List Item → List Item) (events
     (position : StreamPosition) (hearing : Hearing) (runner : RunnerView) : Type 0 where
   pub order : LeadsTo events position
   pub waits : WaitsAt position runner
-  pub due : DrawsPlan frame means (heard_from 0 events) hearing.course.planned runner
-  pub arrived : IsStrand frame (table (heard events)) hearing.course.arrived
-  pub source_end : hearing.course.source_end ≡ source_end_of events
+  pub due : DrawsPlan frame means (heard_from 0 events) hearing.strands.planned runner
+  pub arrived : IsStrand frame (table (heard events)) hearing.strands.arrived
+  pub source_end : hearing.strands.source_end ≡ source_end_of events
   pub written : (stop : ℕ) → IsGapless 0 (said events) stop
       → IsStrand frame (written_table events) hearing.written
   pub latest : hearing.latest ≡ latest_reading events
@@ -69,9 +69,9 @@ reset_after event reset before = before
 abbrev pub HearsLogLine : Frame → Hearing → RunnerView → LogLine → Hearing → RunnerView → Type 0
 HearsLogLine frame old before (Event event) new after =
     HearsEvent frame old before event new after
-    × (new.course.source_reset ≡ reset_after event false old.course.source_reset)
+    × (new.strands.source_reset ≡ reset_after event false old.strands.source_reset)
 HearsLogLine frame old before (SourceReset instant) new after =
-    HearsEvent frame old before (SourceEnd instant) new after × (new.course.source_reset ≡ true)
+    HearsEvent frame old before (SourceEnd instant) new after × (new.strands.source_reset ≡ true)
 HearsLogLine frame old before (Last last) new after =
     (new ≡ record old { end = link_end (Some last) old.latest }) × (after ≡ before)
 
@@ -81,7 +81,7 @@ pub record HearsSoFar (frame : Frame) (means : List Item → List Item) (given l
   pub events : List LinkEvent
   pub last : Option LastLine
   pub position : StreamPosition
-  pub text : given ≡ prepend_known (event_lines hearing.course.source_reset events ++ last_lines last) left
+  pub text : given ≡ prepend_known (event_lines hearing.strands.source_reset events ++ last_lines last) left
   pub over : log.over ≡ is_some last
   pub at : log.over ≡ false → position ≡ log.heard
   pub heard : HearsLines frame means events last position hearing runner
@@ -95,7 +95,7 @@ pub record HearsAll (frame : Frame) (means : List Item → List Item) (given : O
   pub torn : List ℕ
   pub left : Option (List ℕ)
   pub text : given
-      ≡ prepend_known ((event_lines hearing.course.source_reset events ++ last_lines last) ++ torn) left
+      ≡ prepend_known ((event_lines hearing.strands.source_reset events ++ last_lines last) ++ torn) left
   pub unended : Lacks 10 torn
   pub ended : IsAtEnd left
   pub heard : HearsLines frame means events last position hearing runner
@@ -107,10 +107,10 @@ BeginsHearing frame means log hearing runner =
 
 -- what is kept of a log
 pub record RecordsLog (frame : Frame) (log : LogText) (kept : Record) : Type 0 where
-  pub arrived : IsStrand frame (table (heard log.events)) kept.course.arrived
-  pub source_end : kept.course.source_end ≡ source_end_of log.events
-  pub source_reset : kept.course.source_reset ≡ log.source_reset
-  pub due : IsStrand frame (table (due_items log)) kept.course.planned
+  pub arrived : IsStrand frame (table (heard log.events)) kept.strands.arrived
+  pub source_end : kept.strands.source_end ≡ source_end_of log.events
+  pub source_reset : kept.strands.source_reset ≡ log.source_reset
+  pub due : IsStrand frame (table (due_items log)) kept.strands.planned
   pub due_end : kept.due_end ≡ ending (due_items log)
   pub written : (stop : ℕ) → IsGapless 0 (said log.events) stop
       → IsStrand frame (written_table log.events) kept.written

@@ -42,22 +42,22 @@ title_element setting forms =
     ++ (title forms ++ codes "</title>\n")
 
 -- what was due, and what was written
-unfoldable pub due_told : Curve → Curve → List ℕ
-due_told planned written =
+unfoldable pub due_text : Curve → Curve → List ℕ
+due_text planned written =
     passed (codes "Due") planned.total planned.last
     ++ passed (codes "Written") written.total written.last
 
 -- what left, or was due and written
-abbrev pub left_told : Curve → Option Curve → List ℕ
-left_told planned None = passed (codes "Left") planned.total planned.last
-left_told planned (Some written) = due_told planned written
+abbrev pub left_text : Curve → Option Curve → List ℕ
+left_text planned None = passed (codes "Left") planned.total planned.last
+left_text planned (Some written) = due_text planned written
 
 -- the sentences
 unfoldable pub sentences : Picture → List ℕ
 sentences picture =
     passed (codes "Arrived") picture.arrived.total picture.arrived.last
     ++ (source_ended picture.source_end picture.source_reset
-    ++ (left_told picture.planned picture.written ++ ended picture.end))
+    ++ (left_text picture.planned picture.written ++ ended picture.end))
 
 -- the line of the sentences
 unfoldable pub description : Picture → List ℕ

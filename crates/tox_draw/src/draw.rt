@@ -5,13 +5,13 @@ ghost use Rattle.tox_text.specs.declared.fault.DryFault.TheVariants.{ReadFault, 
 ghost use Rattle.tox_draw.specs.Drawn.{IsPictureText, WritesPictureFront, WritesPicture};
 ghost use Rattle.tox_draw.specs.Frames.{IsFrame};
 
-use crate::course::{Course, ending_of};
 use crate::form::{cut_forms, forms_of};
 use crate::frame::Frame;
 use crate::heading::push_heading;
 use crate::link_end::LinkEnd;
 use crate::picture::{Picture, picture_text};
 use crate::setting::Setting;
+use crate::strands::{Strands, ending_of};
 use std::alloc::{AllocError, Global};
 use tox_compile::compile;
 use tox_defs::Chain;
@@ -68,16 +68,16 @@ fn drawn(alloc: Global, text: &[u8], chain: &Chain, words: &Words) -> Result<Str
     let planned_end = LinkEnd::of(&ending);
     let latest = totals.latest(&planned_end.instant());
     let frame = Frame::new(lines, &latest, totals.arrived.total);
-    let (course, _) = run(alloc, text, chain, words, &frame)?;
+    let (strands, _) = run(alloc, text, chain, words, &frame)?;
     let picture = Picture {
         setting: Setting::Alone,
         forms,
         heading,
         frame,
-        source_end: course.source_end,
-        source_reset: course.source_reset,
-        arrived: course.arrived.curve(alloc, &frame)?,
-        planned: course.planned.curve(alloc, &frame)?,
+        source_end: strands.source_end,
+        source_reset: strands.source_reset,
+        arrived: strands.arrived.curve(alloc, &frame)?,
+        planned: strands.planned.curve(alloc, &frame)?,
         planned_end: LinkEnd::of(&ending),
         written: None,
         end: LinkEnd::of(&ending),
@@ -92,10 +92,10 @@ fn run(
     chain: &Chain,
     words: &Words,
     frame: &Frame,
-) -> Result<(Course, Ending), AllocError>
+) -> Result<(Strands, Ending), AllocError>
     requires { IsFrame frame.now }
 {
-    let mut course = Course::new(alloc)?;
+    let mut strands = Strands::new(alloc)?;
     let mut runner = Runner::new(compile(chain, words), words);
     let mut left = Some(text);
     while let Some(rest) = left {
@@ -106,10 +106,10 @@ fn run(
         };
         match said.event {
             Event::Data(digits) => {
-                course.take_piece(&mut runner, frame, digits.len() as u64 / 2, &said.instant);
+                strands.take_piece(&mut runner, frame, digits.len() as u64 / 2, &said.instant);
             }
-            Event::Eof => course.take_end(&mut runner, &said.instant, false),
+            Event::Eof => strands.take_end(&mut runner, &said.instant, false),
         }
     }
-    Ok((course, ending_of(&mut runner)))
+    Ok((strands, ending_of(&mut runner)))
 }

@@ -3,7 +3,7 @@ ghost use Rattle.std.specs.Prelude.{◌≤◌, OnOk};
 ghost use Rattle.tox_draw.specs.Adding.{AddsText};
 ghost use Rattle.tox_draw.specs.Frames.{IsFrame};
 ghost use Rattle.tox_draw.specs.Headings.{texts_of};
-ghost use Rattle.tox_draw.specs.Pictures.{description, due_told, front, left_told, opening, paper, sentences, title_element};
+ghost use Rattle.tox_draw.specs.Pictures.{description, due_text, front, left_text, opening, paper, sentences, title_element};
 
 use crate::curve::Curve;
 use crate::parts::push_word;
@@ -80,7 +80,7 @@ fn push_sentences(text: &mut String, picture: &Picture) -> Result<(), AllocError
 
 /// Adds the sentence of what left, or those of what was due and of what was written.
 fn push_left(text: &mut String, planned: &Curve, written: &Option<Curve>) -> Result<(), AllocError>
-    ensures { OnOk result (AddsText text.old text.new (left_told planned.now written.now)) }
+    ensures { OnOk result (AddsText text.old text.new (left_text planned.now written.now)) }
 {
     match written {
         Some(written) => push_due(text, planned, written),
@@ -89,9 +89,9 @@ fn push_left(text: &mut String, planned: &Curve, written: &Option<Curve>) -> Res
 }
 
 /// Adds the sentences of what was due and of what was written.
-#[tactic(auto, using(crate::proofs::Growing::adds_then), unfolding(crate::specs::Pictures::due_told))]
+#[tactic(auto, using(crate::proofs::Growing::adds_then), unfolding(crate::specs::Pictures::due_text))]
 fn push_due(text: &mut String, planned: &Curve, written: &Curve) -> Result<(), AllocError>
-    ensures { OnOk result (AddsText text.old text.new (due_told planned.now written.now)) }
+    ensures { OnOk result (AddsText text.old text.new (due_text planned.now written.now)) }
 {
     push_passed(text, "Due", planned.total, &planned.last)?;
     push_passed(text, "Written", written.total, &written.last)

@@ -2,7 +2,6 @@
 #![tactic(auto)]
 
 mod axis;
-mod course;
 mod curve;
 mod draw;
 mod form;
@@ -10,7 +9,6 @@ mod frame;
 mod front;
 mod heading;
 mod labels;
-mod line;
 mod link_end;
 mod marks;
 mod pages;
@@ -22,6 +20,7 @@ mod recorded;
 mod sentences;
 mod setting;
 mod strand;
+mod strands;
 mod style;
 mod ticks;
 mod unit;

@@ -8,7 +8,6 @@ ghost use Rattle.tox_draw.specs.Frames.{IsFrame};
 ghost use Rattle.tox_draw.specs.Hearings.{BeginsHearing, HearsAll, HearsEvent, HearsLogLine, KeepsRecord, reset_after};
 ghost use Rattle.tox_draw.specs.Recorded.{end_at};
 
-use crate::course::{Course, ending_of};
 use crate::form::{cut_forms, forms_of};
 use crate::frame::Frame;
 use crate::heading::push_heading;
@@ -16,6 +15,7 @@ use crate::link_end::LinkEnd;
 use crate::picture::{Picture, picture_text};
 use crate::setting::Setting;
 use crate::strand::Strand;
+use crate::strands::{Strands, ending_of};
 use std::alloc::{AllocError, Global};
 use tox_compile::compile;
 use tox_link::LinkEvent;
@@ -30,7 +30,7 @@ use tox_time::{Ending, HORIZON, Micros, Sink, Source};
 struct Record {
     /// The short forms of the toxics.
     forms: Vec<String>,
-    course: Course,
+    strands: Strands,
     /// How the plan ends the link.
     due_end: Ending,
     written: Strand,
@@ -52,7 +52,7 @@ pub(crate) struct Extent {
 /// What a log said so far, with its last reading.
 #[derive(Drop)]
 struct Hearing {
-    course: Course,
+    strands: Strands,
     written: Strand,
     end: LinkEnd,
     latest: Micros,
@@ -104,7 +104,7 @@ pub(crate) fn extent_of<R: Source>(alloc: Global, first: &mut R) -> Result<Exten
 {
     let totals = record_of(alloc, first, &Frame::widest())?;
     let latest = latest(&totals);
-    let arrived = totals.course.arrived.total;
+    let arrived = totals.strands.arrived.total;
     Ok(Extent {
         forms: totals.forms,
         latest,
@@ -145,21 +145,21 @@ fn picture_of(
 {
     let Record {
         forms,
-        course,
+        strands,
         due_end,
         written,
         end,
     } = kept;
-    let arrived = course.arrived.curve(alloc, &frame)?;
-    let planned = course.planned.curve(alloc, &frame)?;
+    let arrived = strands.arrived.curve(alloc, &frame)?;
+    let planned = strands.planned.curve(alloc, &frame)?;
     let written = written.curve(alloc, &frame)?;
     let picture = Picture {
         setting,
         forms,
         heading,
         frame,
-        source_end: course.source_end,
-        source_reset: course.source_reset,
+        source_end: strands.source_end,
+        source_reset: strands.source_reset,
         arrived,
         planned,
         planned_end: LinkEnd::of(&due_end),
@@ -173,14 +173,14 @@ fn picture_of(
 /// signal had ended the link.
 fn latest(kept: &Record) -> Micros {
     let passed = kept
-        .course
+        .strands
         .arrived
         .last_before_horizon
-        .later(kept.course.planned.last_before_horizon)
+        .later(kept.strands.planned.last_before_horizon)
         .later(kept.written.last_before_horizon);
     let due = LinkEnd::of(&kept.due_end).instant();
     passed
-        .later(before_horizon(&kept.course.source_end))
+        .later(before_horizon(&kept.strands.source_end))
         .later(before_horizon(&due))
         .later(before_horizon(&kept.end.instant()))
 }
@@ -204,7 +204,7 @@ fn record_of<R: Source>(alloc: Global, reader: &mut R, frame: &Frame) -> Result<
     let forms = forms_of(alloc, log.chain(), &words)?;
     let mut runner = Runner::new(compile(log.chain(), &words), &words);
     let mut hearing = Hearing {
-        course: Course::new(alloc)?,
+        strands: Strands::new(alloc)?,
         written: Strand::new(alloc)?,
         end: LinkEnd::Missing(Micros::ZERO),
         latest: Micros::ZERO,
@@ -212,7 +212,7 @@ fn record_of<R: Source>(alloc: Global, reader: &mut R, frame: &Frame) -> Result<
     hear_lines(&mut log, reader, &mut runner, &mut hearing, frame)?;
     Ok(Record {
         forms,
-        course: hearing.course,
+        strands: hearing.strands,
         due_end: ending_of(&mut runner),
         written: hearing.written,
         end: hearing.end,
@@ -279,16 +279,16 @@ fn hear_event(
     requires frame { IsFrame frame.now }
     ensures idle { runner.new.idle ≡ true }
     ensures hears { HearsEvent frame.now hearing.old runner.old event.now hearing.new runner.new }
-    ensures reset { hearing.new.course.source_reset
-        ≡ reset_after event.now is_reset hearing.old.course.source_reset }
+    ensures reset { hearing.new.strands.source_reset
+        ≡ reset_after event.now is_reset hearing.old.strands.source_reset }
 {
     match event {
         LinkEvent::Piece(len, instant) => {
-            hearing.course.take_piece(runner, frame, *len, instant);
+            hearing.strands.take_piece(runner, frame, *len, instant);
             read_at(hearing, instant);
         }
         LinkEvent::SourceEnd(instant) => {
-            hearing.course.take_end(runner, instant, is_reset);
+            hearing.strands.take_end(runner, instant, is_reset);
             read_at(hearing, instant);
         }
         LinkEvent::Wrote(slice, reading) => {

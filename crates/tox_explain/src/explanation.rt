@@ -3,7 +3,7 @@ use crate::fault_line::FaultLine;
 use crate::files::explain_name;
 use crate::help_words::words_of;
 use crate::inputs::Inputs;
-use crate::lines::explain_line;
+use crate::line_fault::explain_line;
 use crate::populate::explain_populate;
 use crate::random_words::explain_words;
 use crate::script::explain_script;

@@ -1,4 +1,4 @@
-//! Faults of files, folders, proxies and streams that are told by their names.
+//! Faults of files, folders, proxies and streams that are reported by their names.
 use crate::explanation::Rest;
 use crate::fault_line::FaultLine;
 use crate::inputs::Inputs;

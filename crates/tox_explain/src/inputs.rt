@@ -1,6 +1,6 @@
 //! What a command was given.
 
-/// A text with the name that it is told by: a file's, or `standard input`.
+/// A text with the name that it is called by: a file's, or `standard input`.
 #[derive(Clone, Copy)]
 pub struct NamedText<'a> {
     pub name: &'a str,

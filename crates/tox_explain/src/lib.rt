@@ -10,7 +10,7 @@ mod fault_line;
 mod files;
 mod help_words;
 mod inputs;
-mod lines;
+mod line_fault;
 mod meant_form;
 mod near;
 mod populate;

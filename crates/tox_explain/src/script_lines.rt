@@ -1,7 +1,7 @@
 //! The line of a script on which a field stands.
 //!
-//! The lines are looked through beside the reader of TOML, whose values don't tell their places. A table is told by the number of its
-//! header, so what is written otherwise, as an inline table, isn't found, and then no line is told.
+//! The lines are looked through beside the reader of TOML, whose values don't have places. A table is found by the number of its
+//! header, so what is written otherwise, as an inline table, isn't found, and then no line is reported.
 use crate::fault_line::FaultLine;
 use toml::Value;
 

@@ -66,7 +66,7 @@ settled-still core now invariant emptied none going before unended = record {
   latest = refl;
   cuts = refl;
   known = λ last is. is;
-  told = λ ended. absurd (going emptied.drained.idle (invariant.finished ended none));
+  reported = λ ended. absurd (going emptied.drained.idle (invariant.finished ended none));
   overdue = λ d due late. absurd (let ahead : now < d = subst (IsBeforeDeadline now) due before in omega (arith, ahead, late));
   unended = λ unknown. emptied-unended core now emptied none (unended emptied.drained.idle now before);
 }
@@ -106,7 +106,7 @@ module _ (core : CoreView) (last : Ending) where
       latest = refl;
       cuts = refl;
       known = λ other known. absurd (let both : Some other ≡ None = sym known ∙ unknown in cc);
-      told = λ ended. subst IsSome (sym quiet-ending) refl;
+      reported = λ ended. subst IsSome (sym quiet-ending) refl;
       overdue = λ e due late. subst IsSome (sym quiet-ending) refl;
       unended = λ unknown. absurd (let both : Some last ≡ None = sym quiet-ending ∙ unknown in cc);
     }

@@ -50,9 +50,9 @@ heard-so log (Some end) has = heard-closed 0 log (Quiet ∷ []) has
 heard-so log None has = heard-going 0 log (Quiet ∷ []) has
 
 -- a link that ended
-pub link-reports : (means : List Item → List Item) (told : ℕ → Type 0) (core : CoreView) (ended : Bool) (log : List LinkEvent) (last : Ending) (source : Option ReadEnd) (taken written : ℕ) → Carried means told core log
-    → has_source_end log ≡ is_some source → HasEnded told core ended last → written ≡ core_position core → taken ≡ core.bytes → ReportsAt means told log taken written last source core.latest
-link-reports means told core ended log last source taken written carried closed over wrote took = record {
+pub link-reports : (means : List Item → List Item) (reported : ℕ → Type 0) (core : CoreView) (ended : Bool) (log : List LinkEvent) (last : Ending) (source : Option ReadEnd) (taken written : ℕ) → Carried means reported core log
+    → has_source_end log ≡ is_some source → HasEnded reported core ended last → written ≡ core_position core → taken ≡ core.bytes → ReportsAt means reported log taken written last source core.latest
+link-reports means reported core ended log last source taken written carried closed over wrote took = record {
   faithful = carried.faithful;
   whole = sym (carried.tables (Quiet ∷ []) refl ∙ ap (λ items. slices_table (said log) ++ table items) (over.only (Quiet ∷ [])) ∙ ap (λ ts. slices_table (said log) ++ ts) (final-table last) ∙ append-nil (slices_table (said log)));
   ends = carried.endings (Quiet ∷ []) refl ∙ ap ending (over.only (Quiet ∷ [])) ∙ final-ending last;
@@ -79,8 +79,8 @@ append-nothing None = refl
 append-nothing (Some bytes) = ap Some (sym (append-nil bytes))
 
 -- a link that did nothing
-pub cut-nothing : (means : List Item → List Item) (told : ℕ → Type 0) (written : ℕ) → written ≡ 0 → IsCutOff means told written []
-cut-nothing means told written none = record { faithful = faithful-nil means told; few = omega (arith, none); of_heard = record { few = omega arith; heard = omega arith; shallow = tt; small = small-none }; within = omega (arith, none) }
+pub cut-nothing : (means : List Item → List Item) (reported : ℕ → Type 0) (written : ℕ) → written ≡ 0 → IsCutOff means reported written []
+cut-nothing means reported written none = record { faithful = faithful-nil means reported; few = omega (arith, none); of_heard = record { few = omega arith; heard = omega arith; shallow = tt; small = small-none }; within = omega (arith, none) }
 
 pub writes-nothing : (given before : Option (List ℕ)) (written : ℕ) → written ≡ 0 → WritesFirst given before before [] written
 writes-nothing given before written none = record { left = given; gave = prepend-nil given; few = omega (arith, none); wrote = append-nothing before ∙ ap (append_known before) (sym (take-nil written)) }
@@ -143,10 +143,10 @@ took-known side messages later more left before after reads end failed None all 
 took-known side messages later more left before after reads end failed (Some last) all grown sent = took-all side messages later more left before after reads end last failed (all last refl) grown sent
 
 -- how the source ended, where the link learnt of it in time
-pub source-told : (side : WriterSide) (messages later more left : List Message) (before after : Option (List ℕ)) (reads : ℕ) (end : ReadEnd) (failed : Bool) → IsSound side messages → later ≡ messages ++ more
+pub source-reported : (side : WriterSide) (messages later more left : List Message) (before after : Option (List ℕ)) (reads : ℕ) (end : ReadEnd) (failed : Bool) → IsSound side messages → later ≡ messages ++ more
     → ReadsFrom before reads (later ++ left) end after failed
     → IfSome (read_end_of side.source) (λ last. HandsOn before (take side.core.bytes (bytes_of messages)) last after × EndsFor last reads (length (take side.core.bytes (bytes_of messages))) after failed)
-source-told side messages later more left before after reads end failed sound grown sent = took-known side messages later more left before after reads end failed (read_end_of side.source) sound.whole grown sent
+source-reported side messages later more left before after reads end failed sound grown sent = took-known side messages later more left before after reads end failed (read_end_of side.source) sound.whole grown sent
 
 -- the reading that was asked for
 pub reads-same : (before given after : Option (List ℕ)) (reads asked : ℕ) (messages : List Message) (end : ReadEnd) (failed : Bool) → before ≡ given → reads ≡ asked → ReadsFrom before reads messages end after failed
@@ -155,8 +155,8 @@ reads-same before given after reads asked messages end failed same count sent =
     subst (λ before. ReadsFrom before asked messages end after failed) same (subst (λ reads. ReadsFrom before reads messages end after failed) count sent)
 
 -- a link that was refused before its reader's thread started
-pub broke-unstarted : (told : ℕ → Type 0) (calls : Option (List Call)) (fault : LinkFault) → written_before fault ≡ 0 → is_write_fault fault ≡ false → BreaksOff told [] calls calls fault
-broke-unstarted told calls fault none cause = inl (refl, refl, none, cause)
+pub broke-unstarted : (reported : ℕ → Type 0) (calls : Option (List Call)) (fault : LinkFault) → written_before fault ≡ 0 → is_write_fault fault ≡ false → BreaksOff reported [] calls calls fault
+broke-unstarted reported calls fault none cause = inl (refl, refl, none, cause)
 
 -- where a link learnt why the reading ended, it took the source's end
 took-end : (side : WriterSide) (messages : List Message) (source : Option ReadEnd) → ((end : ReadEnd) → source ≡ Some end → TookAll side messages end) → IfSome source (λ _. side.ended ≡ true)
@@ -167,9 +167,9 @@ took-end side messages None whole = tt
 pub hung-up : (old new : Option (List Call)) (side : WriterSide) (messages : List Message) (last : Ending) → new ≡ with_call old last side.ended → (last ≡ StillOpen → side.ended ≡ true) → IsSound side messages
     → HangsUp old new messages last (read_end_of side.source)
 hung-up old new side messages last called stays_open sound = record {
-  called = called ∙ ap (with_call old last) sound.told;
-  stays_open = λ still. sym sound.told ∙ stays_open still;
-  known = subst (λ ended. IfSome (read_end_of side.source) (λ _. ended ≡ true)) sound.told (took-end side messages (read_end_of side.source) sound.whole);
+  called = called ∙ ap (with_call old last) sound.reported;
+  stays_open = λ still. sym sound.reported ∙ stays_open still;
+  known = subst (λ ended. IfSome (read_end_of side.source) (λ _. ended ≡ true)) sound.reported (took-end side messages (read_end_of side.source) sound.whole);
 }
 
 -- what was taken are the first messages of the reading

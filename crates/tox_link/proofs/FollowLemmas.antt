@@ -92,11 +92,11 @@ writes-noted link unwritten known writing = record {
 }
 
 -- where no slice is being written nothing is still to be noted
-pub bare : (means : List Item → List Item) (told : ℕ → Type 0) (core : CoreView) (unwritten : Option Unwritten) (log : List LinkEvent) → unwritten ≡ None → Carried means told core (log ++ unsaid unwritten) → Carried means told core log
-bare means told core unwritten log idle carried = subst (Carried means told core) (ap (λ slice. log ++ unsaid slice) idle ∙ append-nil log) carried
+pub bare : (means : List Item → List Item) (reported : ℕ → Type 0) (core : CoreView) (unwritten : Option Unwritten) (log : List LinkEvent) → unwritten ≡ None → Carried means reported core (log ++ unsaid unwritten) → Carried means reported core log
+bare means reported core unwritten log idle carried = subst (Carried means reported core) (ap (λ slice. log ++ unsaid slice) idle ∙ append-nil log) carried
 
-pub clad : (means : List Item → List Item) (told : ℕ → Type 0) (core : CoreView) (unwritten : Option Unwritten) (log : List LinkEvent) → unwritten ≡ None → Carried means told core log → Carried means told core (log ++ unsaid unwritten)
-clad means told core unwritten log idle carried = subst (Carried means told core) (sym (ap (λ slice. log ++ unsaid slice) idle ∙ append-nil log)) carried
+pub clad : (means : List Item → List Item) (reported : ℕ → Type 0) (core : CoreView) (unwritten : Option Unwritten) (log : List LinkEvent) → unwritten ≡ None → Carried means reported core log → Carried means reported core (log ++ unsaid unwritten)
+clad means reported core unwritten log idle carried = subst (Carried means reported core) (sym (ap (λ slice. log ++ unsaid slice) idle ∙ append-nil log)) carried
 
 -- what is written is no more than what came
 pub written-within : (link : PolledLink) → IsHeld link → link.unwritten ≡ None → link.written ≤ link.core.bytes
@@ -104,7 +104,7 @@ written-within link held idle =
     let at : link.written ≡ core_position link.core = subst (λ slice. IsUpTo slice link.written (core_position link.core)) idle held.up_to in
     omega (arith, at, held.within)
 
--- how a source ended that told nothing
+-- how a source ended that reported nothing
 pub unsent-none : (link : PolledLink) (came : List ℕ) → read_end_of link.source ≡ None
     → IfSome (read_end_of link.source) (λ end. IsUnsent end (take link.core.bytes came) (drop link.core.bytes came))
 unsent-none link came none = subst (λ source. IfSome source (λ end. IsUnsent end (take link.core.bytes came) (drop link.core.bytes came))) (sym none) tt
@@ -146,14 +146,14 @@ module _ (link new : PolledLink) (run : Run) (held : IsHeld link) (idle : link.u
     unheard = λ unended. ap read_end_of source ∙ held.unheard (sym ended ∙ unended);
   }
 
-  pub drives-kept : (told : ℕ → Type 0) (more : List LinkEvent) (known : Option (List ℕ)) → link.ended ≡ false → core_ending link.core ≡ None → KeepsCarried told link.core more new.core → has_source_end more ≡ false
-      → Drives told link known run.bytes more new known
-  drives-kept told more known going unknown keeps none means log came before follows =
+  pub drives-kept : (reported : ℕ → Type 0) (more : List LinkEvent) (known : Option (List ℕ)) → link.ended ≡ false → core_ending link.core ≡ None → KeepsCarried reported link.core more new.core → has_source_end more ≡ false
+      → Drives reported link known run.bytes more new known
+  drives-kept reported more known going unknown keeps none means log came before follows =
       let all = length-append came run.bytes in
       let full : link.core.bytes ≡ length came = follows.live going unknown in
-      let carried : Carried means told new.core (log ++ more) = keeps means log (bare means told link.core link.unwritten log idle follows.carried) in
+      let carried : Carried means reported new.core (log ++ more) = keeps means log (bare means reported link.core link.unwritten log idle follows.carried) in
       record {
-        carried = clad means told new.core new.unwritten (log ++ more) (unwritten ∙ idle) carried;
+        carried = clad means reported new.core new.unwritten (log ++ more) (unwritten ∙ idle) carried;
         faithful = carried.faithful;
         closed = end-same log more none ∙ follows.closed ∙ ap (λ source. is_some (read_end_of source)) (sym source);
         parts = subst (AreOf (came ++ run.bytes)) (sym held_is)
@@ -167,14 +167,14 @@ module _ (link new : PolledLink) (run : Run) (held : IsHeld link) (idle : link.u
       }
 
 -- bytes came and are dropped, as the ending is known or nothing more is read
-pub drives-dropped : (told : ℕ → Type 0) (link : PolledLink) (bytes : List ℕ) (ended : Bool) (known : Option (List ℕ)) → IsHeld link → link.unwritten ≡ None → link.ended ≡ false
-    → (ended ≡ false → core_ending link.core ≡ None → ⊥) → Drives told link known bytes [] (record link { ended = ended }) known
-drives-dropped told link bytes ended known held idle going over means log came before follows =
+pub drives-dropped : (reported : ℕ → Type 0) (link : PolledLink) (bytes : List ℕ) (ended : Bool) (known : Option (List ℕ)) → IsHeld link → link.unwritten ≡ None → link.ended ≡ false
+    → (ended ≡ false → core_ending link.core ≡ None → ⊥) → Drives reported link known bytes [] (record link { ended = ended }) known
+drives-dropped reported link bytes ended known held idle going over means log came before follows =
     let all = length-append came bytes in
     let same : log ++ [] ≡ log = append-nil log in
     record {
-      carried = subst (λ log. Carried means told link.core (log ++ unsaid link.unwritten)) (sym same) follows.carried;
-      faithful = subst (IsFaithful means told) (sym same) follows.faithful;
+      carried = subst (λ log. Carried means reported link.core (log ++ unsaid link.unwritten)) (sym same) follows.carried;
+      faithful = subst (IsFaithful means reported) (sym same) follows.faithful;
       closed = ap has_source_end same ∙ follows.closed;
       parts = parts-grow link.window.stop came bytes link.window.held held.joined (omega (arith, held.stop, follows.few)) follows.parts;
       few = omega (arith, all, follows.few);
@@ -204,14 +204,14 @@ module _ (link new : PolledLink) (held : IsHeld link) (idle : link.unwritten ≡
   }
 
   -- what was read last is left over
-  pub drives-ended : (told : ℕ → Type 0) (more : List LinkEvent) (bytes : List ℕ) (known : Option (List ℕ)) → link.ended ≡ false → KeepsCarried told link.core more new.core → has_source_end more ≡ is_some (read_end_of new.source)
+  pub drives-ended : (reported : ℕ → Type 0) (more : List LinkEvent) (bytes : List ℕ) (known : Option (List ℕ)) → link.ended ≡ false → KeepsCarried reported link.core more new.core → has_source_end more ≡ is_some (read_end_of new.source)
       → (core_ending link.core ≡ None → AreLeftOver link new.source bytes) → ((core_ending link.core ≡ None → ⊥) → read_end_of new.source ≡ None)
-      → Drives told link known bytes more new known
-  drives-ended told more bytes known going keeps says left late means log came before follows =
-      let carried : Carried means told new.core (log ++ more) = keeps means log (bare means told link.core link.unwritten log idle follows.carried) in
+      → Drives reported link known bytes more new known
+  drives-ended reported more bytes known going keeps says left late means log came before follows =
+      let carried : Carried means reported new.core (log ++ more) = keeps means log (bare means reported link.core link.unwritten log idle follows.carried) in
       let all = length-append came bytes in
       record {
-        carried = clad means told new.core new.unwritten (log ++ more) (unwritten ∙ idle) carried;
+        carried = clad means reported new.core new.unwritten (log ++ more) (unwritten ∙ idle) carried;
         faithful = carried.faithful;
         closed = has_source_end-append log more ∙ or-false_left (has_source_end log) (has_source_end more) (follows.closed ∙ ap is_some (held.unheard going)) ∙ says;
         parts = subst (λ (window : Pieces). AreOf (came ++ bytes) window.held) (sym window)
@@ -223,7 +223,7 @@ module _ (link new : PolledLink) (held : IsHeld link) (idle : link.unwritten ≡
             follows.wrote ∙ ap (append_known before) (sym (take-append-le link.written came bytes (omega (arith, few, follows.few)))) ∙ ap (λ n. append_known before (take n (came ++ bytes))) (sym written);
       }
     where
-      left_over : (means : List Item → List Item) (log : List LinkEvent) (came : List ℕ) (before : Option (List ℕ)) → Follows means told link log came before known → (ending : Option Ending) → core_ending link.core ≡ ending
+      left_over : (means : List Item → List Item) (log : List LinkEvent) (came : List ℕ) (before : Option (List ℕ)) → Follows means reported link log came before known → (ending : Option Ending) → core_ending link.core ≡ ending
           → IfSome (read_end_of new.source) (λ end. IsUnsent end (take new.core.bytes (came ++ bytes)) (drop new.core.bytes (came ++ bytes)))
       left_over means log came before follows (Some ending) knows = unsent-none new (came ++ bytes) (late (λ none. let both : Some ending ≡ None = sym knows ∙ none in cc))
       left_over means log came before follows None unknown =

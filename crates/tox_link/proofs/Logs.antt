@@ -68,10 +68,10 @@ pub by-append : (latest : ℕ) (log : List LinkEvent) (event : LinkEvent) → Is
 by-append latest [] event is last = (last, tt)
 by-append latest (first ∷ log) event is last = (is.0, by-append latest log event is.1 last)
 
-timely-append : (told : ℕ → Type 0) (since : ℕ) (log : List LinkEvent) (event : LinkEvent) → IsTimely told since log → IsBy (reading_of event) log → since ≤ reading_of event → told (reading_of event) → IsDue event
-    → IsTimely told since (log ++ event ∷ [])
-timely-append told since [] event timely by later says due = (says, later, due, tt)
-timely-append told since (first ∷ log) event timely by later says due = (timely.0, timely.1, timely.2, timely-append told (reading_of first) log event timely.3 by.1 by.0 says due)
+timely-append : (reported : ℕ → Type 0) (since : ℕ) (log : List LinkEvent) (event : LinkEvent) → IsTimely reported since log → IsBy (reading_of event) log → since ≤ reading_of event → reported (reading_of event) → IsDue event
+    → IsTimely reported since (log ++ event ∷ [])
+timely-append reported since [] event timely by later says due = (says, later, due, tt)
+timely-append reported since (first ∷ log) event timely by later says due = (timely.0, timely.1, timely.2, timely-append reported (reading_of first) log event timely.3 by.1 by.0 says due)
 
 prefixes : (means : List Item → List Item) (log : List LinkEvent) (event : LinkEvent) → ((n : ℕ) → Agrees means (take n log)) → Agrees means (log ++ event ∷ []) → (n : ℕ) → (length log < n) ⊎ (n ≤ length log)
     → Agrees means (take n (log ++ event ∷ []))
@@ -92,7 +92,7 @@ or-false false c none = none
 pub end-same : (log more : List LinkEvent) → has_source_end more ≡ false → has_source_end (log ++ more) ≡ has_source_end log
 end-same log more none = has_source_end-append log more ∙ or-false (has_source_end log) (has_source_end more) none
 
--- a log with the source's end is that of a core that was told it
+-- a log with the source's end is that of a core that has taken it
 pub open-log : (has ended : Bool) → (has ≡ true → ended ≡ true) → ended ≡ false → has ≡ false
 open-log true ended closed going = let is = closed refl in cc
 open-log false ended closed going = refl
@@ -123,11 +123,11 @@ ordered-wrote (SourceEnd t ∷ log) slice now ordered = nothing-wrote log slice 
 ordered-wrote (Wrote other then ∷ log) slice now ordered = ordered-wrote log slice now ordered
 
 -- a faithful log stays so with an event after which it agrees
-pub faithful-append : (means : List Item → List Item) (told : ℕ → Type 0) (log : List LinkEvent) (event : LinkEvent) → IsFaithful means told log → IsBy (reading_of event) log → told (reading_of event) → IsDue event
-    → IsHeardInOrder (log ++ event ∷ []) → Agrees means (log ++ event ∷ []) → IsFaithful means told (log ++ event ∷ [])
-faithful-append means told log event faithful by says due ordered now = record {
+pub faithful-append : (means : List Item → List Item) (reported : ℕ → Type 0) (log : List LinkEvent) (event : LinkEvent) → IsFaithful means reported log → IsBy (reading_of event) log → reported (reading_of event) → IsDue event
+    → IsHeardInOrder (log ++ event ∷ []) → Agrees means (log ++ event ∷ []) → IsFaithful means reported (log ++ event ∷ [])
+faithful-append means reported log event faithful by says due ordered now = record {
   agrees = λ n. prefixes means log event faithful.agrees now n (cases_lt (length log) n);
-  timely = timely-append told 0 log event faithful.timely by (omega arith) says due;
+  timely = timely-append reported 0 log event faithful.timely by (omega arith) says due;
   ordered = ordered;
 }
 

@@ -92,16 +92,16 @@ past-left heard stop position pieces joined from within parts =
     let left = past-joined stop position pieces joined from within in
     record { joined = left.0; start = left.1; parts = past-parts heard position pieces parts }
 
--- an open source has not told why it ended
+-- an open source has not reported why it ended
 pub open-source : (side : WriterSide) (messages : List Message) (end : ReadEnd) → IsSound side messages → side.ended ≡ false → read_end_of side.source ≡ Some end → ⊥
-open-source side messages end sound going told = let over = (sound.whole end told).ended in absurd (cc)
+open-source side messages end sound going reported = let over = (sound.whole end reported).ended in absurd (cc)
 
 none-of : (end : Option ReadEnd) → ((last : ReadEnd) → end ≡ Some last → ⊥) → end ≡ None
 none-of None never = refl
 none-of (Some last) never = absurd (never last refl)
 
 pub open-none : (side : WriterSide) (messages : List Message) → IsSound side messages → side.ended ≡ false → read_end_of side.source ≡ None
-open-none side messages sound going = none-of (read_end_of side.source) (λ last told. open-source side messages last sound going told)
+open-none side messages sound going = none-of (read_end_of side.source) (λ last reported. open-source side messages last sound going reported)
 
 -- an ending that is not unknown is known
 pub some-known : (ending : Option Ending) → (ending ≡ None → ⊥) → IsSome ending
@@ -124,8 +124,8 @@ sound-inbox side inbox before messages sound same = subst (IsSound (record side 
   few = sound.few;
   live = sound.live;
   going = sound.going;
-  told = sound.told;
-  whole = λ end told. let all = sound.whole end told in record { ended = all.ended; bytes = all.bytes; before = all.before; last = all.last };
+  reported = sound.reported;
+  whole = λ end reported. let all = sound.whole end reported in record { ended = all.ended; bytes = all.bytes; before = all.before; last = all.last };
 })
 
 -- a piece leaves whether the end came
@@ -147,8 +147,8 @@ unknown-of : (old new : Option Ending) → ((last : Ending) → old ≡ Some las
 unknown-of None new stays none = refl
 unknown-of (Some last) new stays none = let known = stays last refl in absurd (cc)
 
-none-told : (side : WriterSide) (end : ReadEnd) → side.source ≡ NotReached → read_end_of side.source ≡ Some end → ⊥
-none-told side end source told = let none = ap read_end_of source in cc
+none-reported : (side : WriterSide) (end : ReadEnd) → side.source ≡ NotReached → read_end_of side.source ≡ Some end → ⊥
+none-reported side end source reported = let none = ap read_end_of source in cc
 
 ended-open : (side : WriterSide) → side.ended ≡ true → side.ended ≡ false → ⊥
 ended-open side ended unended = cc
@@ -170,8 +170,8 @@ sound-dropped old new before messages message sound going known came piece core 
   few = let bytes = ap (λ (core : CoreView). core.bytes) core in let all = ap length grown ∙ length-append (bytes_of before) (bytes_of (message ∷ [])) in omega (arith, bytes, all, sound.few);
   live = λ _ unknown. absurd (none-known old.core (ap core_ending (sym core) ∙ unknown) known);
   going = λ unended. ap (λ (core : CoreView). core.ended) core ∙ sound.going (sym ended ∙ unended);
-  told = ended ∙ sound.told ∙ sym (end-unsaid before message piece) ∙ ap has_end (sym came);
-  whole = λ end told. absurd (open-source old before end sound going (ap read_end_of (sym source) ∙ told));
+  reported = ended ∙ sound.reported ∙ sym (end-unsaid before message piece) ∙ ap has_end (sym came);
+  whole = λ end reported. absurd (open-source old before end sound going (ap read_end_of (sym source) ∙ reported));
 }
   where
     grown : bytes_of messages ≡ bytes_of before ++ bytes_of (message ∷ [])
@@ -193,8 +193,8 @@ sound-kept old new before messages message bytes run sound going unknown came pi
   few = omega (arith, all, counts, full);
   live = λ _ _. omega (arith, all, counts, full);
   going = λ _. goes_on;
-  told = ended ∙ sound.told ∙ sym (end-unsaid before message piece) ∙ ap has_end (sym came);
-  whole = λ end told. absurd (open-source old before end sound going (ap read_end_of (sym source) ∙ told));
+  reported = ended ∙ sound.reported ∙ sym (end-unsaid before message piece) ∙ ap has_end (sym came);
+  whole = λ end reported. absurd (open-source old before end sound going (ap read_end_of (sym source) ∙ reported));
 }
   where
     grown : bytes_of messages ≡ bytes_of before ++ bytes
@@ -233,7 +233,7 @@ sound-kept old new before messages message bytes run sound going unknown came pi
 pub sound-ended : (old new : WriterSide) (before messages : List Message) (end : ReadEnd) → IsSound old before → old.ended ≡ false → messages ≡ before ++ End end ∷ [] → new.ended ≡ true
     → new.core.bytes ≡ old.core.bytes → core_position new.core ≡ core_position old.core → new.window ≡ old.window → new.written ≡ old.written
     → ((last : ReadEnd) → read_end_of new.source ≡ Some last → (last ≡ end) × (core_ending old.core ≡ None)) → IsSound new messages
-sound-ended old new before messages end sound going came ended counts position window written told = record {
+sound-ended old new before messages end sound going came ended counts position window written reported = record {
   written = written ∙ sound.written ∙ sym position;
   within = omega (arith, position, sound.within, counts);
   stop = ap (λ (window : Pieces). window.stop) window ∙ sound.stop ∙ sym counts;
@@ -243,9 +243,9 @@ sound-ended old new before messages end sound going came ended counts position w
   few = omega (arith, all, counts, sound.few);
   live = λ unended unknown. absurd (ended-open new ended unended);
   going = λ unended. absurd (ended-open new ended unended);
-  told = ended ∙ sym (end-said before end) ∙ ap has_end (sym came);
+  reported = ended ∙ sym (end-said before end) ∙ ap has_end (sym came);
   whole = λ last said.
-      let is = told last said in
+      let is = reported last said in
       record { ended = ended; bytes = counts ∙ sound.live going is.1 ∙ sym all; before = before; last = came ∙ ap (λ last. before ++ End last ∷ []) (sym is.0) };
 }
   where
@@ -272,9 +272,9 @@ sound-step old new messages sound kept written within stop left ended source = r
   few = omega (arith, kept.bytes, sound.few);
   live = λ unended none. kept.bytes ∙ sound.live (sym ended ∙ unended) (unknown-before old.core new.core kept none);
   going = λ unended. kept.ended ∙ sound.going (sym ended ∙ unended);
-  told = ended ∙ sound.told;
-  whole = λ end told.
-      let all = sound.whole end (ap read_end_of (sym source) ∙ told) in
+  reported = ended ∙ sound.reported;
+  whole = λ end reported.
+      let all = sound.whole end (ap read_end_of (sym source) ∙ reported) in
       record { ended = ended ∙ all.ended; bytes = kept.bytes ∙ all.bytes; before = all.before; last = all.last };
 }
 
@@ -311,8 +311,8 @@ sound-fresh side fresh = record {
   few = omega (arith, fresh.bytes);
   live = λ unended none. fresh.bytes ∙ sym (ap (λ messages. length (bytes_of messages)) fresh.received);
   going = λ unended. fresh.going;
-  told = fresh.ended ∙ sym (ap has_end fresh.received);
-  whole = λ end told. absurd (none-told side end fresh.source told);
+  reported = fresh.ended ∙ sym (ap has_end fresh.received);
+  whole = λ end reported. absurd (none-reported side end fresh.source reported);
 }
 
 -- more that comes leaves what is written

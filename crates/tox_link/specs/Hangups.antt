@@ -14,7 +14,7 @@ use Rattle.tox_link.specs.Reports.{is_write_fault, written_before}
 abbrev pub Call : Type 0
 Call = Ending × Bool
 
--- the calls that are told, and then this one
+-- the calls that are kept, and then this one
 abbrev pub with_call : Option (List Call) → Ending → Bool → Option (List Call)
 with_call None ending source_ended = None
 with_call (Some calls) ending source_ended = Some (calls ++ (ending, source_ended) ∷ [])
@@ -26,14 +26,14 @@ pub record HangsUp (old new : Option (List Call)) (taken : List Message) (ending
   pub stays_open : ending ≡ StillOpen → has_end taken ≡ true
   pub known : IfSome source (λ _. has_end taken ≡ true)
 
--- 0 or a reading that the clock told, and none of the log is above it
-pub record IsResetAt (told : ℕ → Type 0) (log : List LinkEvent) (t : ℕ) : Type 0 where
-  pub read : (t ≡ 0) ⊎ told t
+-- 0 or a reading that the clock reported, and none of the log is above it
+pub record IsResetAt (reported : ℕ → Type 0) (log : List LinkEvent) (t : ℕ) : Type 0 where
+  pub read : (t ≡ 0) ⊎ reported t
   pub by : IsBy t log
 
 -- a link with this log that broke off was hung up once, by a reset; or not at all, before anything was noted or written, and then no
 -- write failed
 abbrev pub BreaksOff : (ℕ → Type 0) → List LinkEvent → Option (List Call) → Option (List Call) → LinkFault → Type 0
-BreaksOff told log old new fault =
+BreaksOff reported log old new fault =
     ((new ≡ old) × (log ≡ []) × (written_before fault ≡ 0) × (is_write_fault fault ≡ false))
-    ⊎ ((t : ℕ) × (new ≡ with_call old (Reset t) false) × IsResetAt told log t)
+    ⊎ ((t : ℕ) × (new ≡ with_call old (Reset t) false) × IsResetAt reported log t)

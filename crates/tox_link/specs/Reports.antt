@@ -42,14 +42,14 @@ abbrev pub IsSettledFrom : (List Item → List Item) → ℕ → List LinkEvent 
 IsSettledFrom means now log = (rest : List Item) → IsStreamFrom (heard_bytes log) now rest → SameResult (means (heard_from 0 log rest)) (means (heard log))
 
 -- a link with this log took and wrote so many bytes, and ended so and with its source so: it said all that the plan means for
--- what was heard, and the clock told this instant, at or past its ending and each reading, from which on nothing changes it
-pub record ReportsAt (means : List Item → List Item) (told : ℕ → Type 0) (log : List LinkEvent) (taken written : ℕ) (last : Ending) (source : Option ReadEnd) (now : ℕ) : Type 0 where
-  pub faithful : IsFaithful means told log
+-- what was heard, and the clock reported this instant, at or past its ending and each reading, from which on nothing changes it
+pub record ReportsAt (means : List Item → List Item) (reported : ℕ → Type 0) (log : List LinkEvent) (taken written : ℕ) (last : Ending) (source : Option ReadEnd) (now : ℕ) : Type 0 where
+  pub faithful : IsFaithful means reported log
   pub whole : slices_table (said log) ≡ table (means (heard log))
   pub ends : ending (means (heard log)) ≡ last
   pub took : heard_bytes log ≡ taken
   pub wrote : length (slices_table (said log)) ≡ written
-  pub says : told now
+  pub says : reported now
   pub by : IsBy now log
   pub reached : IsReached now last
   pub settled : IsSettledFrom means now log

@@ -101,13 +101,13 @@ pub fn carry<
     requires reader { S.failed reader ≡ false }
     requires writer { W.failed ends.old.writer ≡ false }
     ensures carried { IfOk result (λ report. (reading : ℕ)
-        × Carries (means plan words.now) (C.told clock.now) reads
+        × Carries (means plan words.now) (C.reported clock.now) reads
         (near_end (S.remaining reader) (S.failed reader))
         (near_end (S.remaining report.reader) (S.failed report.reader))
         (far_end (W.written ends.old.writer) (N.events notes.old) (H.calls ends.old.hangup))
         (far_end (W.written ends.new.writer) (N.events notes.new) (H.calls ends.new.hangup))
         report.taken report.written report.ending (read_end_of report.source) reading) }
-    ensures broken { IfErr result (BreaksAt (means plan words.now) (C.told clock.now)
+    ensures broken { IfErr result (BreaksAt (means plan words.now) (C.reported clock.now)
         (near_end (S.remaining reader) (S.failed reader))
         (far_end (W.written ends.old.writer) (N.events notes.old) (H.calls ends.old.hangup))
         (far_end (W.written ends.new.writer) (N.events notes.new) (H.calls ends.new.hangup))) }
@@ -152,14 +152,14 @@ pub fn carry_timed<
     requires reader { S.failed reader ≡ false }
     requires writer { W.failed ends.old.writer ≡ false }
     ensures carried { IfOk result (λ timed.
-        Carries (means plan words.now) (C.told clock.now) reads
+        Carries (means plan words.now) (C.reported clock.now) reads
         (near_end (S.remaining reader) (S.failed reader))
         (near_end (S.remaining timed.report.reader) (S.failed timed.report.reader))
         (far_end (W.written ends.old.writer) (N.events notes.old) (H.calls ends.old.hangup))
         (far_end (W.written ends.new.writer) (N.events notes.new) (H.calls ends.new.hangup))
         timed.report.taken timed.report.written timed.report.ending
         (read_end_of timed.report.source) timed.reading) }
-    ensures broken { IfErr result (BreaksAt (means plan words.now) (C.told clock.now)
+    ensures broken { IfErr result (BreaksAt (means plan words.now) (C.reported clock.now)
         (near_end (S.remaining reader) (S.failed reader))
         (far_end (W.written ends.old.writer) (N.events notes.old) (H.calls ends.old.hangup))
         (far_end (W.written ends.new.writer) (N.events notes.new) (H.calls ends.new.hangup))) }
@@ -192,7 +192,7 @@ fn carry_side<R: Threads + Wait, S: Source + Drop, W: Sink, H: Hangup, C: Clock,
     requires ring { IsPair thread.promise.sender.value side.old.inbox.receiver }
     ensures carried { (plan : Ops) (words : List ℕ) → MeansPlan plan words side.old.core
         → IfOk result (λ timed.
-        Carries (means plan words) (C.told clock.now) thread.promise.reads
+        Carries (means plan words) (C.reported clock.now) thread.promise.reads
         (near_end (S.remaining thread.promise.reader.value)
         (S.failed thread.promise.reader.value))
         (near_end (S.remaining timed.report.reader) (S.failed timed.report.reader))
@@ -201,7 +201,7 @@ fn carry_side<R: Threads + Wait, S: Source + Drop, W: Sink, H: Hangup, C: Clock,
         timed.report.taken timed.report.written timed.report.ending
         (read_end_of timed.report.source) timed.reading) }
     ensures broken { (plan : Ops) (words : List ℕ) → MeansPlan plan words side.old.core
-        → IfErr result (BreaksAt (means plan words) (C.told clock.now)
+        → IfErr result (BreaksAt (means plan words) (C.reported clock.now)
         (near_end (S.remaining thread.promise.reader.value)
         (S.failed thread.promise.reader.value))
         (far_end (W.written ends.old.writer) (N.events notes.old) (H.calls ends.old.hangup))

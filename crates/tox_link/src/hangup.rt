@@ -6,7 +6,7 @@ use tox_time::Ending;
 
 /// What ends the connections of a link.
 pub trait Hangup {
-    /// The calls so far, if they are told.
+    /// The calls so far, if they are kept.
     ghost calls: { Self → Option (List Call) };
 
     /// Called once if the reader's thread started: with how the link ends and whether the source's end was taken, or

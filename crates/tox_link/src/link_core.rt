@@ -1,4 +1,4 @@
-//! The core of a live link: told what arrives and what time it is, it says what to do.
+//! The core of a live link: given what arrives and what time it is, it says what to do.
 ghost use Rattle.std.specs.Prelude.{◌≡◌, ℕ, ◌+◌, ◌<◌, ◌≤◌, ◌↔◌, ◌||◌, List, [], ◌∷◌, ◌++◌, length, true, false, None, Some, IsTrue, IsSome, IfSome, MatchOption, IfOk, OnOk, OnErr, is_some};
 ghost use Rattle.tox_time.specs.declared.streams.item.Item.{Item as OneItem};
 ghost use Rattle.tox_time.specs.declared.streams.item.Item.TheVariants.{Chunk, Closed, Quiet};

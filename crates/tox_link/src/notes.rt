@@ -1,4 +1,4 @@
-//! What happens on a link, and who is told.
+//! What happens on a link, and who is notified.
 ghost use Rattle.std.specs.Prelude.{◌≡◌, List, [], ◌∷◌, Option, None, OnOk, OnErr};
 ghost use Rattle.tox_link.specs.log.Events.{with_events};
 ghost use Rattle.tox_link.specs.declared.notes.LinkEvent.{LinkEvent as OneEvent};
@@ -17,9 +17,9 @@ pub enum LinkEvent {
     Wrote(Slice, Micros),
 }
 
-/// Who is told of a link's events.
+/// Who is notified of a link's events.
 pub trait Notes {
-    /// The events so far, if they are told.
+    /// The events so far, if they are kept.
     ghost events: { Self → Option (List OneEvent) };
 
     /// Notes one more event. An `Err` changes nothing.

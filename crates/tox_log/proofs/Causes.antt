@@ -32,7 +32,7 @@ each_of P all Thread = all.1.1.0
 each_of P all Upstream = all.1.1.1.0
 each_of P all Stopped = all.1.1.1.1.0
 
--- what is told of a name where this cause was found, or none
+-- what is reported of a name where this cause was found, or none
 abbrev pub MeansCause : List ℕ → Option BreakCause → Type 0
 MeansCause name found = MatchOption found ((cause : BreakCause) → name ≢ cause_name cause) (λ cause. name ≡ cause_name cause)
 

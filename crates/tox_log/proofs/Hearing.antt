@@ -39,19 +39,19 @@ use Rattle.tox_log.specs.Lines.{IsWritable, line_words}
 use Rattle.tox_log.specs.Judging.{Hears, Judged, Refuses, RefusesEnding, source_heard}
 use Rattle.tox_log.specs.declared.replay.Verdict.{Verdict}
 use Rattle.tox_log.specs.declared.replay.Verdict.TheVariants.{Faithful, Unfinished, Unfaithful}
-use Rattle.tox_log.specs.Hearing.{AreCounts, BeginsJudging, HasHeard, HasNoEnding, HasReport, HasStopped, HearsLine, HearsToEnd, IsFaithfulText, IsRefusedText, IsTextOf, IsTold, IsUnfinishedText, SaysOf, SaysSo, HasRefusal, source_end_of}
-use Rattle.tox_log.proofs.Refusing.{timely-told}
+use Rattle.tox_log.specs.Hearing.{AreCounts, BeginsJudging, HasHeard, HasNoEnding, HasReport, HasStopped, HearsLine, HearsToEnd, IsFaithfulText, IsRefusedText, IsTextOf, AreReported, IsUnfinishedText, SaysOf, SaysSo, HasRefusal, source_end_of}
+use Rattle.tox_log.proofs.Refusing.{timely-reported}
 
-told-front : (told : ℕ → Bool) (events : List LinkEvent) (event : LinkEvent) → IsTold told (events ++ event ∷ []) → IsTold told events
-told-front told [] event all = All-nil (λ event. told (reading_of event) ≡ true)
-told-front told (first ∷ events) event all =
-    All-cons (λ event. told (reading_of event) ≡ true) first events
-    (All-head (λ event. told (reading_of event) ≡ true) first (events ++ event ∷ []) all)
-    (told-front told events event (All-tail (λ event. told (reading_of event) ≡ true) first (events ++ event ∷ []) all))
+reported-front : (reported : ℕ → Bool) (events : List LinkEvent) (event : LinkEvent) → AreReported reported (events ++ event ∷ []) → AreReported reported events
+reported-front reported [] event all = All-nil (λ event. reported (reading_of event) ≡ true)
+reported-front reported (first ∷ events) event all =
+    All-cons (λ event. reported (reading_of event) ≡ true) first events
+    (All-head (λ event. reported (reading_of event) ≡ true) first (events ++ event ∷ []) all)
+    (reported-front reported events event (All-tail (λ event. reported (reading_of event) ≡ true) first (events ++ event ∷ []) all))
 
-told-last : (told : ℕ → Bool) (events : List LinkEvent) (event : LinkEvent) → IsTold told (events ++ event ∷ []) → told (reading_of event) ≡ true
-told-last told [] event all = All-head (λ event. told (reading_of event) ≡ true) event [] all
-told-last told (first ∷ events) event all = told-last told events event (All-tail (λ event. told (reading_of event) ≡ true) first (events ++ event ∷ []) all)
+reported-last : (reported : ℕ → Bool) (events : List LinkEvent) (event : LinkEvent) → AreReported reported (events ++ event ∷ []) → reported (reading_of event) ≡ true
+reported-last reported [] event all = All-head (λ event. reported (reading_of event) ≡ true) event [] all
+reported-last reported (first ∷ events) event all = reported-last reported events event (All-tail (λ event. reported (reading_of event) ≡ true) first (events ++ event ∷ []) all)
 
 line-more : (reset : Bool) (text : List ℕ) (events : List LinkEvent) (event : LinkEvent) → text ≡ event_lines reset events
     → text ++ (line_words (logged_line reset event) ++ 10 ∷ []) ≡ event_lines reset (events ++ event ∷ [])
@@ -86,17 +86,17 @@ pub line-next : (old new : Bool) (text : List ℕ) (events : List LinkEvent) (ev
 line-next old new text events event (inl same) lines = line-more new text events event (lines ∙ ap (λ reset. event_lines reset events) (sym same))
 line-next old new text events event (inr going) lines = line-more new text events event (lines ∙ lines-going old new events going)
 
--- each reading is told by a clock that tells all
-all-told : (events : List LinkEvent) → IsTold (λ _. true) events
-all-told [] = All-nil (λ event. true ≡ true)
-all-told (event ∷ events) = All-cons (λ event. true ≡ true) event events refl (all-told events)
+-- each reading is one of a clock that reports any
+all-reported : (events : List LinkEvent) → AreReported (λ _. true) events
+all-reported [] = All-nil (λ event. true ≡ true)
+all-reported (event ∷ events) = All-cons (λ event. true ≡ true) event events refl (all-reported events)
 
 -- the counts of what was heard
 pub counts-of : (means : List Item → List Item) (text : List ℕ) (hearing : Hearing) → (heard : HasHeard means text hearing)
     → AreCounts heard.events hearing.judge.heard hearing.judge.said hearing.source_end hearing.writes
 counts-of means text hearing heard =
     let judge : Judge = hearing.judge in
-    let judged : Judged means (λ _. true) judge heard.events = heard.judged (λ _. true) (all-told heard.events) in
+    let judged : Judged means (λ _. true) judge heard.events = heard.judged (λ _. true) (all-reported heard.events) in
     let bytes = gapless-bytes 0 (said heard.events) judge.said judged.gapless in record {
       took = judged.bytes;
       wrote = omega (arith, bytes);
@@ -120,7 +120,7 @@ few-slices start (Wrote slice reading ∷ events) stop written gapless small =
 -- so there are few writes
 pub few-writes : (means : List Item → List Item) (text : List ℕ) (hearing : Hearing) → HasHeard means text hearing → hearing.writes ≤ 2 ^ 40
 few-writes means text hearing heard =
-    let judged : Judged means (λ _. true) hearing.judge heard.events = heard.judged (λ _. true) (all-told heard.events) in
+    let judged : Judged means (λ _. true) hearing.judge heard.events = heard.judged (λ _. true) (all-reported heard.events) in
     let few = few-slices 0 heard.events hearing.judge.said heard.written judged.gapless (omega arith) in
     omega (arith, few.0, few.1, heard.count)
 
@@ -173,7 +173,7 @@ pub record GoesOn (old new : Hearing) (event : LinkEvent) : Type 0 where
   pub count : new.writes ≡ old.writes + length (said (event ∷ []))
   pub late : KeepsMore old.late (lates (event ∷ [])) new.late
 
--- a piece and a write are told in one way
+-- a piece and a write are reported in one way
 pub piece-line : (reset : Bool) (len instant : ℕ) → logged_line reset (Piece len instant) ≡ Event (Piece len instant)
 piece-line true len instant = refl
 piece-line false len instant = refl
@@ -198,9 +198,9 @@ hears-event means text old new event writable heard goes = record {
       (All-cons (λ event. IsWritable (Event event)) event [] (event-writable new.source_reset event writable) (All-nil (λ event. IsWritable (Event event))));
   lines = line-next old.source_reset new.source_reset text heard.events event (stays-so goes.reset) heard.lines;
   source_end =
-      let judged : Judged means (λ _. true) old.judge heard.events = heard.judged (λ _. true) (all-told heard.events) in
+      let judged : Judged means (λ _. true) old.judge heard.events = heard.judged (λ _. true) (all-reported heard.events) in
       goes.ends heard.events heard.source_end judged.closed;
-  judged = λ told all. goes.hears means told heard.events (told-last told heard.events event all) (heard.judged told (told-front told heard.events event all));
+  judged = λ reported all. goes.hears means reported heard.events (reported-last reported heard.events event all) (heard.judged reported (reported-front reported heard.events event all));
   count =
       let both = length-append (said heard.events) (said (event ∷ [])) in
       ap length (said-append heard.events (event ∷ [])) ∙ omega (arith, both, heard.count, goes.count);
@@ -213,7 +213,7 @@ hears-event means text old new event writable heard goes = record {
     stays-so : (new.source_reset ≡ old.source_reset) ⊎ (old.judge.ended ≡ false) → (new.source_reset ≡ old.source_reset) ⊎ (has_source_end heard.events ≡ false)
     stays-so (inl same) = inl same
     stays-so (inr going) =
-        let judged : Judged means (λ _. true) old.judge heard.events = heard.judged (λ _. true) (all-told heard.events) in
+        let judged : Judged means (λ _. true) old.judge heard.events = heard.judged (λ _. true) (all-reported heard.events) in
         inr (judged.closed ∙ going)
 
 -- a verdict that stays open after the line of an event
@@ -239,10 +239,10 @@ says-refused start means text old new event number whole refuses writable heard 
     line = Event event;
     more = [];
     lines = ap (λ lines. lines ++ (line_words (Event event) ++ 10 ∷ [])) heard.lines ∙ ap (λ line. event_lines old.source_reset heard.events ++ line) (sym (append-nil (line_words (Event event) ++ 10 ∷ [])));
-    faithful = λ told all. (heard.judged told all).faithful;
+    faithful = λ reported all. (heard.judged reported all).faithful;
     numbered = at;
-    refused = λ told faithful. refuses means told heard.events
-        (heard.judged told (told-front told heard.events event (timely-told told 0 (heard.events ++ event ∷ []) faithful.timely))) faithful;
+    refused = λ reported faithful. refuses means reported heard.events
+        (heard.judged reported (reported-front reported heard.events event (timely-reported reported 0 (heard.events ++ event ∷ []) faithful.timely))) faithful;
   },
 )
 
@@ -261,9 +261,9 @@ says-other-end start means text old new reading last number whole refuses writab
         line = Last (Ended reading last);
         more = [];
         lines = ap (λ lines. lines ++ words) heard.lines ∙ ap (λ line. event_lines old.source_reset heard.events ++ line) (sym (append-nil words));
-        faithful = λ told all. (heard.judged told all).faithful;
+        faithful = λ reported all. (heard.judged reported all).faithful;
         numbered = at;
-        refused = λ told taken written source report. refuses means told heard.events (heard.judged told (timely-told told 0 heard.events report.faithful.timely)) taken written source report;
+        refused = λ reported taken written source report. refuses means reported heard.events (heard.judged reported (timely-reported reported 0 heard.events report.faithful.timely)) taken written source report;
       },
     )
 
@@ -275,7 +275,7 @@ same-heard means text old new judge source_end reset writes late heard = record 
   written = heard.written;
   lines = heard.lines ∙ ap (λ reset. event_lines reset heard.events) (sym reset);
   source_end = heard.source_end ∙ sym source_end;
-  judged = λ told all. rw judge (heard.judged told all);
+  judged = λ reported all. rw judge (heard.judged reported all);
   count = heard.count ∙ sym writes;
   late = rw late heard.late;
 }
@@ -291,7 +291,7 @@ says-broken start means text old new cause bytes going broken judge source_end r
 
 -- the last line tells of an open link, and the judge stays one after the events
 pub says-open : (start : ℕ) (means : List Item → List Item) (text : List ℕ) (old : Hearing) (judge : Judge) (reading : ℕ) → old.verdict ≡ Unfinished → old.broken ≡ None
-    → ((told : ℕ → Bool) (log : List LinkEvent) → Judged means told old.judge log → Judged means told judge log) → HasHeard means text old
+    → ((reported : ℕ → Bool) (log : List LinkEvent) → Judged means reported old.judge log → Judged means reported judge log) → HasHeard means text old
     → SaysOf start means (text ++ (line_words (Last (Ended reading StillOpen)) ++ 10 ∷ [])) true (record old { judge = judge })
 says-open start means text old judge reading going whole stays heard =
     let lines : List ℕ = text ++ (line_words (Last (Ended reading StillOpen)) ++ 10 ∷ []) in
@@ -306,7 +306,7 @@ says-open start means text old judge reading going whole stays heard =
           written = heard.written;
           lines = heard.lines;
           source_end = heard.source_end;
-          judged = λ told all. stays told heard.events (heard.judged told all);
+          judged = λ reported all. stays reported heard.events (heard.judged reported all);
           count = heard.count;
           late = heard.late;
         };
@@ -319,11 +319,11 @@ says-open start means text old judge reading going whole stays heard =
 pub says-ended : (start : ℕ) (means : List Item → List Item) (text : List ℕ) (old new : Hearing) (reading : ℕ) (last : Ending) → new.broken ≡ None → new.source_end ≡ old.source_end → new.source_reset ≡ old.source_reset → new.writes ≡ old.writes
     → KeepsMore old.late (ending_late reading last) new.late → HasHeard means text old
     → (new.judge.heard ≡ old.judge.heard) × (new.judge.said ≡ old.judge.said) × (new.judge.ended ≡ old.judge.ended)
-    → ((means : List Item → List Item) (told : ℕ → Bool) (log : List LinkEvent) → told reading ≡ true → Judged means told old.judge log
-    → ReportsAt means (λ t. told t ≡ true) log old.judge.heard old.judge.said last (source_heard old.judge.ended) reading)
+    → ((means : List Item → List Item) (reported : ℕ → Bool) (log : List LinkEvent) → reported reading ≡ true → Judged means reported old.judge log
+    → ReportsAt means (λ t. reported t ≡ true) log old.judge.heard old.judge.said last (source_heard old.judge.ended) reading)
     → SaysSo start means (text ++ (line_words (Last (Ended reading last)) ++ 10 ∷ [])) true new (Faithful last)
 says-ended start means text old new reading last whole source_end reset writes late heard counts reports =
-    let judged : Judged means (λ _. true) old.judge heard.events = heard.judged (λ _. true) (all-told heard.events) in
+    let judged : Judged means (λ _. true) old.judge heard.events = heard.judged (λ _. true) (all-reported heard.events) in
     let ended : is_some new.source_end ≡ old.judge.ended = ap is_some (source_end ∙ sym heard.source_end) ∙ end-heard heard.events ∙ judged.closed in
     let few = few-writes means text old heard in
     let same = lates-count heard.events in (
@@ -337,7 +337,7 @@ says-ended start means text old new reading last whole source_end reset writes l
         lines = ap (λ lines. lines ++ (line_words (Last (Ended reading last)) ++ 10 ∷ [])) (heard.lines ∙ ap (λ reset. event_lines reset heard.events) (sym reset));
         counts = rw (counts.0, counts.1, source_end, writes) (counts-of means text old heard);
         values = refl;
-        report = λ told all says. rw (counts.0, counts.1, ended) (reports means told heard.events says (heard.judged told all));
+        report = λ reported all says. rw (counts.0, counts.1, ended) (reports means reported heard.events says (heard.judged reported all));
       },
     )
 
@@ -427,7 +427,7 @@ stopped-so means text over hearing None (inl says) =
         tells = inl refl;
         counts = counts-of means text hearing heard;
         values = refl;
-        faithful = λ told all. (heard.judged told all).faithful;
+        faithful = λ reported all. (heard.judged reported all).faithful;
       },
     )
 stopped-so means text over hearing None (inr says) =
@@ -442,7 +442,7 @@ stopped-so means text over hearing None (inr says) =
         tells = inr (left.reading, refl);
         counts = counts-of means left.front hearing heard;
         values = refl;
-        faithful = λ told all. (heard.judged told all).faithful;
+        faithful = λ reported all. (heard.judged reported all).faithful;
       },
     )
 stopped-so means text over hearing (Some cause) says =
@@ -457,7 +457,7 @@ stopped-so means text over hearing (Some cause) says =
         tells = (broken.bytes, refl);
         counts = counts-of means broken.front hearing heard;
         values = refl;
-        faithful = λ told all. (heard.judged told all).faithful;
+        faithful = λ reported all. (heard.judged reported all).faithful;
       },
     )
 

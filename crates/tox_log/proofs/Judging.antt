@@ -40,12 +40,12 @@ agrees-now means core given heard_to latest start log tables gapless = record {
 }
 
 -- nothing was heard yet
-pub follows-start : (means : List Item → List Item) (told : ℕ → Bool) (core : CoreView) → (kept_lens core ≡ []) × (kept_start core ≡ 0) → ((items : List Item) → IsStream items → remaining_output core items ≡ means items)
-    → AddsUp means told core [] 0 0 false 0 []
-follows-start means told core none output = record {
+pub follows-start : (means : List Item → List Item) (reported : ℕ → Bool) (core : CoreView) → (kept_lens core ≡ []) × (kept_start core ≡ 0) → ((items : List Item) → IsStream items → remaining_output core items ≡ means items)
+    → AddsUp means reported core [] 0 0 false 0 []
+follows-start means reported core none output = record {
   tables = λ items stream. ap table (sym (output items stream));
   endings = λ items stream. ap ending (sym (output items stream));
-  faithful = faithful-nil means (λ t. told t ≡ true);
+  faithful = faithful-nil means (λ t. reported t ≡ true);
   by = tt;
   gapless = refl;
   bytes = refl;
@@ -53,9 +53,9 @@ follows-start means told core none output = record {
   kept = λ _ _. keeps-none core none;
 }
 
-module _ (means : List Item → List Item) (told : ℕ → Bool) (core : CoreView) (heard_to latest : ℕ) (ended : Bool) (start : ℕ) (log : List LinkEvent) where
+module _ (means : List Item → List Item) (reported : ℕ → Bool) (core : CoreView) (heard_to latest : ℕ) (ended : Bool) (start : ℕ) (log : List LinkEvent) where
   -- the clock goes on
-  pub follows-later : (given : List ℕ) (later : ℕ) → latest ≤ later → AddsUp means told core given heard_to latest ended start log → AddsUp means told core given heard_to later ended start log
+  pub follows-later : (given : List ℕ) (later : ℕ) → latest ≤ later → AddsUp means reported core given heard_to latest ended start log → AddsUp means reported core given heard_to later ended start log
   follows-later given later goes_on follows = record {
     tables = λ items stream. follows.tables items (stream-earlier heard_to latest later items goes_on stream);
     endings = λ items stream. follows.endings items (stream-earlier heard_to latest later items goes_on stream);
@@ -71,7 +71,7 @@ module _ (means : List Item → List Item) (told : ℕ → Bool) (core : CoreVie
   abbrev KeepsOn : CoreView → Type 0
   KeepsOn new = (ended ≡ false → core_ending core ≡ None → KeepsLast core log) → ended ≡ false → core_ending new ≡ None → KeepsLast new log
 
-  leaves-follows : (new : CoreView) (front : List ℕ) → KeepsOn new → LeavesOutput core new latest → AddsUp means told core front heard_to latest ended start log → AddsUp means told new (front ++ []) heard_to latest ended start log
+  leaves-follows : (new : CoreView) (front : List ℕ) → KeepsOn new → LeavesOutput core new latest → AddsUp means reported core front heard_to latest ended start log → AddsUp means reported new (front ++ []) heard_to latest ended start log
   leaves-follows new front keeps leaves follows = record {
     tables = λ items stream. follows.tables items stream
         ∙ ap (λ ts. slices_table (said log) ++ (front ++ ts)) (sym (leaves.output heard_to latest items (omega arith) stream).tables)
@@ -86,8 +86,8 @@ module _ (means : List Item → List Item) (told : ℕ → Bool) (core : CoreVie
   }
 
   -- the core is asked at the last reading
-  pub asked-follows : (new : CoreView) (front : List ℕ) (act : Act) → ((ended ≡ false → core_ending core ≡ None → KeepsLast core log) → ended ≡ false → core_ending new ≡ None → KeepsLast new log) → After core latest act new → AddsUp means told core front heard_to latest ended start log
-      → AddsUp means told new (front ++ rest_table (slice_in act)) heard_to latest ended start log
+  pub asked-follows : (new : CoreView) (front : List ℕ) (act : Act) → ((ended ≡ false → core_ending core ≡ None → KeepsLast core log) → ended ≡ false → core_ending new ≡ None → KeepsLast new log) → After core latest act new → AddsUp means reported core front heard_to latest ended start log
+      → AddsUp means reported new (front ++ rest_table (slice_in act)) heard_to latest ended start log
   asked-follows new front (Write slice) keeps (due, takes) follows = record {
     tables = λ items stream. follows.tables items stream
         ∙ ap (λ ts. slices_table (said log) ++ (front ++ ts)) (takes.tables items)
@@ -105,11 +105,11 @@ module _ (means : List Item → List Item) (told : ℕ → Bool) (core : CoreVie
   asked-follows new front (End last) keeps leaves follows = leaves-follows new front keeps leaves follows
 
   -- a piece is heard
-  module _ (new : CoreView) (given : List ℕ) (len instant : ℕ) (later : latest ≤ instant) (fits : IsInstant instant) (says : told instant ≡ true) (some : 0 < len) (going : ended ≡ false)
+  module _ (new : CoreView) (given : List ℕ) (len instant : ℕ) (later : latest ≤ instant) (fits : IsInstant instant) (says : reported instant ≡ true) (some : 0 < len) (going : ended ≡ false)
       (keeps : (ended ≡ false → core_ending core ≡ None → KeepsLast core log) → ended ≡ false → core_ending new ≡ None → KeepsLast new (log ++ Piece len instant ∷ []))
       (tables : (items : List Item) → table (remaining_output new items) ≡ table (remaining_output core (Chunk (record { start = heard_to; stop = heard_to + len }) instant ∷ items)))
       (endings : (items : List Item) → ending (remaining_output new items) ≡ ending (remaining_output core (Chunk (record { start = heard_to; stop = heard_to + len }) instant ∷ items)))
-      (follows : AddsUp means told core given heard_to latest ended start log) where
+      (follows : AddsUp means reported core given heard_to latest ended start log) where
     piece : Item
     piece = Chunk (record { start = heard_to; stop = heard_to + len }) instant
 
@@ -130,11 +130,11 @@ module _ (means : List Item → List Item) (told : ℕ → Bool) (core : CoreVie
     new_gapless : IsGapless 0 (said (log ++ Piece len instant ∷ [])) start
     new_gapless = subst (λ slices. IsGapless 0 slices start) (sym said_is) follows.gapless
 
-    pub piece-follows : AddsUp means told new given (heard_to + len) instant ended start (log ++ Piece len instant ∷ [])
+    pub piece-follows : AddsUp means reported new given (heard_to + len) instant ended start (log ++ Piece len instant ∷ [])
     piece-follows = record {
       tables = new_tables;
       endings = λ items stream. ap (λ items. ending (means items)) (heard_is items) ∙ follows.endings (Chunk (record { start = heard_to; stop = heard_to + len }) instant ∷ items) (goes_on items stream) ∙ sym (endings items);
-      faithful = faithful-append means (λ t. told t ≡ true) log (Piece len instant) follows.faithful (by-later latest instant log later follows.by) says tt
+      faithful = faithful-append means (λ t. reported t ≡ true) log (Piece len instant) follows.faithful (by-later latest instant log later follows.by) says tt
           (ordered-piece log len instant follows.faithful.ordered (follows.closed ∙ going) some) (agrees-now means new given (heard_to + len) instant start _ new_tables new_gapless);
       by = by-append instant log (Piece len instant) (by-later latest instant log later follows.by) (omega arith);
       gapless = new_gapless;
@@ -144,9 +144,9 @@ module _ (means : List Item → List Item) (told : ℕ → Bool) (core : CoreVie
     }
 
   -- the source's end is heard
-  module _ (new : CoreView) (given : List ℕ) (instant : ℕ) (later : latest ≤ instant) (fits : IsInstant instant) (says : told instant ≡ true) (going : ended ≡ false)
+  module _ (new : CoreView) (given : List ℕ) (instant : ℕ) (later : latest ≤ instant) (fits : IsInstant instant) (says : reported instant ≡ true) (going : ended ≡ false)
       (output : (items : List Item) → remaining_output new items ≡ remaining_output core (Closed instant ∷ []))
-      (follows : AddsUp means told core given heard_to latest ended start log) where
+      (follows : AddsUp means reported core given heard_to latest ended start log) where
     said_end : said (log ++ SourceEnd instant ∷ []) ≡ said log
     said_end = said-append log (SourceEnd instant ∷ []) ∙ append-nil (said log)
 
@@ -167,11 +167,11 @@ module _ (means : List Item → List Item) (told : ℕ → Bool) (core : CoreVie
     end_closed (SourceEnd t ∷ log) = refl
     end_closed (Wrote slice now ∷ log) = end_closed log
 
-    pub end-follows : AddsUp means told new given heard_to instant true start (log ++ SourceEnd instant ∷ [])
+    pub end-follows : AddsUp means reported new given heard_to instant true start (log ++ SourceEnd instant ∷ [])
     end-follows = record {
       tables = end_tables;
       endings = λ items stream. ap (λ items. ending (means items)) (heard-end 0 log instant items) ∙ follows.endings (Closed instant ∷ []) end_goes_on ∙ ap ending (sym (output items));
-      faithful = faithful-append means (λ t. told t ≡ true) log (SourceEnd instant) follows.faithful (by-later latest instant log later follows.by) says tt
+      faithful = faithful-append means (λ t. reported t ≡ true) log (SourceEnd instant) follows.faithful (by-later latest instant log later follows.by) says tt
           (ordered-end log instant follows.faithful.ordered (follows.closed ∙ going)) (agrees-now means new given heard_to instant start _ end_tables end_gapless);
       by = by-append instant log (SourceEnd instant) (by-later latest instant log later follows.by) (omega arith);
       gapless = end_gapless;
@@ -181,8 +181,8 @@ module _ (means : List Item → List Item) (told : ℕ → Bool) (core : CoreVie
     }
 
   -- a slice was said to its end
-  module _ (rest : List ℕ) (slice : Slice) (says : told latest ≡ true) (due : slice.instant ≤ latest) (starts : slice.span.start ≡ start) (some : slice.span.start < slice.span.stop)
-      (follows : AddsUp means told core (replicate (span_len slice.span) slice.instant ++ rest) heard_to latest ended start log) where
+  module _ (rest : List ℕ) (slice : Slice) (says : reported latest ≡ true) (due : slice.instant ≤ latest) (starts : slice.span.start ≡ start) (some : slice.span.start < slice.span.stop)
+      (follows : AddsUp means reported core (replicate (span_len slice.span) slice.instant ++ rest) heard_to latest ended start log) where
     said_wrote : said (log ++ Wrote slice latest ∷ []) ≡ said log ++ slice ∷ []
     said_wrote = said-append log (Wrote slice latest ∷ [])
 
@@ -198,11 +198,11 @@ module _ (means : List Item → List Item) (told : ℕ → Bool) (core : CoreVie
     wrote_gapless : IsGapless 0 (said (log ++ Wrote slice latest ∷ [])) slice.span.stop
     wrote_gapless = subst (λ slices. IsGapless 0 slices slice.span.stop) (sym said_wrote) (gapless-append 0 (said log) start slice follows.gapless starts some)
 
-    pub wrote-follows : AddsUp means told core rest heard_to latest ended slice.span.stop (log ++ Wrote slice latest ∷ [])
+    pub wrote-follows : AddsUp means reported core rest heard_to latest ended slice.span.stop (log ++ Wrote slice latest ∷ [])
     wrote-follows = record {
       tables = wrote_tables;
       endings = λ items stream. ap (λ items. ending (means items)) (heard-wrote 0 log slice latest items) ∙ follows.endings items stream;
-      faithful = faithful-append means (λ t. told t ≡ true) log (Wrote slice latest) follows.faithful follows.by says due
+      faithful = faithful-append means (λ t. reported t ≡ true) log (Wrote slice latest) follows.faithful follows.by says due
           (ordered-wrote log slice latest follows.faithful.ordered) (agrees-now means core rest heard_to latest slice.span.stop _ wrote_tables wrote_gapless);
       by = by-append latest log (Wrote slice latest) follows.by (omega arith);
       gapless = wrote_gapless;
@@ -238,10 +238,10 @@ pub only-ending : (core : CoreView) (last : Ending) → ((items : List Item) →
 only-ending core last only a b = ap ending (only a ∙ sym (only b))
 
 -- a log whose plan has only an ending left to say
-pub follows-reports : (means : List Item → List Item) (told : ℕ → Bool) (core : CoreView) (heard_to latest : ℕ) (ended : Bool) (start : ℕ) (log : List LinkEvent) (last : Ending)
-    → AddsUp means told core [] heard_to latest ended start log → ((items : List Item) → remaining_output core items ≡ final_of last ∷ []) → told latest ≡ true → IsReached latest last
-    → ReportsAt means (λ t. told t ≡ true) log heard_to start last (source_heard ended) latest
-follows-reports means told core heard_to latest ended start log last follows only says reached = record {
+pub follows-reports : (means : List Item → List Item) (reported : ℕ → Bool) (core : CoreView) (heard_to latest : ℕ) (ended : Bool) (start : ℕ) (log : List LinkEvent) (last : Ending)
+    → AddsUp means reported core [] heard_to latest ended start log → ((items : List Item) → remaining_output core items ≡ final_of last ∷ []) → reported latest ≡ true → IsReached latest last
+    → ReportsAt means (λ t. reported t ≡ true) log heard_to start last (source_heard ended) latest
+follows-reports means reported core heard_to latest ended start log last follows only says reached = record {
   faithful = follows.faithful;
   whole = sym (follows.tables (Quiet ∷ []) refl ∙ ap (λ items. slices_table (said log) ++ table items) (only (Quiet ∷ [])) ∙ ap (λ ts. slices_table (said log) ++ ts) (final-table last) ∙ append-nil (slices_table (said log)));
   ends = follows.endings (Quiet ∷ []) refl ∙ ap ending (only (Quiet ∷ [])) ∙ final-ending last;
@@ -277,56 +277,56 @@ say-table part said_to stop count starts some within counts = by (nat_lt stop pa
         let e : span_len part.span ≡ count = omega arith in
         ap (λ n. replicate n part.instant) e ∙ sym (append-nil (replicate count part.instant))
 
-module _ (means : List Item → List Item) (told : ℕ → Bool) (core : CoreView) (heard_to : ℕ) (ended : Bool) (start : ℕ) (log : List LinkEvent) (due : ℕ) (rest : List ℕ) where
+module _ (means : List Item → List Item) (reported : ℕ → Bool) (core : CoreView) (heard_to : ℕ) (ended : Bool) (start : ℕ) (log : List LinkEvent) (due : ℕ) (rest : List ℕ) where
   -- nothing is said yet of a slice that starts where the last one stopped
-  pub begins-saying : (latest later said_to : ℕ) → latest ≤ later → start ≡ said_to → AddsUp means told core rest heard_to latest ended said_to log
-      → AddsUp means told core (replicate (said_to - start) due ++ rest) heard_to later ended start log
+  pub begins-saying : (latest later said_to : ℕ) → latest ≤ later → start ≡ said_to → AddsUp means reported core rest heard_to latest ended said_to log
+      → AddsUp means reported core (replicate (said_to - start) due ++ rest) heard_to later ended start log
   begins-saying latest later said_to goes_on starts follows =
       let none : said_to - start ≡ 0 = omega arith in
-      subst (λ n. AddsUp means told core (replicate n due ++ rest) heard_to later ended start log) (sym none)
-      (subst (λ at. AddsUp means told core rest heard_to later ended at log) (sym starts) (follows-later means told core heard_to latest ended said_to log rest later goes_on follows))
+      subst (λ n. AddsUp means reported core (replicate n due ++ rest) heard_to later ended start log) (sym none)
+      (subst (λ at. AddsUp means reported core rest heard_to later ended at log) (sym starts) (follows-later means reported core heard_to latest ended said_to log rest later goes_on follows))
 
   -- more of it is said
-  pub goes-saying : (latest a count b : ℕ) → b ≡ a + count → AddsUp means told core ((replicate a due ++ replicate count due) ++ rest) heard_to latest ended start log
-      → AddsUp means told core (replicate b due ++ rest) heard_to latest ended start log
+  pub goes-saying : (latest a count b : ℕ) → b ≡ a + count → AddsUp means reported core ((replicate a due ++ replicate count due) ++ rest) heard_to latest ended start log
+      → AddsUp means reported core (replicate b due ++ rest) heard_to latest ended start log
   goes-saying latest a count b counts follows =
-      subst (λ ts. AddsUp means told core (ts ++ rest) heard_to latest ended start log) (sym (ap (λ n. replicate n due) counts ∙ replicate-add a count due)) follows
+      subst (λ ts. AddsUp means reported core (ts ++ rest) heard_to latest ended start log) (sym (ap (λ n. replicate n due) counts ∙ replicate-add a count due)) follows
 
 -- a judge that stays says as much as before
-pub judged-stays : (old new : Judge) → new.said ≡ old.said → Stays old new → (means : List Item → List Item) (told : ℕ → Bool) (log : List LinkEvent) → Judged means told old log → Judged means told new log
-judged-stays old new same stays means told log judged = subst (λ at. FollowsWith means told new [] at log) (sym same) (stays means told [] old.said log judged)
+pub judged-stays : (old new : Judge) → new.said ≡ old.said → Stays old new → (means : List Item → List Item) (reported : ℕ → Bool) (log : List LinkEvent) → Judged means reported old log → Judged means reported new log
+judged-stays old new same stays means reported log judged = subst (λ at. FollowsWith means reported new [] at log) (sym same) (stays means reported [] old.said log judged)
 
 -- a judge with nothing left to say but an ending
 pub ended-reports : (old new : Judge) (last : Ending) (reading : ℕ) → Stays old new → new.heard ≡ old.heard → new.latest ≡ reading → new.ended ≡ old.ended → new.rest ≡ None
     → ((items : List Item) → remaining_output new.core items ≡ final_of last ∷ []) → IsReached reading last
-    → (means : List Item → List Item) (told : ℕ → Bool) (log : List LinkEvent) → told reading ≡ true → Judged means told old log
-    → ReportsAt means (λ t. told t ≡ true) log old.heard old.said last (source_heard old.ended) reading
-ended-reports old new last reading stays heard_same latest_is ended_same none only reached means told log says judged =
-    let after : AddsUp means told new.core [] new.heard new.latest new.ended old.said log
-    = subst (λ rest. AddsUp means told new.core (rest_table rest) new.heard new.latest new.ended old.said log) none (stays means told [] old.said log judged) in
-    let at : AddsUp means told new.core [] new.heard reading new.ended old.said log = subst (λ t. AddsUp means told new.core [] new.heard t new.ended old.said log) latest_is after in
-    let heard : AddsUp means told new.core [] old.heard reading new.ended old.said log = subst (λ n. AddsUp means told new.core [] n reading new.ended old.said log) heard_same at in
-    follows-reports means told new.core old.heard reading old.ended old.said log last
-    (subst (λ b. AddsUp means told new.core [] old.heard reading b old.said log) ended_same heard) only says reached
+    → (means : List Item → List Item) (reported : ℕ → Bool) (log : List LinkEvent) → reported reading ≡ true → Judged means reported old log
+    → ReportsAt means (λ t. reported t ≡ true) log old.heard old.said last (source_heard old.ended) reading
+ended-reports old new last reading stays heard_same latest_is ended_same none only reached means reported log says judged =
+    let after : AddsUp means reported new.core [] new.heard new.latest new.ended old.said log
+    = subst (λ rest. AddsUp means reported new.core (rest_table rest) new.heard new.latest new.ended old.said log) none (stays means reported [] old.said log judged) in
+    let at : AddsUp means reported new.core [] new.heard reading new.ended old.said log = subst (λ t. AddsUp means reported new.core [] new.heard t new.ended old.said log) latest_is after in
+    let heard : AddsUp means reported new.core [] old.heard reading new.ended old.said log = subst (λ n. AddsUp means reported new.core [] n reading new.ended old.said log) heard_same at in
+    follows-reports means reported new.core old.heard reading old.ended old.said log last
+    (subst (λ b. AddsUp means reported new.core [] old.heard reading b old.said log) ended_same heard) only says reached
 
 -- a judge is held while the clock goes on
 pub begins-held : (judge : Judge) (later : ℕ) → judge.latest ≤ later → KeepsUp judge → KeepsUp (record judge { latest = later })
 begins-held judge later goes_on held = record { ended = held.ended; latest = omega (arith, held.latest, goes_on); live = held.live; rest = held.rest; opens = held.opens; within = held.within }
 
 -- all of a slice is said
-pub said-all : (means : List Item → List Item) (told : ℕ → Bool) (judge : Judge) (slice : Slice) (reading : ℕ) (log : List LinkEvent) → judge.latest ≡ reading → judge.said ≡ slice.span.stop
-    → told reading ≡ true → slice.instant ≤ reading → slice.span.start < slice.span.stop
-    → FollowsWith means told judge (replicate (judge.said - slice.span.start) slice.instant) slice.span.start log
-    → Judged means told judge (log ++ Wrote slice reading ∷ [])
-said-all means told judge slice reading log latest_is all says due some follows =
+pub said-all : (means : List Item → List Item) (reported : ℕ → Bool) (judge : Judge) (slice : Slice) (reading : ℕ) (log : List LinkEvent) → judge.latest ≡ reading → judge.said ≡ slice.span.stop
+    → reported reading ≡ true → slice.instant ≤ reading → slice.span.start < slice.span.stop
+    → FollowsWith means reported judge (replicate (judge.said - slice.span.start) slice.instant) slice.span.start log
+    → Judged means reported judge (log ++ Wrote slice reading ∷ [])
+said-all means reported judge slice reading log latest_is all says due some follows =
     let length_is : judge.said - slice.span.start ≡ span_len slice.span = omega (arith, all) in
-    let front : AddsUp means told judge.core (replicate (span_len slice.span) slice.instant ++ rest_table judge.rest) judge.heard judge.latest judge.ended slice.span.start log
-    = subst (λ n. AddsUp means told judge.core (replicate n slice.instant ++ rest_table judge.rest) judge.heard judge.latest judge.ended slice.span.start log) length_is follows in
-    let now : AddsUp means told judge.core (replicate (span_len slice.span) slice.instant ++ rest_table judge.rest) judge.heard reading judge.ended slice.span.start log
-    = subst (λ t. AddsUp means told judge.core (replicate (span_len slice.span) slice.instant ++ rest_table judge.rest) judge.heard t judge.ended slice.span.start log) latest_is front in
-    let wrote = wrote-follows means told judge.core judge.heard reading judge.ended slice.span.start log (rest_table judge.rest) slice says due refl some now in
-    subst (λ t. AddsUp means told judge.core (rest_table judge.rest) judge.heard t judge.ended judge.said (log ++ Wrote slice reading ∷ [])) (sym latest_is)
-    (subst (λ at. AddsUp means told judge.core (rest_table judge.rest) judge.heard reading judge.ended at (log ++ Wrote slice reading ∷ [])) (sym all) wrote)
+    let front : AddsUp means reported judge.core (replicate (span_len slice.span) slice.instant ++ rest_table judge.rest) judge.heard judge.latest judge.ended slice.span.start log
+    = subst (λ n. AddsUp means reported judge.core (replicate n slice.instant ++ rest_table judge.rest) judge.heard judge.latest judge.ended slice.span.start log) length_is follows in
+    let now : AddsUp means reported judge.core (replicate (span_len slice.span) slice.instant ++ rest_table judge.rest) judge.heard reading judge.ended slice.span.start log
+    = subst (λ t. AddsUp means reported judge.core (replicate (span_len slice.span) slice.instant ++ rest_table judge.rest) judge.heard t judge.ended slice.span.start log) latest_is front in
+    let wrote = wrote-follows means reported judge.core judge.heard reading judge.ended slice.span.start log (rest_table judge.rest) slice says due refl some now in
+    subst (λ t. AddsUp means reported judge.core (rest_table judge.rest) judge.heard t judge.ended judge.said (log ++ Wrote slice reading ∷ [])) (sym latest_is)
+    (subst (λ at. AddsUp means reported judge.core (rest_table judge.rest) judge.heard reading judge.ended at (log ++ Wrote slice reading ∷ [])) (sym all) wrote)
 
 -- a core that took a piece keeps it behind the others
 pub keeps-taken : (core new : CoreView) (log : List LinkEvent) (len instant : ℕ)

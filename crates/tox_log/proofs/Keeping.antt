@@ -93,9 +93,9 @@ none-behind reset (event ∷ events) line rest heard order last = none-behind re
 
 -- The front of a faithful log
 
-timely-front : (told : ℕ → Type 0) (since : ℕ) (front back : List LinkEvent) → IsTimely told since (front ++ back) → IsTimely told since front
-timely-front told since [] back timely = tt
-timely-front told since (event ∷ front) back timely = (timely.0, timely.1, timely.2, timely-front told (reading_of event) front back timely.3)
+timely-front : (reported : ℕ → Type 0) (since : ℕ) (front back : List LinkEvent) → IsTimely reported since (front ++ back) → IsTimely reported since front
+timely-front reported since [] back timely = tt
+timely-front reported since (event ∷ front) back timely = (timely.0, timely.1, timely.2, timely-front reported (reading_of event) front back timely.3)
 
 nothing-front : (front back : List LinkEvent) → HearsNothing (front ++ back) → HearsNothing front
 nothing-front [] back none = tt
@@ -110,22 +110,22 @@ ordered-front (SourceEnd instant ∷ front) back ordered = nothing-front front b
 ordered-front (Wrote slice reading ∷ front) back ordered = ordered-front front back ordered
 
 -- it is faithful too
-pub faithful-front : (means : List Item → List Item) (told : ℕ → Type 0) (front back : List LinkEvent) → IsFaithful means told (front ++ back) → IsFaithful means told front
-faithful-front means told front back faithful = record {
+pub faithful-front : (means : List Item → List Item) (reported : ℕ → Type 0) (front back : List LinkEvent) → IsFaithful means reported (front ++ back) → IsFaithful means reported front
+faithful-front means reported front back faithful = record {
   agrees = λ n.
       let whole : front ++ back ≡ take n front ++ (drop n front ++ back) = ap (λ events. events ++ back) (sym (take-append-drop n front)) ∙ append_assoc (take n front) (drop n front) back in
       subst (Agrees means) (ap (take (length (take n front))) whole ∙ take-append_seam (take n front) (drop n front ++ back)) (faithful.agrees (length (take n front)));
-  timely = timely-front told 0 front back faithful.timely;
+  timely = timely-front reported 0 front back faithful.timely;
   ordered = ordered-front front back faithful.ordered;
 }
 
 -- so no line of a link is refused
-module _ (means : List Item → List Item) (told : ℕ → Bool) (lines : List LogLine) (heard : StreamPosition) (order : AreInOrder heard lines) (kept : AreLinkLines means told lines) where
+module _ (means : List Item → List Item) (reported : ℕ → Bool) (lines : List LogLine) (heard : StreamPosition) (order : AreInOrder heard lines) (kept : AreLinkLines means reported lines) where
   refused-event : (reset : Bool) (events : List LinkEvent) (event : LinkEvent) (line : LogLine) (rest : List LogLine) → events_in (line ∷ rest) ≡ event ∷ events_in rest → lines ≡ map (logged_line reset) events ++ line ∷ rest
       → IsRefused means events (Event event) → ⊥
   refused-event reset events event line rest tells is refused =
       let whole : events_in lines ≡ (events ++ event ∷ []) ++ events_in rest = ap events_in is ∙ events-of reset events (line ∷ rest) ∙ ap (λ more. events ++ more) tells ∙ sym (append_assoc events (event ∷ []) (events_in rest)) in
-      refused told (faithful-front means (λ t. told t ≡ true) (events ++ event ∷ []) (events_in rest) (subst (IsFaithful means (λ t. told t ≡ true)) whole kept.faithful))
+      refused reported (faithful-front means (λ t. reported t ≡ true) (events ++ event ∷ []) (events_in rest) (subst (IsFaithful means (λ t. reported t ≡ true)) whole kept.faithful))
 
   none-refused : (reset : Bool) (events : List LinkEvent) (line : LogLine) (rest : List LogLine) → lines ≡ map (logged_line reset) events ++ line ∷ rest → IsRefused means events line → ⊥
   none-refused reset events (Event event) rest is refused = refused-event reset events event (Event event) rest refl is refused
@@ -134,9 +134,9 @@ module _ (means : List Item → List Item) (told : ℕ → Bool) (lines : List L
       let line : LogLine = Last (Ended reading last) in
       let none : rest ≡ [] = none-behind reset events line rest heard (subst (AreInOrder heard) is order) refl in
       let whole : events_in lines ≡ events = ap events_in is ∙ events-of reset events (line ∷ rest) ∙ ap (λ rest. events ++ events_in rest) none ∙ append-nil events in
-      let report : IsReported means told events reading last = subst (λ events. IsReported means told events reading last) whole
+      let report : IsReported means reported events reading last = subst (λ events. IsReported means reported events reading last) whole
       (kept.reported reading last (subst (λ lines. Contains lines line) (sym (is ∙ ap (λ rest. map (logged_line reset) events ++ line ∷ rest) none)) (Contains-push (map (logged_line reset) events) line))) in
-      refused told report.taken report.written report.source report.report
+      refused reported report.taken report.written report.source report.report
   none-refused reset events (Last (Broken cause bytes)) rest is refused = refused
 
   -- nor has its text a refusal

@@ -62,14 +62,14 @@ writable-ending reading (ClosedAt t) bound reached = omega (arith, bound, reache
 writable-ending reading (ResetAt t) bound reached = omega (arith, bound, reached)
 
 -- Readings that are instants
-module _ (told : ℕ → Type 0) (instants : (t : ℕ) → told t → IsInstant t) where
-  by-horizon : (since : ℕ) (events : List LinkEvent) → IsTimely told since events → IsBy horizon events
+module _ (reported : ℕ → Type 0) (instants : (t : ℕ) → reported t → IsInstant t) where
+  by-horizon : (since : ℕ) (events : List LinkEvent) → IsTimely reported since events → IsBy horizon events
   by-horizon since [] timely = tt
   by-horizon since (event ∷ events) timely = (instants (reading_of event) timely.0, by-horizon (reading_of event) events timely.3)
 
   -- each event may come next, and so may the lines behind them
   in-order : (most stop : ℕ) (tail : List LogLine) → ((heard : StreamPosition) → heard.latest ≤ most → AreInOrder heard tail) → stop ≤ 2 ^ 40
-      → (heard : StreamPosition) (start : ℕ) (events : List LinkEvent) → IsTimely told heard.latest events → HasSmallPieces events → HearsOn heard.ended events → heard.position + heard_bytes events ≤ 2 ^ 40
+      → (heard : StreamPosition) (start : ℕ) (events : List LinkEvent) → IsTimely reported heard.latest events → HasSmallPieces events → HearsOn heard.ended events → heard.position + heard_bytes events ≤ 2 ^ 40
       → IsGapless start (said events) stop → IsBy most events → heard.latest ≤ most → AreInOrder heard (map Event events ++ tail)
   in-order most stop tail behind few heard start [] timely small order fits gapless by late = behind heard late
   in-order most stop tail behind few heard start (Piece len t ∷ events) timely small order fits gapless by late =
@@ -98,7 +98,7 @@ module _ (told : ℕ → Type 0) (instants : (t : ℕ) → told t → IsInstant 
       )
 
   -- what is heard of them is a stream
-  heard-stream : (now start since : ℕ) (events : List LinkEvent) (rest : List Item) → since ≤ now → IsTimely told since events → IsHeardInOrder events → IsBy now events → IsStreamFrom (start + heard_bytes events) now rest
+  heard-stream : (now start since : ℕ) (events : List LinkEvent) (rest : List Item) → since ≤ now → IsTimely reported since events → IsHeardInOrder events → IsBy now events → IsStreamFrom (start + heard_bytes events) now rest
       → IsStreamFrom start since (heard_from start events rest)
   heard-stream now start since [] rest before timely order by stream = stream-earlier start since now rest before (subst (λ at. IsStreamFrom at now rest) (add-zero start) stream)
   heard-stream now start since (Piece len t ∷ events) rest before timely order by stream =
@@ -110,17 +110,17 @@ module _ (told : ℕ → Type 0) (instants : (t : ℕ) → told t → IsInstant 
 
   -- Another function that does the same with a stream
   module _ (means other : List Item → List Item) (same : (items : List Item) → IsStream items → other items ≡ means items) where
-    heard-same : (events : List LinkEvent) → IsFaithful means told events → other (heard events) ≡ means (heard events)
+    heard-same : (events : List LinkEvent) → IsFaithful means reported events → other (heard events) ≡ means (heard events)
     heard-same events faithful = same (heard events) (heard-stream horizon 0 0 events (Quiet ∷ []) (omega arith) faithful.timely faithful.ordered (by-horizon 0 events faithful.timely) refl)
 
-    timely-any : (since : ℕ) (events : List LinkEvent) → IsTimely told since events → IsTimely (λ t. true ≡ true) since events
+    timely-any : (since : ℕ) (events : List LinkEvent) → IsTimely reported since events → IsTimely (λ t. true ≡ true) since events
     timely-any since [] timely = tt
     timely-any since (event ∷ events) timely = (refl, timely.1, timely.2, timely-any (reading_of event) events timely.3)
 
-    faithful-other : (events : List LinkEvent) → IsFaithful means told events → IsFaithful other (λ t. true ≡ true) events
+    faithful-other : (events : List LinkEvent) → IsFaithful means reported events → IsFaithful other (λ t. true ≡ true) events
     faithful-other events faithful = record {
       agrees = λ n.
-          let front = faithful-front means told (take n events) (drop n events) (subst (IsFaithful means told) (sym (take-append-drop n events)) faithful) in
+          let front = faithful-front means reported (take n events) (drop n events) (subst (IsFaithful means reported) (sym (take-append-drop n events)) faithful) in
           record {
             gapless = (faithful.agrees n).gapless;
             prefix = subst (λ items. IsPrefix (slices_table (said (take n events))) (table items)) (sym (heard-same (take n events) front)) (faithful.agrees n).prefix;
@@ -129,7 +129,7 @@ module _ (told : ℕ → Type 0) (instants : (t : ℕ) → told t → IsInstant 
       ordered = faithful.ordered;
     }
 
-    reports-other : (events : List LinkEvent) (taken written reading : ℕ) (last : Ending) (source : Option ReadEnd) → ReportsAt means told events taken written last source reading
+    reports-other : (events : List LinkEvent) (taken written reading : ℕ) (last : Ending) (source : Option ReadEnd) → ReportsAt means reported events taken written last source reading
         → ReportsAt other (λ t. true ≡ true) events taken written last source reading
     reports-other events taken written reading last source report =
         let here = heard-same events report.faithful in
@@ -153,7 +153,7 @@ module _ (told : ℕ → Type 0) (instants : (t : ℕ) → told t → IsInstant 
           hears = report.hears;
         }
 
--- The lines of events, where a source's end may be told as a reset
+-- The lines of events, where a source's end may be reported as a reset
 
 order-logged : (reset : Bool) (heard : StreamPosition) (events : List LinkEvent) (tail : List LogLine) → AreInOrder heard (map Event events ++ tail) → AreInOrder heard (map (logged_line reset) events ++ tail)
 order-logged reset heard [] tail order = order
@@ -173,30 +173,30 @@ all-events reset events line = All-contains (λ line. is_last line ≡ false) (m
 events-behind : (reset : Bool) (events : List LinkEvent) (tail : List LogLine) → events_in tail ≡ [] → events_in (map (logged_line reset) events ++ tail) ≡ events
 events-behind reset events tail none = events-of reset events tail ∙ ap (λ rest. events ++ rest) none ∙ append-nil events
 
-said-stop : (means : List Item → List Item) (told : ℕ → Type 0) (events : List LinkEvent) → IsFaithful means told events → SaysHeard events → (stop : ℕ) × IsGapless 0 (said events) stop × (stop ≤ 2 ^ 40)
-said-stop means told events faithful of_heard =
+said-stop : (means : List Item → List Item) (reported : ℕ → Type 0) (events : List LinkEvent) → IsFaithful means reported events → SaysHeard events → (stop : ℕ) × IsGapless 0 (said events) stop × (stop ≤ 2 ^ 40)
+said-stop means reported events faithful of_heard =
     let all : take (length events) events ≡ events = take_all (length events) events (omega arith) in
     let gapless = subst (λ events. (stop : ℕ) × IsGapless 0 (said events) stop) all (faithful.agrees (length events)).gapless in
     let long = gapless-bytes 0 (said events) gapless.0 gapless.1 in
     (gapless.0, gapless.1, omega (arith, long, of_heard.heard, of_heard.few))
 
 -- the lines of a link that ended
-pub noted-ended : (told : ℕ → Type 0) → ((t : ℕ) → told t → IsInstant t) → (means : List Item → List Item) (reset : Bool) (events : List LinkEvent) (taken written reading : ℕ) (last : Ending) (source : Option ReadEnd)
-    → ReportsAt means told events taken written last source reading → SaysHeard events → AreNoted means (ended_lines reset events reading last)
-noted-ended told instants means reset events taken written reading last source report of_heard =
+pub noted-ended : (reported : ℕ → Type 0) → ((t : ℕ) → reported t → IsInstant t) → (means : List Item → List Item) (reset : Bool) (events : List LinkEvent) (taken written reading : ℕ) (last : Ending) (source : Option ReadEnd)
+    → ReportsAt means reported events taken written last source reading → SaysHeard events → AreNoted means (ended_lines reset events reading last)
+noted-ended reported instants means reset events taken written reading last source report of_heard =
     let bound = instants reading report.says in
-    let (stop, gapless, few) = said-stop means told events report.faithful of_heard in
+    let (stop, gapless, few) = said-stop means reported events report.faithful of_heard in
     let line : LogLine = Last (Ended reading last) in
     record {
       in_order = order-logged reset first_position events (line ∷ [])
-          (in-order told instants reading stop (line ∷ []) (λ heard late. ((bound, writable-ending reading last bound report.reached), late, (λ over. refl), tt)) few first_position 0 events report.faithful.timely of_heard.small report.faithful.ordered
+          (in-order reported instants reading stop (line ∷ []) (λ heard late. ((bound, writable-ending reading last bound report.reached), late, (λ over. refl), tt)) few first_position 0 events report.faithful.timely of_heard.small report.faithful.ordered
           (omega (arith, of_heard.few)) gapless report.by (omega arith));
       linked = λ other same.
           let here : events_in (map (logged_line reset) events ++ line ∷ []) ≡ events = events-behind reset events (line ∷ []) refl in
           let reported : IsReported other (λ reading. true) events reading last
-          = record { taken = taken; written = written; source = source; report = reports-other told instants means other same events taken written reading last source report } in
+          = record { taken = taken; written = written; source = source; report = reports-other reported instants means other same events taken written reading last source report } in
           record {
-            faithful = subst (IsFaithful other (λ t. true ≡ true)) (sym here) (faithful-other told instants means other same events report.faithful);
+            faithful = subst (IsFaithful other (λ t. true ≡ true)) (sym here) (faithful-other reported instants means other same events report.faithful);
             reported = λ at end has. subst (λ events. IsReported other (λ reading. true) events at end) (sym here) (is-last (IsReported other (λ reading. true) events) at end reported (Contains-push_cases (map (logged_line reset) events) line (Last (Ended at end)) has));
           };
       shallow = subst (IsShallowBehind []) (sym (events-behind reset events (line ∷ []) refl)) of_heard.shallow;
@@ -210,19 +210,19 @@ noted-ended told instants means reset events taken written reading last source r
         subst (λ at. P at end) at_is (subst (P reading) end_is here)
 
 -- the lines of a link that broke off
-pub noted-broken : (told : ℕ → Type 0) → ((t : ℕ) → told t → IsInstant t) → (means : List Item → List Item) (reset : Bool) (events : List LinkEvent) (written : ℕ) (cause : BreakCause) → IsCutOff means told written events
+pub noted-broken : (reported : ℕ → Type 0) → ((t : ℕ) → reported t → IsInstant t) → (means : List Item → List Item) (reset : Bool) (events : List LinkEvent) (written : ℕ) (cause : BreakCause) → IsCutOff means reported written events
     → AreNoted means (broken_lines reset events cause written)
-noted-broken told instants means reset events written cause cut =
-    let (stop, gapless, few) = said-stop means told events cut.faithful cut.of_heard in
+noted-broken reported instants means reset events written cause cut =
+    let (stop, gapless, few) = said-stop means reported events cut.faithful cut.of_heard in
     let line : LogLine = Last (Broken cause written) in
     record {
       in_order = order-logged reset first_position events (line ∷ [])
-          (in-order told instants horizon stop (line ∷ []) (λ heard late. (omega (arith, cut.within, cut.of_heard.few), tt, (λ over. refl), tt)) few first_position 0 events cut.faithful.timely cut.of_heard.small cut.faithful.ordered
-          (omega (arith, cut.of_heard.few)) gapless (by-horizon told instants 0 events cut.faithful.timely) (omega arith));
+          (in-order reported instants horizon stop (line ∷ []) (λ heard late. (omega (arith, cut.within, cut.of_heard.few), tt, (λ over. refl), tt)) few first_position 0 events cut.faithful.timely cut.of_heard.small cut.faithful.ordered
+          (omega (arith, cut.of_heard.few)) gapless (by-horizon reported instants 0 events cut.faithful.timely) (omega arith));
       linked = λ other same.
           let here : events_in (map (logged_line reset) events ++ line ∷ []) ≡ events = events-behind reset events (line ∷ []) refl in
           record {
-            faithful = subst (IsFaithful other (λ t. true ≡ true)) (sym here) (faithful-other told instants means other same events cut.faithful);
+            faithful = subst (IsFaithful other (λ t. true ≡ true)) (sym here) (faithful-other reported instants means other same events cut.faithful);
             reported = λ at end has. absurd (no-last at end (Contains-push_cases (map (logged_line reset) events) line (Last (Ended at end)) has));
           };
       shallow = subst (IsShallowBehind []) (sym (events-behind reset events (line ∷ []) refl)) cut.of_heard.shallow;

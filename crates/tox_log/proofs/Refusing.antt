@@ -16,7 +16,7 @@ use Rattle.tox_link.specs.declared.link_core.act.Act.TheVariants.{Write, WaitUnt
 use Rattle.tox_link.specs.link_core.Acts.{After, IsSliceAct}
 use Rattle.tox_link.specs.link_core.Core.{CoreView, remaining_output}
 use Rattle.tox_link.specs.log.Log.{said, Agrees, reading_of, IsFaithful, IsGapless, IsTimely}
-use Rattle.tox_log.specs.Hearing.{IsTold}
+use Rattle.tox_log.specs.Hearing.{AreReported}
 use Rattle.tox_link.proofs.Logs.{heard-wrote, said-append}
 use Rattle.tox_log.specs.declared.judge.Judge.{Judge}
 use Rattle.tox_log.specs.Judging.{Expects, Judged, next_table, rest_table, slice_in}
@@ -28,21 +28,21 @@ gapless-last start [] slice middle stop before all = (all.0 ∙ before, omega (a
 gapless-last start (first ∷ slices) slice middle stop before all = gapless-last first.span.stop slices slice middle stop before.2 all.2
 
 -- a slice that was written last is due
-last-due : (told : ℕ → Type 0) (since : ℕ) (log : List LinkEvent) (slice : Slice) (reading : ℕ) → IsTimely told since (log ++ Wrote slice reading ∷ []) → slice.instant ≤ reading
-last-due told since [] slice reading timely = timely.2
-last-due told since (Piece len t ∷ log) slice reading timely = last-due told t log slice reading timely.3
-last-due told since (SourceEnd t ∷ log) slice reading timely = last-due told t log slice reading timely.3
-last-due told since (Wrote other t ∷ log) slice reading timely = last-due told t log slice reading timely.3
+last-due : (reported : ℕ → Type 0) (since : ℕ) (log : List LinkEvent) (slice : Slice) (reading : ℕ) → IsTimely reported since (log ++ Wrote slice reading ∷ []) → slice.instant ≤ reading
+last-due reported since [] slice reading timely = timely.2
+last-due reported since (Piece len t ∷ log) slice reading timely = last-due reported t log slice reading timely.3
+last-due reported since (SourceEnd t ∷ log) slice reading timely = last-due reported t log slice reading timely.3
+last-due reported since (Wrote other t ∷ log) slice reading timely = last-due reported t log slice reading timely.3
 
--- the clock told the readings of a timely log
-pub timely-told : (told : ℕ → Bool) (since : ℕ) (log : List LinkEvent) → IsTimely (λ t. told t ≡ true) since log → IsTold told log
-timely-told told since [] timely = All-nil (λ event. told (reading_of event) ≡ true)
-timely-told told since (event ∷ log) timely =
-    All-cons (λ event. told (reading_of event) ≡ true) event log timely.0 (timely-told told (reading_of event) log timely.3)
+-- the clock reported the readings of a timely log
+pub timely-reported : (reported : ℕ → Bool) (since : ℕ) (log : List LinkEvent) → IsTimely (λ t. reported t ≡ true) since log → AreReported reported log
+timely-reported reported since [] timely = All-nil (λ event. reported (reading_of event) ≡ true)
+timely-reported reported since (event ∷ log) timely =
+    All-cons (λ event. reported (reading_of event) ≡ true) event log timely.0 (timely-reported reported (reading_of event) log timely.3)
 
 -- a whole log agrees with its plan
-agrees-whole : (means : List Item → List Item) (told : ℕ → Type 0) (log : List LinkEvent) → IsFaithful means told log → Agrees means log
-agrees-whole means told log faithful = subst (Agrees means) (take-length log) (faithful.agrees (length log))
+agrees-whole : (means : List Item → List Item) (reported : ℕ → Type 0) (log : List LinkEvent) → IsFaithful means reported log → Agrees means log
+agrees-whole means reported log faithful = subst (Agrees means) (take-length log) (faithful.agrees (length log))
 
 -- the next event of a faithful log, where it is a slice
 pub record IsNext (judge : Judge) (slice : Slice) (reading : ℕ) : Type 0 where
@@ -51,10 +51,10 @@ pub record IsNext (judge : Judge) (slice : Slice) (reading : ℕ) : Type 0 where
   pub due : slice.instant ≤ reading
   pub expects : Expects judge (span_len slice.span) slice.instant
 
-pub faithful-next : (means : List Item → List Item) (told : ℕ → Bool) (judge : Judge) (log : List LinkEvent) (slice : Slice) (reading : ℕ) → Judged means told judge log
-    → IsFaithful means (λ t. told t ≡ true) (log ++ Wrote slice reading ∷ []) → IsNext judge slice reading
-faithful-next means told judge log slice reading judged faithful =
-    let agrees : Agrees means (log ++ Wrote slice reading ∷ []) = agrees-whole means (λ t. told t ≡ true) (log ++ Wrote slice reading ∷ []) faithful in
+pub faithful-next : (means : List Item → List Item) (reported : ℕ → Bool) (judge : Judge) (log : List LinkEvent) (slice : Slice) (reading : ℕ) → Judged means reported judge log
+    → IsFaithful means (λ t. reported t ≡ true) (log ++ Wrote slice reading ∷ []) → IsNext judge slice reading
+faithful-next means reported judge log slice reading judged faithful =
+    let agrees : Agrees means (log ++ Wrote slice reading ∷ []) = agrees-whole means (λ t. reported t ≡ true) (log ++ Wrote slice reading ∷ []) faithful in
     let said_is : said (log ++ Wrote slice reading ∷ []) ≡ said log ++ slice ∷ [] = said-append log (Wrote slice reading ∷ []) in
     let ends : IsGapless 0 (said log ++ slice ∷ []) agrees.gapless.0 = subst (λ slices. IsGapless 0 slices agrees.gapless.0) said_is agrees.gapless.1 in
     let last = gapless-last 0 (said log) slice judge.said agrees.gapless.0 judged.gapless ends in
@@ -68,7 +68,7 @@ faithful-next means told judge log slice reading judged faithful =
     record {
       starts = last.0;
       some = last.1;
-      due = last-due (λ t. told t ≡ true) 0 log slice reading faithful.timely;
+      due = last-due (λ t. reported t ≡ true) 0 log slice reading faithful.timely;
       expects = (more, append_cancel_left (slices_table (said log)) (replicate (span_len slice.span) slice.instant ++ more) (next_table judge) whole);
     }
 

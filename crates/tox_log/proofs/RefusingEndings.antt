@@ -58,16 +58,16 @@ open-reached now (ClosedAt t) open_yet reached = absurd (omega (arith, open_yet,
 open-reached now (ResetAt t) open_yet reached = absurd (omega (arith, open_yet, reached))
 
 -- a link that reports its end has said all
-pub report-whole : (means : List Item → List Item) (told : ℕ → Bool) (judge : Judge) (log : List LinkEvent) → Judged means told judge log
+pub report-whole : (means : List Item → List Item) (reported : ℕ → Bool) (judge : Judge) (log : List LinkEvent) → Judged means reported judge log
     → slices_table (said log) ≡ table (means (heard log)) → next_table judge ≡ []
-report-whole means told judge log judged whole =
+report-whole means reported judge log judged whole =
     append_cancel_left (slices_table (said log)) (next_table judge) [] (sym (judged.tables (Quiet ∷ []) refl) ∙ sym whole ∙ sym (append-nil (slices_table (said log))))
 
 -- a judge that asked at a reading at which a link reports this ending
-module _ (means : List Item → List Item) (told : ℕ → Bool) (old new : Judge) (log : List LinkEvent) (taken written : ℕ) (last : Ending) (source : Option ReadEnd) (reading : ℕ) (fits : IsInstant reading)
-    (stays : Stays old new) (latest_is : new.latest ≡ reading) (judged : Judged means told old log) (report : ReportsAt means (λ t. told t ≡ true) log taken written last source reading) where
-  after : FollowsWith means told new [] old.said log
-  after = stays means told [] old.said log judged
+module _ (means : List Item → List Item) (reported : ℕ → Bool) (old new : Judge) (log : List LinkEvent) (taken written : ℕ) (last : Ending) (source : Option ReadEnd) (reading : ℕ) (fits : IsInstant reading)
+    (stays : Stays old new) (latest_is : new.latest ≡ reading) (judged : Judged means reported old log) (report : ReportsAt means (λ t. reported t ≡ true) log taken written last source reading) where
+  after : FollowsWith means reported new [] old.said log
+  after = stays means reported [] old.said log judged
 
   quiet-end : ending (remaining_output new.core (Quiet ∷ [])) ≡ last
   quiet-end = sym (after.endings (Quiet ∷ []) refl) ∙ report.ends

@@ -6,7 +6,7 @@ use Rattle.tox_log.specs.declared.event_line.LogLine.{LogLine}
 use Rattle.tox_log.specs.declared.event_line.LogLine.TheVariants.{Event, SourceReset}
 use Rattle.tox_log.specs.Lines.{line_words}
 
--- the line of an event: a source's end is told as a reset, if it was one
+-- the line of an event: a source's end is reported as a reset, if it was one
 abbrev pub logged_line : Bool → LinkEvent → LogLine
 logged_line false event = Event event
 logged_line true (Piece len instant) = Event (Piece len instant)

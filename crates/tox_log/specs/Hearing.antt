@@ -31,9 +31,9 @@ use Rattle.tox_log.specs.Lines.{IsWritable, line_words}
 use Rattle.tox_log.specs.Reading.{IsLineNumber, LacksLine, is_last, next_number, to_hand}
 use Rattle.tox_log.specs.Judging.{HasNoReport, Judged, source_heard}
 
--- the clock told the reading of each event
-abbrev pub IsTold : (ℕ → Bool) → List LinkEvent → Type 0
-IsTold told events = All (λ event. told (reading_of event) ≡ true) events
+-- the clock reported the reading of each event
+abbrev pub AreReported : (ℕ → Bool) → List LinkEvent → Type 0
+AreReported reported events = All (λ event. reported (reading_of event) ≡ true) events
 
 -- the instant of the source's end, if it was heard
 abbrev pub source_end_of : List LinkEvent → Option ℕ
@@ -55,7 +55,7 @@ pub record HasHeard (means : List Item → List Item) (text : List ℕ) (hearing
   pub written : All (λ event. IsWritable (Event event)) events
   pub lines : text ≡ event_lines hearing.source_reset events
   pub source_end : source_end_of events ≡ hearing.source_end
-  pub judged : (told : ℕ → Bool) → IsTold told events → Judged means told hearing.judge events
+  pub judged : (reported : ℕ → Bool) → AreReported reported events → Judged means reported hearing.judge events
   pub count : length (said events) ≡ hearing.writes
   pub late : KeepsLate (lates events) hearing.late
 
@@ -88,19 +88,19 @@ pub record HasReport (means : List Item → List Item) (text : List ℕ) (taken 
   pub lines : text ≡ event_lines reset events ++ last_line (Ended reading ending)
   pub counts : AreCounts events taken written source_end writes
   pub values : late ≡ lates events ++ ending_late reading ending
-  pub report : (told : ℕ → Bool) → IsTold told events → told reading ≡ true
-      → ReportsAt means (λ t. told t ≡ true) events taken written ending (source_heard (is_some source_end)) reading
+  pub report : (reported : ℕ → Bool) → AreReported reported events → reported reading ≡ true
+      → ReportsAt means (λ t. reported t ≡ true) events taken written ending (source_heard (is_some source_end)) reading
 
--- whatever the clock told, no log with these events that goes on with this one is faithful
+-- whatever the clock reported, no log with these events that goes on with this one is faithful
 abbrev pub IsRefusedEvent : (List Item → List Item) → List LinkEvent → LinkEvent → Type 0
-IsRefusedEvent means events event = (told : ℕ → Bool) → IsFaithful means (λ t. told t ≡ true) (events ++ event ∷ []) → ⊥
+IsRefusedEvent means events event = (reported : ℕ → Bool) → IsFaithful means (λ t. reported t ≡ true) (events ++ event ∷ []) → ⊥
 
--- no log with these events that goes on with this line is faithful, or, whatever the clock told, no link with these events reports this
+-- no log with these events that goes on with this line is faithful, or, whatever the clock reported, no link with these events reports this
 -- ending at this reading; a line that tells a break is never refused
 abbrev pub IsRefused : (List Item → List Item) → List LinkEvent → LogLine → Type 0
 IsRefused means events (Event event) = IsRefusedEvent means events event
 IsRefused means events (SourceReset instant) = IsRefusedEvent means events (SourceEnd instant)
-IsRefused means events (Last (Ended reading ending)) = (told : ℕ → Bool) → HasNoReport means told events reading ending
+IsRefused means events (Last (Ended reading ending)) = (reported : ℕ → Bool) → HasNoReport means reported events reading ending
 IsRefused means events (Last (Broken cause bytes)) = ⊥
 
 -- the text is the lines of faithful events, one that is refused behind them, and more; that line has this number, if the first of
@@ -113,7 +113,7 @@ pub record HasRefusal (means : List Item → List Item) (text : List ℕ) (start
   pub written : All (λ event. IsWritable (Event event)) events
   pub writable : IsWritable line
   pub lines : text ≡ event_lines reset events ++ ((line_words line ++ 10 ∷ []) ++ more)
-  pub faithful : (told : ℕ → Bool) → IsTold told events → IsFaithful means (λ t. told t ≡ true) events
+  pub faithful : (reported : ℕ → Bool) → AreReported reported events → IsFaithful means (λ t. reported t ≡ true) events
   pub refused : IsRefused means events line
   pub numbered : IsLineNumber number (start + length events)
 
@@ -199,7 +199,7 @@ pub record HasStopped (means : List Item → List Item) (text : List ℕ) (broke
   pub tells : TellsNoEnding broken last
   pub counts : AreCounts events taken written source_end writes
   pub values : late ≡ lates events
-  pub faithful : (told : ℕ → Bool) → IsTold told events → IsFaithful means (λ t. told t ≡ true) events
+  pub faithful : (reported : ℕ → Bool) → AreReported reported events → IsFaithful means (λ t. reported t ≡ true) events
 
 -- behind the header stand the lines of faithful events, and no last line with a settled ending
 pub record IsUnfinishedText (given : Option (List ℕ)) (judged : JudgedLog) : Type 0 where

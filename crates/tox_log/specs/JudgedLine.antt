@@ -11,7 +11,7 @@ use Rattle.tox_log.specs.declared.replay.Verdict.TheVariants.{Faithful, Unfinish
 -- what was written is the object of a log with this verdict, and what was read is faithful or unfinished if it says so
 pub record HasJudged (given old new : Option (List ℕ)) (file : List ℕ) (verdict : Verdict) : Type 0 where
   pub log : JudgedLog
-  pub told : verdict ≡ log.verdict
+  pub reported : verdict ≡ log.verdict
   pub line : new ≡ append_known old (judged_object file log)
   pub faithful : (ending : Ending) → log.verdict ≡ Faithful ending → IsFaithfulText given log ending
   pub unfinished : log.verdict ≡ Unfinished → IsUnfinishedText given log

@@ -54,10 +54,10 @@ pub record KeepsUp (judge : Judge) : Type 0 where
 
 -- what was said up to a position, what the core gave since then, and what is to come are together what the plan means for what was
 -- heard and goes on from there; the log is faithful, and no reading of it is above the last one; the core keeps the last pieces heard
-pub record AddsUp (means : List Item → List Item) (told : ℕ → Bool) (core : CoreView) (given : List ℕ) (heard latest : ℕ) (ended : Bool) (start : ℕ) (log : List LinkEvent) : Type 0 where
+pub record AddsUp (means : List Item → List Item) (reported : ℕ → Bool) (core : CoreView) (given : List ℕ) (heard latest : ℕ) (ended : Bool) (start : ℕ) (log : List LinkEvent) : Type 0 where
   pub tables : (items : List Item) → IsStreamFrom heard latest items → table (means (heard_from 0 log items)) ≡ slices_table (said log) ++ (given ++ table (remaining_output core items))
   pub endings : (items : List Item) → IsStreamFrom heard latest items → ending (means (heard_from 0 log items)) ≡ ending (remaining_output core items)
-  pub faithful : IsFaithful means (λ t. told t ≡ true) log
+  pub faithful : IsFaithful means (λ t. reported t ≡ true) log
   pub by : IsBy latest log
   pub gapless : IsGapless 0 (said log) start
   pub bytes : heard_bytes log ≡ heard
@@ -66,21 +66,21 @@ pub record AddsUp (means : List Item → List Item) (told : ℕ → Bool) (core 
 
 -- a judge after a log, and after these instants of a slice that starts at a position
 abbrev pub FollowsWith : (List Item → List Item) → (ℕ → Bool) → Judge → List ℕ → ℕ → List LinkEvent → Type 0
-FollowsWith means told judge front start log = AddsUp means told judge.core (front ++ rest_table judge.rest) judge.heard judge.latest judge.ended start log
+FollowsWith means reported judge front start log = AddsUp means reported judge.core (front ++ rest_table judge.rest) judge.heard judge.latest judge.ended start log
 
 -- a judge after a log
 abbrev pub Judged : (List Item → List Item) → (ℕ → Bool) → Judge → List LinkEvent → Type 0
-Judged means told judge log = FollowsWith means told judge [] judge.said log
+Judged means reported judge log = FollowsWith means reported judge [] judge.said log
 
 -- a step with no event
 abbrev pub Stays : Judge → Judge → Type 0
-Stays old new = (means : List Item → List Item) (told : ℕ → Bool) (front : List ℕ) (start : ℕ) (log : List LinkEvent)
-    → FollowsWith means told old front start log → FollowsWith means told new front start log
+Stays old new = (means : List Item → List Item) (reported : ℕ → Bool) (front : List ℕ) (start : ℕ) (log : List LinkEvent)
+    → FollowsWith means reported old front start log → FollowsWith means reported new front start log
 
 -- a step with an event
 abbrev pub Hears : Judge → LinkEvent → Judge → Type 0
-Hears old event new = (means : List Item → List Item) (told : ℕ → Bool) (log : List LinkEvent) → told (reading_of event) ≡ true
-    → Judged means told old log → Judged means told new (log ++ event ∷ [])
+Hears old event new = (means : List Item → List Item) (reported : ℕ → Bool) (log : List LinkEvent) → reported (reading_of event) ≡ true
+    → Judged means reported old log → Judged means reported new (log ++ event ∷ [])
 
 -- where it keeps 1,024 pieces, the runner's ends behind what was said
 abbrev pub HoldsUnsaid : Judge → Type 0
@@ -88,8 +88,8 @@ HoldsUnsaid judge = judge.ended ≡ false → 1_024 ≤ kept_count judge.core �
 
 -- the next bytes of a slice that leaves at an instant are said
 abbrev pub SaysPart : Judge → ℕ → Judge → Type 0
-SaysPart old due new = (means : List Item → List Item) (told : ℕ → Bool) (front : List ℕ) (start : ℕ) (log : List LinkEvent) (count : ℕ)
-    → new.said ≡ old.said + count → FollowsWith means told old front start log → FollowsWith means told new (front ++ replicate count due) start log
+SaysPart old due new = (means : List Item → List Item) (reported : ℕ → Bool) (front : List ℕ) (start : ℕ) (log : List LinkEvent) (count : ℕ)
+    → new.said ≡ old.said + count → FollowsWith means reported old front start log → FollowsWith means reported new (front ++ replicate count due) start log
 
 -- the instants of what is to be said, if nothing else is heard
 abbrev pub next_table : Judge → List ℕ
@@ -101,8 +101,8 @@ Expects judge count due = IsPrefix (replicate count due) (next_table judge)
 
 -- no faithful log goes on with this event
 abbrev pub Refuses : Judge → LinkEvent → Type 0
-Refuses judge event = (means : List Item → List Item) (told : ℕ → Bool) (log : List LinkEvent) → Judged means told judge log
-    → IsFaithful means (λ t. told t ≡ true) (log ++ event ∷ []) → ⊥
+Refuses judge event = (means : List Item → List Item) (reported : ℕ → Bool) (log : List LinkEvent) → Judged means reported judge log
+    → IsFaithful means (λ t. reported t ≡ true) (log ++ event ∷ []) → ⊥
 
 -- all is said, and a link whose core knows no ending hasn't ended at a reading
 abbrev pub HasSaidAll : Judge → ℕ → Type 0
@@ -110,11 +110,11 @@ HasSaidAll judge reading = (judge.rest ≡ None) × (core_ending judge.core ≡ 
 
 -- no link with this log reports this ending at a reading
 abbrev pub HasNoReport : (List Item → List Item) → (ℕ → Bool) → List LinkEvent → ℕ → Ending → Type 0
-HasNoReport means told log reading last = (taken written : ℕ) (source : Option ReadEnd) → ReportsAt means (λ t. told t ≡ true) log taken written last source reading → ⊥
+HasNoReport means reported log reading last = (taken written : ℕ) (source : Option ReadEnd) → ReportsAt means (λ t. reported t ≡ true) log taken written last source reading → ⊥
 
 -- no link with the log of a judge reports this ending at a reading
 abbrev pub RefusesEnding : Judge → ℕ → Ending → Type 0
-RefusesEnding judge reading last = (means : List Item → List Item) (told : ℕ → Bool) (log : List LinkEvent) → Judged means told judge log → HasNoReport means told log reading last
+RefusesEnding judge reading last = (means : List Item → List Item) (reported : ℕ → Bool) (log : List LinkEvent) → Judged means reported judge log → HasNoReport means reported log reading last
 
 -- how the source ended, if its end was heard
 abbrev pub source_heard : Bool → Option ReadEnd

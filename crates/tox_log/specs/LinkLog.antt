@@ -22,18 +22,18 @@ events_in (SourceReset instant ∷ lines) = SourceEnd instant ∷ events_in line
 events_in (Last last ∷ lines) = events_in lines
 
 -- a link reports this ending at this reading, with some counts and some end of its source
-pub record IsReported (means : List Item → List Item) (told : ℕ → Bool) (events : List LinkEvent) (reading : ℕ) (last : Ending) : Type 0 where
+pub record IsReported (means : List Item → List Item) (reported : ℕ → Bool) (events : List LinkEvent) (reading : ℕ) (last : Ending) : Type 0 where
   pub taken : ℕ
   pub written : ℕ
   pub source : Option ReadEnd
-  pub report : ReportsAt means (λ t. told t ≡ true) events taken written last source reading
+  pub report : ReportsAt means (λ t. reported t ≡ true) events taken written last source reading
 
 -- lines that a link writes: their events are faithful, and an ending among them is what it reports
-pub record AreLinkLines (means : List Item → List Item) (told : ℕ → Bool) (lines : List LogLine) : Type 0 where
-  pub faithful : IsFaithful means (λ t. told t ≡ true) (events_in lines)
-  pub reported : (reading : ℕ) (last : Ending) → Contains lines (Last (Ended reading last)) → IsReported means told (events_in lines) reading last
+pub record AreLinkLines (means : List Item → List Item) (reported : ℕ → Bool) (lines : List LogLine) : Type 0 where
+  pub faithful : IsFaithful means (λ t. reported t ≡ true) (events_in lines)
+  pub reported : (reading : ℕ) (last : Ending) → Contains lines (Last (Ended reading last)) → IsReported means reported (events_in lines) reading last
 
 -- whatever means what the chain does with the words of the link's stream, the lines are a link's under it
 pub record IsLinkLog (log : WrittenLog) : Type 0 where
-  pub told : ℕ → Bool
-  pub lines : (means : List Item → List Item) → IsMeaningOf means log.chain (seeded_words log.seed log.number log.stream) → AreLinkLines means told log.lines
+  pub reported : ℕ → Bool
+  pub lines : (means : List Item → List Item) → IsMeaningOf means log.chain (seeded_words log.seed log.number log.stream) → AreLinkLines means reported log.lines

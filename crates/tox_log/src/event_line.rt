@@ -19,13 +19,13 @@ const MAX_PIECE: u64 = READ_SIZE as u64;
 #[derive(Clone, Copy, Debug, PartialEq, Eq)]
 pub enum LogLine {
     Event(LinkEvent),
-    /// The source's end, told as a reset by its peer.
+    /// The source's end, reported as a reset by its peer.
     SourceReset(Micros),
     Last(LastLine),
 }
 
 impl LogLine {
-    /// The line of an event. The source's end is told as a reset, if it was one.
+    /// The line of an event. The source's end is reported as a reset, if it was one.
     pub(crate) fn of(event: &LinkEvent, source_reset: bool) -> LogLine
         ensures { result ≡ logged_line source_reset event.now }
     {

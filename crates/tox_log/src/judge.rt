@@ -62,8 +62,8 @@ pub(crate) fn begin(alloc: Global, plan: Plan, words: Words) -> Result<Judge, Al
     ensures held { IfOk result KeepsUp }
     ensures start { IfOk result (λ judge. (judge.heard ≡ 0) × (judge.latest ≡ 0)
         × (judge.ended ≡ false)) }
-    ensures judged { IfOk result (λ judge. (told : ℕ → Bool)
-        → Judged (means plan words) told judge []) }
+    ensures judged { IfOk result (λ judge. (reported : ℕ → Bool)
+        → Judged (means plan words) reported judge []) }
 {
     let opens = may_leave_open(plan.ops());
     let core = LinkCore::owning(alloc, plan, words)?;
@@ -131,8 +131,8 @@ pub(crate) fn hear_piece(judge: &mut Judge, len: u64, instant: &Micros) -> Resul
     ensures counts { OnOk result ((judge.new.heard ≡ judge.old.heard + len)
         × (judge.new.latest ≡ instant.now) × (judge.new.ended ≡ judge.old.ended)) }
     ensures hears { OnOk result (Hears judge.old (OneEvent.Piece len instant.now) judge.new) }
-    ensures deep { OnErr result ((means : List OneItem → List OneItem) (told : ℕ → Bool)
-        (log : List OneEvent) → Judged means told judge.old log → 1024 ≤ waiting_pieces log) }
+    ensures deep { OnErr result ((means : List OneItem → List OneItem) (reported : ℕ → Bool)
+        (log : List OneEvent) → Judged means reported judge.old log → 1024 ≤ waiting_pieces log) }
 {
     make_room(judge, instant);
     if let Some(_last) = judge.core.ending() {
@@ -348,12 +348,12 @@ pub(crate) fn judge_ending(judge: &mut Judge, ending: &Ending, reading: &Micros)
     ensures counts { (judge.new.heard ≡ judge.old.heard) × (judge.new.said ≡ judge.old.said)
         × (judge.new.ended ≡ judge.old.ended) }
     ensures latest { judge.new.latest ≡ reading.now }
-    ensures stays { (means : List OneItem → List OneItem) (told : ℕ → Bool) (log : List OneEvent)
-        → Judged means told judge.old log → Judged means told judge.new log }
+    ensures stays { (means : List OneItem → List OneItem) (reported : ℕ → Bool) (log : List OneEvent)
+        → Judged means reported judge.old log → Judged means reported judge.new log }
     ensures reports { result ≡ TheJudged.Reported
-        → (means : List OneItem → List OneItem) (told : ℕ → Bool) (log : List OneEvent)
-        → told reading.now ≡ true → Judged means told judge.old log
-        → ReportsAt means (λ t. told t ≡ true) log judge.old.heard judge.old.said ending.now
+        → (means : List OneItem → List OneItem) (reported : ℕ → Bool) (log : List OneEvent)
+        → reported reading.now ≡ true → Judged means reported judge.old log
+        → ReportsAt means (λ t. reported t ≡ true) log judge.old.heard judge.old.said ending.now
         (source_heard judge.old.ended) reading.now }
     ensures refuses { result ≡ TheJudged.Refused → RefusesEnding judge.old reading.now ending.now }
     ensures early { result ≡ TheJudged.Early → ending.now ≡ OneEnding.StillOpen }

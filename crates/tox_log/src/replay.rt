@@ -57,7 +57,7 @@ pub struct JudgedLog {
     pub verdict: Verdict,
     /// Why the stream broke off, where the last line says so and the log is faithful up to it.
     pub broken: Option<BreakCause>,
-    /// When the source's end was heard, and whether it is told as a reset by its peer.
+    /// When the source's end was heard, and whether it is reported as a reset by its peer.
     pub source_end: Option<Micros>,
     pub source_reset: bool,
     /// How many bytes were heard and said, and in how many writes.

@@ -132,7 +132,7 @@ finds_possible cap n room shaped =
     (λ item rest first. (_, deliver_is n item rest first))
     (λ none. finds_before cap n (length n.stages) room (omega arith) (clear_start n shaped none))
 
-finds_empty : (cap : ℕ) (n : NetworkState) (told : Option Move) → Finds cap n told → IsAtRest cap n → IsEmpty n
+finds_empty : (cap : ℕ) (n : NetworkState) (reported : Option Move) → Finds cap n reported → IsAtRest cap n → IsEmpty n
 finds_empty cap n (Some move) found rest = absurd (none-some found.0 (sym (rest move) ∙ found.1))
 finds_empty cap n None found rest = found
 
@@ -141,12 +141,12 @@ pub rest_empty : (cap : ℕ) (n : NetworkState) → 1 ≤ cap → IsShaped n →
 rest_empty cap n room shaped rest = finds_empty cap n (possible n) (finds_possible cap n room shaped) rest
 
 -- at rest `possible` tells no move
-pub rest_possible : (cap : ℕ) (n : NetworkState) (told : Option Move) → Finds cap n told → IsAtRest cap n → told ≡ None
+pub rest_possible : (cap : ℕ) (n : NetworkState) (reported : Option Move) → Finds cap n reported → IsAtRest cap n → reported ≡ None
 rest_possible cap n (Some move) found rest = absurd (none-some found.0 (sym (rest move) ∙ found.1))
 rest_possible cap n None found rest = refl
 
 -- and so every network comes to rest
-rests_from : (cap : ℕ) (n : NetworkState) (left : ℕ) (told : Option Move) → 1 ≤ cap → IsShaped n → moves_left n ≡ left → Finds cap n told → RestingRun cap n
+rests_from : (cap : ℕ) (n : NetworkState) (left : ℕ) (reported : Option Move) → 1 ≤ cap → IsShaped n → moves_left n ≡ left → Finds cap n reported → RestingRun cap n
 rests_from cap n left None room shaped count found = record { moves = []; state = n; run = refl; rest = empty_rest cap n found }
 rests_from cap n zero (Some move) room shaped count found =
     let e : moves_left n ≡ moves_left found.0 + 1 = one_less cap n found.0 move shaped found.1 in absurd (omega arith)

@@ -18,12 +18,12 @@ use Rattle.tox_network.proofs.Sound.{sound_shape}
 use Rattle.tox_network.proofs.Made.{state_at}
 
 -- what the clauses of `possible` say of its answer
-pub record Tells (network : NetworkView) (told : Option Move) : Type 0 where
-  pub rest : IsNone told ↔ IsAtRest network.cap (state_of network)
-  pub some : IfSome told (λ next. IsSome (after network.cap (state_of network) next))
-  pub empty : IfNone told (IsEmpty (state_of network))
+pub record Tells (network : NetworkView) (reported : Option Move) : Type 0 where
+  pub rest : IsNone reported ↔ IsAtRest network.cap (state_of network)
+  pub some : IfSome reported (λ next. IsSome (after network.cap (state_of network) next))
+  pub empty : IfNone reported (IsEmpty (state_of network))
 
-tells_found : (network : NetworkView) (told : Option Move) → Finds network.cap (state_of network) told → Tells network told
+tells_found : (network : NetworkView) (reported : Option Move) → Finds network.cap (state_of network) reported → Tells network reported
 tells_found network None found = record { rest = (λ none. empty_rest network.cap (state_of network) found, λ rest. refl); some = tt; empty = found }
 tells_found network (Some move) found = record {
   rest = (λ none. absurd (cc), λ rest. absurd (none-some found.0 (sym (rest move) ∙ found.1)));
@@ -31,12 +31,12 @@ tells_found network (Some move) found = record {
   empty = tt;
 }
 
-pub tells : (network : NetworkView) (told : Option Move) → IsSoundNetwork network → told ≡ possible (state_of network) → Tells network told
-tells network told sound is =
+pub tells : (network : NetworkView) (reported : Option Move) → IsSoundNetwork network → reported ≡ possible (state_of network) → Tells network reported
+tells network reported sound is =
     subst (Tells network) (sym is) (tells_found network (possible (state_of network)) (finds_possible network.cap (state_of network) sound.room (sound_shape network sound)))
 
-pub tells_at : (network now : NetworkView) (told : Option Move) → IsSoundNetwork network → network ≡ now → told ≡ possible (state_of now) → Tells now told
-tells_at network now told sound same is = tells now told (subst IsSoundNetwork same sound) is
+pub tells_at : (network now : NetworkView) (reported : Option Move) → IsSoundNetwork network → network ≡ now → reported ≡ possible (state_of now) → Tells now reported
+tells_at network now reported sound same is = tells now reported (subst IsSoundNetwork same sound) is
 
 -- an idle stage has no item, so its queue is looked at
 pub before_idle : (network : NetworkView) (place k : ℕ) (stage : Staged) → k + 1 ≡ place → slice_get network.stages k ≡ Some stage → stage.pending ≡ []

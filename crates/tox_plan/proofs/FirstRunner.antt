@@ -49,7 +49,7 @@ module _ (ops : List Op) (drawing : DrawingView) (known : Option Ending) where
     ended = λ some. refl;
     idle = λ idle. refl;
     cause = λ some. inr (kept some);
-    told = λ told. absurd (let e : false ≡ true = told in cc);
+    reported = λ reported. absurd (let e : false ≡ true = reported in cc);
     reached = omega arith;
     here = λ busy. omega arith;
     few = omega arith;

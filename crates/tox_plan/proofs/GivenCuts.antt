@@ -51,7 +51,7 @@ module _ (old : RunnerView) (cut : Slice) where
           ended = invariant.ended;
           idle = invariant.idle;
           cause = invariant.cause;
-          told = invariant.told;
+          reported = invariant.reported;
           reached = below;
           here = λ busy. omega (arith, invariant.here busy, found.some);
           few = invariant.few;

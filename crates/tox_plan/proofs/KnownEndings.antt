@@ -19,7 +19,7 @@ ended_exactly runner invariant idle = (λ some. (idle, inr (ends runner.ending r
 
     from : (ending : Option Ending) → runner.ending ≡ ending → (runner.finished ≡ true) ⊎ (to_come runner [] ≢ []) → IsSome runner.ending
     from (Some ending) is cause = rw is refl
-    from None is (inl told) = invariant.told told
+    from None is (inl reported) = invariant.reported reported
     from None is (inr comes) =
         absurd (comes (to_come-unfound runner [] is (idle-unfound runner invariant idle)
         ∙ drained-silent (draws_of runner.drawing) runner.position runner.cursors runner.piece (idle-drained runner invariant idle is)))

@@ -76,7 +76,7 @@ module _ (old : RunnerView) (cursors : List OpCursor) (turns : ℕ) (ended : Boo
           ended = λ some. absurd (let known : is_some old.ending ≡ true = some in let unknown : is_some old.ending ≡ false = ap is_some running in cc);
           idle = λ idle. absurd (let both : true ≡ false = sym idle ∙ busy in cc);
           cause = λ some. absurd (let both : true ≡ false = sym (invariant.ended some) ∙ unread in cc);
-          told = invariant.told;
+          reported = invariant.reported;
           reached = invariant.reached;
           here = invariant.here;
           few = invariant.few;
@@ -118,7 +118,7 @@ module _ (old : RunnerView) (cursors : List OpCursor) (turns : ℕ) (ended : Boo
     IsRunning-after_read drained kept unended same_length few_turns more =
         let counted : length old.cursors + old.turns ≤ length old.cursors * (old.cuts + old.pieces) = rw (unfound, unread) at invariant.counted in
         let cuts_looked : 0 < length old.cursors → old.cuts + 0 ≤ old.turns = rw unfound at invariant.looked in
-        let running : old.finished ≡ true → ⊥ = (λ told. let both : true ≡ false = sym (invariant.ended (invariant.told told)) ∙ unread in absurd (cc)) in
+        let running : old.finished ≡ true → ⊥ = (λ reported. let both : true ≡ false = sym (invariant.ended (invariant.reported reported)) ∙ unread in absurd (cc)) in
         record {
           nested = λ none. rw unfound (drained none).1;
           drained = λ read none. rw unfound (drained none).0;
@@ -127,7 +127,7 @@ module _ (old : RunnerView) (cursors : List OpCursor) (turns : ℕ) (ended : Boo
           ended = λ some. refl;
           idle = λ idle. refl;
           cause = λ some. inr (kept some);
-          told = λ told. absurd (running told);
+          reported = λ reported. absurd (running reported);
           reached = invariant.reached;
           here = invariant.here;
           few = invariant.few;

@@ -32,7 +32,7 @@ module _ (old : RunnerView) (len instant : ℕ) where
           ended = λ some. absurd (known some);
           idle = λ idle. absurd (let e : false ≡ true = idle in cc);
           cause = λ some. absurd (known some);
-          told = invariant.told;
+          reported = invariant.reported;
           reached = omega (arith, invariant.reached);
           here = λ busy. omega (arith, at);
           few = few;

@@ -1,4 +1,4 @@
--- What the phase of a runner says: whether no further cut is to be found, the ending, whether it was told that the source has ended,
+-- What the phase of a runner says: whether no further cut is to be found, the ending, whether it was reported that the source has ended,
 -- and whether nothing is left of the offered piece.
 use Rattle.std.specs.Prelude.{Bool, true, false, Option, Some, None}
 use Rattle.tox_time.specs.declared.streams.ending.Ending.{Ending}

@@ -25,7 +25,7 @@ pub record RunnerView : Type 0 where
   -- a cut that was found beyond the last slice, and whether nothing else is left of the offered piece
   pub lookahead : Option Slice
   pub drained : Bool
-  -- the ending, once it is found, and whether the source's end was told
+  -- the ending, once it is found, and whether the source's end was reported
   pub ending : Option Ending
   pub finished : Bool
   pub idle : Bool
@@ -99,7 +99,7 @@ pub record IsRunning (runner : RunnerView) : Type 0 where
   pub ended : IsSome runner.ending → runner.drained ≡ true
   pub idle : runner.idle ≡ true → runner.drained ≡ true
   pub cause : IsSome runner.ending → (runner.finished ≡ true) ⊎ HaveEnded runner.cursors
-  pub told : runner.finished ≡ true → IsSome runner.ending
+  pub reported : runner.finished ≡ true → IsSome runner.ending
   pub reached : runner.position ≤ runner.piece.span.stop
   pub here : runner.idle ≡ false → runner.piece.span.start ≤ runner.position
   pub few : runner.piece.span.stop ≤ 2 ^ 40

@@ -17,7 +17,7 @@ pub(crate) enum Phase {
     Closing(Ending),
     /// An operation has ended the stream, and nothing is left.
     Ended(Ending),
-    /// It was told that the source has ended, or that nothing more comes.
+    /// It was reported that the source has ended, or that nothing more comes.
     Finished(Ending),
 }
 
@@ -103,7 +103,7 @@ impl Phase {
         }
     }
 
-    /// Once it was told that nothing more comes.
+    /// Once it was reported that nothing more comes.
     pub fn after_finish(&self, ending: &Ending) -> Phase
         requires { (phase_view self.now).idle ≡ true }
         ensures { phase_view result

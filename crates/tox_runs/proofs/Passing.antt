@@ -6,7 +6,7 @@ use Rattle.tox_time.specs.declared.ends.EndFault.{EndFault}
 use Rattle.tox_time.specs.declared.ends.Sink.{Ghosts}
 use Rattle.tox_text.specs.Printing.{PrintsUnless}
 use Rattle.tox_text.specs.declared.printer.SizedPrinter.{SizedPrinter}
-use Rattle.tox_text.proofs.Printings.{Prints-as, Prints-none, Prints-passed, Prints-then, Prints-told, Prints-within}
+use Rattle.tox_text.proofs.Printings.{Prints-as, Prints-none, Prints-passed, Prints-then, Prints-fault, Prints-within}
 use Rattle.tox_runs.specs.runs.SecondPass.{PrintsDownTo}
 
 module _ {W : Type 0} {sink : Ghosts W} {R : ℕ} where
@@ -27,7 +27,7 @@ module _ {W : Type 0} {sink : Ghosts W} {R : ℕ} where
   pub PrintsDownTo-failed : {A₁ A₂ : Type 0} {result : Result A₂ EndFault} {fault : EndFault} {old new : SizedPrinter W R} {text left other : List ℕ}
       → IsErrAnd result (λ same. same ≡ fault) → PrintsDownTo sink {A = A₁} (Err fault) old new text left → PrintsDownTo sink result old new text other
   PrintsDownTo-failed {result = result} exit broken =
-      rw (err_from_is_err_and result exit).1 (record { printed = broken.printed; prints = Prints-told refl refl broken.prints; whole = broken.whole })
+      rw (err_from_is_err_and result exit).1 (record { printed = broken.printed; prints = Prints-fault refl refl broken.prints; whole = broken.whole })
 
   -- the same text, otherwise put together
   pub PrintsDownTo-as : {A : Type 0} {result : Result A EndFault} {old new : SizedPrinter W R} {text other left : List ℕ} → text ≡ other → PrintsDownTo sink result old new text left → PrintsDownTo sink result old new other left
@@ -43,7 +43,7 @@ module _ {W : Type 0} {sink : Ghosts W} {R : ℕ} where
       → PrintsDownTo sink result first new text other
   PrintsDownTo-broken {result = result} {text = text} left exit before parts front =
       rw (err_from_is_err_and result exit).1
-      (record { printed = text; prints = Prints-as before.whole (Prints-then before.prints (Prints-as parts (Prints-within left (Prints-told refl refl front)))); whole = refl })
+      (record { printed = text; prints = Prints-as before.whole (Prints-then before.prints (Prints-as parts (Prints-within left (Prints-fault refl refl front)))); whole = refl })
 
   -- two parts were printed
   pub PrintsDownTo-both : {A₁ A₂ : Type 0} {value₁ : A₁} {value₂ : A₂} {first old new : SizedPrinter W R} {text middle left : List ℕ}

@@ -9,7 +9,7 @@ pub(crate) mod pick_request;
 pub(crate) mod setup;
 pub(crate) mod toxics;
 
-use crate::runs::reading::{InputFault, MAX_INPUT, read_input};
+use crate::runs::whole_input::{InputFault, MAX_INPUT, read_input};
 use std::alloc::Global;
 use std::fs;
 use std::rt::Files;

@@ -12,5 +12,5 @@ pub use files::toxics::{ToxicsFault, read_chain};
 pub use files::{FileFault, read_file};
 pub use runs::dry::dry_run;
 pub use runs::fault::StagesFault;
-pub use runs::reading::{InputFault, MAX_INPUT, read_input};
 pub use runs::stages::stages_run;
+pub use runs::whole_input::{InputFault, MAX_INPUT, read_input};

@@ -13,7 +13,7 @@ use Rattle.tox_script.specs.fields.Attributes.{all_some, toxic_with, value_in, v
 use Rattle.tox_script.specs.fields.Fields.{has_only, is_among, is_between, is_table, natural, needed, optional, whole}
 use Rattle.tox_script.specs.chains.Toxic.{NamedToxic, default_name, named_toxic}
 use Rattle.tox_script.specs.fields.ToxicFields.{ToxicFields, attributes_field, is_plain, name_field, plain_name, stream_field, stream_text, toxic_fields, type_field}
-use Rattle.tox_script.specs.fields.Toxicity.{is_decimal, told_toxicity, toxicity_in}
+use Rattle.tox_script.specs.fields.Toxicity.{is_decimal, written_toxicity, toxicity_in}
 use Rattle.tox_script.specs.chains.Toxics.{toxic_at}
 use Rattle.tox_script.specs.declared.fault.Field.{Field}
 use Rattle.tox_script.specs.declared.fault.Field.TheVariants as field
@@ -67,19 +67,19 @@ text_scalar d text is = is_scalar-read d (λ s z. s) text refl is
 pub whole_scalar : (d : Data) (n : ℕ) → whole d ≡ Some n → is_scalar d ≡ true
 whole_scalar d n is = is_scalar-read d (λ s z. option_and_then natural z) n refl is
 
-told_scalar : (version : Version) (d : Data) (n : ℕ) → told_toxicity version d ≡ Some n → is_scalar d ≡ true
-told_scalar One d n is = is_scalar-read d (λ s z. option_and_then (passing (is_between 0 1000)) (option_and_then natural z)) n refl is
-told_scalar Two (string s) n is = refl
-told_scalar Two (integer z) n is = refl
-told_scalar Two (float f) n is = absurd (cc)
-told_scalar Two (boolean b) n is = absurd (cc)
-told_scalar Two (datetime dt) n is = absurd (cc)
-told_scalar Two (array ds) n is = absurd (cc)
-told_scalar Two (table ms) n is = absurd (cc)
+written_scalar : (version : Version) (d : Data) (n : ℕ) → written_toxicity version d ≡ Some n → is_scalar d ≡ true
+written_scalar One d n is = is_scalar-read d (λ s z. option_and_then (passing (is_between 0 1000)) (option_and_then natural z)) n refl is
+written_scalar Two (string s) n is = refl
+written_scalar Two (integer z) n is = refl
+written_scalar Two (float f) n is = absurd (cc)
+written_scalar Two (boolean b) n is = absurd (cc)
+written_scalar Two (datetime dt) n is = absurd (cc)
+written_scalar Two (array ds) n is = absurd (cc)
+written_scalar Two (table ms) n is = absurd (cc)
 
 toxicity_scalar : (version : Version) (o : Option Data) (d : Data) (n : ℕ) → o ≡ Some d → toxicity_in version o ≡ Some n → is_scalar d ≡ true
 toxicity_scalar version None d n there is = absurd (cc)
-toxicity_scalar version (Some e) d n there is = let same : d ≡ e = cc in rw same (told_scalar version e n is)
+toxicity_scalar version (Some e) d n there is = let same : d ≡ e = cc in rw same (written_scalar version e n is)
 
 -- a text has a value
 abbrev HasValue : (List ℕ → Option ℕ) → List ℕ → Type 0

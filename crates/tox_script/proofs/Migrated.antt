@@ -51,9 +51,9 @@ settings_read d settings is version =
     at v (lanes_of v d) refl rest
   where
     at : (v : Version) (lanes : Result Lanes Field) → lanes_of v d ≡ lanes → (lanes >>= (λ l. Ok (record { version = v; lanes = l }))) ≡ Ok settings → settings ≡ in_version Sixteen One
-    at v (Err e) told is = absurd (cc)
-    at Two (Ok l) told is = absurd (cc)
-    at One (Ok l) told is = cc
+    at v (Err e) reported is = absurd (cc)
+    at Two (Ok l) reported is = absurd (cc)
+    at One (Ok l) reported is = cc
 
 fields_read : (d : Data) (settings : Result Settings Field) (rules : Result Items Field) (known : Version → Bool) (fields : DocumentFields) → settings_of d ≡ settings → tables_of field.Rule (get (codes "rule") d) ≡ rules
     → (settings >>= (λ s. rules >>= (λ r. cond (known s.version) (Ok (record { settings = s; rules = r })) (Err field.Unknown)))) ≡ Ok fields
@@ -109,14 +109,14 @@ toxics_for-same script proxy conn stream is =
 -- so its text is the migrated one
 pub IsMigrated-read : (old migrated : List ℕ) (d : Data) (script : Rules) → toml_of old ≡ Some d → script_in (Some d) ≡ Ok script → script.settings.version ≡ One
     → IsUtf8 migrated → parse_document migrated ≡ Some (version_2 (rules_in d)) → IsMigrated old migrated
-IsMigrated-read old migrated d script told read version text parsed =
+IsMigrated-read old migrated d script reported read version text parsed =
     let one = IsVersion1-read d script read version in
     record {
       before = script;
       after = record { settings = in_version Sixteen Two; rules = script.rules };
       read_before =
           bind_from (script_of old) (λ (s : Rules). in_version_1 s.settings.version s) script script
-          (ap script_in told ∙ read) (ap (λ v. in_version_1 v script) version);
+          (ap script_in reported ∙ read) (ap (λ v. in_version_1 v script) version);
       read_after = ap script_in (toml_of-text migrated text ∙ ap (option_map table) parsed) ∙ version_2-read d script one;
       version = refl;
       same = λ proxy conn stream. toxics_for-same script proxy conn stream one.settings;

@@ -10,7 +10,7 @@ use Rattle.tox_script.specs.Rule.{Rule, RuleFields, rule_fields, rule_of}
 use Rattle.tox_script.specs.Script.{rules_from}
 use Rattle.tox_script.specs.chains.Toxic.{NamedToxic, named_toxic}
 use Rattle.tox_script.specs.fields.ToxicFields.{ToxicFields, toxic_fields}
-use Rattle.tox_script.specs.fields.Toxicity.{told_toxicity, toxicity_in}
+use Rattle.tox_script.specs.fields.Toxicity.{written_toxicity, toxicity_in}
 use Rattle.tox_script.specs.chains.Toxics.{RuleToxics, behind, read_toxics, toxic_at, toxics_from, toxics_of}
 use Rattle.tox_script.specs.declared.fault.Location.{Location}
 use Rattle.tox_script.specs.declared.fault.ScriptFault.TheVariants as fault
@@ -20,18 +20,18 @@ use Rattle.tox_script.specs.declared.version.Version.TheVariants.{One, Two}
 use Rattle.tox_time.specs.Steps.{◌>>=◌, map_err}
 use Rattle.tox_words.specs.declared.lanes.Lanes.{Lanes}
 
-told_two : (d : Data) (n : ℕ) → told_toxicity One d ≡ Some n → told_toxicity Two d ≡ Some n
-told_two (string s) n is = absurd (cc)
-told_two (integer z) n is = is
-told_two (float f) n is = absurd (cc)
-told_two (boolean b) n is = absurd (cc)
-told_two (datetime dt) n is = absurd (cc)
-told_two (array ds) n is = absurd (cc)
-told_two (table ms) n is = absurd (cc)
+written_two : (d : Data) (n : ℕ) → written_toxicity One d ≡ Some n → written_toxicity Two d ≡ Some n
+written_two (string s) n is = absurd (cc)
+written_two (integer z) n is = is
+written_two (float f) n is = absurd (cc)
+written_two (boolean b) n is = absurd (cc)
+written_two (datetime dt) n is = absurd (cc)
+written_two (array ds) n is = absurd (cc)
+written_two (table ms) n is = absurd (cc)
 
 toxicity_two : (o : Option Data) (n : ℕ) → toxicity_in One o ≡ Some n → toxicity_in Two o ≡ Some n
 toxicity_two None n is = is
-toxicity_two (Some d) n is = told_two d n is
+toxicity_two (Some d) n is = written_two d n is
 
 named_two : (fields : ToxicFields) (named : NamedToxic) → named_toxic One fields ≡ Ok named → named_toxic Two fields ≡ Ok named
 named_two fields named is =

@@ -1,4 +1,4 @@
--- What a result was before its error was told in other words.
+-- What a result was before its error was reported in other words.
 use Rattle.std.proofs.Common.{◌≡◌, Result, Ok, Err, refl}
 use Rattle.std.specs.Result.{IsErrAnd, MatchResult}
 

@@ -34,15 +34,15 @@ abbrev pub lanes_in : Data → Option Lanes
 lanes_in d = option_and_then lanes_numbered (whole d)
 
 -- the lanes of a document of version 2: 32 if absent
-abbrev pub told_lanes_of : Data → Result Lanes Field
-told_lanes_of d = do
+abbrev pub written_lanes_of : Data → Result Lanes Field
+written_lanes_of d = do
   lanes ← optional field.Lanes lanes_in (get (codes "lanes") d)
   Ok (unwrap_or lanes ThirtyTwo)
 
 -- the lanes of a document's chains: 16 in version 1
 abbrev pub lanes_of : Version → Data → Result Lanes Field
 lanes_of One d = Ok Sixteen
-lanes_of Two d = told_lanes_of d
+lanes_of Two d = written_lanes_of d
 
 -- the settings of a document, or the first that isn't as it must be
 abbrev pub settings_of : Data → Result Settings Field

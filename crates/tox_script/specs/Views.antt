@@ -35,7 +35,7 @@ abbrev pub toxic_view : LentToxic → NamedToxic
 toxic_view toxic = record {
   stream = toxic.stream;
   entry = toxic.entry;
-  name = unwrap_or (option_map (λ name. name.now) toxic.told_name)
+  name = unwrap_or (option_map (λ name. name.now) toxic.given_name)
       (default_name toxic.entry.toxic toxic.stream);
   is_decimal = toxic.is_decimal;
 }

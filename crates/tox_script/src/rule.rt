@@ -159,7 +159,7 @@ impl Rule {
     }
 }
 
-/// The toxics of the tables of a rule, whose number is told. A rule without toxics takes no memory for chains.
+/// The toxics of the tables of a rule of this number. A rule without toxics takes no memory for chains.
 fn read_toxics(
     alloc: Global,
     settings: Settings,

@@ -1,7 +1,7 @@
 //! What a document says for all of its rules.
 ghost use Rattle.std.specs.Prelude.{◌≡◌};
 ghost use Rattle.toml.specs.View.{view};
-ghost use Rattle.tox_script.specs.Settings.{lanes_in, lanes_of, settings_of, told_lanes_of, version_in, version_of};
+ghost use Rattle.tox_script.specs.Settings.{lanes_in, lanes_of, settings_of, written_lanes_of, version_in, version_of};
 
 use crate::fault::Field;
 use crate::fields::whole;
@@ -51,12 +51,12 @@ fn lanes_of(version: Version, document: &Value) -> Result<Lanes, Field>
 {
     match version {
         Version::One => Ok(Lanes::Sixteen),
-        Version::Two => told_lanes_of(document),
+        Version::Two => written_lanes_of(document),
     }
 }
 
-fn told_lanes_of(document: &Value) -> Result<Lanes, Field>
-    ensures { result ≡ told_lanes_of (view document.now) }
+fn written_lanes_of(document: &Value) -> Result<Lanes, Field>
+    ensures { result ≡ written_lanes_of (view document.now) }
 {
     match document.get("lanes") {
         None => Ok(Lanes::ThirtyTwo),

@@ -5,10 +5,10 @@ use Rattle.tox_text.specs.Json.{array_text}
 use Rattle.tox_text.specs.JsonLine.{event_text, field_text, key_text, number_field, object_line, text_field}
 use Rattle.tox_text.specs.declared.json_line.JsonField.{JsonField}
 use Rattle.tox_serve.specs.declared.link.end.LinkEnd.{LinkEnd}
-use Rattle.tox_serve.specs.declared.lines.open_line.OpenStream.{OpenStream}
-use Rattle.tox_serve.specs.lines.JsonLines.{link_object}
-use Rattle.tox_serve.specs.lines.OpenLine.{open_object, text_items}
-use Rattle.tox_serve.specs.lines.ServeLines.{end_word}
+use Rattle.tox_serve.specs.declared.output.open_line.OpenStream.{OpenStream}
+use Rattle.tox_serve.specs.output.JsonLines.{link_object}
+use Rattle.tox_serve.specs.output.OpenLine.{open_object, text_items}
+use Rattle.tox_serve.specs.output.ServeLines.{end_word}
 
 -- two texts, one behind the other
 beside : {a b c d : List ℕ} → a ≡ b → c ≡ d → a ++ c ≡ b ++ d

@@ -1,3 +1,3 @@
-pub mod ToldLemmas
+pub mod ReportLemmas
 pub mod ServeLemmas
 pub mod JsonParts

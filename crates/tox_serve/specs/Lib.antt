@@ -1,9 +1,9 @@
 pub mod workers
-pub mod Told
+pub mod StreamReports
 pub mod Addresses
 pub mod Serving
 pub mod Waiting
 pub mod proxy
 pub mod link
-pub mod lines
+pub mod output
 pub mod Signals

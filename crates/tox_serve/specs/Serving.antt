@@ -34,6 +34,6 @@ HasServeCause proxies has_ready ReadyRefused = IsTrue has_ready
 HasServeCause proxies has_ready SpawnRefused = Unit {0}
 HasServeCause proxies has_ready OutOfMemory = Unit {0}
 
--- whether a proxy stops listening: after as many connections as it was told, or as many links as a book holds
+-- whether a proxy stops listening: after as many connections as it was told to, or as many links as a book holds
 abbrev pub is_enough : Option ℕ → ℕ → ℕ → Bool
 is_enough links connections opened = is_reached links connections || nat_le 1000000 opened

@@ -26,11 +26,11 @@ has_signal status name signal =
     has_bit_at (slice_get (bytes_behind name status) (15 - (signal - 1) / 4)) ((signal - 1) % 4)
 
 -- whether a signal waits, for the process or for its first thread, is blocked and isn't ignored
-abbrev pub stops : List ℕ → ℕ → Bool
-stops status signal =
+abbrev pub is_pending_and_blocked : List ℕ → ℕ → Bool
+is_pending_and_blocked status signal =
     (has_signal status (codes "\nShdPnd:\t") signal || has_signal status (codes "\nSigPnd:\t") signal)
     && has_signal status (codes "\nSigBlk:\t") signal && not (has_signal status (codes "\nSigIgn:\t") signal)
 
 -- whether the process is told to stop: by signal 2, SIGINT, or 15, SIGTERM
 abbrev pub tells_to_stop : List ℕ → Bool
-tells_to_stop status = stops status 2 || stops status 15
+tells_to_stop status = is_pending_and_blocked status 2 || is_pending_and_blocked status 15

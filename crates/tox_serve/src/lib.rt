@@ -5,10 +5,10 @@
 mod addresses;
 mod descriptors;
 mod fault;
-mod lines;
 mod link;
 mod live_listener;
 mod options;
+mod output;
 mod proxy;
 mod ready;
 mod room;
@@ -23,8 +23,8 @@ mod workers;
 
 pub use addresses::listen_address;
 pub use fault::ServeFault;
-pub use lines::{BrokenText, LineForm, NoNotices, Notices};
 pub use options::ServeOptions;
+pub use output::{BrokenText, LineForm, NoNotices, Notices};
 pub use room::Room;
 pub use runtime::ServeRuntime;
 pub use serving::{serve, serve_with};

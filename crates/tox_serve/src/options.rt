@@ -1,8 +1,8 @@
 //! What `serve_with` may be told beyond what it serves.
 ghost use Rattle.std.specs.Prelude.{◌≡◌, None, false};
-ghost use Rattle.tox_serve.specs.declared.lines.form.LineForm.TheVariants.{Words};
+ghost use Rattle.tox_serve.specs.declared.output.form.LineForm.TheVariants.{Words};
 
-use crate::lines::LineForm;
+use crate::output::LineForm;
 use tox_log::LogLimits;
 
 /// Options of [`serve_with`](crate::serve_with). Without any, `serve` does as it always did.

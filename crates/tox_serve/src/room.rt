@@ -39,7 +39,7 @@ impl<'a, R: Wait> Room<'a, R> {
             if can_write(self.fd, TURN) {
                 return true;
             }
-            if self.stop.is_told(self.rt) && !self.takes_a_turn() {
+            if self.stop.is_requested(self.rt) && !self.takes_a_turn() {
                 return false;
             }
         }

@@ -1,7 +1,7 @@
 //! What all links of a run of `serve` share.
 use crate::descriptors::Descriptors;
-use crate::lines::LineChannel;
 use crate::options::ServeOptions;
+use crate::output::LineChannel;
 use crate::stop::Stop;
 use std::alloc::Global;
 use std::sync::Arc;

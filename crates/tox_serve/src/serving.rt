@@ -1,12 +1,12 @@
 //! Serving proxies: sockets under the plans of a script.
 ghost use Rattle.std.specs.Prelude.{◌≡◌, All, false, is_some, IfErr, Ok};
-ghost use Rattle.tox_serve.specs.lines.LineQueue.{no_lines};
+ghost use Rattle.tox_serve.specs.output.LineQueue.{no_lines};
 ghost use Rattle.tox_serve.specs.Serving.{HasServeCause};
 
 use crate::descriptors::Descriptors;
 use crate::fault::ServeFault;
-use crate::lines::{LineChannel, LineQueue, NoNotices, Notices, print_listening, write_lines};
 use crate::options::ServeOptions;
+use crate::output::{LineChannel, LineQueue, NoNotices, Notices, print_listening, write_lines};
 use crate::proxy::listening::{Listening, listen_all};
 use crate::ready::{listen_ready, start_ready};
 use crate::run::ServeRun;
@@ -28,7 +28,7 @@ use tox_script::Script;
 use tox_sockets::LiveSockets;
 use tox_time::OpenGate;
 
-/// [`serve_with`], with this limit of links and no other option. Nobody is told of dropped lines and broken links.
+/// [`serve_with`], with this limit of links and no other option. Nobody is notified of dropped lines and broken links.
 pub fn serve<
     'a,
     R: Net<Listener = TcpListener, Stream = TcpStream>
@@ -72,15 +72,15 @@ pub fn serve<
 /// and one for each proxy its totals.
 ///
 /// One thread writes the lines, so a writer that waits holds up no link. At most 65,536 bytes of lines wait for it. A link's
-/// line that finds no room is dropped, and the gap is told once the lines before it are written. The other lines wait for room.
+/// line that finds no room is dropped, and the gap is reported once the lines before it are written. The other lines wait for room.
 /// Lines that the writer fails to take are dropped without a word, and later ones are tried again. Of the links of a proxy that break for
-/// one kind of reason the first is told of at once, and then at most one a second with how many more.
+/// one kind of reason the first is reported at once, and then at most one a second with how many more.
 ///
 /// With `options.ready` an address listens once those of all proxies do, until the last proxy has ended or the run is told to stop. One
-/// more thread closes each connection that comes there. No such connection is counted or told.
+/// more thread closes each connection that comes there. No such connection is counted or reported.
 ///
 /// With `options.logs` one more thread brings the log of each link's streams to its file. A log that its file can't follow ends
-/// early, which is told once: it holds up no link either.
+/// early, which is reported once: it holds up no link either.
 ///
 /// Returns once no proxy listens any more, all links have ended, and each line was written or dropped. A fault comes before any
 /// connection is taken.

@@ -1,6 +1,6 @@
 //! The signals that tell a process to stop, as `/proc/self/status` shows them.
 ghost use Rattle.std.specs.Prelude.{◌≡◌, ◌≤◌, ◌<◌};
-ghost use Rattle.tox_serve.specs.Signals.{bytes_behind, has_bit, has_signal, stops, tells_to_stop};
+ghost use Rattle.tox_serve.specs.Signals.{bytes_behind, has_bit, has_signal, is_pending_and_blocked, tells_to_stop};
 
 /// SIGINT and SIGTERM.
 const INTERRUPT: usize = 2;
@@ -11,13 +11,13 @@ const TERMINATE: usize = 15;
 pub fn tells_to_stop(status: &[u8]) -> bool
     ensures { result ≡ tells_to_stop status.now }
 {
-    stops(status, INTERRUPT) || stops(status, TERMINATE)
+    is_pending_and_blocked(status, INTERRUPT) || is_pending_and_blocked(status, TERMINATE)
 }
 
 /// Whether a signal waits, is blocked and isn't ignored.
-fn stops(status: &[u8], signal: usize) -> bool
+fn is_pending_and_blocked(status: &[u8], signal: usize) -> bool
     requires { (1 ≤ signal) × (signal ≤ 64) }
-    ensures { result ≡ stops status.now signal }
+    ensures { result ≡ is_pending_and_blocked status.now signal }
 {
     (has_signal(status, b"\nShdPnd:\t", signal) || has_signal(status, b"\nSigPnd:\t", signal))
         && has_signal(status, b"\nSigBlk:\t", signal)

@@ -71,7 +71,7 @@ fn rest_before(now: Micros, until: Micros) -> u64
 }
 
 impl<'r, R: Clock> LinkClock for SinceStart<'r, R> {
-    ghost told = { λ clock instant. IsInstant instant };
+    ghost reported = { λ clock instant. IsInstant instant };
 
     fn now(&self) -> Micros {
         self.start.elapsed(self.rt)
@@ -85,5 +85,5 @@ impl<'r, R: Clock> LinkClock for SinceStart<'r, R> {
         }
     }
 
-    ghost instants = { λ clock instant told. told };
+    ghost instants = { λ clock instant reported. reported };
 }

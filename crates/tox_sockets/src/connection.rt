@@ -14,7 +14,7 @@ pub enum Connection {
 }
 
 /// How a connect stands that was begun without waiting. One that has finished has reached its peer, whatever came after it. The
-/// system forgets a reset that is told here: the socket reads as ended from then on.
+/// system forgets a reset that is reported here: the socket reads as ended from then on.
 pub fn connection_of(socket: &TcpStream) -> Connection {
     match socket.peer_addr() {
         Ok(_) => return Connection::There,

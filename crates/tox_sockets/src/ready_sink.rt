@@ -114,7 +114,7 @@ impl<'r, R: Clock> ReadySink<'r, R> {
         EndFault
     }
 
-    /// A write took so many of these bytes. If it took fewer than all, the next one waits to be told of room.
+    /// A write took so many of these bytes. If it took fewer than all, the next one waits until the system reports room.
     fn took(&mut self, count: usize, bytes: &[u8])
         ensures room { self.new.full ≡ nat_lt count (length bytes.now) }
         ensures news { self.new.writable ≡ not self.new.full }

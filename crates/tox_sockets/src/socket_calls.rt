@@ -1,4 +1,4 @@
-//! What a TCP socket is told beyond what std can tell it.
+//! What a TCP socket is asked and told beyond what std can.
 ghost use Rattle.std.specs.Prelude.{◌≡◌, ◌↔◌, ◌++◌, pos, ◌≤ℤ◌, replicate, IsOk, IfOk};
 ghost use Rattle.std.specs.Int.{w32, to_le_bytes};
 ghost use Rattle.io.specs.Counts.{IsPrefixLen};
@@ -61,7 +61,7 @@ pub fn keep_alive(socket: &TcpStream) -> io::Result<()> {
     check(unsafe { system::setsockopt(fd, tcp, system::TCP_KEEPCNT, &probes, NUMBER_LEN) })
 }
 
-/// Ends a connection by a reset. Its peer is told at once, what was not yet sent is dropped, and threads that wait for the
+/// Ends a connection by a reset. Its peer learns it at once, what was not yet sent is dropped, and threads that wait for the
 /// socket go on.
 pub fn reset(socket: &TcpStream) -> io::Result<()> {
     check(unsafe { system::connect(socket.as_raw_fd(), &no_address(), NO_ADDRESS_LEN) })

@@ -55,7 +55,7 @@ impl<'a> Sockets<'a> {
     }
 
     /// Shuts both sockets. What the source sent stays unread. What the target sent is dropped first: a socket that is shut
-    /// announces no room, and a peer that waits for it would not be told. Leaving it unread would reset the target, which
+    /// announces no room, and a peer that waits for it would not learn of it. Leaving it unread would reset the target, which
     /// drops the last bytes that were written to it.
     fn close(&self) {
         if !self.link.cut_to_close() {

@@ -13,7 +13,7 @@ use std::sync::Arc;
 use tox_time::Stream;
 
 /// The source of a stream, read until its link is cut. What has come by then stays unread, so that closing the socket resets
-/// it. A peer that only sends isn't told of the end otherwise: a socket that was shut and then read empty leaves it waiting
+/// it. A peer that only sends doesn't learn of the end otherwise: a socket that was shut and then read empty leaves it waiting
 /// for room that nobody announces. A read that was under way then gives an end: whoever cut the link may have dropped the
 /// bytes before it, and its failing is no fault of the source.
 #[derive(Drop)]

@@ -118,7 +118,7 @@ end_counted n old new before t line filled is instant none grown counts =
       },
     )
 
--- and a refused one is told
+-- and a refused one is reported
 pub data_refused : (n : ℕ) (old : StreamPosition) (before : Arrived) (t : ℕ) (bytes line : List ℕ) (fault : ArrivalFault) → (length line == 0) ≡ false → line_of line ≡ Some (arrival t bytes)
     → piece_fault old.position old.latest old.ended (length bytes) t ≡ Some fault → Counts old before → after_line n before line ≡ Err (Arrival fault n)
 data_refused n old before t bytes line fault filled is refused counts =

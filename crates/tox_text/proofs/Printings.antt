@@ -67,10 +67,10 @@ module _ {W : Type 0} {sink : Ghosts W} {R : ℕ} where
       record { sent = printed.sent; rest = printed.rest; whole = printed.whole; written = printed.written; leaves = printed.leaves; same_writer = printed.same_writer }
 
   -- what broke off, for who passes the fault on
-  pub Prints-told : {E₁ E₂ A₁ A₂ : Type 0} {is_writers₁ : E₁ → Bool} {is_writers₂ : E₂ → Bool} {result : Result A₂ E₂} {fault₁ : E₁} {fault₂ : E₂} {old new : SizedPrinter W R} {bytes : List ℕ}
+  pub Prints-fault : {E₁ E₂ A₁ A₂ : Type 0} {is_writers₁ : E₁ → Bool} {is_writers₂ : E₂ → Bool} {result : Result A₂ E₂} {fault₁ : E₁} {fault₂ : E₂} {old new : SizedPrinter W R} {bytes : List ℕ}
       → result ≡ Err fault₂ → is_writers₂ fault₂ ≡ is_writers₁ fault₁ → PrintsUnless sink is_writers₁ {A = A₁} (Err fault₁) old new bytes → PrintsUnless sink is_writers₂ result old new bytes
-  Prints-told is told front =
-      rw is (record { sent = front.sent; rest = front.rest; whole = front.whole; written = front.written; leaves = front.leaves ∙ sym told; same_writer = front.same_writer })
+  Prints-fault is reported front =
+      rw is (record { sent = front.sent; rest = front.rest; whole = front.whole; written = front.written; leaves = front.leaves ∙ sym reported; same_writer = front.same_writer })
 
   -- what broke off within a part broke off within the whole
   pub Prints-within : {E A : Type 0} {is_writers : E → Bool} {fault : E} {old new : SizedPrinter W R} {a : List ℕ} (b : List ℕ)
@@ -89,7 +89,7 @@ module _ {W : Type 0} {sink : Ghosts W} {R : ℕ} where
       → IsErrAnd result (λ same. same ≡ fault) → PrintsUnless sink is_writers {A = A₁} (Err fault) old new bytes → PrintsUnless sink is_writers result old new bytes
   Prints-exited {is_writers = is_writers} {result = result} exit front =
       let found = err_from_is_err_and result exit in
-      Prints-told found.1 (ap is_writers found.2) front
+      Prints-fault found.1 (ap is_writers found.2) front
 
   -- and that of a part is that of the whole
   pub Prints-failed : {E A₁ A₂ : Type 0} {is_writers : E → Bool} {result : Result A₂ E} {fault : E} {old new : SizedPrinter W R} {a : List ℕ} (b : List ℕ)

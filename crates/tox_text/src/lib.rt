@@ -15,9 +15,9 @@ mod printer;
 mod result_line;
 mod short_form;
 
+pub use arrivals::arrivals_line::{Event, Line, line_of};
 pub use arrivals::check::check_arrivals;
 pub use arrivals::hex_pairs::decode_into;
-pub use arrivals::line::{Event, Line, line_of};
 pub use arrivals::list::list_arrivals;
 pub use arrivals::text_lines::first_line;
 pub use fault::{DryFault, WriteFault};

@@ -10,7 +10,7 @@ use tox_explain::{Inputs, explain};
 /// The variable of the environment that asks for explanations by `1`, and refuses them by `0`.
 const VARIABLE: &str = "TOXI_EXPLAIN";
 
-/// How much is told below a fault's line.
+/// How much is reported below a fault's line.
 #[derive(Clone, Copy, PartialEq, Eq)]
 pub enum Explaining {
     /// Nothing.
@@ -23,15 +23,15 @@ pub enum Explaining {
 
 impl Explaining {
     /// What the command line asks for, or else the environment. Without these a fault is explained on a terminal.
-    pub fn of<R: Env + AllocGlobal>(rt: &R, told: bool, on_terminal: bool) -> Explaining {
-        if told || is_asked_by_environment(rt).unwrap_or(on_terminal) {
+    pub fn of<R: Env + AllocGlobal>(rt: &R, reported: bool, on_terminal: bool) -> Explaining {
+        if reported || is_asked_by_environment(rt).unwrap_or(on_terminal) {
             Explaining::Whole
         } else {
             Explaining::Nothing
         }
     }
 
-    /// The same, or the nearest name where nothing would be told and `--verbose` is given.
+    /// The same, or the nearest name where nothing would be reported and `--verbose` is given.
     pub fn with_verbose(self, verbose: bool) -> Explaining {
         match self {
             Explaining::Nothing if verbose => Explaining::NearName,
@@ -44,7 +44,7 @@ impl Explaining {
         self != Explaining::Nothing
     }
 
-    /// Prints the lines below a fault's. What can't be printed is left out: the fault itself was told.
+    /// Prints the lines below a fault's. What can't be printed is left out: the fault itself was reported.
     pub fn explain<R: Eprint + AllocGlobal, F: Display>(
         self,
         rt: &R,

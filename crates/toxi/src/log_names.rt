@@ -22,9 +22,9 @@ pub trait LogTask<R> {
 #[derive(Clone, Copy, Debug, PartialEq, Eq)]
 pub enum NamesTaken {
     All,
-    /// The names on standard input couldn't be read to their end. The fault was told.
+    /// The names on standard input couldn't be read to their end. The fault was reported.
     Some,
-    /// The task, or a fault that was told, ended it.
+    /// The task, or a fault that was reported, ended it.
     Ended,
 }
 

@@ -32,7 +32,7 @@ mod serve;
 mod shutdown;
 mod stages;
 mod status;
-mod told_warnings;
+mod warning_lines;
 mod wait;
 mod warnings;
 mod watch;

@@ -1,4 +1,4 @@
-//! The nearest name to a type or an attribute that isn't known, told below its fault with `--verbose`.
+//! The nearest name to a type or an attribute that isn't known, reported below its fault with `--verbose`.
 use std::fmt::Display;
 use tox_explain::{Inputs, near_name};
 use tox_proxy::VisibleName;

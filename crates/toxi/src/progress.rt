@@ -27,10 +27,10 @@ pub struct Terminals {
 /// How far a command is.
 #[derive(Clone, Copy)]
 struct Work {
-    /// When it is told next. None: it isn't told.
+    /// When it is reported next. None: it isn't reported.
     due: Option<Instant>,
     /// Whether it stands on the terminal.
-    told: bool,
+    reported: bool,
     /// Whether the output stands within a line there.
     within_line: bool,
     /// How many logs were opened.
@@ -81,7 +81,7 @@ impl<'r, R: Clock + Eprint + Files> Progress<'r, R> {
             terminals,
             work: Cell::new(Work {
                 due,
-                told: false,
+                reported: false,
                 within_line: false,
                 opened: 0,
                 total,
@@ -132,13 +132,13 @@ impl<'r, R: Clock + Eprint + Files> Progress<'r, R> {
         }
     }
 
-    /// Clears the terminal of what was told.
+    /// Clears the terminal of what was reported.
     pub fn clear(&self) {
         let mut work = self.work.get();
-        if work.told {
+        if work.reported {
             let rt = self.rt;
             let _ = eprint!(rt; "{ANEW}");
-            work.told = false;
+            work.reported = false;
             self.work.set(work);
         }
     }
@@ -153,7 +153,7 @@ impl<'r, R: Clock + Eprint + Files> Progress<'r, R> {
         if !work.within_line && is_over(self.rt, due) {
             let rt = self.rt;
             let _ = eprint!(rt; "{ANEW}toxi: {work}");
-            work.told = true;
+            work.reported = true;
             work.due = after(self.rt, NEXT_WAIT);
         }
         self.work.set(work);

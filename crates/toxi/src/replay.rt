@@ -41,7 +41,7 @@ struct Judging<'p, R> {
     json: bool,
     /// How many are unfaithful.
     unfaithful: u64,
-    /// Whether a fault was told.
+    /// Whether a fault was reported.
     failed: bool,
 }
 
@@ -102,7 +102,7 @@ fn judge_logs<'p, R: Input + Print + Eprint + Files + AllocGlobal + Clock>(
     }
 }
 
-/// The status where so many logs are unfaithful, and a fault was told or not.
+/// The status where so many logs are unfaithful, and a fault was reported or not.
 pub fn last_status<R: Eprint + AllocGlobal>(
     rt: &R,
     explaining: Explaining,

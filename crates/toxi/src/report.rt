@@ -47,7 +47,7 @@ impl<R: Files> LogStore for NoFiles<R> {
     }
 }
 
-/// A report, and whether a fault was told.
+/// A report, and whether a fault was reported.
 #[derive(Drop)]
 struct Collected<'p, R> {
     explaining: Explaining,
@@ -111,7 +111,7 @@ pub fn report<R: Input + Print + Eprint + Files + AllocGlobal + Clock>(
     print_page(rt, explaining, &progress, arguments, report, failed)
 }
 
-/// Prints the page of a report. A fault was told before or not.
+/// Prints the page of a report. A fault was reported before or not.
 fn print_page<'p, R: Print + Eprint + Files + AllocGlobal + Clock>(
     rt: &'p R,
     explaining: Explaining,

@@ -9,7 +9,7 @@ use crate::log_folder::{LogFolder, LogRefused};
 use crate::output::PatientOutput;
 use crate::reasons::{listen_reason, printed, text_of};
 use crate::shutdown::Shutdown;
-use crate::told_warnings::tell_warnings;
+use crate::warning_lines::tell_warnings;
 use crate::warnings::print_warnings;
 use std::alloc::Global;
 use std::fmt::Display;
@@ -56,7 +56,7 @@ pub struct ServeJob {
     ready: Option<String>,
     /// The folder of logs.
     folder: Option<String>,
-    /// Whether warnings aren't told.
+    /// Whether warnings aren't reported.
     quiet: bool,
     /// All but the address for probes.
     options: ServeOptions<'static>,
@@ -225,7 +225,7 @@ where
     refused(rt, job, refusal, reason, &fault)
 }
 
-/// The seed that is given, or else one that is drawn and told on standard error.
+/// The seed that is given, or else one that is drawn and reported on standard error.
 fn seed_of<R: Eprint + Files + Wait + Clock>(rt: &R, job: &ServeJob, shutdown: &Shutdown) -> u64 {
     if let Some(seed) = job.seed {
         return seed;
@@ -310,12 +310,12 @@ fn explain_refusal<'x, R: Eprint + AllocGlobal, F: Display>(
 
 /// Tells on standard error how many lines were dropped, and why links broke.
 #[derive(Drop)]
-struct ToldNotices<'a, R> {
+struct PrintedNotices<'a, R> {
     rt: &'a R,
     room: Room<'a, R>,
 }
 
-impl<'a, R: Eprint + Wait> Notices for ToldNotices<'a, R> {
+impl<'a, R: Eprint + Wait> Notices for PrintedNotices<'a, R> {
     fn dropped(&self, lines: u64) {
         if !self.room.wait() {
             return;
@@ -347,7 +347,7 @@ where
 {
     let stop = &shutdown.stop;
     let out = Mutex::new(PatientOutput::new(rt, shutdown));
-    let notices = ToldNotices {
+    let notices = PrintedNotices {
         rt,
         room: Room::new(rt, stop, ERRORS),
     };

@@ -11,7 +11,7 @@ pub struct Shutdown {
 }
 
 impl Shutdown {
-    /// Nothing is told yet, and nothing is written.
+    /// Nothing is reported yet, and nothing is written.
     pub fn new() -> Shutdown {
         Shutdown {
             stop: Stop::new(),

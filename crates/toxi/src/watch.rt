@@ -64,7 +64,7 @@ impl Serving {
         process: &mut ProcessStatus<F>,
     ) -> Option<u8> {
         let mut before = self.progress(process);
-        self.shutdown.stop.tell(rt);
+        self.shutdown.stop.request(rt);
         let mut turns = STOPPING_TURNS;
         for _ in rt.forever() {
             let status = self.wait(rt);

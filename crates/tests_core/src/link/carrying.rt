@@ -261,9 +261,9 @@ impl CarryCase {
             Err(fault) => Err(fault),
         };
         assert_equal(rt, answer, &expected);
-        let told = (hangup.calls, hangup.source_ended, hangup.ending, hangup.at);
+        let reported = (hangup.calls, hangup.source_ended, hangup.ending, hangup.at);
         let (calls, source_ended, end, micros) = self.hangup;
-        assert_equal(rt, &told, &(calls, source_ended, end.ending(), micros));
+        assert_equal(rt, &reported, &(calls, source_ended, end.ending(), micros));
     }
 
     fn compare_writer(&self, rt: &impl Abort, writer: &WatchingSink) {

@@ -40,7 +40,7 @@ impl SlowClock {
 }
 
 impl Clock for SlowClock {
-    ghost told = { λ _ instant. IsInstant instant };
+    ghost reported = { λ _ instant. IsInstant instant };
 
     fn now(&self) -> Micros {
         Micros::ZERO.after(self.micros.load(Ordering::SeqCst))
@@ -50,7 +50,7 @@ impl Clock for SlowClock {
         self.micros.fetch_add(REST, Ordering::SeqCst);
     }
 
-    ghost instants = { λ _ _ told. told };
+    ghost instants = { λ _ _ reported. reported };
 }
 
 /// A writer that takes all bytes, and fails from `FAILS_FROM` on.

@@ -35,7 +35,7 @@ impl RestingClock {
 }
 
 impl Clock for RestingClock {
-    ghost told = { λ _ instant. IsInstant instant };
+    ghost reported = { λ _ instant. IsInstant instant };
 
     fn now(&self) -> Micros {
         Micros::ZERO.after(self.micros.load(Ordering::SeqCst))
@@ -45,7 +45,7 @@ impl Clock for RestingClock {
         self.micros.store(until.get(), Ordering::SeqCst);
     }
 
-    ghost instants = { λ _ _ told. told };
+    ghost instants = { λ _ _ reported. reported };
 }
 
 /// Notes that keep their events.

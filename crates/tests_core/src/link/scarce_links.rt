@@ -25,7 +25,7 @@ const TIMES: usize = 4;
 struct StandingClock;
 
 impl Clock for StandingClock {
-    ghost told = { λ _ instant. IsInstant instant };
+    ghost reported = { λ _ instant. IsInstant instant };
 
     fn now(&self) -> Micros {
         Micros::ZERO
@@ -33,7 +33,7 @@ impl Clock for StandingClock {
 
     fn rest(&self, _until: Micros) {}
 
-    ghost instants = { λ _ _ told. told };
+    ghost instants = { λ _ _ reported. reported };
 }
 
 /// Nothing hangs on these ends.

@@ -64,7 +64,7 @@ fn serve_with_pages<
     let out: Vec<u8> = Vec::with_capacity(alloc, OUT_SIZE).expect(rt, "memory");
     let out = Mutex::new(out);
     let stop = Stop::new();
-    stop.tell(rt);
+    stop.request(rt);
     let options = ServeOptions {
         ready,
         ..ServeOptions::default()

@@ -92,7 +92,7 @@ fn tell_a_living_link<R: Net<Stream = TcpStream> + Wait + Abort>(
     let mut bytes = [0; 5];
     let mut receiver = &server;
     receiver.read_exact(&mut bytes).expect(rt, "a read");
-    stop.tell(rt);
+    stop.request(rt);
     (client, server)
 }
 
@@ -193,7 +193,7 @@ fn compare_served<
 }
 
 #[test]
-fn a_link_is_carried_and_told(rt: HostRuntime) {
+fn a_link_is_carried_and_reported(rt: HostRuntime) {
     let upstream = TcpListener::bind(&rt, "127.0.0.1:0").expect(&rt, "a port");
     let expected = "link a 1 up 5 closed down 3 closed\ntotal a 1 up 5 down 3\n";
     compare_served(&rt, THREE_BYTES, Some(&upstream), None, expected);
@@ -206,7 +206,7 @@ fn an_upstream_where_nobody_listens_breaks_the_link(rt: HostRuntime) {
 }
 
 #[test]
-fn a_told_run_ends_with_its_totals(rt: HostRuntime) {
+fn a_reported_run_ends_with_its_totals(rt: HostRuntime) {
     let upstream = TcpListener::bind(&rt, "127.0.0.1:0").expect(&rt, "a port");
     let expected = "link a 1 up 5 broken down 0 broken\ntotal a 1 up 5 down 0\n";
     compare_served(&rt, "", Some(&upstream), Some(&Stop::new()), expected);

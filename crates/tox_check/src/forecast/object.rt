@@ -5,7 +5,7 @@ ghost use Rattle.tox_text.specs.JsonLine.{field_text, key_text};
 ghost use Rattle.tox_text.specs.Printing.{IsWorking, Prints};
 ghost use Rattle.tox_check.specs.forecast.Objects.{place_item, place_items, stream_object, total_object};
 
-use crate::forecast::line::{Met, number_of};
+use crate::forecast::link_line::{Met, number_of};
 use crate::forecast::totals::Total;
 use arrayvec::ArrayVec;
 use tox_defs::MAX_TOXICS;

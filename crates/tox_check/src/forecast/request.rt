@@ -3,7 +3,7 @@ ghost use Rattle.std.specs.Prelude.{◌≡◌, ◌≢◌, ◌≤◌, false, Err,
 ghost use Rattle.tox_text.specs.declared.pick_text.PrintPickFault.TheVariants.{WriteFault};
 ghost use Rattle.tox_check.specs.forecast.Asked.{AsksFor, IsBadStream};
 
-use crate::forecast::printing::print_forecast;
+use crate::forecast::proxy_forecast::print_forecast;
 use crate::forecast::question::Question;
 use std::alloc::Global;
 use tox_runs::{NamedFiles, PickFault, find_proxy, read_setup};

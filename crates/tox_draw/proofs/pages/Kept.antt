@@ -10,13 +10,13 @@ use Rattle.tox_log.specs.FaultText.{IsFaultIn}
 use Rattle.tox_draw.specs.pages.Reports.{KeepsFault, KeepsOn, RefusesLog}
 
 -- a fault other than out of memory
-pub RefusesLog-told : (name : List ℕ) (old new : Report) (fault : ReplayFault) → (fault ≡ OutOfMemory → ⊥) → KeepsFault name fault old new → RefusesLog name old new fault
-RefusesLog-told name old new OutOfMemory other kept = absurd (other refl)
-RefusesLog-told name old new WriteFault other kept = kept
-RefusesLog-told name old new (Unreadable told) other kept = kept
-RefusesLog-told name old new (BadLog told line) other kept = kept
-RefusesLog-told name old new (LogTooDeep told line) other kept = kept
-RefusesLog-told name old new (NotFaithful count) other kept = kept
+pub RefusesLog-bad : (name : List ℕ) (old new : Report) (fault : ReplayFault) → (fault ≡ OutOfMemory → ⊥) → KeepsFault name fault old new → RefusesLog name old new fault
+RefusesLog-bad name old new OutOfMemory other kept = absurd (other refl)
+RefusesLog-bad name old new WriteFault other kept = kept
+RefusesLog-bad name old new (Unreadable reported) other kept = kept
+RefusesLog-bad name old new (BadLog reported line) other kept = kept
+RefusesLog-bad name old new (LogTooDeep reported line) other kept = kept
+RefusesLog-bad name old new (NotFaithful count) other kept = kept
 
 -- the fault of a log, or out of memory
 pub fault-named : {A : Type 0} (result : Result A ReplayFault) (name : Bor (List ℕ)) (fault : ReplayFault) → (result ≡ Err fault) ⊎ (result ≡ Err OutOfMemory) → IsFaultIn name fault

@@ -26,7 +26,7 @@ MayShow time known number row picture =
     ForSome picture
     (λ shown. IsPictureOfLog time (known (string_bytes row.name)) number row.facts.stream (string_bytes shown))
 
--- the conversation of a link of which one stream has a log; who ended it is told in these words
+-- the conversation of a link of which one stream has a log; who ended it is reported in these words
 pub record IsOneSection (known : List ℕ → KnownLog) (words : List ℕ) (number : ℕ) (row : Row)
     (text : List ℕ) : Type 0 where
   pub time : Axis

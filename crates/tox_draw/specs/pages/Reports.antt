@@ -53,14 +53,14 @@ pub record IsStreamOf (log : JudgedLog) (facts : StreamFacts) : Type 0 where
 pub record KeepsLog (name : List ℕ) (log : JudgedLog) (old new : Report) : Type 0 where
   pub row : Row
   pub named : string_bytes row.name ≡ name
-  pub told : IsStreamOf log row.facts
+  pub reported : IsStreamOf log row.facts
   pub added : KeepsLogs new old.refusals.items (old.rows.items ++ row ∷ [])
 
 -- the log of this name, which can't be judged for this fault, came behind the others
 pub record KeepsFault (name : List ℕ) (fault : ReplayFault) (old new : Report) : Type 0 where
   pub refusal : Refusal
   pub named : string_bytes refusal.name ≡ name
-  pub told : string_bytes refusal.fault ≡ replay_fault_text fault
+  pub reported : string_bytes refusal.fault ≡ replay_fault_text fault
   pub added : KeepsLogs new (old.refusals.items ++ refusal ∷ []) old.rows.items
 
 -- the log of this name was opened and judged, and came behind the others

@@ -54,7 +54,7 @@ both_body number up down upstream downstream =
     ++ (stream_row down
     ++ (stream_table_end ++ (figure up number upstream ++ figure down number downstream)))
 
--- the conversation of a link of which one stream has a log; who ended it is told in these words
+-- the conversation of a link of which one stream has a log; who ended it is reported in these words
 unfoldable pub one_section : List ℕ → ℕ → StreamFacts → Option (String Global) → List ℕ
 one_section words number facts picture =
     section_front words number facts ++ (one_body number facts picture ++ codes "</section>\n")

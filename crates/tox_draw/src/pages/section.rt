@@ -24,7 +24,7 @@ const TABLE_HEAD: &str = "\
 /// Behind the rows of a conversation's table.
 const TABLE_END: &str = "</tbody>\n</table>\n</div>\n";
 
-/// Adds the conversation of a link of which one stream has a log. Who ended it is told in these words.
+/// Adds the conversation of a link of which one stream has a log. Who ended it is reported in these words.
 #[tactic(auto, using(crate::proofs::Growing::adds_then), unfolding(crate::specs::pages::Sections::one_section))]
 pub(crate) fn push_one_section(
     text: &mut String,

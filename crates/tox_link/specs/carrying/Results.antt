@@ -32,10 +32,10 @@ near_end remaining failed = record { remaining = remaining; failed = failed }
 
 -- a link carried bytes of a reader that was read at most so many times, and ended so at a reading of the clock: its log reports that,
 -- what it wrote are the first bytes that there were to give, and it was hung up once
-pub record Carries (means : List Item → List Item) (told : ℕ → Type 0) (reads : ℕ) (given left : NearEnd) (before after : FarEnd) (taken written : ℕ) (ending : Ending) (source : Option ReadEnd) (reading : ℕ) : Type 0 where
+pub record Carries (means : List Item → List Item) (reported : ℕ → Type 0) (reads : ℕ) (given left : NearEnd) (before after : FarEnd) (taken written : ℕ) (ending : Ending) (source : Option ReadEnd) (reading : ℕ) : Type 0 where
   pub log : List LinkEvent
   pub noted : after.events ≡ with_events before.events log
-  pub reports : ReportsAt means told log taken written ending source reading
+  pub reports : ReportsAt means reported log taken written ending source reading
   pub of_heard : SaysHeard log
   pub bytes : List ℕ
   pub took : length bytes ≡ taken
@@ -47,10 +47,10 @@ pub record Carries (means : List Item → List Item) (told : ℕ → Type 0) (re
 
 -- a link broke off by this fault: its log is cut off there, what it wrote are the first bytes that there were to give, and it was
 -- hung up by a reset, or broke off before it began
-pub record BreaksAt (means : List Item → List Item) (told : ℕ → Type 0) (given : NearEnd) (before after : FarEnd) (fault : LinkFault) : Type 0 where
+pub record BreaksAt (means : List Item → List Item) (reported : ℕ → Type 0) (given : NearEnd) (before after : FarEnd) (fault : LinkFault) : Type 0 where
   pub log : List LinkEvent
   pub noted : after.events ≡ with_events before.events log
-  pub cut_off : IsCutOff means told (written_before fault) log
+  pub cut_off : IsCutOff means reported (written_before fault) log
   pub bytes : List ℕ
   pub wrote : WritesFirst given.remaining before.written after.written bytes (written_before fault)
-  pub reset : BreaksOff told log before.calls after.calls fault
+  pub reset : BreaksOff reported log before.calls after.calls fault

@@ -56,7 +56,7 @@ pub record IsSound (side : WriterSide) (messages : List Message) : Type 0 where
   pub few : side.core.bytes ≤ length (bytes_of messages)
   pub live : side.ended ≡ false → core_ending side.core ≡ None → side.core.bytes ≡ length (bytes_of messages)
   pub going : side.ended ≡ false → side.core.ended ≡ false
-  pub told : side.ended ≡ has_end messages
+  pub reported : side.ended ≡ has_end messages
   pub whole : (end : ReadEnd) → read_end_of side.source ≡ Some end → TookAll side messages end
 
 -- a sound side at which this message has just come

@@ -10,28 +10,28 @@ use Rattle.tox_link.specs.log.Logged.{CutsOff, CutsOffFrom, KeepsLogged, LogsFro
 use Rattle.tox_link.specs.Reports.{IsFaultAt}
 
 -- these events were noted of a step of a link, which keeps its log with them
-pub record NotesOn (told : ℕ → Type 0) (before after : Option (List LinkEvent)) (old new : WriterSide) : Type 0 where
+pub record NotesOn (reported : ℕ → Type 0) (before after : Option (List LinkEvent)) (old new : WriterSide) : Type 0 where
   pub more : List LinkEvent
   pub noted : after ≡ with_events before more
-  pub keeps : KeepsLogged told old more new
+  pub keeps : KeepsLogged reported old more new
 
 -- these events were noted since a link began, and are its log
-pub record NotesAll (told : ℕ → Type 0) (before after : Option (List LinkEvent)) (old new : WriterSide) : Type 0 where
+pub record NotesAll (reported : ℕ → Type 0) (before after : Option (List LinkEvent)) (old new : WriterSide) : Type 0 where
   pub log : List LinkEvent
   pub noted : after ≡ with_events before log
-  pub logs : LogsFrom told old log new
+  pub logs : LogsFrom reported old log new
 
 -- a step of a link broke off by this fault and noted nothing
-pub record StopsUnnoted (told : ℕ → Type 0) (before after : Option (List LinkEvent)) (old new : WriterSide) (writer_failed : Bool) (fault : LinkFault) : Type 0 where
+pub record StopsUnnoted (reported : ℕ → Type 0) (before after : Option (List LinkEvent)) (old new : WriterSide) (writer_failed : Bool) (fault : LinkFault) : Type 0 where
   pub at : IsFaultAt new.written writer_failed fault
-  pub cuts : CutsOff told old new.written
-  pub reads : ReadsOn told old.core.latest new.core.latest
+  pub cuts : CutsOff reported old new.written
+  pub reads : ReadsOn reported old.core.latest new.core.latest
   pub unnoted : after ≡ before
 
 -- a link broke off by this fault: its log is cut off there, and none of it is above the last reading
-pub record StopsAfter (told : ℕ → Type 0) (before after : Option (List LinkEvent)) (old new : WriterSide) (writer_failed : Bool) (fault : LinkFault) : Type 0 where
+pub record StopsAfter (reported : ℕ → Type 0) (before after : Option (List LinkEvent)) (old new : WriterSide) (writer_failed : Bool) (fault : LinkFault) : Type 0 where
   pub at : IsFaultAt new.written writer_failed fault
   pub log : List LinkEvent
   pub noted : after ≡ with_events before log
-  pub cuts : CutsOffFrom told old log new.written
-  pub reset : IsResetAt told log new.core.latest
+  pub cuts : CutsOffFrom reported old log new.written
+  pub reset : IsResetAt reported log new.core.latest

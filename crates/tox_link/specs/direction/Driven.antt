@@ -31,9 +31,9 @@ ends_view remaining written events = record { remaining = remaining; written = w
 
 -- a direction at a clock with these readings and a source that has so much left: the source works while it is read,
 -- and ended as the direction says, whatever number of reads was allowed
-pub record IsReady (told : ℕ → Type 0) (link : PolledLink) (left : Option (List ℕ)) (failed : Bool) : Type 0 where
+pub record IsReady (reported : ℕ → Type 0) (link : PolledLink) (left : Option (List ℕ)) (failed : Bool) : Type 0 where
   pub held : IsHeld link
-  pub read : (link.core.latest ≡ 0) ⊎ told link.core.latest
+  pub read : (link.core.latest ≡ 0) ⊎ reported link.core.latest
   pub working : link.ended ≡ false → failed ≡ false
   pub cause : IfSome (read_end_of link.source) (λ end. (reads count : ℕ) → EndsFor end reads count left failed)
 
@@ -58,12 +58,12 @@ pub record KeepsDone (old new : PolledLink) : Type 0 where
 
 -- these bytes were read and no more were taken, these events were noted, and these bytes are written: at least so many steps were
 -- taken
-pub record Drove (least : ℕ) (told : ℕ → Type 0) (old : PolledLink) (before : EndsView) (new : PolledLink) (after : EndsView) : Type 0 where
+pub record Drove (least : ℕ) (reported : ℕ → Type 0) (old : PolledLink) (before : EndsView) (new : PolledLink) (after : EndsView) : Type 0 where
   pub bytes : List ℕ
   pub more : List LinkEvent
   pub read : before.remaining ≡ prepend_known bytes after.remaining
   pub noted : after.events ≡ with_events before.events more
-  pub follows : Drives told old before.written bytes more new after.written
+  pub follows : Drives reported old before.written bytes more new after.written
   pub kept : KeepsDone old new
   pub taken : new.core.bytes ≤ old.core.bytes + length bytes
   pub work : done_of old + least ≤ done_of new + length bytes + length more
@@ -89,22 +89,22 @@ steps_of_move (Ok false) = 0
 steps_of_move (Err fault) = 0
 
 -- a direction waits, at most until an instant: where a slice is being written its sink waits, and the instant is when the
--- sink gives up; else the core says that it waits at a reading that the clock told, and input may not be taken or isn't there
-pub record WaitsFor (told : ℕ → Type 0) (link : PolledLink) (source_waits sink_waits : Bool) (due until : Option ℕ) : Type 0 where
+-- sink gives up; else the core says that it waits at a reading that the clock reported, and input may not be taken or isn't there
+pub record WaitsFor (reported : ℕ → Type 0) (link : PolledLink) (source_waits sink_waits : Bool) (due until : Option ℕ) : Type 0 where
   pub slice : (unwritten : Unwritten) → link.unwritten ≡ Some unwritten → (sink_waits ≡ true) × (until ≡ due)
-  pub idle : link.unwritten ≡ None → told link.core.latest × Says link.core link.core.latest (wait_act until)
+  pub idle : link.unwritten ≡ None → reported link.core.latest × Says link.core link.core.latest (wait_act until)
       × ((¬ MayTake link.core link.window link.ended) ⊎ (source_waits ≡ true))
 
 -- a direction has ended so, and no slice is being written
-pub record IsAtEnd (told : ℕ → Type 0) (link : PolledLink) (ending : Ending) : Type 0 where
+pub record IsAtEnd (reported : ℕ → Type 0) (link : PolledLink) (ending : Ending) : Type 0 where
   pub idle : link.unwritten ≡ None
-  pub ended : HasEnded told link.core link.ended ending
+  pub ended : HasEnded reported link.core link.ended ending
 
 -- what an answer says of the direction
 abbrev pub IsProgress : (ℕ → Type 0) → PolledLink → Bool → Bool → Option ℕ → Progress → Type 0
-IsProgress told link source_waits sink_waits due (Waits until) = WaitsFor told link source_waits sink_waits due until
-IsProgress told link source_waits sink_waits due Again = Unit {0}
-IsProgress told link source_waits sink_waits due (Ended ending) = IsAtEnd told link ending
+IsProgress reported link source_waits sink_waits due (Waits until) = WaitsFor reported link source_waits sink_waits due until
+IsProgress reported link source_waits sink_waits due Again = Unit {0}
+IsProgress reported link source_waits sink_waits due (Ended ending) = IsAtEnd reported link ending
 
 -- how many steps an answer needs, where its budget was so many
 abbrev pub steps_of : ℕ → Result Progress LinkFault → ℕ
@@ -115,7 +115,7 @@ steps_of budget (Err fault) = 0
 
 -- what a direction did since it was new: under a plan that means this, these events were noted and these bytes came, where
 -- so much is left of what was given, and what was written is these bytes behind those of before
-pub record History (told : ℕ → Type 0) (link : PolledLink) (left : Option (List ℕ)) : Type 0 where
+pub record History (reported : ℕ → Type 0) (link : PolledLink) (left : Option (List ℕ)) : Type 0 where
   pub means : List Item → List Item
   pub log : List LinkEvent
   pub came : List ℕ
@@ -123,4 +123,4 @@ pub record History (told : ℕ → Type 0) (link : PolledLink) (left : Option (L
   pub before : Option (List ℕ)
   pub after : Option (List ℕ)
   pub read : given ≡ prepend_known came left
-  pub follows : Follows means told link log came before after
+  pub follows : Follows means reported link log came before after

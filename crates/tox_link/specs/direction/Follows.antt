@@ -61,9 +61,9 @@ pub record HasRoomOf (ops : List Op) (link : PolledLink) : Type 0 where
 
 -- these bytes came, these events were noted and these bytes are written: all that the plan means up to here, but for the slice
 -- that is being written
-pub record Follows (means : List Item → List Item) (told : ℕ → Type 0) (link : PolledLink) (log : List LinkEvent) (came : List ℕ) (before written : Option (List ℕ)) : Type 0 where
-  pub carried : Carried means told link.core (log ++ unsaid link.unwritten)
-  pub faithful : IsFaithful means told log
+pub record Follows (means : List Item → List Item) (reported : ℕ → Type 0) (link : PolledLink) (log : List LinkEvent) (came : List ℕ) (before written : Option (List ℕ)) : Type 0 where
+  pub carried : Carried means reported link.core (log ++ unsaid link.unwritten)
+  pub faithful : IsFaithful means reported log
   pub closed : has_source_end log ≡ is_some (read_end_of link.source)
   pub parts : AreOf came link.window.held
   pub few : link.core.bytes ≤ length came
@@ -73,10 +73,10 @@ pub record Follows (means : List Item → List Item) (told : ℕ → Type 0) (li
 
 -- a step in which these bytes came and these events were noted
 abbrev pub Drives : (ℕ → Type 0) → PolledLink → Option (List ℕ) → List ℕ → List LinkEvent → PolledLink → Option (List ℕ) → Type 0
-Drives told old written bytes more new written_after =
+Drives reported old written bytes more new written_after =
     (means : List Item → List Item) (log : List LinkEvent) (came : List ℕ) (before : Option (List ℕ))
-    → Follows means told old log came before written
-    → Follows means told new (log ++ more) (came ++ bytes) before written_after
+    → Follows means reported old log came before written
+    → Follows means reported new (log ++ more) (came ++ bytes) before written_after
 
 -- a step in which nothing came: what was still to be noted of the slice is noted now, or still to be noted
 pub record WritesOn (old : PolledLink) (written : Option (List ℕ)) (more : List LinkEvent) (new : PolledLink) (written_after : Option (List ℕ)) : Type 0 where

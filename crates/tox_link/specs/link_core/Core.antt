@@ -156,7 +156,7 @@ pub record Settled (old new : CoreView) (now : ℕ) : Type 0 where
   pub latest : new.latest ≡ old.latest
   pub cuts : new.runner.cuts ≡ old.runner.cuts
   pub known : (last : Ending) → core_ending old ≡ Some last → core_ending new ≡ Some last
-  pub told : old.ended ≡ true → IsSome (core_ending new)
+  pub reported : old.ended ≡ true → IsSome (core_ending new)
   pub overdue : (d : ℕ) → core_deadline old ≡ Some d → d ≤ now → IsSome (core_ending new)
   pub unended : core_ending new ≡ None → IsUnended (ops_of new.runner.cursors) (remaining_output new) now
 

@@ -26,30 +26,30 @@ pub record KeepsLast (core : CoreView) (log : List LinkEvent) : Type 0 where
 
 -- what was said and what is to come are together what the plan means for what was heard and goes on from there;
 -- the log is faithful, and its numbers are the core's: no slice passes the bytes that arrived, at most 2^40 in pieces of at most 16,384
-pub record Carried (means : List Item → List Item) (told : ℕ → Type 0) (core : CoreView) (log : List LinkEvent) : Type 0 where
+pub record Carried (means : List Item → List Item) (reported : ℕ → Type 0) (core : CoreView) (log : List LinkEvent) : Type 0 where
   pub tables : (rest : List Item) → IsStreamFrom core.bytes core.latest rest → table (means (heard_from 0 log rest)) ≡ slices_table (said log) ++ table (remaining_output core rest)
   pub endings : (rest : List Item) → IsStreamFrom core.bytes core.latest rest → ending (means (heard_from 0 log rest)) ≡ ending (remaining_output core rest)
   pub stream : (rest : List Item) → IsStreamFrom core.bytes core.latest rest → IsStream (heard_from 0 log rest)
-  pub faithful : IsFaithful means told log
+  pub faithful : IsFaithful means reported log
   pub by : IsBy core.latest log
   pub gapless : IsGapless 0 (said log) (core_position core)
   pub bytes : heard_bytes log ≡ core.bytes
   pub arrived : core_position core ≤ core.bytes
   pub few : core.bytes ≤ 2 ^ 40
   pub closed : has_source_end log ≡ true → core.ended ≡ true
-  pub read : (core.latest ≡ 0) ⊎ told core.latest
+  pub read : (core.latest ≡ 0) ⊎ reported core.latest
   pub shallow : IsShallowBehind [] log
   pub small : HasSmallPieces log
   pub kept : core.ended ≡ false → core_ending core ≡ None → KeepsLast core log
 
--- a core's last instant after another: it is 0 or a reading that the clock told
-pub record ReadsOn (told : ℕ → Type 0) (earlier latest : ℕ) : Type 0 where
-  pub read : (latest ≡ 0) ⊎ told latest
+-- a core's last instant after another: it is 0 or a reading that the clock reported
+pub record ReadsOn (reported : ℕ → Type 0) (earlier latest : ℕ) : Type 0 where
+  pub read : (latest ≡ 0) ⊎ reported latest
   pub later : earlier ≤ latest
 
 -- a step of the core with these events keeps the link carried
 abbrev pub KeepsCarried : (ℕ → Type 0) → CoreView → List LinkEvent → CoreView → Type 0
-KeepsCarried told old more new = (means : List Item → List Item) (log : List LinkEvent) → Carried means told old log → Carried means told new (log ++ more)
+KeepsCarried reported old more new = (means : List Item → List Item) (log : List LinkEvent) → Carried means reported old log → Carried means reported new (log ++ more)
 
 -- what is noted of an answer once it is done
 abbrev pub noted_of : Act → ℕ → List LinkEvent

@@ -83,10 +83,10 @@ IsDue (Piece len instant) = Unit {0}
 IsDue (SourceEnd instant) = Unit {0}
 IsDue (Wrote slice now) = slice.instant ≤ now
 
--- the clock told each reading, none is below an earlier one or `since`, and no slice's instant is past its reading
+-- the clock reported each reading, none is below an earlier one or `since`, and no slice's instant is past its reading
 abbrev pub IsTimely : (ℕ → Type 0) → ℕ → List LinkEvent → Type 0
-IsTimely told since [] = Unit {0}
-IsTimely told since (event ∷ log) = told (reading_of event) × (since ≤ reading_of event) × IsDue event × IsTimely told (reading_of event) log
+IsTimely reported since [] = Unit {0}
+IsTimely reported since (event ∷ log) = reported (reading_of event) × (since ≤ reading_of event) × IsDue event × IsTimely reported (reading_of event) log
 
 -- nonempty slices from one position to another, without gaps
 abbrev pub IsGapless : ℕ → List Slice → ℕ → Type 0
@@ -121,7 +121,7 @@ IsHeardInOrder (SourceEnd instant ∷ log) = HearsNothing log
 IsHeardInOrder (Wrote slice now ∷ log) = IsHeardInOrder log
 
 -- each prefix of the log agrees with the plan, its readings are the clock's, and what it heard is in order
-pub record IsFaithful (means : List Item → List Item) (told : ℕ → Type 0) (log : List LinkEvent) : Type 0 where
+pub record IsFaithful (means : List Item → List Item) (reported : ℕ → Type 0) (log : List LinkEvent) : Type 0 where
   pub agrees : (n : ℕ) → Agrees means (take n log)
-  pub timely : IsTimely told 0 log
+  pub timely : IsTimely reported 0 log
   pub ordered : IsHeardInOrder log

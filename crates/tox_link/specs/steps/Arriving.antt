@@ -15,8 +15,8 @@ pub record TakesIn (old new : CoreView) (bytes : ℕ) (ended : Bool) : Type 0 wh
   pub cuts : old.runner.cuts ≤ new.runner.cuts
 
 -- these events were noted of a step of a core, which is carried on with them; the source's end is among them or not
-pub record CarriesOn (told : ℕ → Type 0) (before after : Option (List LinkEvent)) (old new : CoreView) (has_end : Bool) : Type 0 where
+pub record CarriesOn (reported : ℕ → Type 0) (before after : Option (List LinkEvent)) (old new : CoreView) (has_end : Bool) : Type 0 where
   pub more : List LinkEvent
   pub noted : after ≡ with_events before more
-  pub keeps : KeepsCarried told old more new
+  pub keeps : KeepsCarried reported old more new
   pub end : has_source_end more ≡ has_end

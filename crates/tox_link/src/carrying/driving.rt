@@ -88,17 +88,17 @@ fn act<R: Wait, C: Clock, N: Notes, W: Sink>(
     idle: Option<Idle>,
 ) -> Result<Option<Ending>, LinkFault>
     requires sound { IsSound side.old (received side.old.inbox.receiver) }
-    requires read { (side.old.core.latest ≡ 0) ⊎ C.told clock.now side.old.core.latest }
+    requires read { (side.old.core.latest ≡ 0) ⊎ C.reported clock.now side.old.core.latest }
     requires working { W.failed writer.old ≡ false }
     ensures inbox { side.new.inbox.receiver ≡ side.old.inbox.receiver }
     ensures written { WritesFront side.old side.new (W.written writer.old) (W.written writer.new) }
     ensures few { side.new.written ≤ length (came side.new) }
     ensures ok { IfOk result (λ ending. IsSound side.new (received side.new.inbox.receiver)
         × (W.failed writer.new ≡ false)
-        × IfSome ending (HasEnded (C.told clock.now) side.new.core side.new.ended)) }
-    ensures log { OnOk result (NotesOn (C.told clock.now)
+        × IfSome ending (HasEnded (C.reported clock.now) side.new.core side.new.ended)) }
+    ensures log { OnOk result (NotesOn (C.reported clock.now)
         (N.events notes.old) (N.events notes.new) side.old side.new) }
-    ensures broken { IfErr result (StopsUnnoted (C.told clock.now)
+    ensures broken { IfErr result (StopsUnnoted (C.reported clock.now)
         (N.events notes.old) (N.events notes.new) side.old side.new (W.failed writer.new)) }
 {
     let (act, now) = decide(&mut side.core, clock);
@@ -141,10 +141,10 @@ pub(crate) fn drive<R: Wait, C: Clock, N: Notes, W: Sink, G: Gate>(
     ensures few { side.new.written ≤ length (came side.new) }
     ensures ok { IfOk result (λ ending. IsSound side.new (received side.new.inbox.receiver)
         × (W.failed writer.new ≡ false)
-        × HasEnded (C.told clock.now) side.new.core side.new.ended ending) }
-    ensures log { OnOk result (NotesAll (C.told clock.now)
+        × HasEnded (C.reported clock.now) side.new.core side.new.ended ending) }
+    ensures log { OnOk result (NotesAll (C.reported clock.now)
         (N.events notes.old) (N.events notes.new) side.old side.new) }
-    ensures broken { IfErr result (StopsAfter (C.told clock.now)
+    ensures broken { IfErr result (StopsAfter (C.reported clock.now)
         (N.events notes.old) (N.events notes.new) side.old side.new (W.failed writer.new)) }
 {
     for _ in rt.forever() {

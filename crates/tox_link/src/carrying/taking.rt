@@ -29,15 +29,15 @@ fn keep_piece<C: Clock, N: Notes>(
     requires core { kept_count side.old.core < side.old.core.room }
     requires window { core_ending side.old.core ≡ None
         → length side.old.window.held < side.old.window.room }
-    requires read { (side.old.core.latest ≡ 0) ⊎ C.told clock.now side.old.core.latest }
+    requires read { (side.old.core.latest ≡ 0) ⊎ C.reported clock.now side.old.core.latest }
     ensures same { (side.new.inbox ≡ side.old.inbox) × (side.new.written ≡ side.old.written) }
     ensures ok { OnOk result (IsSound side.new (received side.new.inbox.receiver)) }
-    ensures log { OnOk result (NotesOn (C.told clock.now)
+    ensures log { OnOk result (NotesOn (C.reported clock.now)
         (N.events notes.old) (N.events notes.new) side.old side.new) }
     ensures known { IsSome (core_ending side.old.core)
         → N.events notes.new ≡ N.events notes.old }
     ensures reads { OnErr result
-        (ReadsOn (C.told clock.now) side.old.core.latest side.new.core.latest) }
+        (ReadsOn (C.reported clock.now) side.old.core.latest side.new.core.latest) }
     ensures err { OnErr result (N.events notes.new ≡ N.events notes.old) }
 {
     let None = side.core.ending() else {
@@ -55,15 +55,15 @@ fn keep_end<C: Clock, N: Notes>(
     end: ReadEnd,
 ) -> Result<(), AllocError>
     requires came { Comes side.old (EndOf end) }
-    requires read { (side.old.core.latest ≡ 0) ⊎ C.told clock.now side.old.core.latest }
+    requires read { (side.old.core.latest ≡ 0) ⊎ C.reported clock.now side.old.core.latest }
     ensures same { (side.new.inbox ≡ side.old.inbox) × (side.new.written ≡ side.old.written) }
     ensures ok { OnOk result (IsSound side.new (received side.new.inbox.receiver)) }
-    ensures log { OnOk result (NotesOn (C.told clock.now)
+    ensures log { OnOk result (NotesOn (C.reported clock.now)
         (N.events notes.old) (N.events notes.new) side.old side.new) }
     ensures known { IsSome (core_ending side.old.core)
         → N.events notes.new ≡ N.events notes.old }
     ensures reads { OnErr result
-        (ReadsOn (C.told clock.now) side.old.core.latest side.new.core.latest) }
+        (ReadsOn (C.reported clock.now) side.old.core.latest side.new.core.latest) }
     ensures err { OnErr result (N.events notes.new ≡ N.events notes.old) }
 {
     side.ended = true;
@@ -84,7 +84,7 @@ pub(crate) fn take_message<C: Clock, N: Notes, G: Gate>(
     gate: &G,
 ) -> Result<Option<Idle>, AllocError>
     requires sound { IsSound side.old (received side.old.inbox.receiver) }
-    requires read { (side.old.core.latest ≡ 0) ⊎ C.told clock.now side.old.core.latest }
+    requires read { (side.old.core.latest ≡ 0) ⊎ C.reported clock.now side.old.core.latest }
     ensures same { SameConsumer side.old.inbox.receiver side.new.inbox.receiver
         × (side.new.written ≡ side.old.written) }
     ensures took { IfOk result (λ idle. MatchOption idle
@@ -93,9 +93,9 @@ pub(crate) fn take_message<C: Clock, N: Notes, G: Gate>(
         (λ _. received side.new.inbox.receiver ≡ received side.old.inbox.receiver)) }
     ensures came { (more : List _) × (came side.new ≡ came side.old ++ more) }
     ensures ok { OnOk result (IsSound side.new (received side.new.inbox.receiver)) }
-    ensures log { OnOk result (NotesOn (C.told clock.now)
+    ensures log { OnOk result (NotesOn (C.reported clock.now)
         (N.events notes.old) (N.events notes.new) side.old side.new) }
-    ensures err { OnErr result (ReadsOn (C.told clock.now) side.old.core.latest side.new.core.latest
+    ensures err { OnErr result (ReadsOn (C.reported clock.now) side.old.core.latest side.new.core.latest
         × (N.events notes.new ≡ N.events notes.old)) }
 {
     if let Some(idle) = side.idle() {

@@ -15,17 +15,17 @@ use tox_time::{Micros, Slice};
 /// Asks the core at the clock's reading. The slice of a `Write` is being written from now on.
 pub(crate) fn ask<C: Clock>(link: &mut PolledLink, clock: &C) -> Act
     requires held { IsHeld link.old }
-    requires read { (link.old.core.latest ≡ 0) ⊎ C.told clock.now link.old.core.latest }
+    requires read { (link.old.core.latest ≡ 0) ⊎ C.reported clock.now link.old.core.latest }
     requires idle { link.old.unwritten ≡ None }
     ensures held { IsHeld link.new }
-    ensures told { C.told clock.now link.new.core.latest }
+    ensures reported { C.reported clock.now link.new.core.latest }
     ensures answered { Answered link.old.core link.new.core link.new.core.latest result }
     ensures same { link.new ≡ record link.old {
       core = link.new.core;
       unwritten = begun_by result link.new.core.latest;
     } }
     ensures drove { (left written : Option (List ℕ)) (events : Option (List OneEvent))
-        → Drove (steps_of_act result) (C.told clock.now)
+        → Drove (steps_of_act result) (C.reported clock.now)
         link.old (ends_view left written events)
         link.new (ends_view left written events) }
 {

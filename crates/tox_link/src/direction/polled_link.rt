@@ -80,7 +80,7 @@ impl PolledLink {
         self.window.stop() + self.written
     }
 
-    /// The last reading of the clock that its core was told, 0 at first. Once it has ended, that at which it ended.
+    /// The last reading of the clock that its core was given, 0 at first. Once it has ended, that at which it ended.
     pub fn latest(&self) -> Micros
         ensures { result ≡ self.now.core.latest }
     {

@@ -26,7 +26,7 @@ fn keep_bytes<C: Clock, N: Notes>(
     bytes: Vec<u8>,
 ) -> Result<(), AllocError>
     requires held { IsHeld link.old }
-    requires read { (link.old.core.latest ≡ 0) ⊎ C.told clock.now link.old.core.latest }
+    requires read { (link.old.core.latest ≡ 0) ⊎ C.reported clock.now link.old.core.latest }
     requires idle { link.old.unwritten ≡ None }
     requires room { MayTake link.old.core link.old.window link.old.ended }
     requires unknown { core_ending link.old.core ≡ None }
@@ -34,12 +34,12 @@ fn keep_bytes<C: Clock, N: Notes>(
         × (link.old.core.bytes + length bytes.items ≤ 2 ^ 40) }
     requires small { length bytes.items ≤ 16_384 }
     ensures held { IsHeld link.new }
-    ensures reads { ReadsOn (C.told clock.now) link.old.core.latest link.new.core.latest }
+    ensures reads { ReadsOn (C.reported clock.now) link.old.core.latest link.new.core.latest }
     ensures same { (link.new.source ≡ link.old.source) × (link.new.unwritten ≡ None)
         × (link.new.written ≡ link.old.written) }
     ensures taken { link.new.core.bytes ≤ link.old.core.bytes + length bytes.items }
     ensures ok { OnOk result ((link.new.ended ≡ false) × (link.new.core.ended ≡ false)) }
-    ensures drove { (left written : Option (List ℕ)) → Drove 1 (C.told clock.now)
+    ensures drove { (left written : Option (List ℕ)) → Drove 1 (C.reported clock.now)
         link.old (ends_view (prepend_known bytes.items left) written (N.events notes.old))
         link.new (ends_view left written (N.events notes.new)) }
 {
@@ -59,19 +59,19 @@ pub(crate) fn end_source<C: Clock, N: Notes>(
     source: SourceEnding,
 ) -> Result<(), AllocError>
     requires held { IsHeld link.old }
-    requires read { (link.old.core.latest ≡ 0) ⊎ C.told clock.now link.old.core.latest }
+    requires read { (link.old.core.latest ≡ 0) ⊎ C.reported clock.now link.old.core.latest }
     requires idle { link.old.unwritten ≡ None }
     requires going { link.old.ended ≡ false }
     requires why { is_some (read_end_of source) ≡ true }
     ensures held { IsHeld link.new }
-    ensures reads { ReadsOn (C.told clock.now) link.old.core.latest link.new.core.latest }
+    ensures reads { ReadsOn (C.reported clock.now) link.old.core.latest link.new.core.latest }
     ensures same { (link.new.ended ≡ true) × (link.new.unwritten ≡ None)
         × (link.new.written ≡ link.old.written) }
     ensures taken { link.new.core.bytes ≡ link.old.core.bytes }
     ensures source { (link.new.source ≡ source) ⊎ (link.new.source ≡ link.old.source) }
     ensures ok { OnOk result (link.new.core.ended ≡ true) }
     ensures drove { (bytes : List ℕ) (left written : Option (List ℕ))
-        → AreLeftOver link.old source bytes → Drove 1 (C.told clock.now)
+        → AreLeftOver link.old source bytes → Drove 1 (C.reported clock.now)
         link.old (ends_view (prepend_known bytes left) written (N.events notes.old))
         link.new (ends_view left written (N.events notes.new)) }
 {
@@ -95,19 +95,19 @@ pub(crate) fn keep_read<C: Clock, N: Notes>(
     bytes: &[u8],
 ) -> Result<(), AllocError>
     requires held { IsHeld link.old }
-    requires read { (link.old.core.latest ≡ 0) ⊎ C.told clock.now link.old.core.latest }
+    requires read { (link.old.core.latest ≡ 0) ⊎ C.reported clock.now link.old.core.latest }
     requires idle { link.old.unwritten ≡ None }
     requires room { MayTake link.old.core link.old.window link.old.ended }
     requires some { 0 < length bytes.now }
     requires small { length bytes.now ≤ 16_384 }
     ensures held { IsHeld link.new }
-    ensures reads { ReadsOn (C.told clock.now) link.old.core.latest link.new.core.latest }
+    ensures reads { ReadsOn (C.reported clock.now) link.old.core.latest link.new.core.latest }
     ensures same { (link.new.unwritten ≡ None) × (link.new.written ≡ link.old.written) }
     ensures taken { link.new.core.bytes ≤ link.old.core.bytes + length bytes.now }
     ensures source { (link.new.source ≡ link.old.source)
         ⊎ ((link.new.source ≡ AtLimit) × (link.new.ended ≡ true)) }
     ensures ends { OnOk result (EndsWithCore link.old → EndsWithCore link.new) }
-    ensures drove { (left written : Option (List ℕ)) → Drove 1 (C.told clock.now)
+    ensures drove { (left written : Option (List ℕ)) → Drove 1 (C.reported clock.now)
         link.old (ends_view (prepend_known bytes.now left) written (N.events notes.old))
         link.new (ends_view left written (N.events notes.new)) }
 {

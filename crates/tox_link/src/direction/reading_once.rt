@@ -22,18 +22,18 @@ pub(crate) fn read_once<C: Clock, N: Notes, S: PollSource>(
     source: &mut S,
     scratch: &mut [u8; READ_SIZE],
 ) -> Result<bool, AllocError>
-    requires ready { IsReady (C.told clock.now) link.old
+    requires ready { IsReady (C.reported clock.now) link.old
         (S.remaining source.old) (S.failed source.old) }
     requires idle { link.old.unwritten ≡ None }
     requires room { MayTake link.old.core link.old.window link.old.ended }
-    ensures ready { IsReady (C.told clock.now) link.new
+    ensures ready { IsReady (C.reported clock.now) link.new
         (S.remaining source.new) (S.failed source.new) }
     ensures same { (link.new.unwritten ≡ None) × (link.new.written ≡ link.old.written) }
     ensures taken { link.new.core.bytes ≤ link.old.core.bytes + 16_384 }
     ensures ends { OnOk result (EndsWithCore link.old → EndsWithCore link.new) }
     ensures waits { IfOk result (λ moved. moved ≡ false
         → (link.new ≡ link.old) × (S.waits source.new ≡ true)) }
-    ensures drove { (written : Option (List ℕ)) → Drove (steps_of_move result) (C.told clock.now)
+    ensures drove { (written : Option (List ℕ)) → Drove (steps_of_move result) (C.reported clock.now)
         link.old (ends_view (S.remaining source.old) written (N.events notes.old))
         link.new (ends_view (S.remaining source.new) written (N.events notes.new)) }
 {

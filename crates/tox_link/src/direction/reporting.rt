@@ -22,29 +22,29 @@ pub fn finish<C: Clock, S: Drop>(
     reader: S,
 ) -> Result<TimedReport<S>, LinkFault>
     requires held { IsHeld link }
-    requires driven { MatchResult driven (IsAtEnd (C.told clock.now) link)
+    requires driven { MatchResult driven (IsAtEnd (C.reported clock.now) link)
         (λ fault. written_before fault ≡ link.written) }
     ensures same { MatchResult driven
         (λ ending. IfOk result (λ timed. (timed.report.ending ≡ ending)
         × (timed.report.reader ≡ reader)))
         (λ fault. result ≡ Err fault) }
     ensures log { IfOk result (λ timed. (left : Option (List ℕ))
-        (history : History (C.told clock.now) link left)
-        → ReportsAt history.means (C.told clock.now) history.log
+        (history : History (C.reported clock.now) link left)
+        → ReportsAt history.means (C.reported clock.now) history.log
         timed.report.taken timed.report.written timed.report.ending
         (read_end_of timed.report.source) timed.reading) }
     ensures of_heard { IfOk result (λ _. (left : Option (List ℕ))
-        (history : History (C.told clock.now) link left) → SaysHeard history.log) }
+        (history : History (C.reported clock.now) link left) → SaysHeard history.log) }
     ensures bytes { IfOk result (λ timed. (left : Option (List ℕ))
-        (history : History (C.told clock.now) link left)
+        (history : History (C.reported clock.now) link left)
         → WritesFirst history.given history.before history.after
         (take timed.report.taken history.came) timed.report.written
         × (length (take timed.report.taken history.came) ≡ timed.report.taken)
         × IfSome (read_end_of timed.report.source) (λ end.
         HandsOn history.given (take timed.report.taken history.came) end left)) }
     ensures broken { IfErr result (λ fault. (left : Option (List ℕ))
-        (history : History (C.told clock.now) link left)
-        → IsCutOff history.means (C.told clock.now) (written_before fault) history.log
+        (history : History (C.reported clock.now) link left)
+        → IsCutOff history.means (C.reported clock.now) (written_before fault) history.log
         × WritesFirst history.given history.before history.after
         history.came (written_before fault)) }
 {

@@ -41,15 +41,15 @@ pub fn drive<C: Clock, N: Notes, S: PollSource, W: PollSink>(
     sink: &mut W,
     scratch: &mut [u8; READ_SIZE],
 ) -> Result<Progress, LinkFault>
-    requires ready { IsReady (C.told clock.now) link.old
+    requires ready { IsReady (C.reported clock.now) link.old
         (S.remaining source.old) (S.failed source.old) }
     requires working { W.failed sink.old ≡ false }
-    ensures ready { IsReady (C.told clock.now) link.new
+    ensures ready { IsReady (C.reported clock.now) link.new
         (S.remaining source.new) (S.failed source.new) }
-    ensures drove { Drove (steps_of 32 result) (C.told clock.now)
+    ensures drove { Drove (steps_of 32 result) (C.reported clock.now)
         link.old (ends_view (S.remaining source.old) (W.written sink.old) (N.events notes.old))
         link.new (ends_view (S.remaining source.new) (W.written sink.new) (N.events notes.new)) }
-    ensures progress { IfOk result (IsProgress (C.told clock.now) link.new
+    ensures progress { IfOk result (IsProgress (C.reported clock.now) link.new
         (S.waits source.new) (W.waits sink.new) (W.due sink.new)) }
     ensures few { moved_of link.new ≤ moved_of link.old + 147_456 }
     ensures ends { OnOk result (EndsWithCore link.old → EndsWithCore link.new) }
@@ -82,15 +82,15 @@ fn step<C: Clock, N: Notes, S: PollSource, W: PollSink>(
     sink: &mut W,
     scratch: &mut [u8; READ_SIZE],
 ) -> Result<Progress, LinkFault>
-    requires ready { IsReady (C.told clock.now) link.old
+    requires ready { IsReady (C.reported clock.now) link.old
         (S.remaining source.old) (S.failed source.old) }
     requires working { W.failed sink.old ≡ false }
-    ensures ready { IsReady (C.told clock.now) link.new
+    ensures ready { IsReady (C.reported clock.now) link.new
         (S.remaining source.new) (S.failed source.new) }
-    ensures drove { Drove (steps_of 1 result) (C.told clock.now)
+    ensures drove { Drove (steps_of 1 result) (C.reported clock.now)
         link.old (ends_view (S.remaining source.old) (W.written sink.old) (N.events notes.old))
         link.new (ends_view (S.remaining source.new) (W.written sink.new) (N.events notes.new)) }
-    ensures progress { IfOk result (IsProgress (C.told clock.now) link.new
+    ensures progress { IfOk result (IsProgress (C.reported clock.now) link.new
         (S.waits source.new) (W.waits sink.new) (W.due sink.new)) }
     ensures few { moved_of link.new ≤ moved_of link.old + 16_384 }
     ensures ends { OnOk result (EndsWithCore link.old → EndsWithCore link.new) }
@@ -117,16 +117,16 @@ fn act<C: Clock, N: Notes, S: PollSource>(
     source: &mut S,
     scratch: &mut [u8; READ_SIZE],
 ) -> Result<Progress, LinkFault>
-    requires ready { IsReady (C.told clock.now) link.old
+    requires ready { IsReady (C.reported clock.now) link.old
         (S.remaining source.old) (S.failed source.old) }
     requires idle { link.old.unwritten ≡ None }
-    ensures ready { IsReady (C.told clock.now) link.new
+    ensures ready { IsReady (C.reported clock.now) link.new
         (S.remaining source.new) (S.failed source.new) }
-    ensures drove { (written : Option (List ℕ)) → Drove (steps_of 1 result) (C.told clock.now)
+    ensures drove { (written : Option (List ℕ)) → Drove (steps_of 1 result) (C.reported clock.now)
         link.old (ends_view (S.remaining source.old) written (N.events notes.old))
         link.new (ends_view (S.remaining source.new) written (N.events notes.new)) }
     ensures progress { (sink_waits : Bool) (due : Option ℕ) → IfOk result
-        (IsProgress (C.told clock.now) link.new (S.waits source.new) sink_waits due) }
+        (IsProgress (C.reported clock.now) link.new (S.waits source.new) sink_waits due) }
     ensures few { moved_of link.new ≤ moved_of link.old + 16_384 }
     ensures ends { OnOk result (EndsWithCore link.old → EndsWithCore link.new) }
     ensures err { IfErr result (IsFaultAt link.new.written false) }
@@ -152,18 +152,18 @@ fn read_or_wait<C: Clock, N: Notes, S: PollSource>(
     scratch: &mut [u8; READ_SIZE],
     until: Option<Micros>,
 ) -> Result<Progress, LinkFault>
-    requires ready { IsReady (C.told clock.now) link.old
+    requires ready { IsReady (C.reported clock.now) link.old
         (S.remaining source.old) (S.failed source.old) }
     requires idle { link.old.unwritten ≡ None }
-    requires says { C.told clock.now link.old.core.latest
+    requires says { C.reported clock.now link.old.core.latest
         × Says link.old.core link.old.core.latest (wait_act until) }
-    ensures ready { IsReady (C.told clock.now) link.new
+    ensures ready { IsReady (C.reported clock.now) link.new
         (S.remaining source.new) (S.failed source.new) }
-    ensures drove { (written : Option (List ℕ)) → Drove (steps_of 1 result) (C.told clock.now)
+    ensures drove { (written : Option (List ℕ)) → Drove (steps_of 1 result) (C.reported clock.now)
         link.old (ends_view (S.remaining source.old) written (N.events notes.old))
         link.new (ends_view (S.remaining source.new) written (N.events notes.new)) }
     ensures progress { (sink_waits : Bool) (due : Option ℕ) → IfOk result
-        (IsProgress (C.told clock.now) link.new (S.waits source.new) sink_waits due) }
+        (IsProgress (C.reported clock.now) link.new (S.waits source.new) sink_waits due) }
     ensures few { moved_of link.new ≤ moved_of link.old + 16_384 }
     ensures ends { OnOk result (EndsWithCore link.old → EndsWithCore link.new) }
     ensures err { IfErr result (IsFaultAt link.new.written false) }

@@ -6,7 +6,7 @@ ghost use Rattle.tox_link.specs.declared.ring.message.Message.{Message as OneMes
 
 use crate::ring::message::{ReadEnd, Receiver, Sender};
 use crate::ring::parking::Parkers;
-use crate::ring::reading::{Reading, read_all};
+use crate::ring::read_loop::{Reading, read_all};
 use crate::ring::vectors::Vectors;
 use std::snapshot::Snapshot;
 use std::sync::{Arc, Wait};

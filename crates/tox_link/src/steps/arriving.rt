@@ -23,15 +23,15 @@ pub(crate) fn take_piece<C: Clock, N: Notes>(
 ) -> Result<(), AllocError>
     requires room { (kept_count core.old < core.old.room)
         × (length window.old.held < window.old.room) }
-    requires read { (core.old.latest ≡ 0) ⊎ C.told clock.now core.old.latest }
+    requires read { (core.old.latest ≡ 0) ⊎ C.reported clock.now core.old.latest }
     requires goes_on { (core.old.ended ≡ false) × (core_ending core.old ≡ None) }
     requires fits { (0 < length bytes.items) × (core.old.bytes + length bytes.items ≤ 2 ^ 40) }
     requires small { length bytes.items ≤ 16_384 }
     requires starts { window.old.stop ≡ core.old.bytes }
     ensures counts { OnOk result
         (TakesIn core.old core.new (core.old.bytes + length bytes.items) false) }
-    ensures reads { ReadsOn (C.told clock.now) core.old.latest core.new.latest }
-    ensures carried { OnOk result (CarriesOn (C.told clock.now)
+    ensures reads { ReadsOn (C.reported clock.now) core.old.latest core.new.latest }
+    ensures carried { OnOk result (CarriesOn (C.reported clock.now)
         (N.events notes.old) (N.events notes.new) core.old core.new false) }
     ensures kept { OnOk result (window.new ≡ with_held_piece window.old (record {
       start = window.old.stop;
@@ -80,10 +80,10 @@ pub(crate) fn take_end<C: Clock, N: Notes>(
     notes: &mut N,
 ) -> Result<(), AllocError>
     requires first { core.old.ended ≡ false }
-    requires read { (core.old.latest ≡ 0) ⊎ C.told clock.now core.old.latest }
+    requires read { (core.old.latest ≡ 0) ⊎ C.reported clock.now core.old.latest }
     ensures counts { OnOk result (TakesIn core.old core.new core.old.bytes true) }
-    ensures reads { ReadsOn (C.told clock.now) core.old.latest core.new.latest }
-    ensures carried { OnOk result (CarriesOn (C.told clock.now)
+    ensures reads { ReadsOn (C.reported clock.now) core.old.latest core.new.latest }
+    ensures carried { OnOk result (CarriesOn (C.reported clock.now)
         (N.events notes.old) (N.events notes.new) core.old core.new
         (is_none (core_ending core.old))) }
     ensures known { IsSome (core_ending core.old) → N.events notes.new ≡ N.events notes.old }

@@ -1,4 +1,4 @@
--- What a log gets for each thing that it is told.
+-- What a log gets for each thing that it is given.
 use Rattle.std.specs.Prelude.{ℕ, List, ◌++◌, codes, map, string_bytes}
 use Rattle.tox_text.specs.Names.{visible_name}
 use Rattle.tox_log.specs.HeaderText.{header_text}

@@ -29,9 +29,9 @@ pub(crate) struct LogChannel {
     waiting: Mutex<Waiting>,
     /// How many bytes of the logs wait.
     pub(crate) bytes: WaitingBytes,
-    /// Told when a log was added, and when no more come.
+    /// Notified when a log was added, and when no more come.
     added: Condvar,
-    /// Told when no more come.
+    /// Notified when no more come.
     closed: Condvar,
 }
 

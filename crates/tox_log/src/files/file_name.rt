@@ -9,7 +9,7 @@ use std::alloc::{AllocError, Global};
 /// The most bytes of a proxy's name that stands in the name of a file.
 const MAX_NAME: usize = 64;
 
-/// The name of the file of a stream's log. A proxy whose name doesn't suit is told by its place among all proxies, from 0.
+/// The name of the file of a stream's log. A proxy whose name doesn't suit is called by its place among all proxies, from 0.
 pub(crate) fn file_name(
     alloc: Global,
     place: usize,

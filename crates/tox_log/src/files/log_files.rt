@@ -17,7 +17,7 @@ pub trait LogFiles {
         requires whole { AreLines bytes.now }
         ensures { result ≤ length bytes.now };
 
-    /// Told once of a log that ends before its stream: how many whole lines its file has.
+    /// Notified once of a log that ends before its stream: how many whole lines its file has.
     fn ended(&self, name: &str, lines: u64)
         requires { IsTrue (names_file name.now) };
 }

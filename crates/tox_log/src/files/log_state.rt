@@ -8,6 +8,6 @@ pub(crate) enum LogState {
     Done,
     /// A line couldn't be kept, or its file failed.
     Cut,
-    /// It was cut, and that was told.
-    Told,
+    /// It was cut, and that was reported.
+    Reported,
 }

@@ -169,8 +169,8 @@ impl LogText {
 
     /// Adds an entry, unless the log has ended. Lines that may not wait end it. True if its writer must be called.
     pub(crate) fn add<R: Wait>(&mut self, rt: &R, all: &WaitingBytes, entry: &Entry<'_>) -> bool
-        ensures log { (taken told : List ℕ) → HasLogOf self.old taken told
-            → HasLogOf self.new taken (told ++ entry_text entry.now) }
+        ensures log { (taken logged : List ℕ) → HasLogOf self.old taken logged
+            → HasLogOf self.new taken (logged ++ entry_text entry.now) }
         ensures adds { self.old.state ≡ LogState.Goes
             → Adds (self.old.most - (self.old.taken + length self.old.waiting.0)) self.old.waiting.0
             (entry_text entry.now) self.new.waiting.0 (state_behind entry.now) self.new.state }
@@ -261,10 +261,10 @@ impl LogText {
     pub(crate) fn wrote(&mut self, lines: u64, failed: bool, back: &mut Share) -> Option<u64>
         requires { back.old.bytes ≤ 2097152 }
         ensures lines { self.old.lines + lines < 2 ^ 64 → self.new.lines ≡ self.old.lines + lines }
-        ensures told { result ≡ (if tells self.old.waiting.0 self.old.state failed
+        ensures reported { result ≡ (if tells self.old.waiting.0 self.old.state failed
             then Some self.new.lines else None) }
         ensures state { self.new.state ≡ (if tells self.old.waiting.0 self.old.state failed
-            then LogState.Told else self.old.state) }
+            then LogState.Reported else self.old.state) }
         ensures waits { self.new.waiting.0 ≡ (if failed then [] else self.old.waiting.0) }
         ensures kept { (self.new.taken ≡ self.old.taken) × (self.new.most ≡ self.old.most) }
         ensures share { self.new.share.bytes + back.new.bytes
@@ -276,10 +276,10 @@ impl LogText {
             back.join(mem::replace(&mut self.share, Share::none()));
         }
         let is_over = failed || self.state == LogState::Cut && self.waiting.bytes().is_empty();
-        if !is_over || self.state == LogState::Told {
+        if !is_over || self.state == LogState::Reported {
             return None;
         }
-        self.state = LogState::Told;
+        self.state = LogState::Reported;
         Some(self.lines)
     }
 }

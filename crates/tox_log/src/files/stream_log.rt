@@ -58,9 +58,9 @@ impl StreamLog {
         let taken = self.bring(bytes, is_first, files);
         let count = count_lines(&bytes[..taken]) as u64;
         let failed = taken < bytes.len();
-        let told = self.text.lock(rt).wrote(count, failed, &mut share);
+        let reported = self.text.lock(rt).wrote(count, failed, &mut share);
         all.remove(rt, share);
-        if let Some(lines) = told {
+        if let Some(lines) = reported {
             files.ended(&self.name, lines);
         }
     }

@@ -23,7 +23,7 @@ struct KeptLog<'r> {
 pub struct StreamNotes<'r, R> {
     rt: &'r R,
     kept: Option<KeptLog<'r>>,
-    /// Whether the source's end is told as a reset by its peer.
+    /// Whether the source's end is reported as a reset by its peer.
     source_reset: bool,
 }
 
@@ -78,7 +78,7 @@ impl<'r, R: Wait> StreamNotes<'r, R> {
         }
     }
 
-    /// The source's peer reset it: its end, if it is noted from now on, is told as a reset.
+    /// The source's peer reset it: its end, if it is noted from now on, is reported as a reset.
     pub fn source_was_reset(&mut self)
         ensures { self.new ≡ self.old }
     {

@@ -27,14 +27,14 @@ IsLong known =
 -- why a file was not read: a fault has the file's name, unless out of memory
 abbrev pub IsFileFault : KnownFile → List ℕ → FileFault → Type 0
 IsFileFault known name OutOfMemory = Unit {0}
-IsFileFault known name (Unreadable told) = (told.now ≡ name) × IsUnreadable known
-IsFileFault known name (TooLong told) = (told.now ≡ name) × IsLong known
+IsFileFault known name (Unreadable reported) = (reported.now ≡ name) × IsUnreadable known
+IsFileFault known name (TooLong reported) = (reported.now ≡ name) × IsLong known
 
 -- why the rest of a file was not read
 abbrev pub HasFileCause : List ℕ → Option (List ℕ) → Option (List ℕ) → Bool → FileFault → Type 0
 HasFileCause name before after failed OutOfMemory = Unit {0}
-HasFileCause name before after failed (Unreadable told) = (told.now ≡ name) × (failed ≡ true)
-HasFileCause name before after failed (TooLong told) = (told.now ≡ name) × IsTooLong before after
+HasFileCause name before after failed (Unreadable reported) = (reported.now ≡ name) × (failed ≡ true)
+HasFileCause name before after failed (TooLong reported) = (reported.now ≡ name) × IsTooLong before after
 
 -- the bytes of the first file of a name
 abbrev pub file_named : List ℕ → List (Bor (List ℕ) × Bor (List ℕ)) → Option (List ℕ)

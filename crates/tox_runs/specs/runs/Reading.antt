@@ -3,8 +3,8 @@ use Rattle.std.specs.Prelude.{◌≡◌, ℕ, ◌<◌, ◌≤◌, Bool, true, Li
 use Rattle.std.specs.Io.KnownBytes.{prepend_known, IsAtEnd}
 use Rattle.tox_text.specs.declared.fault.DryFault.{DryFault}
 use Rattle.tox_text.specs.declared.fault.DryFault.TheVariants.{OutOfMemory, BadLine, TooLong, ReadFault, WriteFault, Arrival}
-use Rattle.tox_runs.specs.declared.runs.reading.InputFault.{InputFault}
-use Rattle.tox_runs.specs.declared.runs.reading.InputFault.TheVariants as input
+use Rattle.tox_runs.specs.declared.runs.whole_input.InputFault.{InputFault}
+use Rattle.tox_runs.specs.declared.runs.whole_input.InputFault.TheVariants as input
 use Rattle.tox_text.specs.arrivals.ArrivalsText.{arrivals_of}
 
 -- a text was read: the reader gave it, and is at its end

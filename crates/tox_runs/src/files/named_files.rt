@@ -3,7 +3,7 @@ ghost use Rattle.std.specs.Prelude.{◌≡◌, List, ℕ, None, Some, option_map
 ghost use Rattle.tox_runs.specs.files.Files.{KnownFile, IsFileFault, IsFileOf, file_named};
 
 use crate::files::{FileFault, read_file};
-use crate::runs::reading::MAX_INPUT;
+use crate::runs::whole_input::MAX_INPUT;
 use std::alloc::Global;
 use std::rt::Files;
 

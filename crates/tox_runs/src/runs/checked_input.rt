@@ -3,8 +3,8 @@ ghost use Rattle.std.specs.Prelude.{◌≡◌, ◌≢◌, ◌+◌, [], false, ve
 ghost use Rattle.tox_text.specs.arrivals.Checked.{IsChecked};
 ghost use Rattle.tox_runs.specs.runs.Reading.{HasCause, ReadsWhole, TakesAtMost};
 
-use crate::runs::reading::read_input;
 use crate::runs::second_pass::PieceRoom;
+use crate::runs::whole_input::read_input;
 use std::alloc::Global;
 use tox_text::{DryFault, check_arrivals};
 use tox_time::Source;

@@ -1,5 +1,5 @@
 //! Why a run failed.
-use crate::runs::reading::InputFault;
+use crate::runs::whole_input::InputFault;
 use thiserror::Error;
 use tox_stages::StageFault;
 use tox_text::DryFault;

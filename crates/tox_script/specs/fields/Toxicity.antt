@@ -37,9 +37,9 @@ text_or_whole None d = whole_between 0 1000 d
 text_or_whole (Some text) d = thousandths text
 
 -- the toxicity that a value gives; only version 2 has texts
-abbrev pub told_toxicity : Version → Data → Option ℕ
-told_toxicity One d = whole_between 0 1000 d
-told_toxicity Two d = text_or_whole (as_str d) d
+abbrev pub written_toxicity : Version → Data → Option ℕ
+written_toxicity One d = whole_between 0 1000 d
+written_toxicity Two d = text_or_whole (as_str d) d
 
 -- whether a toxicity is given as a text, which is a decimal number
 abbrev pub is_decimal : Option Data → Bool
@@ -49,4 +49,4 @@ is_decimal (Some d) = is_some (as_str d)
 -- the toxicity of a toxic: 1000 if absent
 abbrev pub toxicity_in : Version → Option Data → Option ℕ
 toxicity_in version None = Some 1000
-toxicity_in version (Some d) = told_toxicity version d
+toxicity_in version (Some d) = written_toxicity version d

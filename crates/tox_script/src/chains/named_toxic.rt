@@ -17,7 +17,7 @@ use tox_time::Stream;
 pub(crate) struct NamedToxic<'a> {
     pub(crate) stream: Stream,
     pub(crate) entry: Entry,
-    told_name: Option<&'a str>,
+    given_name: Option<&'a str>,
     /// Whether the toxicity is given as a decimal text.
     pub(crate) is_decimal: bool,
 }
@@ -43,7 +43,7 @@ impl<'a> NamedToxic<'a> {
         Ok(NamedToxic {
             stream: fields.stream,
             entry: Entry { toxic, toxicity },
-            told_name: fields.name,
+            given_name: fields.name,
             is_decimal: is_decimal(fields.toxicity),
         })
     }
@@ -52,7 +52,7 @@ impl<'a> NamedToxic<'a> {
     pub(crate) fn name(&self, alloc: Global) -> Result<String, AllocError>
         ensures { IfOk result (λ name. string_bytes name ≡ (toxic_view self.now).name) }
     {
-        match self.told_name {
+        match self.given_name {
             Some(name) => String::from_str(alloc, name),
             None => { format!(in alloc; "{}_{}", self.entry.toxic.name(), self.stream.name()) }
         }

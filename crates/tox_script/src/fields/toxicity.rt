@@ -1,7 +1,7 @@
 //! Toxicities, in thousandths.
 ghost use Rattle.std.specs.Prelude.{◌≡◌, ◌<◌, ◌≤◌, option_map, IfSome};
 ghost use Rattle.toml.specs.View.{view};
-ghost use Rattle.tox_script.specs.fields.Toxicity.{fraction, is_decimal, thousandths, told_toxicity, toxicity_in, with_unit};
+ghost use Rattle.tox_script.specs.fields.Toxicity.{fraction, is_decimal, thousandths, written_toxicity, toxicity_in, with_unit};
 
 use crate::fields::whole_between;
 use crate::version::Version;
@@ -28,15 +28,15 @@ pub(crate) fn toxicity_in(version: Version, value: Option<&Value>) -> Option<u16
     match value {
         None => Some(MAX_TOXICITY),
         Some(value) => {
-            let toxicity = told_toxicity(version, value)?;
+            let toxicity = written_toxicity(version, value)?;
             Some(toxicity as u16)
         }
     }
 }
 
 /// A whole number up to 1000, and in version 2 the thousandths of a text.
-fn told_toxicity(version: Version, value: &Value) -> Option<u64>
-    ensures value { result ≡ told_toxicity version (view value.now) }
+fn written_toxicity(version: Version, value: &Value) -> Option<u64>
+    ensures value { result ≡ written_toxicity version (view value.now) }
     ensures bound { IfSome result (λ toxicity. toxicity ≤ 1000) }
 {
     match (version, value.as_str()) {

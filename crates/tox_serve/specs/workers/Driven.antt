@@ -39,7 +39,7 @@ abbrev pub IsEndOf : PolledLink → StreamEnd → Type 0
 IsEndOf link (EndOf.Ended reading ending) = (reading ≡ link.core.latest) × IsAtEnd (λ t. IsInstant t) link ending
 IsEndOf link (EndOf.Broken cause) = IsBreakOf link cause
 
--- a direction is told as it ended: the bytes that it has written, and its plan's ending
+-- a direction is reported as it ended: the bytes that it has written, and its plan's ending
 pub record HasEndedAs {R : Type 0} (old : Flow R) (carried : Carried) : Type 0 where
   pub its : carried.stream ≡ old.stream
   pub link : PolledLink
@@ -53,7 +53,7 @@ IfGoing (Going flow) P = P flow
 IfGoing (Ended ended) P = ⊥
 IfGoing Driven P = ⊥
 
--- a direction has ended, and is told so
+-- a direction has ended, and is reported so
 abbrev pub IfEnded : {R : Type 0} → DirectionState R → (Carried → Type 0) → Type 0
 IfEnded (Going flow) P = ⊥
 IfEnded (Ended ended) P = P ended.carried

@@ -1,4 +1,4 @@
-//! Why a link broke, as it is told on standard error.
+//! Why a link broke, as it is reported on standard error.
 use crate::link::end::{Carried, StreamEnd};
 use std::fmt;
 use std::io::ErrorKind;
@@ -22,7 +22,7 @@ pub(crate) enum BreakReason {
 }
 
 impl BreakReason {
-    /// How many kinds of reasons are told apart.
+    /// How many kinds of reasons are reported apart.
     pub(crate) const KINDS: usize = 8;
 
     /// Why a link broke of which both directions have ended so. None if it didn't, or was stopped.
@@ -36,7 +36,7 @@ impl BreakReason {
         }
     }
 
-    /// The kind of the reason, among those that are told apart. None: it isn't told.
+    /// The kind of the reason, among those that are reported apart. None: it isn't reported.
     pub(crate) fn kind(self) -> Option<usize> {
         match self {
             BreakReason::Name => Some(0),

@@ -23,14 +23,14 @@ pub(crate) struct Carried {
     pub(crate) end: StreamEnd,
 }
 
-/// What is told of one side of a link: the bytes written, and how it ended, or None if it is broken.
+/// What is reported of one side of a link: the bytes written, and how it ended, or None if it is broken.
 #[derive(Clone, Copy)]
 pub(crate) struct SideEnd {
     pub(crate) bytes: u64,
     pub(crate) ending: Option<Ending>,
 }
 
-/// What is told of a link.
+/// What is reported of a link.
 #[derive(Clone, Copy)]
 pub(crate) struct LinkEnd {
     pub(crate) number: u64,

@@ -53,7 +53,7 @@ fn logged_link<'a>(
 }
 
 /// The end of a link that carried nothing, as the logs of its streams tell it: for this reason, unless the run was told to stop. The
-/// reason is told.
+/// reason is reported.
 pub(crate) fn broken_link<'r, R: Wait>(
     rt: &'r R,
     run: &'r ServeRun<'_>,

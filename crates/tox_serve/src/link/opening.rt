@@ -3,9 +3,9 @@ ghost use Rattle.std.specs.Prelude.{◌≡◌, IfSome};
 ghost use Rattle.tox_time.specs.declared.streams.stream.Stream.TheVariants as StreamOf;
 ghost use Rattle.tox_serve.specs.link.Courses.{IsCourse};
 
-use crate::lines::print_open;
 use crate::link::course::{Courses, courses_of};
 use crate::link::reached::Reached;
+use crate::output::print_open;
 use crate::proxy::links::ProxyLinks;
 use crate::proxy::taking::Taken;
 use crate::run::ServeRun;

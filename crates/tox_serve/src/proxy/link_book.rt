@@ -1,4 +1,4 @@
-//! The book of a proxy's links while they end: which have ended, and whether the totals are told.
+//! The book of a proxy's links while they end: which have ended, and whether the totals are reported.
 ghost use Rattle.std.specs.Prelude.{◌≡◌, ◌≤◌, [], ◌∷◌, ◌++◌, true, false, not, length, IfSome, IfNone};
 ghost use Rattle.tox_link.specs.book.Links.{new_link};
 ghost use Rattle.tox_serve.specs.proxy.LinkBook.{after_end, have_ended};
@@ -7,7 +7,7 @@ use crate::link::end::LinkEnd;
 use std::alloc::Global;
 use tox_link::Book;
 
-/// The book of a proxy's links. Once it is closed, its totals are told, and no link is settled any more.
+/// The book of a proxy's links. Once it is closed, its totals are reported, and no link is settled any more.
 #[derive(Drop)]
 pub(crate) struct LinkBook {
     pub(crate) book: Book,

@@ -1,6 +1,6 @@
 //! The links of a served proxy: their ends, and the totals once all have ended.
-use crate::lines::{print_link, print_total};
 use crate::link::end::LinkEnd;
+use crate::output::{print_link, print_total};
 use crate::proxy::link_book::LinkBook;
 use crate::run::ServeRun;
 use crate::runtime::ServeRuntime;
@@ -22,7 +22,7 @@ pub(crate) struct ProxyLinks<'a> {
     /// Its place among all proxies, from 0.
     pub(crate) place: usize,
     book: Mutex<LinkBook>,
-    /// Told when a link has ended.
+    /// Notified when a link has ended.
     ended: Condvar,
 }
 

@@ -17,7 +17,7 @@ pub(crate) struct Taken {
     pub(crate) ghost last: { number ≤ 1_000_000 },
 }
 
-/// Whether a proxy has taken enough connections: as many as it was told, or as many links as a book holds.
+/// Whether a proxy has taken enough connections: as many as it was told to, or as many links as a book holds.
 pub(crate) fn is_enough(links: Option<u64>, connections: u64, book: &Book) -> bool
     ensures { result ≡ is_enough links connections (length book.now) }
 {

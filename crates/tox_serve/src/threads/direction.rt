@@ -3,7 +3,7 @@ ghost use Rattle.std.specs.Prelude.{◌≡◌, None, fold, IfSome};
 ghost use Rattle.std.specs.Arc.{arc_value};
 ghost use Rattle.tox_sockets.specs.ResetDue.{after_op};
 ghost use Rattle.tox_sockets.specs.Streams.{target_of};
-ghost use Rattle.tox_serve.specs.Told.{IsToldOf, carried_after};
+ghost use Rattle.tox_serve.specs.StreamReports.{IsReportOf, carried_after};
 ghost use Rattle.tox_serve.specs.link.LinkEnds.{is_write_break};
 
 use crate::link::course::Course;
@@ -77,7 +77,7 @@ pub(crate) fn carry_stream<'a, 'r, R: ServeRuntime>(
     direction: Direction,
     start: LinkStart,
 ) -> CarriedStream<'a, 'r, R>
-    ensures { IsToldOf direction.course result.carried }
+    ensures { IsReportOf direction.course result.carried }
 {
     let Direction {
         course,

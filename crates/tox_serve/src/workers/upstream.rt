@@ -96,7 +96,7 @@ pub(crate) struct Upstream {
     /// The address, if its host is a number.
     known: Option<Arc<Vec<SocketAddr>, Global>>,
     names: Mutex<Names>,
-    /// Told when a link asks, when a look-up has ended, and once the proxy has stopped listening.
+    /// Notified when a link asks, when a look-up has ended, and once the proxy has stopped listening.
     changed: Condvar,
 }
 

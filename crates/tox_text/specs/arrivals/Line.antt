@@ -5,9 +5,9 @@ use Rattle.std.specs.Result.{result_ok}
 use Rattle.hex.specs.Hex.{decode_of}
 use Rattle.tox_time.specs.Time.{horizon}
 use Rattle.tox_time.specs.Text.{decimal_value}
-use Rattle.tox_text.specs.declared.arrivals.line.Line as code
-use Rattle.tox_text.specs.declared.arrivals.line.Event as kinds
-use Rattle.tox_text.specs.declared.arrivals.line.Event.TheVariants.{Data, Eof}
+use Rattle.tox_text.specs.declared.arrivals.arrivals_line.Line as code
+use Rattle.tox_text.specs.declared.arrivals.arrivals_line.Event as kinds
+use Rattle.tox_text.specs.declared.arrivals.arrivals_line.Event.TheVariants.{Data, Eof}
 
 -- bytes that arrived at an instant, or the source's end at an instant
 pub data Line : Type 0 where

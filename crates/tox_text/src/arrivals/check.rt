@@ -4,8 +4,8 @@ ghost use Rattle.tox_text.specs.arrivals.ArrivalsText.{Arrived, arrivals_of, lin
 ghost use Rattle.tox_text.specs.arrivals.Checked.{IsChecked, half_longest};
 ghost use Rattle.tox_text.specs.arrivals.Counting.{Counts};
 
+use crate::arrivals::arrivals_line::{Event, line_of};
 use crate::arrivals::hex_pairs::are_pairs;
-use crate::arrivals::line::{Event, line_of};
 use crate::arrivals::text_lines::first_line;
 use crate::fault::DryFault;
 use tox_time::StreamPosition;

@@ -3,7 +3,7 @@ ghost use Rattle.std.specs.Prelude.{◌≡◌, Ok, IfOk};
 ghost use Rattle.std.specs.Result.{ForOk};
 ghost use Rattle.tox_text.specs.arrivals.ArrivalsText.{Arrived, arrivals_of};
 
-use crate::arrivals::line::{Event, line_of};
+use crate::arrivals::arrivals_line::{Event, line_of};
 use crate::arrivals::text_lines::first_line;
 use std::alloc::{AllocError, Global};
 use tox_time::Arrivals;

@@ -3,7 +3,7 @@ use Rattle.std.proofs.Common.{◌+◌, ◌++◌, ap, arith, codes, decimal, flat
 use Rattle.tox_check.specs.Printing.{joined_lines}
 use Rattle.tox_check.specs.Sentences.{sentence}
 use Rattle.tox_check.proofs.RuleLines.{joined_lines-lines_of, length-lines_of}
-use Rattle.tox_text.proofs.Printings.{Prints-as, Prints-passed, Prints-told}
+use Rattle.tox_text.proofs.Printings.{Prints-as, Prints-passed, Prints-fault}
 use Rattle.tox_check.proofs.check.print_rule.Goals as goal
 
 pub returns-in-Ok-print_warnings : goal.returns-in-Ok-print_warnings
@@ -21,4 +21,4 @@ returns g c = λ found is.
     let warnings = c.in-Ok.warnings.items in
     let lines = ap (map (λ text. (codes "rule " ++ decimal number) ++ text)) (c.in-Ok.ensures found is) in
     let printed = ap (flat_map (sentence number)) c.deref.ensures.value ∙ joined_lines-lines_of number warnings ∙ ap joined_lines lines in
-    (Prints-as printed (Prints-told refl refl c.in-Err.ensures), search rules)
+    (Prints-as printed (Prints-fault refl refl c.in-Err.ensures), search rules)

@@ -1,4 +1,4 @@
--- The rule, and then what is told of it.
+-- The rule, and then what is reported of it.
 use Rattle.tox_check.proofs.SentenceParts.{sentence-parts}
 use Rattle.tox_text.proofs.Printings.{Prints-as, Prints-failed, Prints-then}
 use Rattle.tox_check.proofs.warning.print_warning.Goals as goal
@@ -11,4 +11,4 @@ returns-in_err-print g c =
 pub returns : goal.returns
 returns g c =
     Prints-as (sentence-parts c.args.rule c.args.warning.now)
-    (Prints-then c.in_ok-print.ensures c.print_told.ensures)
+    (Prints-then c.in_ok-print.ensures c.print_sentence.ensures)

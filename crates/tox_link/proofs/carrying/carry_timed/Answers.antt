@@ -11,10 +11,10 @@ returns-clause-broken g c =
     record {
       log = [];
       noted = events-none (g.N.Notes.events c.args.notes.now);
-      cut_off = cut-nothing (means c.args.plan c.args.words.now) (g.C.Clock.told c.args.clock.now) _ c.in-Err.ensures.err;
+      cut_off = cut-nothing (means c.args.plan c.args.words.now) (g.C.Clock.reported c.args.clock.now) _ c.in-Err.ensures.err;
       bytes = [];
       wrote = writes-nothing (g.S.Source.remaining c.args.reader) (g.W.Sink.written c.args.ends.now.writer) _ c.in-Err.ensures.err;
-      reset = broke-unstarted (g.C.Clock.told c.args.clock.now) (g.H.Hangup.calls c.args.ends.now.hangup) _ c.in-Err.ensures.err c.in-Err.ensures.cause;
+      reset = broke-unstarted (g.C.Clock.reported c.args.clock.now) (g.H.Hangup.calls c.args.ends.now.hangup) _ c.in-Err.ensures.err c.in-Err.ensures.cause;
     }
 
 pub returns-in_default-clause-broken : goal.returns-in_default-clause-broken
@@ -22,8 +22,8 @@ returns-in_default-clause-broken g c =
     record {
       log = [];
       noted = events-none (g.N.Notes.events c.args.notes.now);
-      cut_off = cut-nothing (means c.args.plan c.args.words.now) (g.C.Clock.told c.args.clock.now) 0 refl;
+      cut_off = cut-nothing (means c.args.plan c.args.words.now) (g.C.Clock.reported c.args.clock.now) 0 refl;
       bytes = [];
       wrote = writes-nothing (g.S.Source.remaining c.args.reader) (g.W.Sink.written c.args.ends.now.writer) 0 refl;
-      reset = broke-unstarted (g.C.Clock.told c.args.clock.now) (g.H.Hangup.calls c.args.ends.now.hangup) (OutOfMemory 0) refl refl;
+      reset = broke-unstarted (g.C.Clock.reported c.args.clock.now) (g.H.Hangup.calls c.args.ends.now.hangup) (OutOfMemory 0) refl refl;
     }

@@ -38,16 +38,16 @@ returns-clause-all c = λ none.
     )
 
 pub returns-clause-stays : goal.returns-clause-stays
-returns-clause-stays c = λ means told front start log follows.
+returns-clause-stays c = λ means reported front start log follows.
     let judge = c.args.judge.now in
     let new = c.on_clock-act.new.self in
     let act = c.on_clock-act.result in
     let answered = c.on_clock-act.ensures.answered in
     let after : After judge.core judge.latest act new = subst (λ t. After judge.core t act new) (sym c.requires.now) answered.output in
-    let bare : AddsUp means told judge.core front judge.heard judge.latest judge.ended start log
-    = subst (λ given. AddsUp means told judge.core given judge.heard judge.latest judge.ended start log) (ap (λ rest. front ++ rest_table rest) c.requires.none ∙ append-nil front) follows in
-    subst (λ rest. AddsUp means told new (front ++ rest_table rest) judge.heard judge.latest judge.ended start log) (sym c.slice_in-judge.ensures)
-    (asked-follows means told judge.core judge.heard judge.latest judge.ended start log new front act
+    let bare : AddsUp means reported judge.core front judge.heard judge.latest judge.ended start log
+    = subst (λ given. AddsUp means reported judge.core given judge.heard judge.latest judge.ended start log) (ap (λ rest. front ++ rest_table rest) c.requires.none ∙ append-nil front) follows in
+    subst (λ rest. AddsUp means reported new (front ++ rest_table rest) judge.heard judge.latest judge.ended start log) (sym c.slice_in-judge.ensures)
+    (asked-follows means reported judge.core judge.heard judge.latest judge.ended start log new front act
     (λ kept going unknown. keeps-still judge.core new log (answered.given_up unknown) (kept going (unknown-before judge.core new answered.kept unknown))) after bare)
 
 pub returns-clause-deep : goal.returns-clause-deep

@@ -8,12 +8,12 @@ use Rattle.tox_log.proofs.Judging.{judged-stays}
 use Rattle.tox_log.proofs.judge.hear_piece.Goals as goal
 
 pub returns-in-Some-clause-hears : goal.returns-in-Some-clause-hears
-returns-in-Some-clause-hears c = λ means told log says follows.
-    c.skip_piece.ensures.hears means told log says (judged-stays c.args.judge.now c.make_room.new.judge c.make_room.ensures.counts.3 c.make_room.ensures.stays means told log follows)
+returns-in-Some-clause-hears c = λ means reported log says follows.
+    c.skip_piece.ensures.hears means reported log says (judged-stays c.args.judge.now c.make_room.new.judge c.make_room.ensures.counts.3 c.make_room.ensures.stays means reported log follows)
 
 pub returns-clause-hears : goal.returns-clause-hears
-returns-clause-hears c = λ means told log says follows.
-    c.take_piece.ensures.hears means told log says (judged-stays c.args.judge.now c.make_room.new.judge c.make_room.ensures.counts.3 c.make_room.ensures.stays means told log follows)
+returns-clause-hears c = λ means reported log says follows.
+    c.take_piece.ensures.hears means reported log says (judged-stays c.args.judge.now c.make_room.new.judge c.make_room.ensures.counts.3 c.make_room.ensures.stays means reported log follows)
 
 -- a core without room keeps 1,024 pieces
 full : (room : Bool) (count : ℕ) → IsTrue room ↔ (count < 1_024) → room ≡ false → 1_024 ≤ count
@@ -24,12 +24,12 @@ full room count is none = by (cases_lt count 1_024)
     by (inr many) = many
 
 pub returns-then-not-has_room-clause-deep : goal.returns-then-not-has_room-clause-deep
-returns-then-not-has_room-clause-deep c = λ means told log judged.
+returns-then-not-has_room-clause-deep c = λ means reported log judged.
     let new = c.make_room.new.judge in
     let counts = c.make_room.ensures.counts in
     let going : new.ended ≡ false = counts.2 ∙ c.requires.going in
     let unknown : core_ending new.core ≡ None = sym c.ending.ensures.value ∙ c.in_default.is in
     let many : 1_024 ≤ kept_count new.core = full c.has_room.result (kept_count new.core) c.has_room.ensures c.if-not-has_room.true in
-    let now = judged-stays c.args.judge.now new counts.3 c.make_room.ensures.stays means told log judged in
+    let now = judged-stays c.args.judge.now new counts.3 c.make_room.ensures.stays means reported log judged in
     let waiting = many-waiting new.core log new.said (now.kept going unknown) now.gapless (c.make_room.ensures.deep going many) in
     omega (arith, many, waiting)

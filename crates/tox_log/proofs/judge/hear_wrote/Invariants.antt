@@ -15,8 +15,8 @@ invariant-parts l = record {
   from : l.slice.span.start ≤ l.judge.said;
   to : l.judge.said ≤ l.slice.span.stop;
   due : l.slice.instant ≤ l.reading;
-  follows : (means : List Item → List Item) (told : ℕ → Bool) (log : List LinkEvent) → Judged means told l.fn.judge log
-      → FollowsWith means told l.judge (replicate (l.judge.said - l.slice.span.start) l.slice.instant) l.slice.span.start log;
+  follows : (means : List Item → List Item) (reported : ℕ → Bool) (log : List LinkEvent) → Judged means reported l.fn.judge log
+      → FollowsWith means reported l.judge (replicate (l.judge.said - l.slice.span.start) l.slice.instant) l.slice.span.start log;
   expects : Expects l.fn.judge (span_len l.slice.span) l.slice.instant → Expects l.judge (l.slice.span.stop - l.judge.said) l.slice.instant;
 }
 

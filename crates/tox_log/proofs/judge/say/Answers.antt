@@ -8,7 +8,7 @@ use Rattle.tox_log.proofs.Judging.{say-table}
 use Rattle.tox_log.proofs.judge.say.Goals as goal
 
 pub returns-clause-says : goal.returns-clause-says
-returns-clause-says c = λ means told front start log count counts follows.
+returns-clause-says c = λ means reported front start log count counts follows.
     let judge = c.args.judge.now in
     let part = c.args.part.now in
     let held : IsRest (Some part) judge.said (core_position judge.core) = subst (λ rest. IsRest rest judge.said (core_position judge.core)) c.requires.part c.requires.held.rest in
@@ -16,8 +16,8 @@ returns-clause-says c = λ means told front start log count counts follows.
     ap (λ rest. front ++ rest_table rest) c.requires.part
     ∙ ap (λ ts. front ++ ts) (say-table part judge.said c.args.stop count held.0 c.requires.within.0 c.requires.within.1 counts)
     ∙ sym (append_assoc front (replicate count part.instant) (rest_table (part_from part c.args.stop))) in
-    subst (λ rest. AddsUp means told judge.core ((front ++ replicate count part.instant) ++ rest_table rest) judge.heard judge.latest judge.ended start log) (sym c.part_from-judge.ensures)
-    (subst (λ given. AddsUp means told judge.core given judge.heard judge.latest judge.ended start log) parts follows)
+    subst (λ rest. AddsUp means reported judge.core ((front ++ replicate count part.instant) ++ rest_table rest) judge.heard judge.latest judge.ended start log) (sym c.part_from-judge.ensures)
+    (subst (λ given. AddsUp means reported judge.core given judge.heard judge.latest judge.ended start log) parts follows)
 
 pub returns-clause-next : goal.returns-clause-next
 returns-clause-next c =

@@ -45,7 +45,7 @@ returns-clause-keeps g c = λ written given link number unfaithful.
     let says : SaysOf start begun.means [] c.in_ok-log.log.over c.in_ok-hearing.hearing =
     subst (λ over. SaysOf start begun.means [] over c.in_ok-hearing.hearing) (sym c.in_ok-log.ensures.opens.going) (begun.says start) in
     let refusal = (subst (SaysSo start begun.means heard.text c.hear_lines.new.log.over c.hear_lines.new.hearing) unfaithful (heard.says start begun.means c.in_ok-log.ensures.numbered says)).1 in
-    no-refusal begun.means link.told written.lines first_position given.writable.lines (link.lines begun.means (meaning-of c.in_ok-log.log written begun.means opened.heading opened.chain begun.meaning))
+    no-refusal begun.means link.reported written.lines first_position given.writable.lines (link.lines begun.means (meaning-of c.in_ok-log.log written begun.means opened.heading opened.chain begun.meaning))
     start number heard.text opened.left.torn (to_hand c.in_ok-log.log (g.R.Source.remaining c.new.new.reader)) heard.left opened.left.bytes heard.given opened.left.unended refusal
 
 pub returns-in_err-log-clause-finds_room : goal.returns-in_err-log-clause-finds_room

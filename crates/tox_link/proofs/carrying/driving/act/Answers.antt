@@ -20,11 +20,11 @@ returns-in_err-write_next-in-Write-clause-broken g c =
     let p = err_from_is_err_and c.from_residual.result c.from_residual.ensures.1 in
     let answered = c.decide-act.ensures.answered in
     let takes = subst (λ (act : Act). After c.args.side.now.core c.decide-act.result.1 act c.decide-act.new.core) c.in-Write.is answered.output in
-    let told = g.C.Clock.told c.args.clock.now in
-    let reads : ReadsOn told c.args.side.now.core.latest c.write_next.new.side.core.latest = search rules in
+    let reported = g.C.Clock.reported c.args.clock.now in
+    let reads : ReadsOn reported c.args.side.now.core.latest c.write_next.new.side.core.latest = search rules in
     rw (p.1, p.2) (record {
       at = c.in_err-write_next-in-Write.ensures.fault;
-      cuts = cut-within told c.args.side.now c.decide-act.new.core c.in-Write.slice _ takes.1 answered.kept.bytes c.write_next.ensures.few;
+      cuts = cut-within reported c.args.side.now c.decide-act.new.core c.in-Write.slice _ takes.1 answered.kept.bytes c.write_next.ensures.few;
       reads = reads;
       unnoted = c.in_err-write_next-in-Write.ensures.unnoted;
     })
@@ -35,7 +35,7 @@ returns-in_ok-write_next-in-Write-clause-log g c =
     record {
       more = _;
       noted = c.in_ok-write_next-in-Write.ensures.ok.3;
-      keeps = logged-act (g.C.Clock.told c.args.clock.now) c.args.side.now c.write_next.new.side c.decide-act.new.core c.decide-act.result.0 (Write c.in-Write.slice) c.decide-act.result.1 c.decide-act.ensures.carried c.in-Write.is same.0 same.2;
+      keeps = logged-act (g.C.Clock.reported c.args.clock.now) c.args.side.now c.write_next.new.side c.decide-act.new.core c.decide-act.result.0 (Write c.in-Write.slice) c.decide-act.result.1 c.decide-act.ensures.carried c.in-Write.is same.0 same.2;
     }
 
 pub returns-in_default-clause-ok : goal.returns-in_default-clause-ok
@@ -48,17 +48,17 @@ pub returns-in_default-clause-log : goal.returns-in_default-clause-log
 returns-in_default-clause-log g c = record {
   more = [];
   noted = events-none (g.N.Notes.events c.args.notes.now);
-  keeps = logged-act (g.C.Clock.told c.args.clock.now) c.args.side.now _ c.decide-act.new.core c.decide-act.result.0 (WaitUntil c.in-WaitUntil.instant) c.decide-act.result.1 c.decide-act.ensures.carried c.in-WaitUntil.is refl refl;
+  keeps = logged-act (g.C.Clock.reported c.args.clock.now) c.args.side.now _ c.decide-act.new.core c.decide-act.result.0 (WaitUntil c.in-WaitUntil.instant) c.decide-act.result.1 c.decide-act.ensures.carried c.in-WaitUntil.is refl refl;
 }
 
 pub returns-in_err-rest-in-WaitUntil-clause-broken : goal.returns-in_err-rest-in-WaitUntil-clause-broken
 returns-in_err-rest-in-WaitUntil-clause-broken g c =
     let p = err_from_is_err_and c.from_residual-in_err-rest-in-WaitUntil.result c.from_residual-in_err-rest-in-WaitUntil.ensures.1 in
-    let told = g.C.Clock.told c.args.clock.now in
-    let reads : ReadsOn told c.args.side.now.core.latest c.decide-act.new.core.latest = search rules in
+    let reported = g.C.Clock.reported c.args.clock.now in
+    let reads : ReadsOn reported c.args.side.now.core.latest c.decide-act.new.core.latest = search rules in
     rw (p.1, p.2) (record {
       at = c.in_err-rest-in-WaitUntil.ensures.fault;
-      cuts = cut-here told c.args.side.now c.args.side.now.written c.requires.sound.written;
+      cuts = cut-here reported c.args.side.now c.args.side.now.written c.requires.sound.written;
       reads = reads;
       unnoted = refl;
     })
@@ -73,7 +73,7 @@ pub returns-in_ok-rest-in-WaitUntil-clause-log : goal.returns-in_ok-rest-in-Wait
 returns-in_ok-rest-in-WaitUntil-clause-log g c = record {
   more = [];
   noted = events-none (g.N.Notes.events c.args.notes.now);
-  keeps = logged-act (g.C.Clock.told c.args.clock.now) c.args.side.now _ c.decide-act.new.core c.decide-act.result.0 (WaitUntil c.in-WaitUntil.instant) c.decide-act.result.1 c.decide-act.ensures.carried c.in-WaitUntil.is refl refl;
+  keeps = logged-act (g.C.Clock.reported c.args.clock.now) c.args.side.now _ c.decide-act.new.core c.decide-act.result.0 (WaitUntil c.in-WaitUntil.instant) c.decide-act.result.1 c.decide-act.ensures.carried c.in-WaitUntil.is refl refl;
 }
 
 pub returns-after-idle-2-clause-ok : goal.returns-after-idle-2-clause-ok
@@ -96,7 +96,7 @@ returns-after-idle-2-clause-log g c =
     record {
       more = [];
       noted = events-none (g.N.Notes.events c.args.notes.now);
-      keeps = logged-act (g.C.Clock.told c.args.clock.now) c.args.side.now c.match-idle-2.side c.decide-act.new.core c.decide-act.result.0 WaitForInput c.decide-act.result.1 c.decide-act.ensures.carried c.in-WaitForInput.is same.0 same.1;
+      keeps = logged-act (g.C.Clock.reported c.args.clock.now) c.args.side.now c.match-idle-2.side c.decide-act.new.core c.decide-act.result.0 WaitForInput c.decide-act.result.1 c.decide-act.ensures.carried c.in-WaitForInput.is same.0 same.1;
     }
 
 pub returns-in-End-clause-ok : goal.returns-in-End-clause-ok
@@ -105,12 +105,12 @@ returns-in-End-clause-ok g c =
     let leaves = subst (λ (act : Act). After c.args.side.now.core c.decide-act.result.1 act c.decide-act.new.core) c.in-End.is answered.output in (
       sound-waited c.args.side.now c.args.side.now.inbox c.decide-act.new.core _ c.requires.sound answered.kept leaves.position,
       c.requires.working,
-      ended-so (g.C.Clock.told c.args.clock.now) c.args.side.now.core c.decide-act.new.core c.decide-act.result.1 c.decide-act.result.0 c.in-End.ending c.args.side.now.ended answered c.in-End.is c.decide-act.ensures.told.0 c.requires.sound.going,
+      ended-so (g.C.Clock.reported c.args.clock.now) c.args.side.now.core c.decide-act.new.core c.decide-act.result.1 c.decide-act.result.0 c.in-End.ending c.args.side.now.ended answered c.in-End.is c.decide-act.ensures.reported.0 c.requires.sound.going,
     )
 
 pub returns-in-End-clause-log : goal.returns-in-End-clause-log
 returns-in-End-clause-log g c = record {
   more = [];
   noted = events-none (g.N.Notes.events c.args.notes.now);
-  keeps = logged-act (g.C.Clock.told c.args.clock.now) c.args.side.now _ c.decide-act.new.core c.decide-act.result.0 (End c.in-End.ending) c.decide-act.result.1 c.decide-act.ensures.carried c.in-End.is refl refl;
+  keeps = logged-act (g.C.Clock.reported c.args.clock.now) c.args.side.now _ c.decide-act.new.core c.decide-act.result.0 (End c.in-End.ending) c.decide-act.result.1 c.decide-act.ensures.carried c.in-End.is refl refl;
 }

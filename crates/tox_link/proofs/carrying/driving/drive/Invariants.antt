@@ -12,5 +12,5 @@ invariant-loop g l = record {
   sound : IsSound l.side (received l.side.inbox.receiver);
   written : g.W.Sink.written l.writer ≡ append_known (g.W.Sink.written l.initial.writer) (take l.side.written (came l.side));
   working : g.W.Sink.failed l.writer ≡ false;
-  log : NotesAll (g.C.Clock.told l.clock) (g.N.Notes.events l.initial.notes) (g.N.Notes.events l.notes) l.initial.side l.side;
+  log : NotesAll (g.C.Clock.reported l.clock) (g.N.Notes.events l.initial.notes) (g.N.Notes.events l.notes) l.initial.side l.side;
 }

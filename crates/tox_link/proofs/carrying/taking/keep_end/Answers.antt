@@ -11,20 +11,20 @@ returns-in_default-clause-ok g c =
     let came = c.requires.came in
     let counts = c.in_ok-take_end.ensures.counts in
     sound-ended c.args.side.now _ came.before _ c.args.end came.sound came.going came.came refl counts.bytes_are counts.position refl refl
-    (λ last told. absurd (open-source c.args.side.now came.before last came.sound came.going told))
+    (λ last reported. absurd (open-source c.args.side.now came.before last came.sound came.going reported))
 
 pub returns-in_default-clause-log : goal.returns-in_default-clause-log
 returns-in_default-clause-log g c =
     let noted = c.in_ok-take_end.ensures.carried in
     let none : is_none (core_ending c.args.side.now.core) ≡ false = known-some _ (λ none. c.in_default.not-None (c.ending.ensures.value ∙ none)) in
-    record { more = noted.more; noted = noted.noted; keeps = logged-on (g.C.Clock.told c.args.clock.now) c.args.side.now _ noted.more noted.keeps (noted.end ∙ none) refl }
+    record { more = noted.more; noted = noted.noted; keeps = logged-on (g.C.Clock.reported c.args.clock.now) c.args.side.now _ noted.more noted.keeps (noted.end ∙ none) refl }
 
 pub returns-clause-ok : goal.returns-clause-ok
 returns-clause-ok g c =
     let came = c.requires.came in
     let counts = c.in_ok-take_end-2.ensures.counts in
     sound-ended c.args.side.now _ came.before _ c.args.end came.sound came.going came.came refl counts.bytes_are counts.position refl refl
-    (λ last told. ((cc (told, c.in_ok-side.ensures)), sym c.ending.ensures.value ∙ c.in-None.is))
+    (λ last reported. ((cc (reported, c.in_ok-side.ensures)), sym c.ending.ensures.value ∙ c.in-None.is))
 
 pub returns-clause-log : goal.returns-clause-log
 returns-clause-log g c =
@@ -33,6 +33,6 @@ returns-clause-log g c =
     record {
       more = noted.more;
       noted = noted.noted;
-      keeps = logged-end (g.C.Clock.told c.args.clock.now) c.args.side.now _ noted.more noted.keeps (open-none c.args.side.now came.before came.sound came.going)
+      keeps = logged-end (g.C.Clock.reported c.args.clock.now) c.args.side.now _ noted.more noted.keeps (open-none c.args.side.now came.before came.sound came.going)
           (noted.end ∙ ap is_none (sym c.ending.ensures.value ∙ c.in-None.is) ∙ sym (ap is_some c.in_ok-side.ensures));
     }

@@ -20,4 +20,4 @@ returns-clause-ok g c =
 pub returns-clause-log : goal.returns-clause-log
 returns-clause-log g c =
     let noted = c.in_ok-take_piece.ensures.carried in
-    record { more = noted.more; noted = noted.noted; keeps = logged-on (g.C.Clock.told c.args.clock.now) c.args.side.now _ noted.more noted.keeps noted.end refl }
+    record { more = noted.more; noted = noted.noted; keeps = logged-on (g.C.Clock.reported c.args.clock.now) c.args.side.now _ noted.more noted.keeps noted.end refl }

@@ -58,7 +58,7 @@ pub returns-in_ok-keep_piece-in-Piece-clause-log :
     goal.returns-in_ok-keep_piece-in-Piece-clause-log
 returns-in_ok-keep_piece-in-Piece-clause-log g c =
     let noted = c.in_ok-keep_piece-in-Piece.ensures.log in
-    record { more = noted.more; noted = noted.noted; keeps = keeps-inbox (g.C.Clock.told c.args.clock.now) c.args.side.now c.keep_piece.new.side c.pop.new.self noted.more noted.keeps }
+    record { more = noted.more; noted = noted.noted; keeps = keeps-inbox (g.C.Clock.reported c.args.clock.now) c.args.side.now c.keep_piece.new.side c.pop.new.self noted.more noted.keeps }
 
 pub returns-in_ok-keep_end-in-End-clause-came : goal.returns-in_ok-keep_end-in-End-clause-came
 returns-in_ok-keep_end-in-End-clause-came g c =
@@ -69,7 +69,7 @@ returns-in_ok-keep_end-in-End-clause-came g c =
 pub returns-in_ok-keep_end-in-End-clause-log : goal.returns-in_ok-keep_end-in-End-clause-log
 returns-in_ok-keep_end-in-End-clause-log g c =
     let noted = c.in_ok-keep_end-in-End.ensures.log in
-    record { more = noted.more; noted = noted.noted; keeps = keeps-inbox (g.C.Clock.told c.args.clock.now) c.args.side.now c.keep_end.new.side c.pop.new.self noted.more noted.keeps }
+    record { more = noted.more; noted = noted.noted; keeps = keeps-inbox (g.C.Clock.reported c.args.clock.now) c.args.side.now c.keep_end.new.side c.pop.new.self noted.more noted.keeps }
 
 pub returns-in_ok-keep_piece-in-Piece-clause-took : goal.returns-in_ok-keep_piece-in-Piece-clause-took
 returns-in_ok-keep_piece-in-Piece-clause-took g c = (c.in-Ok.message, ap (λ (inbox : Inbox). received inbox.receiver) c.keep_piece.ensures.same.0 ∙ c.in-Ok.ensures.some.0)

@@ -11,7 +11,7 @@ returns-in-Write-clause-drove g c =
     let decided = c.decide-act in
     let old = c.args.link.now in
     λ left written events.
-    drove-asked (g.C.Clock.told c.args.clock.now) old _ decided.new.core decided.result.1 decided.result.0 left written events c.requires.held c.requires.idle decided.ensures.answered decided.ensures.carried
+    drove-asked (g.C.Clock.reported c.args.clock.now) old _ decided.new.core decided.result.1 decided.result.0 left written events c.requires.held c.requires.idle decided.ensures.answered decided.ensures.carried
     (c.begin.ensures ∙ ap (λ (act : Act). record old { core = decided.new.core; unwritten = begun_by act decided.result.1 }) (sym c.in-Write.is))
 
 pub returns-in_default-clause-held : goal.returns-in_default-clause-held
@@ -34,5 +34,5 @@ returns-in_default-clause-drove g c =
     let old = c.args.link.now in
     let none = none-begun decided.result.0 decided.result.1 (λ slice is. c.in_default.not-Write slice is) in
     λ left written events.
-    drove-asked (g.C.Clock.told c.args.clock.now) old _ decided.new.core decided.result.1 decided.result.0 left written events c.requires.held c.requires.idle decided.ensures.answered decided.ensures.carried
+    drove-asked (g.C.Clock.reported c.args.clock.now) old _ decided.new.core decided.result.1 decided.result.0 left written events c.requires.held c.requires.idle decided.ensures.answered decided.ensures.carried
     (ap (λ slice. record old { core = decided.new.core; unwritten = slice }) (c.requires.idle ∙ sym none))

@@ -45,8 +45,8 @@ offers c = record {
 -- and was asked for its next cut
 cuts : (c : goal.After-self-1) → Cuts c.offer.new.self c.next_cut-self-inside.new.self c.next_cut-self-inside.result
 cuts c =
-    let told = c.next_cut-self-inside.ensures in
-    cuts_of c.offer.new.self c.next_cut-self-inside.new.self c.next_cut-self-inside.result told.some told.none told.idle told.kept
+    let reported = c.next_cut-self-inside.ensures in
+    cuts_of c.offer.new.self c.next_cut-self-inside.new.self c.next_cut-self-inside.result reported.some reported.none reported.idle reported.kept
 
 pub returns-clause-looked : goal.returns-clause-looked
 returns-clause-looked c =

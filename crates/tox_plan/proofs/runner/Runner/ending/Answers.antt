@@ -1,4 +1,4 @@
--- The ending is known exactly where the source's end was told, or some cursor's ending is known.
+-- The ending is known exactly where the source's end was reported, or some cursor's ending is known.
 -- Otherwise the link hasn't ended before its deadline.
 use Rattle.std.proofs.Common.{sym, ◌∙◌}
 use Rattle.tox_plan.specs.RunnerInside.{runner_view}

@@ -1,4 +1,4 @@
--- One line more: its piece is printed, or the source's end is told.
+-- One line more: its piece is printed, or the source's end is reported.
 use Rattle.std.proofs.Common.{◌≡◌, ◌+◌, ◌<◌, ◌∷◌, ℕ, [], Ok, Some, length, option_map, arith, rules, sym, ◌∙◌, ap, subst, vec_capacity}
 use Rattle.std.specs.Result.{result_ok}
 use Rattle.tox_time.specs.declared.streams.item.Item.TheVariants.{Quiet}

@@ -15,9 +15,9 @@ returns-in_err-toxic-clause-err c =
     let was_toxic = err_before c.of.result c.map_err-2.result _ c.in_err-toxic.field-0.0 c.map_err-2.ensures.cases c.in_err-toxic.was in
     let read : toxic_fields (view c.args.table.now) ≡ Ok (fields_view c.in_ok-fields.fields) = IfOk-at_ok (λ fields. toxic_fields (view c.args.table.now) ≡ Ok (fields_view fields)) was_read c.read.ensures.ok in
     let named : named_toxic c.args.version (fields_view c.in_ok-fields.fields) ≡ Err was_toxic.0 = IfErr-at_err (λ fault. named_toxic c.args.version (fields_view c.in_ok-fields.fields) ≡ Err fault) was_toxic.1 c.of.ensures.err in
-    let told : c.in_err-toxic.field-0.0 ≡ Toxic c.args.at was_toxic.0 = search (rules, was_toxic.2) in
+    let reported : c.in_err-toxic.field-0.0 ≡ Toxic c.args.at was_toxic.0 = search (rules, was_toxic.2) in
     let p = err_from_is_err_and c.from_residual-in_err-toxic.result c.from_residual-in_err-toxic.ensures.1 in
-    rw (p.1, p.2, told, read, named)
+    rw (p.1, p.2, reported, read, named)
 
 pub returns-clause-ok : goal.returns-clause-ok
 returns-clause-ok c =

@@ -1,4 +1,4 @@
--- The line is counted, or its fault is told.
+-- The line is counted, or its fault is reported.
 use Rattle.std.proofs.Common.{◌≡◌, ◌+◌, ◌==◌, false, Some, length, ap, sym, ◌∙◌}
 use Rattle.tox_time.specs.streams.Arrivals.{piece_fault}
 use Rattle.tox_text.specs.arrivals.Line.{arrival, end, event_seen, line_of}

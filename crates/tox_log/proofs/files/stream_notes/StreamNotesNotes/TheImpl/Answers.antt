@@ -1,4 +1,4 @@
--- No events are told.
+-- No events are kept.
 use Rattle.std.proofs.Common.{rules}
 use Rattle.tox_log.proofs.files.stream_notes.StreamNotesNotes.TheImpl.Goals as goal
 

@@ -1,7 +1,0 @@
--- Between two rounds nothing is taken.
-use Rattle.std.proofs.Common.{◌≡◌}
-use Rattle.tox_serve.specs.lines.LineQueue.{no_lines}
-use Rattle.tox_serve.proofs.lines.writer.write_lines.Given as goal
-
-abbrev pub invariant-loop : goal.invariant-loop
-invariant-loop g l = l.taken ≡ no_lines

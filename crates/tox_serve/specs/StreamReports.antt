@@ -1,0 +1,59 @@
+-- What a link tells that was carried by threads.
+use Rattle.std.specs.Prelude.{◌≡◌, ℕ, Bool, List, Option, Result, Ok, Err}
+use Rattle.tox_time.specs.Time.{IsInstant}
+use Rattle.tox_time.specs.declared.streams.ending.Ending.{Ending}
+use Rattle.tox_time.specs.declared.streams.item.Item.{Item}
+use Rattle.tox_time.specs.declared.streams.stream.Stream.{Stream}
+use Rattle.tox_compile.specs.Meaning.{means}
+use Rattle.tox_link.specs.declared.link_fault.LinkFault.{LinkFault}
+use Rattle.tox_link.specs.declared.link_report.TimedReport.{TimedReport}
+use Rattle.tox_link.specs.declared.notes.LinkEvent.{LinkEvent}
+use Rattle.tox_link.specs.declared.ring.message.ReadEnd.{ReadEnd}
+use Rattle.tox_link.specs.Reports.{ReportsAt}
+use Rattle.tox_link.specs.log.Logged.{IsCutOff}
+use Rattle.tox_log.specs.declared.last_line.BreakCause.{BreakCause}
+use Rattle.tox_log.specs.declared.last_line.BreakCause.TheVariants as CauseOf
+use Rattle.tox_serve.specs.declared.link.course.Course.{Course}
+use Rattle.tox_serve.specs.declared.link.end.Carried.{Carried}
+use Rattle.tox_serve.specs.declared.link.end.StreamEnd.{StreamEnd}
+use Rattle.tox_serve.specs.declared.link.end.StreamEnd.TheVariants as EndOf
+use Rattle.tox_serve.specs.link.LinkEnds.{carried_before, end_before_stop}
+
+-- what a stream carried, by what its link reports or by its fault
+abbrev pub carried_after : {S : Type 0} → Stream → Bool → Result (TimedReport S) LinkFault → Carried
+carried_after its was_stopped (Ok timed) = record {
+  stream = its;
+  bytes = timed.report.written;
+  end = end_before_stop was_stopped timed.reading timed.report.ending;
+}
+carried_after its was_stopped (Err fault) = carried_before its fault
+
+-- a link ended so at a reading of its clock, after so many written bytes, and said what its plan means for what it heard
+pub record EndsSo (meaning : List Item → List Item) (bytes reading : ℕ) (ending : Ending) : Type 0 where
+  pub log : List LinkEvent
+  pub taken : ℕ
+  pub source : Option ReadEnd
+  pub reports : ReportsAt meaning (λ t. IsInstant t) log taken bytes ending source reading
+
+-- a link broke off after so many written bytes, no more than its plan means for what it heard
+pub record BreaksSo (meaning : List Item → List Item) (bytes : ℕ) : Type 0 where
+  pub log : List LinkEvent
+  pub cut_off : IsCutOff meaning (λ t. IsInstant t) bytes log
+
+-- a stream broke after so many bytes: it was stopped once its plan had ended it, or broke off
+abbrev pub BreaksBy : (List Item → List Item) → ℕ → BreakCause → Type 0
+BreaksBy meaning bytes CauseOf.Write = BreaksSo meaning bytes
+BreaksBy meaning bytes CauseOf.Memory = BreaksSo meaning bytes
+BreaksBy meaning bytes CauseOf.Thread = BreaksSo meaning bytes
+BreaksBy meaning bytes CauseOf.Upstream = ⊥
+BreaksBy meaning bytes CauseOf.Stopped = (reading : ℕ) × (ending : Ending) × EndsSo meaning bytes reading ending
+
+-- a stream ended so after so many bytes
+abbrev pub StreamEndsSo : (List Item → List Item) → ℕ → StreamEnd → Type 0
+StreamEndsSo meaning bytes (EndOf.Ended reading ending) = EndsSo meaning bytes reading ending
+StreamEndsSo meaning bytes (EndOf.Broken cause) = BreaksBy meaning bytes cause
+
+-- a stream is reported as it was carried under its course
+pub record IsReportOf (course : Course) (carried : Carried) : Type 0 where
+  pub its : carried.stream ≡ course.stream
+  pub end : StreamEndsSo (means course.plan course.words) carried.bytes carried.end
